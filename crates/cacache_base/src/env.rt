@@ -1,0 +1,51 @@
+//! What a call works with: memory, a store, a clock, numbers for temporary names, and where relative paths start.
+ghost use Rattle.std.specs.Prelude.{◌≡◌, IfOk};
+
+mod clock;
+mod names;
+
+use crate::text::Text;
+pub use clock::{Clock, SystemClock};
+pub use names::{CountNames, Names};
+use std::alloc::{AllocError, Global};
+
+/// The environment of the calls on caches.
+#[derive(Drop)]
+pub struct Env<S, C, N> {
+    /// Where memory comes from.
+    pub alloc: Global,
+    /// Where the caches lie.
+    pub store: S,
+    /// Gives an entry its time.
+    pub clock: C,
+    /// Numbers the temporary files.
+    pub names: N,
+    /// The folder that a relative target of a link starts from.
+    pub base: Text,
+}
+
+impl<S: Drop, C: Drop, N: Drop> Env<S, C, N> {
+    /// An environment of these parts. It takes memory for a copy of `base` alone.
+    pub fn new(
+        alloc: Global,
+        store: S,
+        clock: C,
+        names: N,
+        base: &str,
+    ) -> Result<Env<S, C, N>, AllocError>
+        ensures alloc { IfOk result (λ env. env.alloc ≡ alloc) }
+        ensures store { IfOk result (λ env. env.store ≡ store) }
+        ensures clock { IfOk result (λ env. env.clock ≡ clock) }
+        ensures names { IfOk result (λ env. env.names ≡ names) }
+        ensures base { IfOk result (λ env. env.base ≡ base.now) }
+    {
+        let base = Text::from_str(alloc, base)?;
+        Ok(Env {
+            alloc,
+            store,
+            clock,
+            names,
+            base,
+        })
+    }
+}

@@ -1,0 +1,35 @@
+//! A store does one step at a time, whole, and answers it.
+ghost use Rattle.std.specs.Prelude.{List, Option};
+ghost use Rattle.cacache_base.specs.declared.store.log.LogItem.{LogItem};
+ghost use Rattle.cacache_base.specs.Seen.{asked, told};
+ghost use Rattle.cacache_base.specs.Fits.{Fits, Logs};
+
+mod answer;
+mod folder;
+mod handles;
+mod log;
+mod step;
+
+pub use answer::{Answer, Kind, Listing, Name};
+pub use folder::{FolderFile, FolderStore, FolderTemp};
+pub use handles::{OpenData, OpenedFile, TempData, TempFile};
+pub use log::LogItem;
+pub use step::Step;
+
+/// Where a cache lies: real folders, or a disk in memory.
+pub trait Store {
+    /// An open file.
+    type File: OpenedFile;
+
+    /// A temporary file that is being written.
+    type Temp: TempFile;
+
+    /// All that happened so far, oldest first, where the store tells it.
+    ghost log: { Self → Option (List LogItem) };
+
+    /// Does one step, and answers it. `Answer::Failed` says why it failed; `Answer::NoMemory` hands the step back,
+    /// and nothing changed.
+    fn step(&mut self, step: Step<Self::File, Self::Temp>) -> Answer<Self::File, Self::Temp>
+        ensures fits { Fits (asked Self.File.seen Self.Temp.seen step) (told Self.File.seen Self.Temp.seen result) }
+        ensures logged { Logs (log self.old) (log self.new) (asked Self.File.seen Self.Temp.seen step) (told Self.File.seen Self.Temp.seen result) };
+}

@@ -1,0 +1,91 @@
+//! What a store answers.
+ghost use Rattle.std.specs.Prelude.{◌≡◌};
+
+use crate::bytes::Bytes;
+use crate::errors::Fault;
+use crate::store::step::Step;
+use crate::text::Text;
+use std::marker::Model;
+
+/// What stands in a folder under a name.
+#[derive(Clone, Copy, Debug, PartialEq, Eq)]
+pub enum Kind {
+    File,
+    Folder,
+    Link,
+}
+
+/// A name in a folder, and what stands under it.
+#[derive(Debug, Drop)]
+pub struct Name {
+    pub name: Text,
+    pub kind: Kind,
+}
+
+/// The names in a folder. Contracts see the list.
+#[derive(Debug, Drop)]
+pub struct Listing {
+    names: Vec<Name>,
+}
+
+impl Model for Listing {
+    ghost use Rattle.std.specs.Prelude.{List};
+    ghost use Rattle.cacache_base.specs.declared.store.answer.Name.{Name};
+
+    ghost Value = { List Name };
+
+    ghost view = { λ l. l.names.items };
+}
+
+impl Listing {
+    /// The listing of these names, which takes no memory.
+    pub fn new(names: Vec<Name>) -> Listing
+        ensures { result ≡ names.items }
+    {
+        Listing { names }
+    }
+
+    /// The names as a slice.
+    pub fn as_slice(&self) -> &[Name]
+        ensures { result.now ≡ self.now }
+    {
+        self.names.as_slice()
+    }
+
+    /// The names as a vector, which takes no memory.
+    pub fn into_vec(self) -> Vec<Name>
+        ensures { result.items ≡ self }
+    {
+        let Listing { names } = self;
+        names
+    }
+}
+
+/// The answer to a step.
+#[derive(Debug, Drop)]
+pub enum Answer<F, T> {
+    /// The step is done.
+    Done,
+    /// The temporary file that was made.
+    Temp(T),
+    /// The temporary file, and how many of the bytes it took.
+    Wrote(T, usize),
+    /// How many bytes were appended or copied.
+    Took(usize),
+    /// The bytes of a file.
+    Bytes(Bytes),
+    /// The file that was opened.
+    File(F),
+    /// The open file, and the bytes that were read: none only at its end, or where none were asked for.
+    Got(F, Bytes),
+    /// Whether a file or folder is there.
+    There(bool),
+    /// How many bytes a file has.
+    Length(u64),
+    /// The names in a folder.
+    Names(Listing),
+    /// Why the step failed. The file that it was given is given up.
+    Failed(Fault),
+    /// Memory was refused before anything changed: the step comes back.
+    NoMemory(Step<F, T>),
+}

@@ -1,0 +1,99 @@
+-- What lines and their beginnings add to a bucket's bytes.
+use Rattle.std.proofs.Common.{◌≡◌, ℕ, zero, suc, ◌+◌, ◌-◌, ◌<◌, ◌≤◌, List, [], ◌∷◌, ◌++◌, Bool, true, false, cond, length, take, Option, Some, None, option_and_then, map, filter_map, bytes_eq, refl, ap, ◌∙◌, arith, append-nil, length-append, inl, inr, ◌⊎◌}
+use Rattle.std.proofs.lemmas.List.{map-append, take-append-le}
+use Rattle.std.proofs.lemmas.List.Elements.{filter_map-append}
+use Rattle.std.proofs.lemmas.Bool.{cases_lt}
+use Rattle.std.proofs.lemmas.Str.{is_utf8-from_IsUtf8}
+use Rattle.std.proofs.lemmas.Slice.Eq.{bytes_eq-Decides}
+use Rattle.std.specs.List.{cons_option}
+use Rattle.std.specs.Str.{is_utf8}
+use Rattle.hex.specs.Hex.{lower_digits}
+use Rattle.serde_json.specs.Data.{object}
+use Rattle.cacache_integrity.specs.Digests.{sha256_hex}
+use Rattle.cacache_entry.specs.Entry.{Entry, members_of, text_of, piece_of, line_of}
+use Rattle.cacache_entry.specs.Reading.{entry_of, read_entry}
+use Rattle.cacache_entry.specs.Fits.{IsEntry, Fits}
+use Rattle.cacache_entry.specs.Bucket.{cut, without_cr, entry_of_parts, entry_of_piece, entries_of}
+use Rattle.cacache_entry.specs.Laws.{LinesAppend, TornLinesAddNothing, TornLinesHurtNoOther, EntriesSplit}
+use Rattle.cacache_entry.proofs.Cuts.{lacks, lacks-append, lacks-take, cut-append, cut-lacks, without_cr-lacks}
+use Rattle.cacache_entry.proofs.Digits.{lacks-sha256_hex, IsUtf8-piece}
+use Rattle.cacache_entry.proofs.Plain.{lacks-plain, plain-compact_text}
+use Rattle.cacache_entry.proofs.ReadsBack.{MembersAreWhole-members_of, read_entry-text_of}
+use Rattle.cacache_entry.proofs.Torn.{read-torn}
+
+-- the entries of bytes with a line feed between them
+pub entries_split : EntriesSplit
+entries_split x y =
+    ap (λ ps. filter_map entry_of_piece (map without_cr ps)) (cut-append 10 x y)
+    ∙ ap (filter_map entry_of_piece) (map-append without_cr (cut 10 x) (cut 10 y)) ∙ filter_map-append entry_of_piece (map without_cr (cut 10 x)) (map without_cr (cut 10 y))
+
+-- behind bytes and a line feed, a piece with no LF and no CR adds the entry that it is
+entries_piece : (x p : List ℕ) (o : Option Entry) → lacks 10 p ≡ true → lacks 13 p ≡ true → entry_of_piece p ≡ o → entries_of (x ++ 10 ∷ p) ≡ entries_of x ++ cons_option o []
+entries_piece x p o no_lf no_cr is =
+    entries_split x p ∙ ap (λ ps. entries_of x ++ filter_map entry_of_piece (map without_cr ps)) (cut-lacks 10 p no_lf)
+    ∙ ap (λ q. entries_of x ++ filter_map entry_of_piece (q ∷ [])) (without_cr-lacks p no_cr) ∙ ap (λ r. entries_of x ++ cons_option r []) is
+
+both_none : (b : Bool) → let none : Option Entry = None in cond b none none ≡ none
+both_none true = refl
+both_none false = refl
+
+-- a list taken past a byte in its midst
+take_past : (s t : List ℕ) (b m k : ℕ) → k ≡ length s + suc m → take k (s ++ b ∷ t) ≡ s ++ b ∷ take m t
+take_past [] t b m zero e = absurd (omega arith)
+take_past [] t b m (suc k) e = let same : k ≡ m = omega arith in ap (λ i. b ∷ take i t) same
+take_past (x ∷ s) t b m zero e = absurd (omega arith)
+take_past (x ∷ s) t b m (suc k) e = ap (λ l. x ∷ l) (take_past s t b m k (omega arith))
+
+module _ (e : Entry) (h : IsEntry e) (f : Fits e) where
+  lacks-text_of : (at : ℕ) → at < 32 → lacks at (text_of e) ≡ true
+  lacks-text_of at low = lacks-plain at low (text_of e) (plain-compact_text (object (members_of e)) (MembersAreWhole-members_of e h f))
+
+  lacks-piece_of : (at : ℕ) → at < 32 → lacks at (0 ∷ lower_digits) ≡ true → lacks at (9 ∷ []) ≡ true → lacks at (piece_of e) ≡ true
+  lacks-piece_of at low digits tab =
+      lacks-append at (sha256_hex (text_of e)) (9 ∷ text_of e) (lacks-sha256_hex at (text_of e) digits) (lacks-append at (9 ∷ []) (text_of e) tab (lacks-text_of at low))
+
+  -- a TAB cuts what begins with the digest and holds no further TAB in two
+  two_parts : (t : List ℕ) → lacks 9 t ≡ true → cut 9 (sha256_hex (text_of e) ++ 9 ∷ t) ≡ sha256_hex (text_of e) ∷ t ∷ []
+  two_parts t alone =
+      cut-append 9 (sha256_hex (text_of e)) t ∙ ap (λ ps. ps ++ cut 9 t) (cut-lacks 9 (sha256_hex (text_of e)) (lacks-sha256_hex 9 (text_of e) refl))
+      ∙ ap (λ ps. sha256_hex (text_of e) ∷ ps) (cut-lacks 9 t alone)
+
+  entry_of_piece-whole : entry_of_piece (piece_of e) ≡ Some e
+  entry_of_piece-whole =
+      ap (λ b. cond b (entry_of_parts (cut 9 (piece_of e))) None) (is_utf8-from_IsUtf8 (piece_of e) (IsUtf8-piece (text_of e) (text_of e) h.utf8))
+      ∙ ap entry_of_parts (two_parts (text_of e) (lacks-text_of 9 (omega arith))) ∙ ap (λ b. cond b (read_entry (text_of e)) None) ((bytes_eq-Decides (sha256_hex (text_of e)) (sha256_hex (text_of e))).1 refl)
+      ∙ read_entry-text_of e h f
+
+  torn_parts : (k : ℕ) → k < length (piece_of e) → (k < length (sha256_hex (text_of e)) + 1) ⊎ (length (sha256_hex (text_of e)) + 1 ≤ k) → entry_of_parts (cut 9 (take k (piece_of e))) ≡ None
+  torn_parts k short (inl first) =
+      let digest = sha256_hex (text_of e) in
+      ap (λ p. entry_of_parts (cut 9 p)) (take-append-le k digest (9 ∷ text_of e) (omega arith))
+      ∙ ap entry_of_parts (cut-lacks 9 (take k digest) (lacks-take 9 k digest (lacks-sha256_hex 9 (text_of e) refl)))
+  torn_parts k short (inr past) =
+      let digest = sha256_hex (text_of e) in
+      let m = k - (length digest + 1) in
+      let inside : m < length (text_of e) = omega (arith, length-append digest (9 ∷ text_of e)) in
+      let rest = take m (text_of e) in
+      ap (λ p. entry_of_parts (cut 9 p)) (take_past digest (text_of e) 9 m k (omega arith)) ∙ ap entry_of_parts (two_parts rest (lacks-take 9 m (text_of e) (lacks-text_of 9 (omega arith))))
+      ∙ ap (λ o. cond (bytes_eq digest (sha256_hex rest)) (option_and_then entry_of o) None) (read-torn (members_of e) (MembersAreWhole-members_of e h f) m inside) ∙ both_none (bytes_eq digest (sha256_hex rest))
+
+  entry_of_piece-torn : (k : ℕ) → k < length (piece_of e) → entry_of_piece (take k (piece_of e)) ≡ None
+  entry_of_piece-torn k short =
+      ap (λ o. cond (is_utf8 (take k (piece_of e))) o None) (torn_parts k short (cases_lt k (length (sha256_hex (text_of e)) + 1))) ∙ both_none (is_utf8 (take k (piece_of e)))
+
+-- behind any bytes, a line adds its entry
+pub lines_append : LinesAppend
+lines_append x e h f = entries_piece x (piece_of e) (Some e) (lacks-piece_of e h f 10 (omega arith) refl refl) (lacks-piece_of e h f 13 (omega arith) refl refl) (entry_of_piece-whole e h f)
+
+-- behind any bytes, a proper beginning of a line adds no entry
+pub torn_lines_add_nothing : TornLinesAddNothing
+torn_lines_add_nothing x e zero h f short = ap entries_of (append-nil x)
+torn_lines_add_nothing x e (suc k) h f short =
+    let piece = piece_of e in
+    entries_piece x (take k piece) None (lacks-take 10 k piece (lacks-piece_of e h f 10 (omega arith) refl refl)) (lacks-take 13 k piece (lacks-piece_of e h f 13 (omega arith) refl refl)) (entry_of_piece-torn e h f k (omega arith))
+    ∙ append-nil (entries_of x)
+
+-- nor does it hurt the line that follows it
+pub torn_lines_hurt_no_other : TornLinesHurtNoOther
+torn_lines_hurt_no_other x e f n h fits short h' fits' =
+    lines_append (x ++ take n (line_of e)) f h' fits' ∙ ap (λ es. es ++ f ∷ []) (torn_lines_add_nothing x e n h fits short)

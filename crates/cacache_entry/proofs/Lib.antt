@@ -1,0 +1,11 @@
+pub mod Causes
+pub mod Cuts
+pub mod Digits
+pub mod Laws
+pub mod Levels
+pub mod Parts
+pub mod Pieces
+pub mod Plain
+pub mod ReadsBack
+pub mod Torn
+pub mod WellRead

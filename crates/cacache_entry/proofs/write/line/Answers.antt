@@ -1,0 +1,11 @@
+use Rattle.cacache_entry.proofs.Laws.{lines_append, torn_lines_add_nothing, torn_lines_hurt_no_other}
+use Rattle.cacache_entry.proofs.write.line.Goals as goal
+
+pub returns-clause-appends : goal.returns-clause-appends
+returns-clause-appends c = lines_append
+
+pub returns-clause-torn : goal.returns-clause-torn
+returns-clause-torn c = torn_lines_add_nothing
+
+pub returns-clause-hurts_no_other : goal.returns-clause-hurts_no_other
+returns-clause-hurts_no_other c = torn_lines_hurt_no_other

@@ -1,0 +1,51 @@
+-- What an index entry is, its text, and the line that holds it.
+use Rattle.std.specs.Prelude.{ℕ, List, [], ◌∷◌, ◌++◌, codes, Option, Some, None}
+use Rattle.serde_json.specs.Data.{unsigned, Data, null, number, string, array, object, Items, no_items, item, Members, no_members, member}
+use Rattle.serde_json.specs.Written.{compact_text}
+use Rattle.cacache_integrity.specs.Digests.{sha256_hex}
+
+-- what a line of a bucket says; without an integrity it is a tombstone
+pub record Entry : Type 0 where
+  pub key : List ℕ
+  pub integrity : Option (List ℕ)
+  pub time : ℕ
+  pub size : ℕ
+  pub metadata : Data
+  pub raw_metadata : Option (List ℕ)
+
+-- a text, or null where there is none
+abbrev pub text_or_null : Option (List ℕ) → Data
+text_or_null None = null
+text_or_null (Some s) = string s
+
+-- bytes as items
+abbrev pub byte_items : List ℕ → Items
+byte_items [] = no_items
+byte_items (b ∷ bs) = item (number (unsigned b)) (byte_items bs)
+
+-- bytes as an array, or null where there are none
+abbrev pub bytes_or_null : Option (List ℕ) → Data
+bytes_or_null None = null
+bytes_or_null (Some bs) = array (byte_items bs)
+
+-- the members of an entry, in the order in which they are written
+abbrev pub members_of : Entry → Members
+members_of e =
+    member (codes "key") (string e.key)
+    (member (codes "integrity") (text_or_null e.integrity)
+    (member (codes "time") (number (unsigned e.time))
+    (member (codes "size") (number (unsigned e.size))
+    (member (codes "metadata") e.metadata
+    (member (codes "raw_metadata") (bytes_or_null e.raw_metadata) no_members)))))
+
+-- the text of an entry: its members as one compact object
+abbrev pub text_of : Entry → List ℕ
+text_of e = compact_text (object (members_of e))
+
+-- the piece of an entry: the digest of its text, TAB, its text
+abbrev pub piece_of : Entry → List ℕ
+piece_of e = sha256_hex (text_of e) ++ 9 ∷ text_of e
+
+-- the line of an entry: LF and its piece
+abbrev pub line_of : Entry → List ℕ
+line_of e = 10 ∷ piece_of e

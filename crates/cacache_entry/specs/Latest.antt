@@ -1,0 +1,42 @@
+-- What a lookup of a key answers.
+use Rattle.std.specs.Prelude.{ℕ, List, Option, Some, None, Result, Ok, Err, cond, bytes_eq, unwrap_or, fold}
+use Rattle.serde_json.specs.Data.{Data}
+use Rattle.cacache_integrity.specs.declared.errors.IntegrityFault.{IntegrityFault}
+use Rattle.cacache_integrity.specs.declared.integrity.digest.Hash.{Hash}
+use Rattle.cacache_integrity.specs.Texts.{read_integrity}
+use Rattle.cacache_entry.specs.Entry.{Entry}
+
+-- a found entry, with the integrity that its text reads as
+pub record Found : Type 0 where
+  pub key : List ℕ
+  pub integrity : List Hash
+  pub time : ℕ
+  pub size : ℕ
+  pub metadata : Data
+  pub raw_metadata : Option (List ℕ)
+
+-- the entry with its integrity
+abbrev pub found_of : Entry → List Hash → Found
+found_of e i = record { key = e.key; integrity = i; time = e.time; size = e.size; metadata = e.metadata; raw_metadata = e.raw_metadata }
+
+-- what an entry of this integrity answers: an unreadable one answers nothing
+abbrev pub answer_read : Entry → Result (List Hash) IntegrityFault → Option (Option Found)
+answer_read e (Ok i) = Some (Some (found_of e i))
+answer_read e (Err fault) = None
+
+-- what an entry answers by itself: a tombstone, that there is none
+abbrev pub answer_of : Entry → Option (List ℕ) → Option (Option Found)
+answer_of e None = Some None
+answer_of e (Some t) = answer_read e (read_integrity t)
+
+-- what an entry answers to a lookup of the key
+abbrev pub answer_to : List ℕ → Entry → Option (Option Found)
+answer_to key e = cond (bytes_eq e.key key) (answer_of e e.integrity) None
+
+-- what is found after one more entry: its answer, or what was found before
+abbrev pub after_entry : List ℕ → Option Found → Entry → Option Found
+after_entry key found e = unwrap_or (answer_to key e) found
+
+-- the lookup: each answer to the key takes the place of the one before it
+abbrev pub latest : List ℕ → List Entry → Option Found
+latest key es = fold (after_entry key) None es

@@ -1,0 +1,7 @@
+pub mod Entry
+pub mod Reading
+pub mod Fits
+pub mod Bucket
+pub mod Latest
+pub mod View
+pub mod Laws

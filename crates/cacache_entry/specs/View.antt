@@ -1,0 +1,45 @@
+-- What entries the program's values stand for, and what a refusal says.
+use Rattle.std.specs.Prelude.{◌≡◌, ℕ, List, ◌++◌, codes, Some, option_map, string_bytes}
+use Rattle.serde_json.specs.View.{view}
+use Rattle.cacache_integrity.specs.declared.errors.Error.{Error}
+use Rattle.cacache_integrity.specs.declared.errors.Error.TheVariants.{EntryNotFound, SizeMismatch, IoError, SerdeError, IntegrityError, OutOfMemory}
+use Rattle.cacache_entry.specs.Entry.{Entry}
+use Rattle.cacache_entry.specs.Fits.{cause_of}
+use Rattle.cacache_entry.specs.Latest.{Found}
+use Rattle.cacache_entry.specs.declared.metadata.SerializableMetadata.{SerializableMetadata}
+use Rattle.cacache_entry.specs.declared.metadata.Metadata.{Metadata}
+
+-- the entry that a value stands for
+abbrev pub entry_view : SerializableMetadata → Entry
+entry_view e = record {
+  key = string_bytes e.key;
+  integrity = option_map string_bytes e.integrity;
+  time = e.time;
+  size = e.size;
+  metadata = view e.metadata;
+  raw_metadata = option_map (λ v. v.items) e.raw_metadata;
+}
+
+-- the found entry that a value stands for
+abbrev pub found_view : Metadata → Found
+found_view m = record {
+  key = string_bytes m.key;
+  integrity = m.integrity;
+  time = m.time;
+  size = m.size;
+  metadata = view m.metadata;
+  raw_metadata = option_map (λ v. v.items) m.raw_metadata;
+}
+
+-- the text of a refusal, which names the key
+abbrev pub refusal_text : List ℕ → List ℕ
+refusal_text key = codes "Failed to serialize entry with key `" ++ key ++ codes "`"
+
+-- an entry is refused with the cause and the text, or for want of memory
+abbrev pub IsRefusal : Entry → Error → Type 0
+IsRefusal e (EntryNotFound cache key) = ⊥
+IsRefusal e (SizeMismatch wanted found) = ⊥
+IsRefusal e (IoError fault text) = ⊥
+IsRefusal e (SerdeError cause text) = (cause_of e ≡ Some cause) × (text ≡ refusal_text e.key)
+IsRefusal e (IntegrityError fault) = ⊥
+IsRefusal e OutOfMemory = Unit {0}

@@ -1,0 +1,69 @@
+//! What the index says of a key.
+ghost use Rattle.std.specs.Prelude.{string_bytes, nat_eq};
+ghost use Rattle.std.specs.Cmp;
+ghost use Rattle.std.specs.Cmp.Lexicographic.{pointwise, bytes_decides, nat_list_eq_equiv};
+ghost use Rattle.std.specs.Hash as fed;
+ghost use Rattle.std.specs.Ordering.{on};
+ghost use Rattle.cacache_entry.specs.declared.metadata.SerializableMetadata.{SerializableMetadata as Said};
+
+use cacache_integrity::integrity::Integrity;
+use serde_json::Value;
+use std::hash::{Hash, Hasher};
+
+/// What a line of a bucket says of a key. Two of one key are equal and hash equally, whatever else they say.
+#[derive(Debug, Drop)]
+pub struct SerializableMetadata {
+    /// The key.
+    pub key: String,
+    /// The text of the content's integrity; none in a tombstone, which says that the key was deleted.
+    pub integrity: Option<String>,
+    /// When the entry was made, in milliseconds since 1970.
+    pub time: u128,
+    /// The content's size in bytes.
+    pub size: usize,
+    /// Any data that the writer put beside the content.
+    pub metadata: Value,
+    /// Any bytes that the writer put beside the content.
+    pub raw_metadata: Option<Vec<u8>>,
+}
+
+impl PartialEq for SerializableMetadata {
+    ghost eq = { on (λ e. string_bytes e.key) (pointwise nat_eq) };
+
+    ghost laws = { Cmp.partial_equiv_from_equiv (Cmp.on_equiv (λ (e : Said). string_bytes e.key) nat_list_eq_equiv) };
+
+    fn eq(&self, other: &SerializableMetadata) -> bool {
+        self.key.as_str() == other.key.as_str()
+    }
+}
+
+impl Eq for SerializableMetadata {
+    ghost laws = { Cmp.on_equiv (λ (e : Said). string_bytes e.key) nat_list_eq_equiv };
+}
+
+impl Hash for SerializableMetadata {
+    ghost hash_input = { λ e. fed.str (string_bytes e.key) };
+
+    ghost respects_eq = { (fed.on_Alike (λ (e : Said). string_bytes e.key) (fed.same_Alike fed.str bytes_decides)).fed };
+
+    fn hash<H: Hasher>(&self, state: &mut H) {
+        self.key.as_str().hash(state);
+    }
+}
+
+/// What a lookup found for a key.
+#[derive(Debug, Drop, PartialEq)]
+pub struct Metadata {
+    /// The key.
+    pub key: String,
+    /// The content's integrity.
+    pub integrity: Integrity,
+    /// When the entry was made, in milliseconds since 1970.
+    pub time: u128,
+    /// The content's size in bytes.
+    pub size: usize,
+    /// Any data that the writer put beside the content.
+    pub metadata: Value,
+    /// Any bytes that the writer put beside the content.
+    pub raw_metadata: Option<Vec<u8>>,
+}

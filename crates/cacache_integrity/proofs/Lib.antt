@@ -1,0 +1,6 @@
+pub mod Printing
+pub mod PathLemmas
+pub mod Words
+pub mod ReadLemmas
+pub mod Order
+pub mod Printed
