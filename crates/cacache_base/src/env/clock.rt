@@ -22,7 +22,9 @@ pub struct SystemClock<R> {
 
 impl<R: SystemTimes + Drop> SystemClock<R> {
     /// The clock of a runtime.
-    pub fn new(rt: R) -> SystemClock<R> {
+    pub fn new(rt: R) -> SystemClock<R>
+        ensures { result.rt ≡ rt }
+    {
         SystemClock { rt }
     }
 }

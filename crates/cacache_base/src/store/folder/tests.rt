@@ -97,7 +97,7 @@ fn below(alloc: Global, root: &str, path: &str) -> Result<Text, AllocError> {
 }
 
 #[test]
-fn steps_answer_as_the_system_does(rt: HostRuntime) -> Result<(), Fail> {
+fn folder_store_fails_no_step_without_cause(rt: HostRuntime) -> Result<(), Fail> {
     let alloc = rt.alloc();
     let root = fresh(&rt, "steps")?;
     let mut store = FolderStore::new(rt);

@@ -1,0 +1,4 @@
+pub mod Meeting
+pub mod Ending
+pub mod Running
+pub mod Honest

@@ -1,0 +1,115 @@
+-- Which state a job stands in.
+use Rattle.std.specs.Prelude.{◌≡◌, ◌⊎◌, ℕ, List, [], Option, None, Some, Bool, true, false, length}
+use Rattle.cacache_integrity.specs.declared.errors.Error.TheVariants.{OutOfMemory}
+use Rattle.cacache_base.specs.declared.store.handles.OpenData.{OpenData}
+use Rattle.cacache_base.specs.declared.store.handles.TempData.{TempData}
+use Rattle.cacache_base.specs.declared.store.step.Step.TheVariants.{Write, Persist}
+use Rattle.cacache_base.specs.Seen.{Asked, Told, asked}
+use Rattle.cacache_entry.specs.Fits.{IsEntry}
+use Rattle.cacache_steps.specs.declared.jobs.reply.Reply.TheVariants.{Refused, Read}
+use Rattle.cacache_steps.specs.declared.jobs.stage.Stage.{Stage}
+use Rattle.cacache_steps.specs.declared.jobs.stage.Stage.TheVariants as stages
+use Rattle.cacache_steps.specs.declared.jobs.phase.Phase.{Phase}
+use Rattle.cacache_steps.specs.declared.jobs.phase.Phase.TheVariants as phases
+use Rattle.cacache_steps.specs.declared.jobs.job.Next.{Next}
+use Rattle.cacache_steps.specs.declared.jobs.job.Next.TheVariants as next
+use Rattle.cacache_steps.specs.declared.jobs.job.Job.{Job}
+use Rattle.cacache_steps.specs.Calls.{State, making_temps, creating, writing, making_contents, persisting, confirming, making_bucket, appending, reading_bucket, reading_content, over, wants, entry_of, inserted_line, inserted_cause}
+use Rattle.cacache_steps.specs.Runs.{plain_reply, effort}
+
+-- the temporary file that a step carries
+abbrev pub file_in : Asked → TempData
+file_in (Write file bytes) = file
+file_in (Persist file path) = file
+file_in step = record { path = []; bytes = None }
+
+-- the state of a call at this stage, with the step that it wants
+abbrev pub state_of : {T : Type 0} → (T → TempData) → Stage T → Asked → State
+state_of temp (stages.MakingTemps c rest) step = making_temps c rest
+state_of temp (stages.Creating c rest) step = creating c rest
+state_of temp (stages.Writing c rest) step = writing c (file_in step) rest
+state_of temp (stages.MakingContents c file) step = making_contents c (temp file)
+state_of temp (stages.Persisting c) step = persisting c (file_in step)
+state_of temp (stages.Confirming c fault) step = confirming c fault
+state_of temp (stages.MakingBucket i line) step = making_bucket i
+state_of temp (stages.Appending i size) step = appending i
+state_of temp (stages.ReadingBucket l) step = reading_bucket l
+state_of temp (stages.ReadingContent r) step = reading_content r
+
+-- an entry on its way into its bucket is well-formed and fits, and its line, or the line's size, is kept
+abbrev pub KeepsLine : {T : Type 0} → Stage T → Type 0
+KeepsLine (stages.MakingBucket i line) = IsEntry (entry_of i) × (inserted_cause i ≡ None) × (line ≡ inserted_line i)
+KeepsLine (stages.Appending i size) = IsEntry (entry_of i) × (inserted_cause i ≡ None) × (size ≡ length (inserted_line i))
+KeepsLine stage = Unit {0}
+
+-- the call is at this stage, its step being this one
+pub record IsAt {T : Type 0} (temp : T → TempData) (stage : Stage T) (step : Asked) (s : State) : Type 0 where
+  pub state : s ≡ state_of temp stage step
+  pub wanted : wants s ≡ Some step
+  pub line : KeepsLine stage
+
+-- the call is in this state, and no step is out
+abbrev pub PhaseAt : {F T : Type 0} → (F → OpenData) → (T → TempData) → Phase F T → State → Type 0
+PhaseAt file temp (phases.Ready stage step) s = IsAt temp stage (asked file temp step) s
+PhaseAt file temp (phases.Out stage) s = ⊥
+PhaseAt file temp (phases.Finished reply) s = s ≡ over (plain_reply reply)
+PhaseAt file temp phases.Told s = ⊥
+
+-- the call is in this state, and this step is out
+abbrev pub OutAt : {F T : Type 0} → (T → TempData) → Phase F T → State → Asked → Type 0
+OutAt temp (phases.Ready stage step) s a = ⊥
+OutAt temp (phases.Out stage) s a = IsAt temp stage a s
+OutAt temp (phases.Finished reply) s a = ⊥
+OutAt temp phases.Told s a = ⊥
+
+-- the call ended for want of memory
+abbrev pub IsOutOfMemory : {F T : Type 0} → Phase F T → Type 0
+IsOutOfMemory (phases.Finished reply) = plain_reply reply ≡ Refused OutOfMemory
+IsOutOfMemory phase = ⊥
+
+abbrev pub is_out : {F T : Type 0} → Phase F T → Bool
+is_out (phases.Out stage) = true
+is_out phase = false
+
+abbrev pub is_ready : {F T : Type 0} → Phase F T → Bool
+is_ready (phases.Ready stage step) = true
+is_ready (phases.Finished reply) = true
+is_ready phase = false
+
+abbrev pub is_step : {F T : Type 0} → Next F T → Bool
+is_step (next.Step step) = true
+is_step (next.Over reply) = false
+
+-- ---- of a job
+
+-- the job stands in this state, and no step is out
+abbrev pub Stands : {F T : Type 0} → (F → OpenData) → (T → TempData) → Job F T → State → Type 0
+Stands file temp job s = PhaseAt file temp job.phase s
+
+-- the job stands in this state, and this step is out
+abbrev pub HasOut : {F T : Type 0} → (T → TempData) → Job F T → State → Asked → Type 0
+HasOut temp job s a = OutAt temp job.phase s a
+
+-- a step is out
+abbrev pub has_out : {F T : Type 0} → Job F T → Bool
+has_out job = is_out job.phase
+
+-- no step is out, and the reply wasn't handed out
+abbrev pub can_go_on : {F T : Type 0} → Job F T → Bool
+can_go_on job = is_ready job.phase
+
+-- what a job hands out in this state, and how it stands then
+abbrev pub HandsOut : {F T : Type 0} → (F → OpenData) → (T → TempData) → Next F T → Job F T → State → Type 0
+HandsOut file temp (next.Step step) job s = HasOut temp job s (asked file temp step)
+HandsOut file temp (next.Over reply) job s = s ≡ over (plain_reply reply)
+
+-- the job goes on to this state, unless memory was refused
+abbrev pub GoesTo : {F T : Type 0} → (F → OpenData) → (T → TempData) → Job F T → State → Type 0
+GoesTo file temp job s = Stands file temp job s ⊎ IsOutOfMemory job.phase
+
+-- a bound on the steps that are still to come
+abbrev pub phase_effort : {F T : Type 0} → (F → OpenData) → (T → TempData) → Phase F T → ℕ
+phase_effort file temp (phases.Ready stage step) = effort (state_of temp stage (asked file temp step))
+phase_effort file temp (phases.Out stage) = 0
+phase_effort file temp (phases.Finished reply) = 0
+phase_effort file temp phases.Told = 0

@@ -1,0 +1,31 @@
+//! Where contents lie.
+ghost use Rattle.std.specs.Prelude.{◌≡◌, IfOk};
+ghost use Rattle.cacache_steps.specs.Places.{content_path as path_of, content_folder as folder_of};
+
+use crate::integrity::Integrity;
+use crate::text::Text;
+use cacache_integrity::paths;
+use std::alloc::{AllocError, Global};
+
+/// The path of an integrity's content below a cache: `content-v2`, the algorithm of the content address, and
+/// the digest's lower-case hex digits cut as two, two and the rest.
+#[tactic(auto, unfolding(crate::specs::Places::content_path))]
+pub fn content_path(alloc: Global, cache: &str, integrity: &Integrity) -> Result<Text, AllocError>
+    ensures { IfOk result (λ path. path ≡ path_of cache.now integrity.now) }
+{
+    let _address = integrity.address();
+    paths::content_path(alloc, cache, integrity)
+}
+
+/// The folder of an integrity's content.
+#[tactic(auto, unfolding(crate::specs::Places::content_folder))]
+pub(crate) fn content_folder(
+    alloc: Global,
+    cache: &str,
+    integrity: &Integrity,
+) -> Result<Text, AllocError>
+    ensures { IfOk result (λ path. path ≡ folder_of cache.now integrity.now) }
+{
+    let _address = integrity.address();
+    paths::content_folder(alloc, cache, integrity)
+}

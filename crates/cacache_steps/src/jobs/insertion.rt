@@ -1,0 +1,102 @@
+//! How an entry goes into its bucket.
+ghost use Rattle.std.specs.Prelude.{◌≡◌, IfOk, IsTrue};
+ghost use Rattle.cacache_base.specs.Seen.{told};
+ghost use Rattle.cacache_entry.specs.View.{entry_view};
+ghost use Rattle.cacache_steps.specs.Calls.{making_bucket, appending, after, unless_refused, entry_of, inserted_cause};
+ghost use Rattle.cacache_steps.specs.Stands.{PhaseAt, is_ready, KeepsLine};
+ghost use Rattle.cacache_steps.specs.declared.jobs.stage.Stage.TheVariants.{MakingBucket, Appending};
+
+use crate::bytes::Bytes;
+use crate::errors::{Error, Fault};
+use crate::index::{SerializableMetadata, line};
+use crate::jobs::answers::{Refusal, done_of, taken_of};
+use crate::jobs::messages;
+use crate::jobs::phase::{Phase, refused};
+use crate::jobs::places::{bucket_folder, bucket_path};
+use crate::jobs::reply::Reply;
+use crate::jobs::stage::{Insertion, Stage};
+use crate::store::{Answer, OpenedFile, Step, TempFile};
+
+use serde_json::Value;
+use std::alloc::{AllocError, Global};
+
+/// The entry that is inserted.
+fn entry_of(alloc: Global, insertion: &Insertion) -> Result<SerializableMetadata, AllocError>
+    ensures { IfOk result (λ entry. entry_view entry ≡ entry_of insertion.now) }
+{
+    Ok(SerializableMetadata {
+        key: String::from_str(alloc, insertion.key.as_str())?,
+        integrity: Some(insertion.integrity.to_string(alloc)?),
+        time: insertion.moment,
+        size: insertion.size,
+        metadata: Value::Null,
+        raw_metadata: None,
+    })
+}
+
+/// Tests the entry, and goes on to its bucket's folder.
+#[tactic(auto, unfolding(crate::specs::Calls::inserted_line, crate::specs::Calls::inserted_cause))]
+pub(crate) fn inserting<F: OpenedFile, T: TempFile>(
+    alloc: Global,
+    insertion: Insertion,
+) -> Result<Phase<F, T>, AllocError>
+    ensures ready { IfOk result (λ phase. IsTrue (is_ready phase)) }
+    ensures goes_on { IfOk result (λ phase. PhaseAt F.seen T.seen phase (unless_refused insertion (inserted_cause insertion))) }
+{
+    let entry = entry_of(alloc, &insertion)?;
+    match line(alloc, &entry) {
+        Ok(line) => {
+            let line = Bytes::new(alloc, line)?;
+            let folder = bucket_folder(alloc, insertion.cache.as_str(), insertion.key.as_str())?;
+            Ok(Phase::Ready(Stage::MakingBucket(insertion, line), Step::MakeDirs(folder)))
+        }
+        Err(Error::SerdeError(cause, message)) => {
+            Ok(Phase::Finished(Reply::Refused(Error::SerdeError(cause, message))))
+        }
+        Err(_) => Err(AllocError),
+    }
+}
+
+pub(crate) fn after_making_bucket<F: OpenedFile, T: TempFile>(
+    alloc: Global,
+    insertion: Insertion,
+    line: Bytes,
+    answer: Answer<F, T>,
+) -> Result<Phase<F, T>, AllocError>
+    ensures ready { IfOk result (λ phase. IsTrue (is_ready phase)) }
+    ensures goes_on { IfOk result (λ phase. KeepsLine {T = T} (MakingBucket insertion line) → PhaseAt F.seen T.seen phase (after (making_bucket insertion) (told F.seen T.seen answer))) }
+{
+    match done_of(answer) {
+        Ok(()) => {
+            let path = bucket_path(alloc, insertion.cache.as_str(), insertion.key.as_str())?;
+            let size = line.len();
+            Ok(Phase::Ready(Stage::Appending(insertion, size), Step::Append(path, line)))
+        }
+        Err(refusal) => {
+            let folder = bucket_folder(alloc, insertion.cache.as_str(), insertion.key.as_str())?;
+            Ok(refused(refusal, messages::making_bucket(alloc, &folder)?))
+        }
+    }
+}
+
+pub(crate) fn after_appending<F: OpenedFile, T: TempFile>(
+    alloc: Global,
+    insertion: Insertion,
+    size: usize,
+    answer: Answer<F, T>,
+) -> Result<Phase<F, T>, AllocError>
+    ensures ready { IfOk result (λ phase. IsTrue (is_ready phase)) }
+    ensures goes_on { IfOk result (λ phase. KeepsLine {T = T} (Appending insertion size) → PhaseAt F.seen T.seen phase (after (appending insertion) (told F.seen T.seen answer))) }
+{
+    let refusal = match taken_of(answer) {
+        Ok(count) => {
+            if size <= count {
+                return Ok(Phase::Finished(Reply::Stored(insertion.integrity)));
+            }
+            Refusal::Fault(Fault::ShortAppend)
+        }
+        Err(refusal) => refusal,
+    };
+    let path = bucket_path(alloc, insertion.cache.as_str(), insertion.key.as_str())?;
+    Ok(refused(refusal, messages::appending(alloc, &path)?))
+}

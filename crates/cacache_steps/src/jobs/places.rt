@@ -1,0 +1,43 @@
+//! The paths that a call's steps name.
+ghost use Rattle.std.specs.Prelude.{◌≡◌, IfOk};
+ghost use Rattle.cacache_steps.specs.Places.{temp_path as temp_path_of, temp_folder as temp_folder_of, bucket_path as bucket_path_of, bucket_folder as bucket_folder_of};
+
+use crate::text::Text;
+use cacache_integrity::paths;
+use std::alloc::{AllocError, Global};
+
+/// The folder of temporary files.
+#[tactic(auto, unfolding(crate::specs::Places::temp_folder))]
+pub(crate) fn temp_folder(alloc: Global, cache: &str) -> Result<Text, AllocError>
+    ensures { IfOk result (λ path. path ≡ temp_folder_of cache.now) }
+{
+    paths::join(alloc, cache, "tmp")
+}
+
+/// The path of the temporary file of a number, in 16 hex digits.
+#[tactic(auto, unfolding(crate::specs::Places::temp_path))]
+pub(crate) fn temp_path(alloc: Global, cache: &str, number: u64) -> Result<Text, AllocError>
+    ensures { IfOk result (λ path. path ≡ temp_path_of cache.now number) }
+{
+    let folder = paths::join(alloc, cache, "tmp")?;
+    let mut name = String::from_str(alloc, ".tmp")?;
+    let digits = hex::encode(alloc, number.to_be_bytes())?;
+    name.push_str(&digits)?;
+    paths::join(alloc, folder.as_str(), &name)
+}
+
+/// The bucket of a key.
+#[tactic(auto, unfolding(crate::specs::Places::bucket_path))]
+pub(crate) fn bucket_path(alloc: Global, cache: &str, key: &str) -> Result<Text, AllocError>
+    ensures { IfOk result (λ path. path ≡ bucket_path_of cache.now key.now) }
+{
+    paths::bucket_path(alloc, cache, key)
+}
+
+/// The folder of a key's bucket.
+#[tactic(auto, unfolding(crate::specs::Places::bucket_folder))]
+pub(crate) fn bucket_folder(alloc: Global, cache: &str, key: &str) -> Result<Text, AllocError>
+    ensures { IfOk result (λ path. path ≡ bucket_folder_of cache.now key.now) }
+{
+    paths::bucket_folder(alloc, cache, key)
+}

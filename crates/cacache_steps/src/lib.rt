@@ -1,0 +1,8 @@
+//! Calls as machines that ask a store for one step at a time.
+#![tactic(auto)]
+
+pub mod content;
+pub mod index;
+pub mod jobs;
+
+pub use cacache_base::{bytes, env, errors, integrity, store, text};
