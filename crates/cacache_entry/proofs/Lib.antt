@@ -3,6 +3,7 @@ pub mod Cuts
 pub mod Digits
 pub mod Laws
 pub mod Levels
+pub mod Lookups
 pub mod Parts
 pub mod Pieces
 pub mod Plain

@@ -1,5 +1,5 @@
 -- What a lookup of a key answers.
-use Rattle.std.specs.Prelude.{ℕ, List, Option, Some, None, Result, Ok, Err, cond, bytes_eq, unwrap_or, fold}
+use Rattle.std.specs.Prelude.{◌≡◌, ℕ, List, [], ◌∷◌, Option, Some, None, Result, Ok, Err, cond, bytes_eq, unwrap_or, fold}
 use Rattle.serde_json.specs.Data.{Data}
 use Rattle.cacache_integrity.specs.declared.errors.IntegrityFault.{IntegrityFault}
 use Rattle.cacache_integrity.specs.declared.integrity.digest.Hash.{Hash}
@@ -40,3 +40,8 @@ after_entry key found e = unwrap_or (answer_to key e) found
 -- the lookup: each answer to the key takes the place of the one before it
 abbrev pub latest : List ℕ → List Entry → Option Found
 latest key es = fold (after_entry key) None es
+
+-- no entry answers to the key
+abbrev pub NoneAnswers : List ℕ → List Entry → Type 0
+NoneAnswers key [] = Unit {0}
+NoneAnswers key (e ∷ es) = (answer_to key e ≡ None) × NoneAnswers key es

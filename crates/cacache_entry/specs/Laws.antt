@@ -1,8 +1,9 @@
--- What lines and their beginnings add to a bucket's bytes.
-use Rattle.std.specs.Prelude.{◌≡◌, ◌<◌, ℕ, length, take, List, [], ◌∷◌, ◌++◌}
+-- What lines and their beginnings add to a bucket's bytes, and which entry a lookup finds.
+use Rattle.std.specs.Prelude.{◌≡◌, ◌<◌, ℕ, length, take, List, [], ◌∷◌, ◌++◌, Option, Some, None}
 use Rattle.cacache_entry.specs.Entry.{Entry, line_of}
 use Rattle.cacache_entry.specs.Fits.{IsEntry, Fits}
 use Rattle.cacache_entry.specs.Bucket.{entries_of}
+use Rattle.cacache_entry.specs.Latest.{Found, answer_to, latest, NoneAnswers}
 
 -- behind any bytes, a line adds its entry
 abbrev pub LinesAppend : Type 0
@@ -21,3 +22,13 @@ TornLinesHurtNoOther =
 -- bytes with a line feed between them hold the entries of both
 abbrev pub EntriesSplit : Type 0
 EntriesSplit = (x y : List ℕ) → entries_of (x ++ 10 ∷ y) ≡ entries_of x ++ entries_of y
+
+-- a lookup finds what the last entry that answers to the key says
+abbrev pub LastAnswerDecides : Type 0
+LastAnswerDecides =
+    (key : List ℕ) (before after : List Entry) (e : Entry) (found : Option Found) → answer_to key e ≡ Some found → NoneAnswers key after
+    → latest key (before ++ e ∷ after) ≡ found
+
+-- and nothing where no entry answers
+abbrev pub NoAnswerIsNone : Type 0
+NoAnswerIsNone = (key : List ℕ) (es : List Entry) → NoneAnswers key es → latest key es ≡ None

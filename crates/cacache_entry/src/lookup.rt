@@ -4,6 +4,7 @@ ghost use Rattle.std.specs.Option.{option_to_list};
 ghost use Rattle.cacache_integrity.specs.declared.errors.Error.TheVariants.{OutOfMemory};
 ghost use Rattle.cacache_entry.specs.Bucket.{without_cr as less_cr, entry_of_piece, entries_of};
 ghost use Rattle.cacache_entry.specs.Latest.{found_of, answer_of, after_entry as after, latest as latest_of};
+ghost use Rattle.cacache_entry.specs.Laws.{LastAnswerDecides, NoAnswerIsNone};
 ghost use Rattle.cacache_entry.specs.View.{entry_view, found_view};
 
 use crate::metadata::{Metadata, SerializableMetadata};
@@ -19,6 +20,16 @@ use std::alloc::Global;
 ///
 /// `OutOfMemory` where memory is refused.
 pub fn latest(alloc: Global, bytes: &[u8], key: &str) -> errors::Result<Option<Metadata>>
+    ensures found { IfOk result (λ found. option_map found_view found ≡ latest_of key.now (entries_of bytes.now)) }
+    ensures refused { IfErr result (λ e. e ≡ OutOfMemory) }
+    ensures last_decides { LastAnswerDecides }
+    ensures no_answer { NoAnswerIsNone }
+{
+    last_found(alloc, bytes, key)
+}
+
+// What is found after all pieces, the last of which has no LF behind it.
+fn last_found(alloc: Global, bytes: &[u8], key: &str) -> errors::Result<Option<Metadata>>
     ensures found { IfOk result (λ found. option_map found_view found ≡ latest_of key.now (entries_of bytes.now)) }
     ensures refused { IfErr result (λ e. e ≡ OutOfMemory) }
 {

@@ -97,7 +97,7 @@ fn joined(alloc: Global, text: &str) -> Result<Vec<u8>, AllocError>
     Ok(out)
 }
 
-// The text of an entry.
+// The text of an entry. Its time and size come by value, so that their ranges are known.
 fn text(
     alloc: Global,
     entry: &SerializableMetadata,

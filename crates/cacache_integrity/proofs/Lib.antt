@@ -4,3 +4,5 @@ pub mod Words
 pub mod ReadLemmas
 pub mod Order
 pub mod Printed
+pub mod Decoded
+pub mod Relation

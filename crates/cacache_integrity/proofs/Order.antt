@@ -78,17 +78,29 @@ lengths w x y z = omega (arith, length-append (w ++ x ++ y) z, length-append (w 
 -- no hash is lost
 longer : (a : Algorithm) (d : List ℕ) (hs : List Hash) → length (strongest_first (hash_of a d ∷ hs)) ≡ length (strongest_first hs) + 1
 longer Sha512 d hs =
-    omega (arith, lengths (hash_of Sha512 d ∷ filter (is_of Sha512) hs) (filter (is_of Sha384) hs) (filter (is_of Sha256) hs) (filter (is_of Sha1) hs),
-    lengths (filter (is_of Sha512) hs) (filter (is_of Sha384) hs) (filter (is_of Sha256) hs) (filter (is_of Sha1) hs))
+    omega (
+      arith,
+      lengths (hash_of Sha512 d ∷ filter (is_of Sha512) hs) (filter (is_of Sha384) hs) (filter (is_of Sha256) hs) (filter (is_of Sha1) hs),
+      lengths (filter (is_of Sha512) hs) (filter (is_of Sha384) hs) (filter (is_of Sha256) hs) (filter (is_of Sha1) hs),
+    )
 longer Sha384 d hs =
-    omega (arith, lengths (filter (is_of Sha512) hs) (hash_of Sha384 d ∷ filter (is_of Sha384) hs) (filter (is_of Sha256) hs) (filter (is_of Sha1) hs),
-    lengths (filter (is_of Sha512) hs) (filter (is_of Sha384) hs) (filter (is_of Sha256) hs) (filter (is_of Sha1) hs))
+    omega (
+      arith,
+      lengths (filter (is_of Sha512) hs) (hash_of Sha384 d ∷ filter (is_of Sha384) hs) (filter (is_of Sha256) hs) (filter (is_of Sha1) hs),
+      lengths (filter (is_of Sha512) hs) (filter (is_of Sha384) hs) (filter (is_of Sha256) hs) (filter (is_of Sha1) hs),
+    )
 longer Sha256 d hs =
-    omega (arith, lengths (filter (is_of Sha512) hs) (filter (is_of Sha384) hs) (hash_of Sha256 d ∷ filter (is_of Sha256) hs) (filter (is_of Sha1) hs),
-    lengths (filter (is_of Sha512) hs) (filter (is_of Sha384) hs) (filter (is_of Sha256) hs) (filter (is_of Sha1) hs))
+    omega (
+      arith,
+      lengths (filter (is_of Sha512) hs) (filter (is_of Sha384) hs) (hash_of Sha256 d ∷ filter (is_of Sha256) hs) (filter (is_of Sha1) hs),
+      lengths (filter (is_of Sha512) hs) (filter (is_of Sha384) hs) (filter (is_of Sha256) hs) (filter (is_of Sha1) hs),
+    )
 longer Sha1 d hs =
-    omega (arith, lengths (filter (is_of Sha512) hs) (filter (is_of Sha384) hs) (filter (is_of Sha256) hs) (hash_of Sha1 d ∷ filter (is_of Sha1) hs),
-    lengths (filter (is_of Sha512) hs) (filter (is_of Sha384) hs) (filter (is_of Sha256) hs) (filter (is_of Sha1) hs))
+    omega (
+      arith,
+      lengths (filter (is_of Sha512) hs) (filter (is_of Sha384) hs) (filter (is_of Sha256) hs) (hash_of Sha1 d ∷ filter (is_of Sha1) hs),
+      lengths (filter (is_of Sha512) hs) (filter (is_of Sha384) hs) (filter (is_of Sha256) hs) (filter (is_of Sha1) hs),
+    )
 
 -- hashes in order are an integrity
 pub ordered_is_integrity : (hs : List Hash) → 0 < length hs → All IsHash hs → IsIntegrity (strongest_first hs)

@@ -4,6 +4,7 @@ use Rattle.std.proofs.lemmas.List.{take_all}
 use Rattle.std.specs.Int.{w32, to_be_bytes}
 use Rattle.base64.specs.GeneralPurpose.{IsBytes}
 use Rattle.sha1.specs.Sha1.{sha1, digest_bytes, hash_after, padded_message}
+use Rattle.cacache_integrity.proofs.Decoded.{bytes_append}
 use Rattle.cacache_integrity.specs.declared.integrity.algorithm.Algorithm.{Algorithm}
 use Rattle.cacache_integrity.specs.declared.integrity.algorithm.Algorithm.TheVariants.{Sha1, Sha256, Sha384, Sha512}
 use Rattle.cacache_integrity.specs.declared.integrity.digest.Hash.{Hash}
@@ -72,11 +73,6 @@ contents_one_to_one h g p q e =
     (same_bytes h.digest g.digest p q (same_digits _ _ (ap (λ (ns : List (List ℕ)). drop 2 ns) e)))
 
 -- ---- the digest of a key is bytes
-
-bytes_append : (a b : List ℕ) → IsBytes a → IsBytes b → IsBytes (a ++ b)
-bytes_append [] b p q i = q i
-bytes_append (x ∷ a) b p q zero = p 0
-bytes_append (x ∷ a) b p q (suc i) = bytes_append a b (λ k. p (suc k)) q i
 
 word_bytes : (n : ℕ) → IsBytes (to_be_bytes w32 n)
 word_bytes n zero = omega arith

@@ -20,7 +20,7 @@ pub spaced_more : (hs : List Hash) (i : ℕ) (h : Hash) → i < length hs → h 
     → flat_map spaced (take i hs) ++ spaced h ≡ flat_map spaced (take (i + 1) hs)
 spaced_more hs i h below is =
     ap (λ (t : List ℕ). flat_map spaced (take i hs) ++ t)
-        (sym (append-nil (spaced h)) ∙ ap (λ (x : Hash). flat_map spaced (x ∷ [])) is)
+    (sym (append-nil (spaced h)) ∙ ap (λ (x : Hash). flat_map spaced (x ∷ [])) is)
     ∙ sym (flat_map-append spaced (take i hs) (get_or hs i h ∷ []))
     ∙ sym (ap (λ (l : List Hash). flat_map spaced l) (take_more hs i h below))
 
@@ -30,5 +30,5 @@ pub spaced_all : (hs : List Hash) (i : ℕ) (h : Hash) → 0 < length hs → len
 spaced_all [] i h some past is = absurd (omega arith)
 spaced_all (g ∷ hs) i h some past is =
     let whole : take i (take (length (g ∷ hs) - 1) hs) ≡ hs =
-        ap (λ (l : List Hash). take i l) (take_all (length (g ∷ hs) - 1) hs (omega arith)) ∙ take_all i hs (omega arith) in
+    ap (λ (l : List Hash). take i l) (take_all (length (g ∷ hs) - 1) hs (omega arith)) ∙ take_all i hs (omega arith) in
     ap (λ (l : List Hash). hash_text h ++ flat_map spaced l) whole ∙ ap (λ (x : Hash). hash_text x ++ flat_map spaced hs) is ∙ sym (text_of-cons g hs)

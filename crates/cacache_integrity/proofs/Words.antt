@@ -50,8 +50,8 @@ cut_word t zero some within letters blank = absurd (omega arith)
 cut_word [] (suc j) some within letters blank = absurd (omega arith)
 cut_word (b ∷ t) (suc j) some within letters blank =
     let end : 0 < length (drop j t) → is_blank (get_or (drop j t) 0 0) ≡ true =
-        λ more. ap is_blank (get_or-drop j t 0 0 ∙ ap (λ (k : ℕ). get_or t k 0) (add-zero j))
-            ∙ blank (omega (arith, length-drop j t)) in
+    λ more. ap is_blank (get_or-drop j t 0 0 ∙ ap (λ (k : ℕ). get_or t k 0) (add-zero j))
+    ∙ blank (omega (arith, length-drop j t)) in
     ap (λ (l : List (List ℕ)). filter is_some_text l) (split_at_blank (b ∷ t) (suc j) within letters blank)
     ∙ kept_first b (take j t) (parts_after (drop j t))
     ∙ ap (λ (l : List (List ℕ)). (b ∷ take j t) ∷ l) (words_after (drop j t) end)

@@ -5,7 +5,9 @@ use std::alloc::Global;
 use std::test::Fail;
 
 const TWO_BLOCKS: &str = "abcdbcdecdefdefgefghfghighijhijkijkljklmklmnlmnomnopnopq";
-const LONG_BLOCKS: &str = "abcdefghbcdefghicdefghijdefghijkefghijklfghijklmghijklmnhijklmnoijklmnopjklmnopqklmnopqrlmnopqrsmnopqrstnopqrstu";
+
+const LONG_BLOCKS: &str =
+    "abcdefghbcdefghicdefghijdefghijkefghijklfghijklmghijklmnhijklmnoijklmnopjklmnopqklmnopqrlmnopqrsmnopqrstnopqrstu";
 
 // What the integrity of a text prints as, or the text of its error.
 fn read_back(alloc: Global, text: &str) -> Result<String, Fail> {
@@ -177,11 +179,20 @@ fn ten_thousand_hashes(rt: HostRuntime) -> Result<(), Fail> {
 fn hello_world(rt: HostRuntime) -> Result<(), Fail> {
     let integrity = Integrity::from(rt.alloc(), b"hello world")?;
     let printed = integrity.to_string(rt.alloc())?;
-    assert_eq!(rt; printed.as_str(), "sha256-uU0nuZNNPgilLlLX2n2r+sSE7+N6U4DukIj3rOLvzek=");
-    assert_eq!(rt; integrity.check(rt.alloc(), b"hello world")?, Algorithm::Sha256);
+    assert_eq!(rt;
+        printed.as_str(),
+        "sha256-uU0nuZNNPgilLlLX2n2r+sSE7+N6U4DukIj3rOLvzek="
+    );
+    assert_eq!(rt;
+        integrity.check(rt.alloc(), b"hello world")?,
+        Algorithm::Sha256
+    );
     let (algorithm, digits) = integrity.to_hex(rt.alloc())?;
     assert_eq!(rt; algorithm, Algorithm::Sha256);
-    assert_eq!(rt; digits.as_str(), "b94d27b9934d3e08a52e52d7da7dabfac484efe37a5380ee9088f7ace2efcde9");
+    assert_eq!(rt;
+        digits.as_str(),
+        "b94d27b9934d3e08a52e52d7da7dabfac484efe37a5380ee9088f7ace2efcde9"
+    );
     assert!(rt; integrity.clone()? == integrity);
     Ok(())
 }
@@ -189,8 +200,18 @@ fn hello_world(rt: HostRuntime) -> Result<(), Fail> {
 #[test]
 fn paths_below_a_cache(rt: HostRuntime) -> Result<(), Fail> {
     let contents = [
-        ("sha1-AAAA", "", "content-v2/sha1/00/00", "content-v2/sha1/00/00/00"),
-        ("sha1-deadbeef", "", "content-v2/sha1/75/e6", "content-v2/sha1/75/e6/9d6de79f"),
+        (
+            "sha1-AAAA",
+            "",
+            "content-v2/sha1/00/00",
+            "content-v2/sha1/00/00/00",
+        ),
+        (
+            "sha1-deadbeef",
+            "",
+            "content-v2/sha1/75/e6",
+            "content-v2/sha1/75/e6/9d6de79f",
+        ),
         (
             "sha256-uU0nuZNNPgilLlLX2n2r+sSE7+N6U4DukIj3rOLvzek=",
             "~/.my-cache",
@@ -206,8 +227,16 @@ fn paths_below_a_cache(rt: HostRuntime) -> Result<(), Fail> {
         assert_eq!(rt; found.as_str(), folder);
     }
     let buckets = [
-        ("hello", "c/index-v5/aa/f4", "c/index-v5/aa/f4/c61ddcc5e8a2dabede0f3b482cd9aea9434d"),
-        ("", "c/index-v5/da/39", "c/index-v5/da/39/a3ee5e6b4b0d3255bfef95601890afd80709"),
+        (
+            "hello",
+            "c/index-v5/aa/f4",
+            "c/index-v5/aa/f4/c61ddcc5e8a2dabede0f3b482cd9aea9434d",
+        ),
+        (
+            "",
+            "c/index-v5/da/39",
+            "c/index-v5/da/39/a3ee5e6b4b0d3255bfef95601890afd80709",
+        ),
     ];
     for (key, folder, path) in buckets {
         let found = bucket_path(rt.alloc(), "c", key)?;
@@ -228,7 +257,10 @@ fn pieces(rt: HostRuntime) -> Result<(), Fail> {
     builder.input(b"b");
     let integrity = builder.result(rt.alloc())?;
     let printed = integrity.to_string(rt.alloc())?;
-    assert_eq!(rt; printed.as_str(), "sha512-LUCKBxfsGIFYJ4p5bGiQRDYdxv3eKNbwSXO4CJbhgjl1zb8S62P54FkTKO4jXYDptb8apqRPRhf/PK9kAOsXLQ==");
+    assert_eq!(rt;
+        printed.as_str(),
+        "sha512-LUCKBxfsGIFYJ4p5bGiQRDYdxv3eKNbwSXO4CJbhgjl1zb8S62P54FkTKO4jXYDptb8apqRPRhf/PK9kAOsXLQ=="
+    );
     let mut checker = IntegrityChecker::new(integrity);
     checker.input(b"a");
     checker.input(b"b");
@@ -241,14 +273,21 @@ fn other_bytes_are_refused(rt: HostRuntime) -> Result<(), Fail> {
     let wanted = Integrity::parse(rt.alloc(), "sha1-AAAA")?;
     let error = wanted.check(rt.alloc(), b"abc").err().ok_or("accepted")?;
     let told = error.to_string(rt.alloc())?;
-    assert_eq!(rt; told.as_str(), "Integrity check failed.\n\tWanted: sha1-AAAA\n\tActual: sha1-qZk+NkcGgWq6PiVxeFDCbJzQ2J0=");
+    assert_eq!(rt;
+        told.as_str(),
+        "Integrity check failed.\n\tWanted: sha1-AAAA\n\tActual: sha1-qZk+NkcGgWq6PiVxeFDCbJzQ2J0="
+    );
     Ok(())
 }
 
 #[test]
 fn shared_digests(rt: HostRuntime) -> Result<(), Fail> {
     let pairs = [
-        ("sha512-AAAA sha1-BBBB", "sha512-CCCC sha512-AAAA", Some(Algorithm::Sha512)),
+        (
+            "sha512-AAAA sha1-BBBB",
+            "sha512-CCCC sha512-AAAA",
+            Some(Algorithm::Sha512),
+        ),
         ("sha512-AAAA sha1-BBBB", "sha1-BBBB", Some(Algorithm::Sha1)),
         ("sha512-AAAA sha1-BBBB", "sha512-CCCC sha1-BBBB", None),
     ];

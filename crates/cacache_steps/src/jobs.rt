@@ -2,7 +2,6 @@
 mod answers;
 mod command;
 mod commit;
-
 mod insertion;
 mod job;
 mod messages;
@@ -15,7 +14,6 @@ mod stage;
 
 pub use answers::{Refusal, Written};
 pub use command::{Command, Put};
-
 pub use job::{Job, Next};
 pub use phase::Phase;
 pub use reply::Reply;

@@ -178,9 +178,8 @@ impl Integrity {
     fn lists(&self, algorithm: Algorithm, digest: &[u8]) -> bool
         ensures { IsTrue result ↔ Contains self.now (hash_of algorithm digest.now) }
     {
-        self.hashes
-            .iter()
-            .any(|hash| hash.algorithm == algorithm && hash.digest.as_slice() == digest)
+        self.hashes.iter().any(|hash| hash.algorithm == algorithm
+            && hash.digest.as_slice() == digest)
     }
 }
 

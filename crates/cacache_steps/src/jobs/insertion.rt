@@ -16,7 +16,6 @@ use crate::jobs::places::{bucket_folder, bucket_path};
 use crate::jobs::reply::Reply;
 use crate::jobs::stage::{Insertion, Stage};
 use crate::store::{Answer, OpenedFile, Step, TempFile};
-
 use serde_json::Value;
 use std::alloc::{AllocError, Global};
 

@@ -16,7 +16,6 @@ use crate::jobs::stage::{Commit, Content, Lookup, Stage};
 use crate::jobs::{commit, insertion, reading};
 use crate::store::{Answer, OpenedFile, Step, TempFile};
 use crate::text::Text;
-
 use std::alloc::{AllocError, Global};
 use std::mem::replace;
 
@@ -76,7 +75,10 @@ fn open<F: OpenedFile, T: TempFile>(
         Command::Get(key) => {
             let path = bucket_path(alloc, cache, key.as_str())?;
             let cache = Text::from_str(alloc, cache)?;
-            Ok(Phase::Ready(Stage::ReadingBucket(Lookup { cache, key }), Step::ReadAll(path)))
+            Ok(Phase::Ready(
+                Stage::ReadingBucket(Lookup { cache, key }),
+                Step::ReadAll(path),
+            ))
         }
         Command::GetHash(integrity) => {
             let path = content_path(alloc, cache, &integrity)?;

@@ -29,9 +29,7 @@ pub(crate) fn refused<F: OpenedFile, T: TempFile>(refusal: Refusal, message: Tex
     ensures ends { PhaseAt F.seen T.seen result (ends_with (error_of refusal)) }
 {
     match refusal {
-        Refusal::Fault(fault) => {
-            Phase::Finished(Reply::Refused(Error::IoError(fault, message)))
-        }
+        Refusal::Fault(fault) => { Phase::Finished(Reply::Refused(Error::IoError(fault, message))) }
         Refusal::Memory => Phase::Finished(Reply::Refused(Error::OutOfMemory)),
     }
 }

@@ -7,7 +7,6 @@ ghost use Rattle.cacache_steps.specs.Stands.{PhaseAt, is_ready};
 use crate::bytes::Bytes;
 use crate::content::path::content_path;
 use crate::errors::{Error, Fault};
-use cacache_entry::latest;
 use crate::jobs::answers::{Refusal, bytes_of};
 use crate::jobs::messages;
 use crate::jobs::phase::{Phase, refused};
@@ -15,7 +14,7 @@ use crate::jobs::places::bucket_path;
 use crate::jobs::reply::Reply;
 use crate::jobs::stage::{Content, Lookup, Stage};
 use crate::store::{Answer, OpenedFile, Step, TempFile};
-
+use cacache_entry::latest;
 use std::alloc::{AllocError, Global};
 
 /// Reads the content that a bucket's bytes name for the key.

@@ -22,9 +22,9 @@ returns-clause-words c =
     let nonempty : length u ≡ 0 → ⊥ = eqb-false _ 0 (sym c.is_empty.ensures ∙ c.if-is_empty.false) in
     let some : 0 < length u = omega arith in
     let first : get_or u 0 0 ≡ get_or t s 0 =
-        ap (λ (l : List ℕ). get_or l 0 0) (take_rest t s) ∙ get_or-drop s t 0 0 ∙ ap (λ (k : ℕ). get_or t k 0) (add-zero s) in
+    ap (λ (l : List ℕ). get_or l 0 0) (take_rest t s) ∙ get_or-drop s t 0 0 ∙ ap (λ (k : ℕ). get_or t k 0) (add-zero s) in
     let letter : is_blank (get_or u 0 0) ≡ false =
-        ap is_blank first ∙ c.first_place-start.ensures.found (omega (arith, ap length (take_rest t s), length-drop s t)) in
+    ap is_blank first ∙ c.first_place-start.ensures.found (omega (arith, ap length (take_rest t s), length-drop s t)) in
     sym (skip_blanks t s c.first_place-start.ensures.within c.first_place-start.ensures.before)
     ∙ sym (ap words (take_rest t s))
     ∙ cut_word u e (some_letter u e some letter c.first_place-end.ensures.found) c.first_place-end.ensures.within c.first_place-end.ensures.before c.first_place-end.ensures.found

@@ -16,7 +16,7 @@ returns-clause-writes g c = λ plain _.
     let first : HasWritten g.W.Write.write_str_gives c.args.f.now (hash_text c.index.result.now) c.write.new.self = search rules in
     let is : c.index.result.now ≡ get_or c.deref.result.now 0 c.index.result.now = grind (arith, common_steps) in
     let all =
-        spaced_all c.deref.result.now c.loop-hash.hash-index c.index.result.now (omega (arith, ap length c.deref.ensures.value))
-        (omega (arith, length-take (length c.deref.result.now - 1) (drop 1 c.deref.result.now), length-drop 1 c.deref.result.now)) is
-        ∙ ap text_of (c.deref.ensures.value ∙ c.self.view_is) in
+    spaced_all c.deref.result.now c.loop-hash.hash-index c.index.result.now (omega (arith, ap length c.deref.ensures.value))
+    (omega (arith, length-take (length c.deref.result.now - 1) (drop 1 c.deref.result.now), length-drop 1 c.deref.result.now)) is
+    ∙ ap text_of (c.deref.ensures.value ∙ c.self.view_is) in
     has_written_of_eq _ _ _ _ _ all (has_written_append _ _ _ _ _ _ first (c.loop-hash.invariant first.plain))

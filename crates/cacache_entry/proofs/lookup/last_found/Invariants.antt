@@ -2,7 +2,7 @@ use Rattle.std.proofs.Common.{◌≡◌, ◌≤◌, length, option_map, fold}
 use Rattle.cacache_entry.specs.Bucket.{entries_of}
 use Rattle.cacache_entry.specs.Latest.{after_entry, latest}
 use Rattle.cacache_entry.specs.View.{found_view}
-use Rattle.cacache_entry.proofs.lookup.latest.Given as goal
+use Rattle.cacache_entry.proofs.lookup.last_found.Given as goal
 
 abbrev pub invariant-loop-at : goal.invariant-loop-at
 invariant-loop-at l = record {

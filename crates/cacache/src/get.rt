@@ -1,0 +1,62 @@
+//! Calls that read bytes.
+ghost use Rattle.std.specs.Prelude.{◌≡◌, IfOk};
+ghost use Rattle.cacache_steps.specs.declared.jobs.command.Command.TheVariants.{Get, GetHash};
+ghost use Rattle.cacache_integrity.specs.Integrity.{Meets};
+ghost use Rattle.cacache_steps.specs.Calls.{opening};
+ghost use Rattle.cacache_steps.specs.Runs.{Ran};
+ghost use Rattle.cacache.specs.Reads.{read_reply};
+
+use cacache_steps::env::{Clock, Env, Names};
+use cacache_steps::errors::Result;
+use cacache_steps::integrity::Integrity;
+use cacache_steps::jobs::{Command, Reply, call};
+use cacache_steps::store::Store;
+use cacache_steps::text::Text;
+
+/// The bytes that the key was last stored with. They meet the integrity that the lookup of the key gives
+/// from the bucket as this call read it.
+///
+/// `EntryNotFound` where that lookup is none, `IntegrityError` where the content doesn't meet the integrity,
+/// `IoError` says which step failed. Nothing changes.
+pub fn read_sync<S: Store, C: Clock, N: Names>(
+    env: &mut Env<S, C, N>,
+    cache: &str,
+    key: &str,
+) -> Result<Vec<u8>>
+    ensures ran { Ran (opening cache.now (Get key.now) 0) (read_reply result) (S.log env.old.store) (S.log env.new.store) }
+    ensures clock { env.new.clock ≡ env.old.clock }
+    ensures names { env.new.names ≡ env.old.names }
+    ensures base { env.new.base ≡ env.old.base }
+{
+    let command = Command::Get(Text::from_str(env.alloc, key)?);
+    let base = env.base.as_str();
+    match call(&mut env.store, env.alloc, cache, base, command, 0) {
+        Reply::Read(bytes) => Ok(bytes.into_vec(env.alloc)?),
+        Reply::Refused(error) => Err(error),
+        Reply::Stored(_) => unreachable!(),
+    }
+}
+
+/// The bytes of an integrity. Whatever the store gives, what is answered meets it.
+///
+/// `IntegrityError` where the content doesn't meet the integrity, `IoError` says which step failed. Nothing
+/// changes.
+pub fn read_hash_sync<S: Store, C: Clock, N: Names>(
+    env: &mut Env<S, C, N>,
+    cache: &str,
+    sri: &Integrity,
+) -> Result<Vec<u8>>
+    ensures verified { IfOk result (λ bytes. Meets sri.now bytes.items) }
+    ensures ran { Ran (opening cache.now (GetHash sri.now) 0) (read_reply result) (S.log env.old.store) (S.log env.new.store) }
+    ensures clock { env.new.clock ≡ env.old.clock }
+    ensures names { env.new.names ≡ env.old.names }
+    ensures base { env.new.base ≡ env.old.base }
+{
+    let command = Command::GetHash(sri.clone()?);
+    let base = env.base.as_str();
+    match call(&mut env.store, env.alloc, cache, base, command, 0) {
+        Reply::Read(bytes) => Ok(bytes.into_vec(env.alloc)?),
+        Reply::Refused(error) => Err(error),
+        Reply::Stored(_) => unreachable!(),
+    }
+}

@@ -1,0 +1,178 @@
+use crate::program::{USAGE, run};
+use cacache::bytes::Bytes;
+use cacache::content::path::content_path;
+use cacache::env::{Clock, CountNames, Env};
+use cacache::errors::{Error, IntegrityFault};
+use cacache::integrity::Integrity;
+use cacache::jobs::{Command, Job, Next, Reply};
+use cacache::store::{Answer, FolderStore, Step, Store};
+use std::fs;
+use std::test::Fail;
+
+/// A clock that stands still.
+#[derive(Drop)]
+struct FixedClock(u64);
+
+impl Clock for FixedClock {
+    fn now(&mut self) -> u64 {
+        self.0
+    }
+}
+
+type Folders = Env<FolderStore<HostRuntime>, FixedClock, CountNames>;
+
+fn folders(rt: HostRuntime) -> Result<Folders, Fail> {
+    Ok(Env::new(
+        rt.alloc(),
+        FolderStore::new(rt),
+        FixedClock(1000),
+        CountNames::from(0),
+        ".",
+    )?)
+}
+
+/// What a run of the program answers: its status, its output and what it told on errors.
+fn ran(
+    rt: &HostRuntime,
+    env: &mut Folders,
+    words: &[&str],
+    input: &[u8],
+) -> Result<(u8, Vec<u8>, Vec<u8>), Fail> {
+    let mut owned = Vec::new(rt.alloc());
+    for word in words {
+        owned.push(String::from_str(rt.alloc(), word)?)?;
+    }
+    let mut input = input;
+    let mut output = Vec::new(rt.alloc());
+    let mut errors = Vec::new(rt.alloc());
+    let status = run(env, &owned, &mut input, &mut output, &mut errors);
+    Ok((status, output, errors))
+}
+
+#[test]
+fn writes_and_reads_back(rt: HostRuntime) -> Result<(), Fail> {
+    let mut env = folders(rt)?;
+    let (status, output, errors) = ran(&rt, &mut env, &["write", "c", "hello"], b"hello")?;
+    assert_eq!(rt; status, 0);
+    assert_eq!(rt;
+        output.as_slice(),
+        b"sha256-LPJNul+wow4m6DsqxbninhsWHlwfp0JecwQzYpOLmCQ=\n".as_slice()
+    );
+    assert_eq!(rt; errors.len(), 0);
+    let (status, output, errors) = ran(&rt, &mut env, &["read", "c", "hello"], b"")?;
+    assert_eq!(rt; status, 0);
+    assert_eq!(rt; output.as_slice(), b"hello".as_slice());
+    assert_eq!(rt; errors.len(), 0);
+    let bucket = fs::read(&rt, "c/index-v5/aa/f4/c61ddcc5e8a2dabede0f3b482cd9aea9434d")?;
+    let line =
+        "\n940adafbe5a9be79dd5e4a1d825ccfa70c368d26c6859295c94ba9ee091ceac4\t{\"key\":\"hello\",\"integrity\":\"sha256-LPJNul+wow4m6DsqxbninhsWHlwfp0JecwQzYpOLmCQ=\",\"time\":1000,\"size\":5,\"metadata\":null,\"raw_metadata\":null}";
+    assert_eq!(rt; bucket.as_slice(), line.as_bytes());
+    Ok(())
+}
+
+#[test]
+fn wrong_words_and_missing_keys(rt: HostRuntime) -> Result<(), Fail> {
+    let mut env = folders(rt)?;
+    let wrong: [&[&str]; 4] = [
+        &[],
+        &["read", "m"],
+        &["write", "m", "k", "more"],
+        &["put", "m", "k"],
+    ];
+    for words in wrong {
+        let (status, output, errors) = ran(&rt, &mut env, words, b"")?;
+        assert_eq!(rt; status, 2);
+        assert_eq!(rt; output.len(), 0);
+        assert_eq!(rt; errors.as_slice(), USAGE.as_bytes());
+    }
+    let (status, output, errors) = ran(&rt, &mut env, &["read", "c", "nope"], b"")?;
+    assert_eq!(rt; status, 1);
+    assert_eq!(rt; output.len(), 0);
+    assert_eq!(rt;
+        errors.as_slice(),
+        b"Entry not found for key \"nope\" in cache \"c\"\n".as_slice()
+    );
+    Ok(())
+}
+
+#[test]
+fn damage_is_told(rt: HostRuntime) -> Result<(), Fail> {
+    let mut env = folders(rt)?;
+    let (status, _, _) = ran(&rt, &mut env, &["write", "d", "hello"], b"hello")?;
+    assert_eq!(rt; status, 0);
+    let content =
+        "d/content-v2/sha256/2c/f2/4dba5fb0a30e26e83b2ac5b9e29e1b161e5c1fa7425e73043362938b9824";
+    fs::write(&rt, content, "helln")?;
+    let (status, output, errors) = ran(&rt, &mut env, &["read", "d", "hello"], b"")?;
+    assert_eq!(rt; status, 1);
+    assert_eq!(rt; output.len(), 0);
+    let told =
+        "Integrity check failed.\n\tWanted: sha256-LPJNul+wow4m6DsqxbninhsWHlwfp0JecwQzYpOLmCQ=\n\tActual: sha256-0d0+T1Ovtlvld0hT1gt0+hLBC3acJiFlVixSh+aBbhU=\n";
+    assert_eq!(rt; errors.as_slice(), told.as_bytes());
+    Ok(())
+}
+
+#[test]
+fn nothing_is_a_content(rt: HostRuntime) -> Result<(), Fail> {
+    let mut env = folders(rt)?;
+    let sri = cacache::write_hash_sync(&mut env, "n", b"")?;
+    let text = sri.to_string(rt.alloc())?;
+    assert_eq!(rt;
+        text.as_str(),
+        "sha256-47DEQpj8HBSa+/TImW+5JCeuQeRkm5NMpJWZG3hSuFU="
+    );
+    let bytes = cacache::read_hash_sync(&mut env, "n", &sri)?;
+    assert_eq!(rt; bytes.len(), 0);
+    Ok(())
+}
+
+#[test]
+fn contents_lie_by_their_digest(rt: HostRuntime) -> Result<(), Fail> {
+    let sri = Integrity::from(rt.alloc(), b"hello world")?;
+    let text = sri.to_string(rt.alloc())?;
+    assert_eq!(rt;
+        text.as_str(),
+        "sha256-uU0nuZNNPgilLlLX2n2r+sSE7+N6U4DukIj3rOLvzek="
+    );
+    let path = content_path(rt.alloc(), "~/.my-cache", &sri)?;
+    let wanted =
+        "~/.my-cache/content-v2/sha256/b9/4d/27b9934d3e08a52e52d7da7dabfac484efe37a5380ee9088f7ace2efcde9";
+    assert_eq!(rt; path.as_str(), wanted);
+    Ok(())
+}
+
+type FolderJob = Job<
+    <FolderStore<HostRuntime> as Store>::File,
+    <FolderStore<HostRuntime> as Store>::Temp,
+>;
+
+/// A read of `hello world`, whose step is handed back once and then answered with these bytes.
+fn answered(rt: &HostRuntime, bytes: &[u8]) -> Result<Reply, Fail> {
+    let alloc = rt.alloc();
+    let sri = Integrity::from(alloc, b"hello world")?;
+    let mut job: FolderJob = Job::new(alloc, "c", ".", Command::GetHash(sri), 0);
+    if let Next::Step(step) = job.next() {
+        job.back(step);
+        if let Next::Step(Step::ReadAll(_)) = job.next() {
+            job.take(Answer::Bytes(Bytes::new(alloc, Vec::from_slice(alloc, bytes)?)?));
+            if let Next::Over(reply) = job.next() {
+                return Ok(reply);
+            }
+        }
+    }
+    Ok(Reply::Refused(Error::OutOfMemory))
+}
+
+#[test]
+fn jobs_go_step_by_step(rt: HostRuntime) -> Result<(), Fail> {
+    let whole = answered(&rt, b"hello world")?;
+    assert!(rt; matches!(&whole, Reply::Read(bytes) if bytes.as_slice() == b"hello world"));
+    let damaged = answered(&rt, b"hello w0rld")?;
+    assert!(rt;
+        matches!(
+            &damaged,
+            Reply::Refused(Error::IntegrityError(IntegrityFault::Check(_, _)))
+        )
+    );
+    Ok(())
+}

@@ -1,0 +1,97 @@
+//! Calls that store bytes.
+ghost use Rattle.std.specs.Prelude.{◌≡◌, ℕ, IfOk};
+ghost use Rattle.cacache_integrity.specs.declared.integrity.algorithm.Algorithm.TheVariants.{Sha256};
+ghost use Rattle.cacache_integrity.specs.Integrity.{integrity_under};
+ghost use Rattle.cacache_steps.specs.Calls.{opening};
+ghost use Rattle.cacache_steps.specs.Runs.{Ran};
+ghost use Rattle.cacache_put.specs.Writes.{AsksOnce, keyed_put, unkeyed_put, stored_reply};
+
+use cacache_steps::bytes::Bytes;
+use cacache_steps::env::{Clock, Env, Names};
+use cacache_steps::errors::Result;
+use cacache_steps::integrity::Integrity;
+use cacache_steps::jobs::{Command, Put, Reply, call};
+use cacache_steps::store::Store;
+use cacache_steps::text::Text;
+use std::alloc::{AllocError, Global};
+
+/// The command that stores a copy of the bytes under a key.
+fn keyed(
+    alloc: Global,
+    key: &str,
+    data: &[u8],
+    moment: u64,
+) -> std::result::Result<Command, AllocError>
+    ensures { IfOk result (λ command. command ≡ keyed_put key.now «data».now moment) }
+{
+    let key = Some(Text::from_str(alloc, key)?);
+    let data = Bytes::new(alloc, Vec::from_slice(alloc, data)?)?;
+    let moment = u128::from(moment);
+    Ok(Command::Put(Put { key, data, moment }))
+}
+
+/// The command that stores a copy of the bytes without a key.
+fn unkeyed(alloc: Global, data: &[u8]) -> std::result::Result<Command, AllocError>
+    ensures { IfOk result (λ command. command ≡ unkeyed_put «data».now) }
+{
+    let data = Bytes::new(alloc, Vec::from_slice(alloc, data)?)?;
+    Ok(Command::Put(Put {
+        key: None,
+        data,
+        moment: 0,
+    }))
+}
+
+/// Stores the bytes under the key, and answers their SHA-256 integrity. The entry has the clock's moment,
+/// which is asked once, before the first step.
+///
+/// `IoError` says which step failed, took none of the bytes or only a part of the line. Then the content may
+/// have been stored or not, and the bucket may end in a beginning of the line, perhaps all of it.
+/// `OutOfMemory` may come after any step.
+pub fn write_sync<S: Store, C: Clock, N: Names>(
+    env: &mut Env<S, C, N>,
+    cache: &str,
+    key: &str,
+    data: &[u8],
+) -> Result<Integrity>
+    ensures stored { IfOk result (λ i. i ≡ integrity_under Sha256 «data».now) }
+    ensures ran { (moment number : ℕ) × AsksOnce (C.given env.old.clock) (C.given env.new.clock) moment
+        × AsksOnce (N.given env.old.names) (N.given env.new.names) number
+        × Ran (opening cache.now (keyed_put key.now «data».now moment) number) (stored_reply result) (S.log env.old.store) (S.log env.new.store) }
+    ensures base { env.new.base ≡ env.old.base }
+{
+    let moment = env.clock.now();
+    let number = env.names.fresh();
+    let command = keyed(env.alloc, key, data, moment)?;
+    let base = env.base.as_str();
+    match call(&mut env.store, env.alloc, cache, base, command, number) {
+        Reply::Stored(integrity) => Ok(integrity),
+        Reply::Refused(error) => Err(error),
+        Reply::Read(_) => unreachable!(),
+    }
+}
+
+/// Stores the bytes without a key, and answers their SHA-256 integrity.
+///
+/// `IoError` says which step failed or took none of the bytes. Then the content may have been stored or not;
+/// no bucket changes. `OutOfMemory` may come after any step.
+pub fn write_hash_sync<S: Store, C: Clock, N: Names>(
+    env: &mut Env<S, C, N>,
+    cache: &str,
+    data: &[u8],
+) -> Result<Integrity>
+    ensures stored { IfOk result (λ i. i ≡ integrity_under Sha256 «data».now) }
+    ensures ran { (number : ℕ) × AsksOnce (N.given env.old.names) (N.given env.new.names) number
+        × Ran (opening cache.now (unkeyed_put «data».now) number) (stored_reply result) (S.log env.old.store) (S.log env.new.store) }
+    ensures clock { env.new.clock ≡ env.old.clock }
+    ensures base { env.new.base ≡ env.old.base }
+{
+    let number = env.names.fresh();
+    let command = unkeyed(env.alloc, data)?;
+    let base = env.base.as_str();
+    match call(&mut env.store, env.alloc, cache, base, command, number) {
+        Reply::Stored(integrity) => Ok(integrity),
+        Reply::Refused(error) => Err(error),
+        Reply::Read(_) => unreachable!(),
+    }
+}
