@@ -166,7 +166,9 @@ fn answered(rt: &HostRuntime, bytes: &[u8]) -> Result<Reply, Fail> {
 #[test]
 fn jobs_go_step_by_step(rt: HostRuntime) -> Result<(), Fail> {
     let whole = answered(&rt, b"hello world")?;
-    assert!(rt; matches!(&whole, Reply::Read(bytes) if bytes.as_slice() == b"hello world"));
+    assert!(rt;
+        matches!(&whole, Reply::Read(bytes) if bytes.as_slice() == b"hello world".as_slice())
+    );
     let damaged = answered(&rt, b"hello w0rld")?;
     assert!(rt;
         matches!(
