@@ -3,8 +3,10 @@ ghost use Rattle.std.specs.Prelude.{◌≡◌, IfOk};
 ghost use Rattle.cacache_steps.specs.declared.jobs.command.Command.TheVariants.{Get, GetHash};
 ghost use Rattle.cacache_integrity.specs.Integrity.{Meets};
 ghost use Rattle.cacache_steps.specs.Calls.{opening};
+ghost use Rattle.cacache_steps.specs.Promises.{Promises};
 ghost use Rattle.cacache_steps.specs.Runs.{Ran};
-ghost use Rattle.cacache.specs.Reads.{read_reply};
+ghost use Rattle.cacache_steps.specs.Verified.{FindsBytes, ReadsFound};
+ghost use Rattle.cacache.specs.Reads.{IsReading, read_reply};
 
 use cacache_steps::env::{Clock, Env, Names};
 use cacache_steps::errors::Result;
@@ -12,6 +14,27 @@ use cacache_steps::integrity::Integrity;
 use cacache_steps::jobs::{Command, Reply, call};
 use cacache_steps::store::Store;
 use cacache_steps::text::Text;
+use std::alloc::Global;
+
+/// Makes a call that reads.
+fn read<S: Store>(
+    store: &mut S,
+    alloc: Global,
+    cache: &str,
+    base: &str,
+    command: Command,
+) -> Result<Vec<u8>>
+    requires { IsReading command }
+    ensures ran { Ran (opening cache.now command 0) (read_reply result) (S.log store.old) (S.log store.new) }
+    ensures found { IfOk result (λ bytes. FindsBytes cache.now command (Reply.Read bytes.items) (S.log store.old) (S.log store.new)) }
+    ensures promised { IfOk result (λ bytes. Promises (opening cache.now command 0) (Reply.Read bytes.items)) }
+{
+    match call(store, alloc, cache, base, command, 0) {
+        Reply::Read(bytes) => Ok(bytes.into_vec(alloc)?),
+        Reply::Refused(error) => Err(error),
+        Reply::Stored(_) => unreachable!(),
+    }
+}
 
 /// The bytes that the key was last stored with. They meet the integrity that the lookup of the key gives
 /// from the bucket as this call read it.
@@ -23,6 +46,7 @@ pub fn read_sync<S: Store, C: Clock, N: Names>(
     cache: &str,
     key: &str,
 ) -> Result<Vec<u8>>
+    ensures verified { IfOk result (λ bytes. ReadsFound cache.now key.now bytes.items (S.log env.old.store) (S.log env.new.store)) }
     ensures ran { Ran (opening cache.now (Get key.now) 0) (read_reply result) (S.log env.old.store) (S.log env.new.store) }
     ensures clock { env.new.clock ≡ env.old.clock }
     ensures names { env.new.names ≡ env.old.names }
@@ -30,11 +54,7 @@ pub fn read_sync<S: Store, C: Clock, N: Names>(
 {
     let command = Command::Get(Text::from_str(env.alloc, key)?);
     let base = env.base.as_str();
-    match call(&mut env.store, env.alloc, cache, base, command, 0) {
-        Reply::Read(bytes) => Ok(bytes.into_vec(env.alloc)?),
-        Reply::Refused(error) => Err(error),
-        Reply::Stored(_) => unreachable!(),
-    }
+    read(&mut env.store, env.alloc, cache, base, command)
 }
 
 /// The bytes of an integrity. Whatever the store gives, what is answered meets it.
@@ -54,9 +74,5 @@ pub fn read_hash_sync<S: Store, C: Clock, N: Names>(
 {
     let command = Command::GetHash(sri.clone()?);
     let base = env.base.as_str();
-    match call(&mut env.store, env.alloc, cache, base, command, 0) {
-        Reply::Read(bytes) => Ok(bytes.into_vec(env.alloc)?),
-        Reply::Refused(error) => Err(error),
-        Reply::Stored(_) => unreachable!(),
-    }
+    read(&mut env.store, env.alloc, cache, base, command)
 }

@@ -1,11 +1,5 @@
 -- The words of a command line.
-use Rattle.std.specs.Prelude.{◌≡◌, ◌⊎◌, ℕ, List, [], ◌∷◌, ◌++◌, Option, None, Some, String, string_bytes, codes}
-use Rattle.std.specs.Io.KnownBytes.{Appends}
-use Rattle.cacache_base.specs.declared.store.log.LogItem.{LogItem}
-use Rattle.cacache_steps.specs.declared.jobs.command.Command.TheVariants.{Get}
-use Rattle.cacache_steps.specs.declared.jobs.reply.Reply.TheVariants.{Read}
-use Rattle.cacache_steps.specs.Calls.{opening}
-use Rattle.cacache_steps.specs.Runs.{Ran}
+use Rattle.std.specs.Prelude.{◌≡◌, ◌⊎◌, ℕ, List, [], ◌∷◌, Option, None, Some, String, string_bytes, codes}
 
 -- a command's name, its cache and its key
 pub record Request : Type 0 where
@@ -24,8 +18,3 @@ request_of (a ∷ b ∷ c ∷ d ∷ more) = None
 -- the request is one that the program knows
 abbrev pub IsKnown : Request → Type 0
 IsKnown r = (r.name ≡ codes "write") ⊎ (r.name ≡ codes "read")
-
--- a read that went well appended exactly the bytes of its run to the output
-abbrev pub ReadsOut : List ℕ → List ℕ → Option (List LogItem) → Option (List LogItem) → Option (List ℕ) → Option (List ℕ) → Type 0
-ReadsOut cache key old new before after =
-    (bytes : List ℕ) × Ran (opening cache (Get key) 0) (Read bytes) old new × Appends before after bytes

@@ -1,10 +1,11 @@
 //! What the program does with its words and its streams.
-ghost use Rattle.std.specs.Prelude.{◌≡◌, ◌≤◌, Some, None, MatchOption, IfSome, option_map, codes};
+ghost use Rattle.std.specs.Prelude.{◌≡◌, ◌≤◌, Some, None, MatchOption, IfSome, IfOk, option_map, codes, string_bytes};
 ghost use Rattle.std.specs.Io.KnownBytes.{Appends};
-ghost use Rattle.cacache_cli.specs.Words.{Request, request_of, IsKnown, ReadsOut};
+ghost use Rattle.cacache_cli.specs.Words.{Request, request_of, IsKnown};
+ghost use Rattle.cacache_cli.specs.Streams.{Stores, WritesOut, ReadsOut};
 
 use cacache::env::{Clock, Env, Names};
-use cacache::errors::Error;
+use cacache::errors::{Error, Result};
 use cacache::store::Store;
 use std::io::{Read, Write};
 
@@ -28,6 +29,30 @@ fn failed<E: Write>(errors: &mut E, message: &[u8]) -> u8
     1
 }
 
+/// Puts the bytes on the output, and answers the status.
+fn put_out<W: Write, E: Write>(output: &mut W, bytes: &[u8], errors: &mut E) -> u8
+    ensures status { result ≤ 1 }
+    ensures whole { result ≡ 0 → Appends (W.contents output.old) (W.contents output.new) bytes.now }
+{
+    if output.write_all(bytes).is_err() {
+        return failed(errors, b"output failed\n");
+    }
+    0
+}
+
+/// Stores the bytes under the key. The answer is what is printed: the integrity and a line feed.
+fn stored<S: Store, C: Clock, N: Names>(
+    env: &mut Env<S, C, N>,
+    cache: &str,
+    key: &str,
+    data: &[u8],
+) -> Result<String>
+    ensures { IfOk result (λ line. Stores cache.now key.now «data».now (string_bytes line) (S.log env.old.store) (S.log env.new.store)) }
+{
+    let integrity = cacache::write_sync(env, cache, key, data)?;
+    Ok(format!(in env.alloc; "{integrity}\n")?)
+}
+
 /// Stores all that the input gives under the key, and prints the integrity and a line feed.
 fn write<S: Store, C: Clock, N: Names, R: Read, W: Write, E: Write>(
     env: &mut Env<S, C, N>,
@@ -37,17 +62,15 @@ fn write<S: Store, C: Clock, N: Names, R: Read, W: Write, E: Write>(
     output: &mut W,
     errors: &mut E,
 ) -> u8
-    ensures { result ≤ 1 }
+    ensures status { result ≤ 1 }
+    ensures writes_out { result ≡ 0 → WritesOut cache.now key.now (R.remaining input.old) (S.log env.old.store) (S.log env.new.store) (W.contents output.old) (W.contents output.new) }
 {
     let mut data = Vec::new(env.alloc);
     if input.read_to_end(&mut data).is_err() {
         return failed(errors, b"input failed\n");
     }
-    match cacache::write_sync(env, cache, key, &data) {
-        Ok(integrity) => match writeln!(output, "{integrity}") {
-            Ok(()) => 0,
-            Err(_) => failed(errors, b"output failed\n"),
-        },
+    match stored(env, cache, key, &data) {
+        Ok(line) => put_out(output, line.as_bytes(), errors),
         Err(error) => told(errors, &error),
     }
 }
@@ -64,12 +87,7 @@ fn read<S: Store, C: Clock, N: Names, W: Write, E: Write>(
     ensures reads_out { result ≡ 0 → ReadsOut cache.now key.now (S.log env.old.store) (S.log env.new.store) (W.contents output.old) (W.contents output.new) }
 {
     match cacache::read_sync(env, cache, key) {
-        Ok(bytes) => {
-            if output.write_all(&bytes).is_err() {
-                return failed(errors, b"output failed\n");
-            }
-            0
-        }
+        Ok(bytes) => put_out(output, &bytes, errors),
         Err(error) => told(errors, &error),
     }
 }
@@ -96,6 +114,9 @@ pub fn run<S: Store, C: Clock, N: Names, R: Read, W: Write, E: Write>(
     ensures status { result ≤ 2 }
     ensures known { IfSome (request_of words.now) (λ r. IsKnown r → result ≤ 1) }
     ensures unknown { MatchOption (request_of words.now) (result ≡ 2) (λ r. ¬ IsKnown r → result ≡ 2) }
+    ensures nothing_done { result ≡ 2 → (S.log env.new.store ≡ S.log env.old.store) × (W.contents output.new ≡ W.contents output.old) }
+    ensures writes_out { IfSome (request_of words.now) (λ r. r.name ≡ codes "write" → result ≡ 0 →
+        WritesOut r.cache r.key (R.remaining input.old) (S.log env.old.store) (S.log env.new.store) (W.contents output.old) (W.contents output.new)) }
     ensures reads_out { IfSome (request_of words.now) (λ r. r.name ≡ codes "read" → result ≡ 0 →
         ReadsOut r.cache r.key (S.log env.old.store) (S.log env.new.store) (W.contents output.old) (W.contents output.new)) }
 {

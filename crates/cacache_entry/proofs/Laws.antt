@@ -14,7 +14,7 @@ use Rattle.cacache_entry.specs.Entry.{Entry, members_of, text_of, piece_of, line
 use Rattle.cacache_entry.specs.Reading.{entry_of, read_entry}
 use Rattle.cacache_entry.specs.Fits.{IsEntry, Fits}
 use Rattle.cacache_entry.specs.Bucket.{cut, without_cr, entry_of_parts, entry_of_piece, entries_of}
-use Rattle.cacache_entry.specs.Laws.{LinesAppend, TornLinesAddNothing, TornLinesHurtNoOther, EntriesSplit}
+use Rattle.cacache_entry.specs.Laws.{LinesAppend, TornTextsReadAsNothing, TornLinesAddNothing, TornLinesHurtNoOther, EntriesSplit}
 use Rattle.cacache_entry.proofs.Cuts.{lacks, lacks-append, lacks-take, cut-append, cut-lacks, without_cr-lacks}
 use Rattle.cacache_entry.proofs.Digits.{lacks-sha256_hex, IsUtf8-piece}
 use Rattle.cacache_entry.proofs.Plain.{lacks-plain, plain-compact_text}
@@ -43,6 +43,10 @@ take_past [] t b m zero e = absurd (omega arith)
 take_past [] t b m (suc k) e = let same : k ≡ m = omega arith in ap (λ i. b ∷ take i t) same
 take_past (x ∷ s) t b m zero e = absurd (omega arith)
 take_past (x ∷ s) t b m (suc k) e = ap (λ l. x ∷ l) (take_past s t b m k (omega arith))
+
+-- a proper beginning of an entry's text reads as nothing
+pub torn_texts_read_as_nothing : TornTextsReadAsNothing
+torn_texts_read_as_nothing e n h f short = read-torn (members_of e) (MembersAreWhole-members_of e h f) n short
 
 module _ (e : Entry) (h : IsEntry e) (f : Fits e) where
   lacks-text_of : (at : ℕ) → at < 32 → lacks at (text_of e) ≡ true
@@ -75,7 +79,7 @@ module _ (e : Entry) (h : IsEntry e) (f : Fits e) where
       let inside : m < length (text_of e) = omega (arith, length-append digest (9 ∷ text_of e)) in
       let rest = take m (text_of e) in
       ap (λ p. entry_of_parts (cut 9 p)) (take_past digest (text_of e) 9 m k (omega arith)) ∙ ap entry_of_parts (two_parts rest (lacks-take 9 m (text_of e) (lacks-text_of 9 (omega arith))))
-      ∙ ap (λ o. cond (bytes_eq digest (sha256_hex rest)) (option_and_then entry_of o) None) (read-torn (members_of e) (MembersAreWhole-members_of e h f) m inside) ∙ both_none (bytes_eq digest (sha256_hex rest))
+      ∙ ap (λ o. cond (bytes_eq digest (sha256_hex rest)) (option_and_then entry_of o) None) (torn_texts_read_as_nothing e m h f inside) ∙ both_none (bytes_eq digest (sha256_hex rest))
 
   entry_of_piece-torn : (k : ℕ) → k < length (piece_of e) → entry_of_piece (take k (piece_of e)) ≡ None
   entry_of_piece-torn k short =

@@ -1,6 +1,7 @@
 -- What lines and their beginnings add to a bucket's bytes, and which entry a lookup finds.
 use Rattle.std.specs.Prelude.{◌≡◌, ◌<◌, ℕ, length, take, List, [], ◌∷◌, ◌++◌, Option, Some, None}
-use Rattle.cacache_entry.specs.Entry.{Entry, line_of}
+use Rattle.serde_json.specs.Read.{read}
+use Rattle.cacache_entry.specs.Entry.{Entry, text_of, line_of}
 use Rattle.cacache_entry.specs.Fits.{IsEntry, Fits}
 use Rattle.cacache_entry.specs.Bucket.{entries_of}
 use Rattle.cacache_entry.specs.Latest.{Found, answer_to, latest, NoneAnswers}
@@ -8,6 +9,10 @@ use Rattle.cacache_entry.specs.Latest.{Found, answer_to, latest, NoneAnswers}
 -- behind any bytes, a line adds its entry
 abbrev pub LinesAppend : Type 0
 LinesAppend = (x : List ℕ) (e : Entry) → IsEntry e → Fits e → entries_of (x ++ line_of e) ≡ entries_of x ++ e ∷ []
+
+-- a proper beginning of an entry's text, the empty one too, reads as no JSON value
+abbrev pub TornTextsReadAsNothing : Type 0
+TornTextsReadAsNothing = (e : Entry) (n : ℕ) → IsEntry e → Fits e → n < length (text_of e) → read (take n (text_of e)) ≡ None
 
 -- behind any bytes, a proper beginning of a line adds no entry
 abbrev pub TornLinesAddNothing : Type 0

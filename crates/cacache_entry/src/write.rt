@@ -7,7 +7,7 @@ ghost use Rattle.serde_json.specs.View.{view};
 ghost use Rattle.cacache_integrity.specs.Digests.{sha256_hex};
 ghost use Rattle.cacache_entry.specs.Entry.{line_of, text_of, text_or_null, bytes_or_null};
 ghost use Rattle.cacache_entry.specs.Fits.{AreBytes, IsEntry, cause_of as cause_of_entry};
-ghost use Rattle.cacache_entry.specs.Laws.{LinesAppend, TornLinesAddNothing, TornLinesHurtNoOther};
+ghost use Rattle.cacache_entry.specs.Laws.{LinesAppend, TornTextsReadAsNothing, TornLinesAddNothing, TornLinesHurtNoOther};
 ghost use Rattle.cacache_entry.specs.View.{entry_view, IsRefusal, refusal_text};
 
 use crate::limits::{is_whole, nests_within};
@@ -33,6 +33,7 @@ pub fn line(alloc: Global, entry: &SerializableMetadata) -> errors::Result<Vec<u
     ensures entry { IfOk result (λ bytes. IsEntry (entry_view entry.now)) }
     ensures refused { IfErr result (IsRefusal (entry_view entry.now)) }
     ensures appends { LinesAppend }
+    ensures torn_text { TornTextsReadAsNothing }
     ensures torn { TornLinesAddNothing }
     ensures hurts_no_other { TornLinesHurtNoOther }
 {

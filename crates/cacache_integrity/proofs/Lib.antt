@@ -1,5 +1,6 @@
 pub mod Printing
 pub mod PathLemmas
+pub mod PathTexts
 pub mod Words
 pub mod ReadLemmas
 pub mod Order

@@ -1,21 +1,20 @@
 -- A printed integrity reads as itself.
-use Rattle.std.proofs.Common.{◌≡◌, ◌≢◌, ◌<◌, ◌≤◌, ◌+◌, ◌-◌, ◌*◌, ◌/◌, ◌%◌, ◌==◌, ◌||◌, ℕ, zero, suc, Bool, true, false, List, [], ◌∷◌, ◌++◌, length, take, drop, get_or, replicate, slice_index, map, Ok, Err, Result, refl, sym, ap, ap₂, ◌∙◌, cond, not, length-append, arith, nat_lt, codes, nat_eq, inl, inr}
-use Rattle.std.proofs.lemmas.Bool.{ltb-false, le-ltb, ne_eqb}
+use Rattle.std.proofs.Common.{◌≡◌, ◌≤◌, ◌+◌, ◌*◌, ◌/◌, ◌%◌, ◌||◌, ℕ, zero, suc, Bool, true, false, List, [], ◌∷◌, ◌++◌, length, replicate, slice_index, map, Ok, Err, refl, ap, ap₂, ◌∙◌, cond, not, length-append, arith, codes}
+use Rattle.std.proofs.lemmas.Bool.{le-ltb, ne_eqb}
 use Rattle.std.proofs.lemmas.List.Splits.{slice_split_none, slice_split_at}
 use Rattle.std.proofs.lemmas.List.Elements.{All-nil, All-cons, All-head, All-tail, All-append}
 use Rattle.std.specs.Prelude.{All}
-use Rattle.std.specs.List.{filter, slice_split, list_any}
-use Rattle.base64.specs.Rfc4648.{encode, encode_symbols, encode_group, padding_len}
+use Rattle.std.specs.List.{filter, list_any}
+use Rattle.base64.specs.Rfc4648.{encode_symbols, encode_group, padding_len}
 use Rattle.base64.specs.Engines.{standard}
 use Rattle.base64.specs.GeneralPurpose.{encode_of, decode_of, IsBytes}
 use Rattle.base64.proofs.EngineFacts.{decode_of-encode_of}
-use Rattle.cacache_integrity.specs.declared.errors.IntegrityFault.{IntegrityFault}
 use Rattle.cacache_integrity.specs.declared.errors.IntegrityFault.TheVariants.{ShortDigest}
 use Rattle.cacache_integrity.specs.declared.integrity.algorithm.Algorithm.{Algorithm}
 use Rattle.cacache_integrity.specs.declared.integrity.algorithm.Algorithm.TheVariants.{Sha1, Sha256, Sha384, Sha512}
 use Rattle.cacache_integrity.specs.declared.integrity.digest.Hash.{Hash}
-use Rattle.cacache_integrity.specs.Integrity.{IsHash, IsIntegrity, strongest_first}
-use Rattle.cacache_integrity.specs.Texts.{name_of, hash_text, text_of, is_blank, is_some_text, words, long_hash, decoded_hash, hash_behind, read_word, first_and, read_words, kept_hashes, read_integrity}
+use Rattle.cacache_integrity.specs.Integrity.{IsHash, IsIntegrity}
+use Rattle.cacache_integrity.specs.Texts.{name_of, hash_text, text_of, is_blank, is_some_text, words, decoded_hash, read_word, first_and, read_words, kept_hashes, read_integrity}
 
 -- a byte that is no blank
 abbrev IsLetter : ℕ → Type 0

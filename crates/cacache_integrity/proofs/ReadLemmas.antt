@@ -1,5 +1,5 @@
 -- Reading one word after another.
-use Rattle.std.proofs.Common.{◌≡◌, Bool, true, false, cond, List, [], ◌∷◌, ◌++◌, ℕ, Result, Ok, Err, refl, sym, ap, ap₂, ◌∙◌, append_assoc, append-nil, length, ◌<◌, arith}
+use Rattle.std.proofs.Common.{◌≡◌, Bool, true, false, cond, List, [], ◌∷◌, ◌++◌, ℕ, Result, Ok, Err, refl, sym, ap, ◌∙◌, append_assoc, append-nil, length, ◌<◌, arith}
 use Rattle.cacache_integrity.specs.declared.errors.Error.{Error}
 use Rattle.cacache_integrity.specs.declared.errors.Error.TheVariants.{EntryNotFound, SizeMismatch, IoError, SerdeError, IntegrityError, OutOfMemory}
 use Rattle.cacache_integrity.specs.declared.errors.IntegrityFault.{IntegrityFault}

@@ -1,5 +1,5 @@
 -- A text reads as an integrity exactly where it is one of that integrity.
-use Rattle.std.proofs.Common.{◌≡◌, ◌≤◌, ◌<◌, ◌+◌, ◌↔◌, ℕ, zero, suc, Bool, true, false, cond, List, [], ◌∷◌, ◌++◌, length, drop, slice_index, nat_eq, nat_lt, codes, Result, Ok, Err, refl, sym, ap, ap₂, subst, ◌∙◌, inl, inr, append_assoc, arith, ◌⊎◌}
+use Rattle.std.proofs.Common.{◌≡◌, ◌≤◌, ◌<◌, ℕ, zero, suc, Bool, true, false, cond, List, [], ◌∷◌, ◌++◌, length, drop, nat_eq, nat_lt, codes, Result, Ok, Err, refl, sym, ap, ap₂, subst, ◌∙◌, inl, inr, arith, ◌⊎◌}
 use Rattle.std.proofs.lemmas.Bool.{cases_Bool, ltb-false}
 use Rattle.std.proofs.lemmas.Bool.Decides.{Decides-eqb}
 use Rattle.std.proofs.lemmas.List.Elements.{All-nil, All-cons, All-head, All-tail, All-filter, All-same}
@@ -9,14 +9,17 @@ use Rattle.std.specs.Prelude.{All}
 use Rattle.std.specs.List.{starts_with, slice_split, onto_first}
 use Rattle.base64.specs.declared.decode.DecodeError.{DecodeError}
 use Rattle.base64.specs.Engines.{standard}
-use Rattle.base64.specs.GeneralPurpose.{encode_of, decode_of, IsBytes}
+use Rattle.base64.specs.GeneralPurpose.{decode_of, IsBytes}
 use Rattle.base64.proofs.EngineFacts.{decode_of_strict}
+use Rattle.cacache_integrity.specs.declared.errors.Error.{Error}
+use Rattle.cacache_integrity.specs.declared.errors.Error.TheVariants.{EntryNotFound, SizeMismatch, IoError, SerdeError, IntegrityError, OutOfMemory}
 use Rattle.cacache_integrity.specs.declared.errors.IntegrityFault.{IntegrityFault}
-use Rattle.cacache_integrity.specs.declared.errors.IntegrityFault.TheVariants.{BadText, ShortDigest}
+use Rattle.cacache_integrity.specs.declared.errors.IntegrityFault.TheVariants.{ShortDigest}
 use Rattle.cacache_integrity.specs.declared.integrity.algorithm.Algorithm.{Algorithm}
 use Rattle.cacache_integrity.specs.declared.integrity.algorithm.Algorithm.TheVariants.{Sha1, Sha256, Sha384, Sha512}
 use Rattle.cacache_integrity.specs.declared.integrity.digest.Hash.{Hash}
-use Rattle.cacache_integrity.specs.Integrity.{IsHash, hash_of, strongest_first}
+use Rattle.cacache_integrity.specs.Integrity.{IsHash, hash_of}
+use Rattle.cacache_integrity.specs.Refusals.{IsReadFailure}
 use Rattle.cacache_integrity.specs.Texts.{name_of, hash_text, is_blank, is_some_text, words, long_hash, decoded_hash, hash_behind, read_word, first_and, read_words, kept_hashes, read_integrity, AreHashes, IsIntegrityText}
 use Rattle.cacache_integrity.proofs.Decoded.{bytes_drop, decoded_is_bytes}
 use Rattle.cacache_integrity.proofs.Printed.{read_word-hash_text}
@@ -31,8 +34,9 @@ are_read (w ∷ ws) [] are = absurd are
 are_read (w ∷ ws) (h ∷ hs) are =
     ap₂ first_and (ap read_word are.0 ∙ read_word-hash_text h are.1) (are_read ws hs are.2)
 
-reads : (t : List ℕ) (i : List Hash) → IsIntegrityText t i → read_integrity t ≡ Ok i
-reads t i is = read_some t is.0 (are_read (words t) is.0 is.1) is.2 ∙ ap (λ (l : List Hash). Ok l) (sym is.3)
+pub text_reads : (t : List ℕ) (i : List Hash) → IsIntegrityText t i → read_integrity t ≡ Ok i
+text_reads t i is =
+    read_some t is.written (are_read (words t) is.written is.spelled) is.nonempty ∙ ap (λ (l : List Hash). Ok l) (sym is.ordered)
 
 -- ---- what reads so is in the relation: a word
 
@@ -119,10 +123,14 @@ are_hashes (w ∷ ws) hs bytes e =
 
 kept_text : (t : List ℕ) (hs i : List Hash) → IsBytes t → read_words (words t) ≡ Ok hs → kept_hashes (Ok hs) ≡ Ok i → IsIntegrityText t i
 kept_text t [] i bytes read kept = absurd cc
-kept_text t (h ∷ hs) i bytes read kept =
-    (h ∷ hs, are_hashes (words t) (h ∷ hs) (All-filter is_some_text IsBytes (slice_split is_blank t) (split_bytes t bytes)) read, omega arith, cc)
+kept_text t (h ∷ hs) i bytes read kept = record {
+  written = h ∷ hs;
+  spelled = are_hashes (words t) (h ∷ hs) (All-filter is_some_text IsBytes (slice_split is_blank t) (split_bytes t bytes)) read;
+  nonempty = omega arith;
+  ordered = cc;
+}
 
-is_text : (t : List ℕ) (i : List Hash) → IsBytes t → read_integrity t ≡ Ok i → IsIntegrityText t i
+pub is_text : (t : List ℕ) (i : List Hash) → IsBytes t → read_integrity t ≡ Ok i → IsIntegrityText t i
 unfolding read_integrity
 is_text t i bytes e =
     elim (read_words (words t)) as (λ (r : Result (List Hash) IntegrityFault). read_words (words t) ≡ r → kept_hashes r ≡ Ok i → IsIntegrityText t i) [
@@ -130,6 +138,17 @@ is_text t i bytes e =
       | Err x ↦ λ p q. absurd cc
     ] refl e
 
--- both ways
-pub text_relation : (t : List ℕ) → IsBytes t → (i : List Hash) → IsIntegrityText t i ↔ (read_integrity t ≡ Ok i)
-text_relation t bytes i = (reads t i, is_text t i bytes)
+-- where a reading gives an integrity, it fails for want of memory alone
+read_well : (r : Result (List Hash) IntegrityFault) (i : List Hash) (e : Error) → r ≡ Ok i → IsReadFailure r e → e ≡ OutOfMemory
+read_well r i (EntryNotFound cache key) ok fails = absurd fails
+read_well r i (SizeMismatch a b) ok fails = absurd fails
+read_well r i (IoError fault text) ok fails = absurd fails
+read_well r i (SerdeError cause text) ok fails = absurd fails
+read_well r i (IntegrityError fault) ok fails = absurd (cc (ok, fails))
+read_well r i OutOfMemory ok fails = refl
+
+pub text_fails : (t : List ℕ) (i : List Hash) (e : Error) → IsIntegrityText t i → IsReadFailure (read_integrity t) e → e ≡ OutOfMemory
+text_fails t i e is fails = read_well (read_integrity t) i e (text_reads t i is) fails
+
+pub text_is_of_one : (t : List ℕ) (i j : List Hash) → IsIntegrityText t i → read_integrity t ≡ Ok j → j ≡ i
+text_is_of_one t i j is read = let same : Ok j ≡ Ok i = sym read ∙ text_reads t i is in cc

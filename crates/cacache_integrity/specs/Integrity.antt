@@ -1,5 +1,5 @@
 -- What an integrity is, and which bytes meet it.
-use Rattle.std.specs.Prelude.{◌≡◌, ◌<◌, ◌≤◌, ◌++◌, ◌==◌, ℕ, List, [], ◌∷◌, Bool, Option, None, Some, length, filter, map, All, Contains}
+use Rattle.std.specs.Prelude.{◌≡◌, ◌<◌, ◌≤◌, ◌++◌, ◌==◌, ℕ, List, [], ◌∷◌, Bool, Option, None, Some, length, filter, All, Contains}
 use Rattle.base64.specs.GeneralPurpose.{IsBytes}
 use Rattle.cacache_integrity.specs.declared.integrity.algorithm.Algorithm.{Algorithm}
 use Rattle.cacache_integrity.specs.declared.integrity.algorithm.Algorithm.TheVariants.{Sha1, Sha256, Sha384, Sha512}

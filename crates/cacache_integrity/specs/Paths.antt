@@ -1,5 +1,5 @@
 -- Where contents and buckets lie, as lists of names below the cache folder, and as path texts.
-use Rattle.std.specs.Prelude.{◌≢◌, ℕ, ◌-◌, ◌==◌, List, [], ◌∷◌, ◌++◌, cond, length, take, drop, slice_index, codes}
+use Rattle.std.specs.Prelude.{◌≡◌, ℕ, ◌-◌, ◌==◌, List, [], ◌∷◌, ◌++◌, cond, length, take, drop, slice_index, codes}
 use Rattle.hex.specs.Hex.{encode_lower}
 use Rattle.sha1.specs.Sha1.{sha1}
 use Rattle.cacache_integrity.specs.declared.integrity.digest.Hash.{Hash}
@@ -33,6 +33,11 @@ folder_names [] = []
 folder_names (n ∷ []) = []
 folder_names (n ∷ m ∷ ns) = n ∷ folder_names (m ∷ ns)
 
--- no list of names of one kind is a beginning of one of the other kind
-abbrev pub AreApart : Hash → List ℕ → ℕ → Type 0
-AreApart h key n = (take n (content_names h) ≢ bucket_names key) × (take n (bucket_names key) ≢ content_names h)
+-- the first names are a beginning of the second
+pub record Begins (ns ms : List (List ℕ)) : Type 0 where
+  pub count : ℕ
+  pub same : take count ms ≡ ns
+
+-- neither is a beginning of the other
+abbrev pub AreApart : List (List ℕ) → List (List ℕ) → Type 0
+AreApart ns ms = (¬ Begins ns ms) × (¬ Begins ms ns)

@@ -1,5 +1,5 @@
 -- Which errors a check and a reading may answer.
-use Rattle.std.specs.Prelude.{◌≡◌, ℕ, List, Result, Err}
+use Rattle.std.specs.Prelude.{◌≡◌, List, Result, Err}
 use Rattle.cacache_integrity.specs.declared.errors.Error.{Error}
 use Rattle.cacache_integrity.specs.declared.errors.Error.TheVariants.{EntryNotFound, SizeMismatch, IoError, SerdeError, IntegrityError, OutOfMemory}
 use Rattle.cacache_integrity.specs.declared.errors.IntegrityFault.{IntegrityFault}

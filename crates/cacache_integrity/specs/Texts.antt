@@ -1,9 +1,9 @@
 -- The texts of integrities: how one is printed, and what a text reads as.
-use Rattle.std.specs.Prelude.{◌≡◌, ◌<◌, ◌≤◌, ◌+◌, ◌||◌, ◌==◌, ℕ, List, [], ◌∷◌, ◌++◌, Bool, true, false, cond, not, nat_lt, Result, Ok, Err, length, drop, filter, codes}
+use Rattle.std.specs.Prelude.{◌≡◌, ◌<◌, ◌||◌, ◌==◌, ℕ, List, [], ◌∷◌, ◌++◌, Bool, cond, not, nat_lt, Result, Ok, Err, length, drop, filter, codes}
 use Rattle.std.specs.List.{slice_split, starts_with}
 use Rattle.std.specs.Bool.{nat_eq}
 use Rattle.base64.specs.Engines.{standard}
-use Rattle.base64.specs.GeneralPurpose.{encode_of, decode_of, IsBytes}
+use Rattle.base64.specs.GeneralPurpose.{encode_of, decode_of}
 use Rattle.base64.specs.declared.decode.DecodeError.{DecodeError}
 use Rattle.cacache_integrity.specs.declared.errors.IntegrityFault.{IntegrityFault}
 use Rattle.cacache_integrity.specs.declared.errors.IntegrityFault.TheVariants.{BadText, ShortDigest}
@@ -90,10 +90,6 @@ read_integrity t = kept_hashes (read_words (words t))
 
 -- ---- the same as a relation
 
--- the word is the hash's text
-abbrev pub Spells : List ℕ → Hash → Type 0
-Spells word h = (word ≡ hash_text h) × IsBytes h.digest
-
 -- each word is its hash's text, and the digest is long enough
 abbrev pub AreHashes : List (List ℕ) → List Hash → Type 0
 AreHashes [] [] = Unit {0}
@@ -101,6 +97,9 @@ AreHashes [] (h ∷ hs) = ⊥
 AreHashes (w ∷ ws) [] = ⊥
 AreHashes (w ∷ ws) (h ∷ hs) = (w ≡ hash_text h) × IsHash h × AreHashes ws hs
 
--- the text is the integrity's: its words are one hash or more, kept strongest first
-abbrev pub IsIntegrityText : List ℕ → List Hash → Type 0
-IsIntegrityText t i = (hs : List Hash) × AreHashes (words t) hs × (0 < length hs) × (i ≡ strongest_first hs)
+-- the text is the integrity's: its words are one hash or more, which the integrity has strongest first
+pub record IsIntegrityText (t : List ℕ) (i : List Hash) : Type 0 where
+  pub written : List Hash
+  pub spelled : AreHashes (words t) written
+  pub nonempty : 0 < length written
+  pub ordered : i ≡ strongest_first written

@@ -103,7 +103,7 @@ impl<T: Drop> From<AllocFailed<T>> for Error {
     ghost from_gives = { λ _ e. e ≡ OutOfMemory };
 
     fn from(_error: AllocFailed<T>) -> Error {
-        Error::OutOfMemory
+        Error::from(AllocError)
     }
 }
 

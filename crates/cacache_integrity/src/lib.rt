@@ -4,7 +4,6 @@
 
 pub mod errors;
 pub mod integrity;
-pub mod laws;
 pub mod paths;
 #[cfg(test)]
 mod tests;

@@ -1,8 +1,10 @@
 //! Where contents and buckets lie below a cache folder.
-ghost use Rattle.std.specs.Prelude.{◌≡◌, ◌≤◌, ◌∷◌, codes, IfOk, OnOk, IfSome, length, string_bytes};
+ghost use Rattle.std.specs.Prelude.{◌≡◌, ◌≤◌, ◌↔◌, ◌∷◌, ℕ, List, codes, IfOk, OnOk, IfSome, length, drop, string_bytes};
 ghost use Rattle.hex.specs.Hex.{encode_lower};
-ghost use Rattle.cacache_integrity.specs.Integrity.{address as address_of};
-ghost use Rattle.cacache_integrity.specs.Paths.{join as join_of, joined, cut_digits, content_names, bucket_names, folder_names};
+ghost use Rattle.sha1.specs.Sha1.{sha1};
+ghost use Rattle.cacache_integrity.specs.declared.integrity.digest.Hash.{Hash};
+ghost use Rattle.cacache_integrity.specs.Integrity.{IsHash, address as address_of};
+ghost use Rattle.cacache_integrity.specs.Paths.{join as join_of, joined, cut_digits, content_names, bucket_names, folder_names, Begins, AreApart};
 
 use crate::integrity::{Hash, Integrity};
 use crate::text::Text;
@@ -18,39 +20,75 @@ pub fn join(alloc: Global, path: &str, name: &str) -> Result<Text, AllocError>
     Ok(Text::new(joined))
 }
 
-/// The path of the content that has this integrity's address, below the cache folder.
+/// Where a file lies.
+#[derive(Debug, Drop)]
+pub struct Place {
+    /// The folder that holds it.
+    pub folder: Text,
+    pub path: Text,
+}
+
+/// The path of the content that has this integrity's address, below the cache folder. Equal
+/// addresses have equal paths and no others, and no content lies below another or below a bucket.
+#[tactic(auto, using(crate::proofs::PathTexts::contents_one_to_one, crate::proofs::PathLemmas::no_content_begins, crate::proofs::PathLemmas::are_apart))]
 pub fn content_path(alloc: Global, cache: &str, sri: &Integrity) -> Result<Text, AllocError>
-    ensures { IfOk result (λ t. IfSome (address_of sri.now) (λ h. t ≡ joined cache.now (content_names h))) }
+    ensures path { IfOk result (λ t. IfSome (address_of sri.now) (λ h. t ≡ joined cache.now (content_names h))) }
+    ensures one_to_one { (h g : Hash) → IsHash h → IsHash g → (joined cache.now (content_names h) ≡ joined cache.now (content_names g)) ↔ (h ≡ g) }
+    ensures none_begins { (h g : Hash) → Begins (content_names h) (content_names g) → content_names h ≡ content_names g }
+    ensures apart { (h : Hash) (key : List ℕ) → AreApart (content_names h) (bucket_names key) }
 {
     let address = sri.address();
     let mut path = folder_of_content(alloc, cache, address)?;
-    push_hex(alloc, &mut path, &address.digest.as_slice()[2..])?;
+    push_last_name(alloc, &mut path, address.digest.as_slice())?;
     Ok(Text::new(path))
 }
 
-/// The folder of that content.
-pub fn content_folder(alloc: Global, cache: &str, sri: &Integrity) -> Result<Text, AllocError>
-    ensures { IfOk result (λ t. IfSome (address_of sri.now) (λ h. t ≡ joined cache.now (folder_names (content_names h)))) }
+/// Where that content lies. Its digest is spelled once for both.
+pub fn content_place(alloc: Global, cache: &str, sri: &Integrity) -> Result<Place, AllocError>
+    ensures folder { IfOk result (λ p. IfSome (address_of sri.now) (λ h. p.folder ≡ joined cache.now (folder_names (content_names h)))) }
+    ensures path { IfOk result (λ p. IfSome (address_of sri.now) (λ h. p.path ≡ joined cache.now (content_names h))) }
 {
-    Ok(Text::new(folder_of_content(alloc, cache, sri.address())?))
+    let address = sri.address();
+    let folder = folder_of_content(alloc, cache, address)?;
+    place_in(alloc, folder, address.digest.as_slice())
 }
 
-/// The path of the bucket of a key, below the cache folder.
+/// The path of the bucket of a key, below the cache folder. Keys of equal SHA-1 have equal paths and
+/// no others, and no bucket lies below another.
+#[tactic(auto, using(crate::proofs::PathTexts::buckets_one_to_one, crate::proofs::PathLemmas::no_bucket_begins))]
 pub fn bucket_path(alloc: Global, cache: &str, key: &str) -> Result<Text, AllocError>
-    ensures { IfOk result (λ t. t ≡ joined cache.now (bucket_names key.now)) }
+    ensures path { IfOk result (λ t. t ≡ joined cache.now (bucket_names key.now)) }
+    ensures one_to_one { (k l : List ℕ) → (joined cache.now (bucket_names k) ≡ joined cache.now (bucket_names l)) ↔ (sha1 k ≡ sha1 l) }
+    ensures none_begins { (k l : List ℕ) → Begins (bucket_names k) (bucket_names l) → bucket_names k ≡ bucket_names l }
 {
     let digest = sha1::Sha1::digest(key.as_bytes());
     let mut path = folder_of_bucket(alloc, cache, &digest)?;
-    push_hex(alloc, &mut path, &digest[2..])?;
+    push_last_name(alloc, &mut path, &digest)?;
     Ok(Text::new(path))
 }
 
-/// The folder of that bucket.
-pub fn bucket_folder(alloc: Global, cache: &str, key: &str) -> Result<Text, AllocError>
-    ensures { IfOk result (λ t. t ≡ joined cache.now (folder_names (bucket_names key.now))) }
+/// Where that bucket lies. The key is hashed once for both.
+pub fn bucket_place(alloc: Global, cache: &str, key: &str) -> Result<Place, AllocError>
+    ensures folder { IfOk result (λ p. p.folder ≡ joined cache.now (folder_names (bucket_names key.now))) }
+    ensures path { IfOk result (λ p. p.path ≡ joined cache.now (bucket_names key.now)) }
 {
     let digest = sha1::Sha1::digest(key.as_bytes());
-    Ok(Text::new(folder_of_bucket(alloc, cache, &digest)?))
+    let folder = folder_of_bucket(alloc, cache, &digest)?;
+    place_in(alloc, folder, &digest)
+}
+
+// The place below the folder of a digest's first two bytes.
+fn place_in(alloc: Global, folder: String, digest: &[u8]) -> Result<Place, AllocError>
+    requires { 2 ≤ length digest.now }
+    ensures folder { IfOk result (λ p. p.folder ≡ string_bytes folder) }
+    ensures path { IfOk result (λ p. p.path ≡ join_of (string_bytes folder) (drop 4 (encode_lower digest.now))) }
+{
+    let mut path = folder.clone()?;
+    push_last_name(alloc, &mut path, digest)?;
+    Ok(Place {
+        folder: Text::new(folder),
+        path: Text::new(path),
+    })
 }
 
 fn folder_of_content(alloc: Global, cache: &str, address: &Hash) -> Result<String, AllocError>
@@ -81,6 +119,14 @@ fn push_first_names(alloc: Global, path: &mut String, digest: &[u8]) -> Result<(
 {
     push_hex(alloc, path, &digest[..1])?;
     push_hex(alloc, path, &digest[1..2])
+}
+
+// The name of all other bytes, which is a file.
+fn push_last_name(alloc: Global, path: &mut String, digest: &[u8]) -> Result<(), AllocError>
+    requires { 2 ≤ length digest.now }
+    ensures { OnOk result (string_bytes path.new ≡ join_of (string_bytes path.old) (drop 4 (encode_lower digest.now))) }
+{
+    push_hex(alloc, path, &digest[2..])
 }
 
 fn push_hex(alloc: Global, path: &mut String, bytes: &[u8]) -> Result<(), AllocError>

@@ -1,8 +1,11 @@
 //! Values from outside: FIPS 180-4, RFC 4648, and the digests that coreutils compute.
 use crate::integrity::{Algorithm, Integrity, IntegrityChecker, IntegrityOpts};
-use crate::paths::{bucket_folder, bucket_path, content_folder, content_path, join};
 use std::alloc::Global;
+use std::cmp::Ordering;
 use std::test::Fail;
+
+mod paths;
+mod texts;
 
 const TWO_BLOCKS: &str = "abcdbcdecdefdefgefghfghighijhijkijkljklmklmnlmnomnopnopq";
 
@@ -35,6 +38,8 @@ fn names_and_order(rt: HostRuntime) -> Result<(), Fail> {
     assert!(rt; Algorithm::Sha512 < Algorithm::Sha384);
     assert!(rt; Algorithm::Sha384 < Algorithm::Sha256);
     assert!(rt; Algorithm::Sha256 < Algorithm::Sha1);
+    assert_eq!(rt; Algorithm::Sha1.cmp(&Algorithm::Sha512), Ordering::Greater);
+    assert_eq!(rt; Algorithm::Sha384.cmp(&Algorithm::Sha384), Ordering::Equal);
     Ok(())
 }
 
@@ -194,58 +199,6 @@ fn hello_world(rt: HostRuntime) -> Result<(), Fail> {
         "b94d27b9934d3e08a52e52d7da7dabfac484efe37a5380ee9088f7ace2efcde9"
     );
     assert!(rt; integrity.clone()? == integrity);
-    Ok(())
-}
-
-#[test]
-fn paths_below_a_cache(rt: HostRuntime) -> Result<(), Fail> {
-    let contents = [
-        (
-            "sha1-AAAA",
-            "",
-            "content-v2/sha1/00/00",
-            "content-v2/sha1/00/00/00",
-        ),
-        (
-            "sha1-deadbeef",
-            "",
-            "content-v2/sha1/75/e6",
-            "content-v2/sha1/75/e6/9d6de79f",
-        ),
-        (
-            "sha256-uU0nuZNNPgilLlLX2n2r+sSE7+N6U4DukIj3rOLvzek=",
-            "~/.my-cache",
-            "~/.my-cache/content-v2/sha256/b9/4d",
-            "~/.my-cache/content-v2/sha256/b9/4d/27b9934d3e08a52e52d7da7dabfac484efe37a5380ee9088f7ace2efcde9",
-        ),
-    ];
-    for (text, cache, folder, path) in contents {
-        let integrity = Integrity::parse(rt.alloc(), text)?;
-        let found = content_path(rt.alloc(), cache, &integrity)?;
-        assert_eq!(rt; found.as_str(), path);
-        let found = content_folder(rt.alloc(), cache, &integrity)?;
-        assert_eq!(rt; found.as_str(), folder);
-    }
-    let buckets = [
-        (
-            "hello",
-            "c/index-v5/aa/f4",
-            "c/index-v5/aa/f4/c61ddcc5e8a2dabede0f3b482cd9aea9434d",
-        ),
-        (
-            "",
-            "c/index-v5/da/39",
-            "c/index-v5/da/39/a3ee5e6b4b0d3255bfef95601890afd80709",
-        ),
-    ];
-    for (key, folder, path) in buckets {
-        let found = bucket_path(rt.alloc(), "c", key)?;
-        assert_eq!(rt; found.as_str(), path);
-        let found = bucket_folder(rt.alloc(), "c", key)?;
-        assert_eq!(rt; found.as_str(), folder);
-    }
-    let joined = join(rt.alloc(), "c/", "tmp")?;
-    assert_eq!(rt; joined.as_str(), "c/tmp");
     Ok(())
 }
 

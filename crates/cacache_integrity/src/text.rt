@@ -2,6 +2,7 @@
 ghost use Rattle.std.specs.Prelude.{◌≡◌, ℕ, List, IfOk, Some, string_bytes, IsUtf8};
 ghost use Rattle.std.proofs.Common.{refl};
 ghost use Rattle.std.specs.Bool.{nat_eq};
+ghost use Rattle.std.specs.Fmt.{debug_str};
 ghost use Rattle.std.specs.Ordering.{nat_cmp};
 ghost use Rattle.std.specs.Cmp;
 ghost use Rattle.std.specs.Cmp.Lexicographic.{pointwise, slice_cmp, texts_ties, nat_list_eq_equiv, nat_list_cmp_total, texts_po};
@@ -76,6 +77,8 @@ impl fmt::Display for Text {
 }
 
 impl fmt::Debug for Text {
+    ghost debug_output = { debug_str };
+
     fn fmt<W: fmt::Write>(&self, f: &mut fmt::Formatter<W>) -> fmt::Result {
         write!(f, "{:?}", self.text.as_str())
     }

@@ -15,31 +15,50 @@ use cacache_steps::store::Store;
 use cacache_steps::text::Text;
 use std::alloc::{AllocError, Global};
 
-/// The command that stores a copy of the bytes under a key.
+/// What to store: a copy of the bytes, under a key.
 fn keyed(
     alloc: Global,
     key: &str,
     data: &[u8],
     moment: u64,
-) -> std::result::Result<Command, AllocError>
-    ensures { IfOk result (λ command. command ≡ keyed_put key.now «data».now moment) }
+) -> std::result::Result<Put, AllocError>
+    ensures { IfOk result (λ put. put ≡ keyed_put key.now «data».now moment) }
 {
     let key = Some(Text::from_str(alloc, key)?);
     let data = Bytes::new(alloc, Vec::from_slice(alloc, data)?)?;
     let moment = u128::from(moment);
-    Ok(Command::Put(Put { key, data, moment }))
+    Ok(Put { key, data, moment })
 }
 
-/// The command that stores a copy of the bytes without a key.
-fn unkeyed(alloc: Global, data: &[u8]) -> std::result::Result<Command, AllocError>
-    ensures { IfOk result (λ command. command ≡ unkeyed_put «data».now) }
+/// What to store: a copy of the bytes, without a key.
+fn unkeyed(alloc: Global, data: &[u8]) -> std::result::Result<Put, AllocError>
+    ensures { IfOk result (λ put. put ≡ unkeyed_put «data».now) }
 {
     let data = Bytes::new(alloc, Vec::from_slice(alloc, data)?)?;
-    Ok(Command::Put(Put {
+    Ok(Put {
         key: None,
         data,
         moment: 0,
-    }))
+    })
+}
+
+/// Stores it with a temporary file of this number.
+fn stored<S: Store>(
+    store: &mut S,
+    alloc: Global,
+    cache: &str,
+    base: &str,
+    put: Put,
+    number: u64,
+) -> Result<Integrity>
+    ensures stored { IfOk result (λ i. i ≡ integrity_under Sha256 put.«data») }
+    ensures ran { Ran (opening cache.now (Command.Put put) number) (stored_reply result) (S.log store.old) (S.log store.new) }
+{
+    match call(store, alloc, cache, base, Command::Put(put), number) {
+        Reply::Stored(integrity) => Ok(integrity),
+        Reply::Refused(error) => Err(error),
+        Reply::Read(_) => unreachable!(),
+    }
 }
 
 /// Stores the bytes under the key, and answers their SHA-256 integrity. The entry has the clock's moment,
@@ -57,18 +76,14 @@ pub fn write_sync<S: Store, C: Clock, N: Names>(
     ensures stored { IfOk result (λ i. i ≡ integrity_under Sha256 «data».now) }
     ensures ran { (moment number : ℕ) × AsksOnce (C.given env.old.clock) (C.given env.new.clock) moment
         × AsksOnce (N.given env.old.names) (N.given env.new.names) number
-        × Ran (opening cache.now (keyed_put key.now «data».now moment) number) (stored_reply result) (S.log env.old.store) (S.log env.new.store) }
+        × Ran (opening cache.now (Command.Put (keyed_put key.now «data».now moment)) number) (stored_reply result) (S.log env.old.store) (S.log env.new.store) }
     ensures base { env.new.base ≡ env.old.base }
 {
     let moment = env.clock.now();
     let number = env.names.fresh();
-    let command = keyed(env.alloc, key, data, moment)?;
+    let put = keyed(env.alloc, key, data, moment)?;
     let base = env.base.as_str();
-    match call(&mut env.store, env.alloc, cache, base, command, number) {
-        Reply::Stored(integrity) => Ok(integrity),
-        Reply::Refused(error) => Err(error),
-        Reply::Read(_) => unreachable!(),
-    }
+    stored(&mut env.store, env.alloc, cache, base, put, number)
 }
 
 /// Stores the bytes without a key, and answers their SHA-256 integrity.
@@ -82,16 +97,12 @@ pub fn write_hash_sync<S: Store, C: Clock, N: Names>(
 ) -> Result<Integrity>
     ensures stored { IfOk result (λ i. i ≡ integrity_under Sha256 «data».now) }
     ensures ran { (number : ℕ) × AsksOnce (N.given env.old.names) (N.given env.new.names) number
-        × Ran (opening cache.now (unkeyed_put «data».now) number) (stored_reply result) (S.log env.old.store) (S.log env.new.store) }
+        × Ran (opening cache.now (Command.Put (unkeyed_put «data».now)) number) (stored_reply result) (S.log env.old.store) (S.log env.new.store) }
     ensures clock { env.new.clock ≡ env.old.clock }
     ensures base { env.new.base ≡ env.old.base }
 {
     let number = env.names.fresh();
-    let command = unkeyed(env.alloc, data)?;
+    let put = unkeyed(env.alloc, data)?;
     let base = env.base.as_str();
-    match call(&mut env.store, env.alloc, cache, base, command, number) {
-        Reply::Stored(integrity) => Ok(integrity),
-        Reply::Refused(error) => Err(error),
-        Reply::Read(_) => unreachable!(),
-    }
+    stored(&mut env.store, env.alloc, cache, base, put, number)
 }

@@ -2,3 +2,4 @@ pub mod Meeting
 pub mod Ending
 pub mod Running
 pub mod Honest
+pub mod Verified

@@ -6,3 +6,4 @@ pub mod Calls
 pub mod Runs
 pub mod Promises
 pub mod Stands
+pub mod Verified

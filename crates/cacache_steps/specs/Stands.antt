@@ -15,6 +15,7 @@ use Rattle.cacache_steps.specs.declared.jobs.job.Next.{Next}
 use Rattle.cacache_steps.specs.declared.jobs.job.Next.TheVariants as next
 use Rattle.cacache_steps.specs.declared.jobs.job.Job.{Job}
 use Rattle.cacache_steps.specs.Calls.{State, making_temps, creating, writing, making_contents, persisting, confirming, making_bucket, appending, reading_bucket, reading_content, over, wants, entry_of, inserted_line, inserted_cause}
+use Rattle.cacache_steps.specs.Places.{content_path, bucket_path}
 use Rattle.cacache_steps.specs.Runs.{plain_reply, effort}
 
 -- the temporary file that a step carries
@@ -28,25 +29,26 @@ abbrev pub state_of : {T : Type 0} → (T → TempData) → Stage T → Asked �
 state_of temp (stages.MakingTemps c rest) step = making_temps c rest
 state_of temp (stages.Creating c rest) step = creating c rest
 state_of temp (stages.Writing c rest) step = writing c (file_in step) rest
-state_of temp (stages.MakingContents c file) step = making_contents c (temp file)
+state_of temp (stages.MakingContents c file path) step = making_contents c (temp file)
 state_of temp (stages.Persisting c) step = persisting c (file_in step)
 state_of temp (stages.Confirming c fault) step = confirming c fault
-state_of temp (stages.MakingBucket i line) step = making_bucket i
+state_of temp (stages.MakingBucket i line path) step = making_bucket i
 state_of temp (stages.Appending i size) step = appending i
 state_of temp (stages.ReadingBucket l) step = reading_bucket l
 state_of temp (stages.ReadingContent r) step = reading_content r
 
--- an entry on its way into its bucket is well-formed and fits, and its line, or the line's size, is kept
-abbrev pub KeepsLine : {T : Type 0} → Stage T → Type 0
-KeepsLine (stages.MakingBucket i line) = IsEntry (entry_of i) × (inserted_cause i ≡ None) × (line ≡ inserted_line i)
-KeepsLine (stages.Appending i size) = IsEntry (entry_of i) × (inserted_cause i ≡ None) × (size ≡ length (inserted_line i))
-KeepsLine stage = Unit {0}
+-- a stage keeps the path of its next step; an entry on its way into its bucket is well-formed and fits, and its line, or the line's size, is kept
+abbrev pub Keeps : {T : Type 0} → Stage T → Type 0
+Keeps (stages.MakingContents c file path) = path ≡ content_path c.cache c.integrity
+Keeps (stages.MakingBucket i line path) = IsEntry (entry_of i) × (inserted_cause i ≡ None) × (line ≡ inserted_line i) × (path ≡ bucket_path i.cache i.key)
+Keeps (stages.Appending i size) = IsEntry (entry_of i) × (inserted_cause i ≡ None) × (size ≡ length (inserted_line i))
+Keeps stage = Unit {0}
 
 -- the call is at this stage, its step being this one
 pub record IsAt {T : Type 0} (temp : T → TempData) (stage : Stage T) (step : Asked) (s : State) : Type 0 where
   pub state : s ≡ state_of temp stage step
   pub wanted : wants s ≡ Some step
-  pub line : KeepsLine stage
+  pub kept : Keeps stage
 
 -- the call is in this state, and no step is out
 abbrev pub PhaseAt : {F T : Type 0} → (F → OpenData) → (T → TempData) → Phase F T → State → Type 0

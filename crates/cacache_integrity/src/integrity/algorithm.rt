@@ -1,12 +1,18 @@
 //! The algorithms that digests are computed by.
-ghost use Rattle.std.specs.Prelude.{◌≡◌, ◌≢◌, Some, IfOk, IfErr, IsErrOf};
+ghost use Rattle.std.specs.Prelude.{◌≡◌, ◌≢◌, ◌↔◌, Some, IfOk, IfErr};
+ghost use Rattle.std.proofs.Common.{rules};
+ghost use Rattle.std.specs.Cmp.{IsTotalOrder, partial_order_from_own_ties};
+ghost use Rattle.std.specs.Cmp.Rules.{comparing};
+ghost use Rattle.std.specs.Ordering.{nat_cmp, on, as_partial_cmp};
+ghost use Rattle.cacache_integrity.specs.Integrity.{rank};
 ghost use Rattle.cacache_integrity.specs.Texts.{name_of};
 
 use crate::errors::{Error, IntegrityFault, Result};
+use std::cmp::Ordering;
 use std::fmt;
 
 /// An algorithm of FIPS 180-4. The strongest is the least.
-#[derive(Clone, Copy, Debug, PartialEq, Eq, PartialOrd, Ord, Hash)]
+#[derive(Clone, Copy, Debug, PartialEq, Eq, Hash)]
 pub enum Algorithm {
     Sha512,
     Sha384,
@@ -40,6 +46,34 @@ impl Algorithm {
             "sha1" => Ok(Algorithm::Sha1),
             _ => Err(Error::IntegrityError(IntegrityFault::BadText)),
         }
+    }
+}
+
+impl PartialOrd for Algorithm {
+    ghost partial_cmp = { as_partial_cmp (on rank nat_cmp) };
+
+    ghost laws = { partial_order_from_own_ties (Prim.search (comparing, rules)) (Prim.search (comparing, rules)) };
+
+    fn partial_cmp(&self, other: &Algorithm) -> Option<Ordering> {
+        Some(self.cmp(other))
+    }
+}
+
+impl Ord for Algorithm {
+    ghost cmp = { on rank nat_cmp };
+
+    ghost total = { Prim.search (comparing, rules) };
+
+    ghost matches_partial_cmp = { Prim.search (comparing, rules) };
+
+    ghost matches_eq = { Prim.search (comparing, rules) };
+
+    fn cmp(&self, other: &Algorithm) -> Ordering
+        ensures ranks { result ≡ nat_cmp (rank self.now) (rank other.now) }
+        ensures equal { (result ≡ Ordering.Equal) ↔ (self.now ≡ other.now) }
+        ensures total { IsTotalOrder (on rank nat_cmp) }
+    {
+        (*self as u8).cmp(&(*other as u8))
     }
 }
 

@@ -2,6 +2,7 @@
 ghost use Rattle.std.specs.Prelude.{◌≡◌, ◌↔◌, Some, IsTrue};
 ghost use Rattle.std.specs.Bool.{nat_eq};
 ghost use Rattle.std.specs.Cmp;
+ghost use Rattle.std.specs.Fmt.{debug_list, decimal};
 ghost use Rattle.std.specs.Cmp.Lexicographic.{pointwise, nat_list_eq_equiv};
 ghost use Rattle.cacache_integrity.specs.Same.{same_hash, same_hash-equiv};
 ghost use Rattle.cacache_integrity.specs.Texts.{hash_text};
@@ -68,6 +69,8 @@ impl Eq for Digest {
 }
 
 impl fmt::Debug for Digest {
+    ghost debug_output = { debug_list (λ byte. Some (decimal byte)) };
+
     fn fmt<W: fmt::Write>(&self, f: &mut fmt::Formatter<W>) -> fmt::Result {
         write!(f, "{:?}", self.as_slice())
     }

@@ -1,5 +1,5 @@
 //! Integrities.
-ghost use Rattle.std.specs.Prelude.{◌≡◌, ◌≤◌, ◌∷◌, [], ◌↔◌, Some, Ok, IsTrue, ℕ, List, IsOk, IsSome, IfOk, IfErr, IfSome, Contains, length, string_bytes};
+ghost use Rattle.std.specs.Prelude.{◌≡◌, ◌≤◌, ◌∷◌, [], ◌↔◌, Some, Ok, IsTrue, ℕ, List, IsOk, IsSome, IfOk, IfErr, IfSome, MatchResult, Contains, length, string_bytes};
 ghost use Rattle.std.specs.Cmp;
 ghost use Rattle.base64.specs.GeneralPurpose.{IsBytes};
 ghost use Rattle.hex.specs.Hex.{encode_lower};
@@ -7,7 +7,7 @@ ghost use Rattle.cacache_integrity.specs.Hashers.{finished_bytes, Holds, algorit
 ghost use Rattle.cacache_integrity.specs.Integrity.{IsIntegrity, IsHash, Meets, ShareDigest, hash_of, strongest, address as address_of, actual, integrity_under};
 ghost use Rattle.cacache_integrity.specs.Refusals.{IsCheckFailure, IsReadFailure};
 ghost use Rattle.cacache_integrity.specs.Same.{same_hashes, same_hashes-equiv};
-ghost use Rattle.cacache_integrity.specs.Texts.{text_of, read_integrity};
+ghost use Rattle.cacache_integrity.specs.Texts.{text_of, read_integrity, IsIntegrityText};
 
 use crate::errors::{Error, IntegrityFault, Result};
 use crate::integrity::algorithm::Algorithm;
@@ -46,6 +46,8 @@ impl Integrity {
     pub fn parse(alloc: Global, text: &str) -> Result<Integrity>
         ensures ok { IfOk result (λ i. read_integrity text.now ≡ Ok i) }
         ensures err { IfErr result (IsReadFailure (read_integrity text.now)) }
+        ensures related { IfOk result (λ i. IsIntegrityText text.now i) }
+        ensures accepted { (i : List Hash) → IsIntegrityText text.now i → MatchResult result (λ j. j ≡ i) (λ e. e ≡ Error.OutOfMemory) }
         ensures printed { (i : List Hash) → IsIntegrity i → read_integrity (text_of i) ≡ Ok i }
     {
         let hashes = read_hashes(alloc, text.as_bytes())?;
@@ -206,6 +208,8 @@ impl fmt::Display for Integrity {
 }
 
 impl fmt::Debug for Integrity {
+    ghost debug_output = { λ i. Some (text_of i) };
+
     fn fmt<W: fmt::Write>(&self, f: &mut fmt::Formatter<W>) -> fmt::Result {
         write!(f, "{self}")
     }

@@ -4,7 +4,7 @@ ghost use Rattle.cacache_steps.specs.Places.{content_path as path_of, content_fo
 
 use crate::integrity::Integrity;
 use crate::text::Text;
-use cacache_integrity::paths;
+use cacache_integrity::paths::{self, Place};
 use std::alloc::{AllocError, Global};
 
 /// The path of an integrity's content below a cache: `content-v2`, the algorithm of the content address, and
@@ -17,15 +17,16 @@ pub fn content_path(alloc: Global, cache: &str, integrity: &Integrity) -> Result
     paths::content_path(alloc, cache, integrity)
 }
 
-/// The folder of an integrity's content.
-#[tactic(auto, unfolding(crate::specs::Places::content_folder))]
-pub(crate) fn content_folder(
+/// The same with its folder.
+#[tactic(auto, unfolding(crate::specs::Places::content_path, crate::specs::Places::content_folder))]
+pub(crate) fn content_place(
     alloc: Global,
     cache: &str,
     integrity: &Integrity,
-) -> Result<Text, AllocError>
-    ensures { IfOk result (λ path. path ≡ folder_of cache.now integrity.now) }
+) -> Result<Place, AllocError>
+    ensures folder { IfOk result (λ place. place.folder ≡ folder_of cache.now integrity.now) }
+    ensures path { IfOk result (λ place. place.path ≡ path_of cache.now integrity.now) }
 {
     let _address = integrity.address();
-    paths::content_folder(alloc, cache, integrity)
+    paths::content_place(alloc, cache, integrity)
 }

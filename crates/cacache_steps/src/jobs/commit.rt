@@ -2,12 +2,12 @@
 ghost use Rattle.std.specs.Prelude.{◌≡◌, IfOk, IsTrue, drop};
 ghost use Rattle.cacache_base.specs.Seen.{Asked, told};
 ghost use Rattle.cacache_steps.specs.Calls.{making_temps, creating, writing, making_contents, persisting, confirming, after, committed, write_rest, ends_with, error_of};
-ghost use Rattle.cacache_steps.specs.Stands.{PhaseAt, KeepsLine, file_in, is_ready};
-ghost use Rattle.cacache_steps.specs.declared.jobs.stage.Stage.TheVariants.{Writing, Persisting};
+ghost use Rattle.cacache_steps.specs.Stands.{PhaseAt, Keeps, file_in, is_ready};
+ghost use Rattle.cacache_steps.specs.declared.jobs.stage.Stage.TheVariants.{Writing, MakingContents, Persisting};
 
 use crate::bytes::Bytes;
-use crate::content::path::{content_folder, content_path};
-use crate::errors::{Error, Fault};
+use crate::content::path::{content_path, content_place};
+use crate::errors::Fault;
 use crate::jobs::answers::{Refusal, done_of, temp_of, there_of, written_of};
 use crate::jobs::insertion::inserting;
 use crate::jobs::messages;
@@ -16,6 +16,8 @@ use crate::jobs::places::{temp_folder, temp_path};
 use crate::jobs::reply::Reply;
 use crate::jobs::stage::{Commit, Insertion, Stage};
 use crate::store::{Answer, OpenedFile, Step, TempFile};
+use crate::text::Text;
+use cacache_integrity::paths::Place;
 use std::alloc::{AllocError, Global};
 
 pub(crate) fn after_making_temps<F: OpenedFile, T: TempFile>(
@@ -59,8 +61,15 @@ fn write_rest<F: OpenedFile, T: TempFile>(
     ensures goes_on { IfOk result (λ phase. PhaseAt F.seen T.seen phase (write_rest commit (T.seen file) rest)) }
 {
     if rest.is_empty() {
-        let folder = content_folder(alloc, commit.cache.as_str(), &commit.integrity)?;
-        return Ok(Phase::Ready(Stage::MakingContents(commit, file), Step::MakeDirs(folder)));
+        let Place { folder, path } = content_place(
+            alloc,
+            commit.cache.as_str(),
+            &commit.integrity,
+        )?;
+        return Ok(Phase::Ready(
+            Stage::MakingContents(commit, file, path),
+            Step::MakeDirs(folder),
+        ));
     }
     let shared = rest.share()?;
     Ok(Phase::Ready(Stage::Writing(commit, rest), Step::Write(file, shared)))
@@ -91,7 +100,7 @@ pub(crate) fn after_writing<F: OpenedFile, T: TempFile>(
     answer: Answer<F, T>,
 ) -> Result<Phase<F, T>, AllocError>
     ensures ready { IfOk result (λ phase. IsTrue (is_ready phase)) }
-    ensures goes_on { IfOk result (λ phase. (step : Asked) → KeepsLine {T = T} (Writing commit rest) → PhaseAt F.seen T.seen phase (after (writing commit (file_in step) rest) (told F.seen T.seen answer))) }
+    ensures goes_on { IfOk result (λ phase. (step : Asked) → Keeps {T = T} (Writing commit rest) → PhaseAt F.seen T.seen phase (after (writing commit (file_in step) rest) (told F.seen T.seen answer))) }
 {
     match written_of(answer) {
         Ok(written) => {
@@ -110,19 +119,17 @@ pub(crate) fn after_making_contents<F: OpenedFile, T: TempFile>(
     alloc: Global,
     commit: Commit,
     file: T,
+    path: Text,
     answer: Answer<F, T>,
 ) -> Result<Phase<F, T>, AllocError>
     ensures ready { IfOk result (λ phase. IsTrue (is_ready phase)) }
-    ensures goes_on { IfOk result (λ phase. PhaseAt F.seen T.seen phase (after (making_contents commit (T.seen file)) (told F.seen T.seen answer))) }
+    ensures goes_on { IfOk result (λ phase. Keeps (MakingContents commit file path) → PhaseAt F.seen T.seen phase (after (making_contents commit (T.seen file)) (told F.seen T.seen answer))) }
 {
     match done_of(answer) {
-        Ok(()) => {
-            let path = content_path(alloc, commit.cache.as_str(), &commit.integrity)?;
-            Ok(Phase::Ready(Stage::Persisting(commit), Step::Persist(file, path)))
-        }
+        Ok(()) => Ok(Phase::Ready(Stage::Persisting(commit), Step::Persist(file, path))),
         Err(refusal) => {
-            let folder = content_folder(alloc, commit.cache.as_str(), &commit.integrity)?;
-            Ok(refused(refusal, messages::making_contents(alloc, &folder)?))
+            let place = content_place(alloc, commit.cache.as_str(), &commit.integrity)?;
+            Ok(refused(refusal, messages::making_contents(alloc, &place.folder)?))
         }
     }
 }
@@ -177,7 +184,7 @@ pub(crate) fn after_persisting<F: OpenedFile, T: TempFile>(
     answer: Answer<F, T>,
 ) -> Result<Phase<F, T>, AllocError>
     ensures ready { IfOk result (λ phase. IsTrue (is_ready phase)) }
-    ensures goes_on { IfOk result (λ phase. (step : Asked) → KeepsLine {T = T} (Persisting commit) → PhaseAt F.seen T.seen phase (after (persisting commit (file_in step)) (told F.seen T.seen answer))) }
+    ensures goes_on { IfOk result (λ phase. (step : Asked) → Keeps {T = T} (Persisting commit) → PhaseAt F.seen T.seen phase (after (persisting commit (file_in step)) (told F.seen T.seen answer))) }
 {
     match done_of(answer) {
         Ok(()) => committed(alloc, commit),

@@ -3,7 +3,7 @@ ghost use Rattle.std.specs.Prelude.{◌≡◌, IfOk, IsTrue};
 ghost use Rattle.cacache_base.specs.Seen.{told};
 ghost use Rattle.cacache_entry.specs.View.{entry_view};
 ghost use Rattle.cacache_steps.specs.Calls.{making_bucket, appending, after, unless_refused, entry_of, inserted_cause};
-ghost use Rattle.cacache_steps.specs.Stands.{PhaseAt, is_ready, KeepsLine};
+ghost use Rattle.cacache_steps.specs.Stands.{PhaseAt, is_ready, Keeps};
 ghost use Rattle.cacache_steps.specs.declared.jobs.stage.Stage.TheVariants.{MakingBucket, Appending};
 
 use crate::bytes::Bytes;
@@ -12,10 +12,12 @@ use crate::index::{SerializableMetadata, line};
 use crate::jobs::answers::{Refusal, done_of, taken_of};
 use crate::jobs::messages;
 use crate::jobs::phase::{Phase, refused};
-use crate::jobs::places::{bucket_folder, bucket_path};
+use crate::jobs::places::{bucket_path, bucket_place};
 use crate::jobs::reply::Reply;
 use crate::jobs::stage::{Insertion, Stage};
 use crate::store::{Answer, OpenedFile, Step, TempFile};
+use crate::text::Text;
+use cacache_integrity::paths::Place;
 use serde_json::Value;
 use std::alloc::{AllocError, Global};
 
@@ -46,8 +48,15 @@ pub(crate) fn inserting<F: OpenedFile, T: TempFile>(
     match line(alloc, &entry) {
         Ok(line) => {
             let line = Bytes::new(alloc, line)?;
-            let folder = bucket_folder(alloc, insertion.cache.as_str(), insertion.key.as_str())?;
-            Ok(Phase::Ready(Stage::MakingBucket(insertion, line), Step::MakeDirs(folder)))
+            let Place { folder, path } = bucket_place(
+                alloc,
+                insertion.cache.as_str(),
+                insertion.key.as_str(),
+            )?;
+            Ok(Phase::Ready(
+                Stage::MakingBucket(insertion, line, path),
+                Step::MakeDirs(folder),
+            ))
         }
         Err(Error::SerdeError(cause, message)) => {
             Ok(Phase::Finished(Reply::Refused(Error::SerdeError(cause, message))))
@@ -60,20 +69,20 @@ pub(crate) fn after_making_bucket<F: OpenedFile, T: TempFile>(
     alloc: Global,
     insertion: Insertion,
     line: Bytes,
+    path: Text,
     answer: Answer<F, T>,
 ) -> Result<Phase<F, T>, AllocError>
     ensures ready { IfOk result (λ phase. IsTrue (is_ready phase)) }
-    ensures goes_on { IfOk result (λ phase. KeepsLine {T = T} (MakingBucket insertion line) → PhaseAt F.seen T.seen phase (after (making_bucket insertion) (told F.seen T.seen answer))) }
+    ensures goes_on { IfOk result (λ phase. Keeps {T = T} (MakingBucket insertion line path) → PhaseAt F.seen T.seen phase (after (making_bucket insertion) (told F.seen T.seen answer))) }
 {
     match done_of(answer) {
         Ok(()) => {
-            let path = bucket_path(alloc, insertion.cache.as_str(), insertion.key.as_str())?;
             let size = line.len();
             Ok(Phase::Ready(Stage::Appending(insertion, size), Step::Append(path, line)))
         }
         Err(refusal) => {
-            let folder = bucket_folder(alloc, insertion.cache.as_str(), insertion.key.as_str())?;
-            Ok(refused(refusal, messages::making_bucket(alloc, &folder)?))
+            let place = bucket_place(alloc, insertion.cache.as_str(), insertion.key.as_str())?;
+            Ok(refused(refusal, messages::making_bucket(alloc, &place.folder)?))
         }
     }
 }
@@ -85,7 +94,7 @@ pub(crate) fn after_appending<F: OpenedFile, T: TempFile>(
     answer: Answer<F, T>,
 ) -> Result<Phase<F, T>, AllocError>
     ensures ready { IfOk result (λ phase. IsTrue (is_ready phase)) }
-    ensures goes_on { IfOk result (λ phase. KeepsLine {T = T} (Appending insertion size) → PhaseAt F.seen T.seen phase (after (appending insertion) (told F.seen T.seen answer))) }
+    ensures goes_on { IfOk result (λ phase. Keeps {T = T} (Appending insertion size) → PhaseAt F.seen T.seen phase (after (appending insertion) (told F.seen T.seen answer))) }
 {
     let refusal = match taken_of(answer) {
         Ok(count) => {

@@ -3,7 +3,7 @@ ghost use Rattle.std.specs.Prelude.{◌≡◌, ℕ, List, IfOk, IsTrue, Some};
 ghost use Rattle.cacache_base.specs.Seen.{Asked, asked, told};
 ghost use Rattle.cacache_steps.specs.declared.jobs.reply.Reply.TheVariants.{Read};
 ghost use Rattle.cacache_steps.specs.Calls.{State, opening, after, over};
-ghost use Rattle.cacache_steps.specs.Stands.{PhaseAt, Stands, HasOut, GoesTo, HandsOut, IsAt, KeepsLine, state_of, is_ready, is_step, has_out, can_go_on};
+ghost use Rattle.cacache_steps.specs.Stands.{PhaseAt, Stands, HasOut, GoesTo, HandsOut, IsAt, Keeps, state_of, is_ready, is_step, has_out, can_go_on};
 
 use crate::content::path::content_path;
 use crate::errors::Error;
@@ -96,7 +96,7 @@ fn resume<F: OpenedFile, T: TempFile>(
     answer: Answer<F, T>,
 ) -> Result<Phase<F, T>, AllocError>
     ensures ready { IfOk result (λ phase. IsTrue (is_ready phase)) }
-    ensures goes_on { IfOk result (λ phase. (step : Asked) → KeepsLine stage → PhaseAt F.seen T.seen phase (after (state_of T.seen stage step) (told F.seen T.seen answer))) }
+    ensures goes_on { IfOk result (λ phase. (step : Asked) → Keeps stage → PhaseAt F.seen T.seen phase (after (state_of T.seen stage step) (told F.seen T.seen answer))) }
 {
     match stage {
         Stage::MakingTemps(commit, rest) => {
@@ -104,15 +104,15 @@ fn resume<F: OpenedFile, T: TempFile>(
         }
         Stage::Creating(commit, rest) => commit::after_creating(alloc, commit, rest, answer),
         Stage::Writing(commit, rest) => commit::after_writing(alloc, commit, rest, answer),
-        Stage::MakingContents(commit, file) => {
-            commit::after_making_contents(alloc, commit, file, answer)
+        Stage::MakingContents(commit, file, path) => {
+            commit::after_making_contents(alloc, commit, file, path, answer)
         }
         Stage::Persisting(commit) => commit::after_persisting(alloc, commit, answer),
         Stage::Confirming(commit, fault) => {
             commit::after_confirming(alloc, commit, fault, answer)
         }
-        Stage::MakingBucket(entering, line) => {
-            insertion::after_making_bucket(alloc, entering, line, answer)
+        Stage::MakingBucket(entering, line, path) => {
+            insertion::after_making_bucket(alloc, entering, line, path, answer)
         }
         Stage::Appending(entering, size) => {
             insertion::after_appending(alloc, entering, size, answer)

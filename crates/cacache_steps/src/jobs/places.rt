@@ -3,7 +3,7 @@ ghost use Rattle.std.specs.Prelude.{◌≡◌, IfOk};
 ghost use Rattle.cacache_steps.specs.Places.{temp_path as temp_path_of, temp_folder as temp_folder_of, bucket_path as bucket_path_of, bucket_folder as bucket_folder_of};
 
 use crate::text::Text;
-use cacache_integrity::paths;
+use cacache_integrity::paths::{self, Place};
 use std::alloc::{AllocError, Global};
 
 /// The folder of temporary files.
@@ -34,10 +34,11 @@ pub(crate) fn bucket_path(alloc: Global, cache: &str, key: &str) -> Result<Text,
     paths::bucket_path(alloc, cache, key)
 }
 
-/// The folder of a key's bucket.
-#[tactic(auto, unfolding(crate::specs::Places::bucket_folder))]
-pub(crate) fn bucket_folder(alloc: Global, cache: &str, key: &str) -> Result<Text, AllocError>
-    ensures { IfOk result (λ path. path ≡ bucket_folder_of cache.now key.now) }
+/// The same with its folder.
+#[tactic(auto, unfolding(crate::specs::Places::bucket_path, crate::specs::Places::bucket_folder))]
+pub(crate) fn bucket_place(alloc: Global, cache: &str, key: &str) -> Result<Place, AllocError>
+    ensures folder { IfOk result (λ place. place.folder ≡ bucket_folder_of cache.now key.now) }
+    ensures path { IfOk result (λ place. place.path ≡ bucket_path_of cache.now key.now) }
 {
-    paths::bucket_folder(alloc, cache, key)
+    paths::bucket_place(alloc, cache, key)
 }

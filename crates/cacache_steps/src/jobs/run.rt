@@ -6,6 +6,7 @@ ghost use Rattle.cacache_steps.specs.declared.jobs.reply.Reply.TheVariants.{Refu
 ghost use Rattle.cacache_integrity.specs.declared.errors.Error.TheVariants.{OutOfMemory};
 ghost use Rattle.cacache_steps.specs.Runs.{Ran, plain_reply};
 ghost use Rattle.cacache_steps.specs.Stands.{Stands};
+ghost use Rattle.cacache_steps.specs.Verified.{FindsBytes};
 
 use crate::jobs::command::Command;
 use crate::jobs::job::{Job, Next};
@@ -33,7 +34,8 @@ pub fn drive<S: Store>(store: &mut S, job: Job<S::File, S::Temp>) -> Reply
 
 /// Makes a call on a cache from its beginning to its end. The reply is that of a run of the call, and where
 /// the store tells its log, that run is what the log gained; over every store it keeps what the call
-/// promises, so that bytes that were read meet their integrity.
+/// promises, so that bytes that were read meet their integrity, which for a call by key is what the lookup
+/// gives from the bucket as the call read it.
 pub fn call<S: Store>(
     store: &mut S,
     alloc: Global,
@@ -43,6 +45,7 @@ pub fn call<S: Store>(
     number: u64,
 ) -> Reply
     ensures ran { Ran (opening cache.now command number) (plain_reply result) (S.log store.old) (S.log store.new) }
+    ensures found { FindsBytes cache.now command (plain_reply result) (S.log store.old) (S.log store.new) }
     ensures promised { Promises (opening cache.now command number) (plain_reply result) }
 
     // A caller that finds no memory for the reply answers as if the run had found none.

@@ -54,14 +54,14 @@ pub enum Stage<T> {
     Creating(Commit, Bytes),
     /// These bytes are written.
     Writing(Commit, Bytes),
-    /// The content's folder is made.
-    MakingContents(Commit, T),
+    /// The content's folder is made; this is the content's path.
+    MakingContents(Commit, T, Text),
     /// The temporary file becomes the content.
     Persisting(Commit),
     /// The persist failed so; a content that is there all the same will do.
     Confirming(Commit, Fault),
-    /// The bucket's folder is made; the line is still to append.
-    MakingBucket(Insertion, Bytes),
+    /// The bucket's folder is made; the line is still to append to the bucket at this path.
+    MakingBucket(Insertion, Bytes, Text),
     /// The line, of this size, is appended.
     Appending(Insertion, usize),
     /// The bucket is read.

@@ -1,8 +1,11 @@
-use Rattle.cacache_entry.proofs.Laws.{lines_append, torn_lines_add_nothing, torn_lines_hurt_no_other}
+use Rattle.cacache_entry.proofs.Laws.{lines_append, torn_texts_read_as_nothing, torn_lines_add_nothing, torn_lines_hurt_no_other}
 use Rattle.cacache_entry.proofs.write.line.Goals as goal
 
 pub returns-clause-appends : goal.returns-clause-appends
 returns-clause-appends c = lines_append
+
+pub returns-clause-torn_text : goal.returns-clause-torn_text
+returns-clause-torn_text c = torn_texts_read_as_nothing
 
 pub returns-clause-torn : goal.returns-clause-torn
 returns-clause-torn c = torn_lines_add_nothing

@@ -1,4 +1,4 @@
-use Rattle.std.proofs.Common.{◌≡◌, ◌<◌, ◌-◌, ◌∷◌, [], false, List, ℕ, length, take, drop, get_or, sym, ap, ◌∙◌, add-zero, length-drop, length-take, arith}
+use Rattle.std.proofs.Common.{◌≡◌, ◌<◌, ◌-◌, ◌∷◌, [], false, List, ℕ, length, take, drop, get_or, sym, ap, ◌∙◌, add-zero, length-drop, arith}
 use Rattle.std.proofs.lemmas.Bool.{eqb-true, eqb-false}
 use Rattle.std.proofs.lemmas.List.{take_rest, get_or-drop, nil_from_length}
 use Rattle.cacache_integrity.specs.Texts.{is_blank, words}

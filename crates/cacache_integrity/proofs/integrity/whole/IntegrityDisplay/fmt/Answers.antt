@@ -1,4 +1,4 @@
-use Rattle.std.proofs.Common.{◌≡◌, ap, ◌∙◌, get_or, length, take, drop, ◌-◌, length-take, length-drop, rules, arith}
+use Rattle.std.proofs.Common.{◌≡◌, ap, ◌∙◌, get_or, length, drop, ◌-◌, length-take, length-drop, rules, arith}
 use Rattle.std.proofs.lemmas.Grind.{common_steps}
 use Rattle.std.proofs.Output.{has_written_append, has_written_of_eq}
 use Rattle.std.specs.Fmt.{HasWritten}
