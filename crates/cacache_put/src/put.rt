@@ -16,12 +16,7 @@ use cacache_steps::text::Text;
 use std::alloc::{AllocError, Global};
 
 /// What to store: a copy of the bytes, under a key.
-fn keyed(
-    alloc: Global,
-    key: &str,
-    data: &[u8],
-    moment: u64,
-) -> std::result::Result<Put, AllocError>
+fn keyed(alloc: Global, key: &str, data: &[u8], moment: u64) -> std::result::Result<Put, AllocError>
     ensures { IfOk result (λ put. put ≡ keyed_put key.now «data».now moment) }
 {
     let key = Some(Text::from_str(alloc, key)?);

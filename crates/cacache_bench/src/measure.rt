@@ -1,0 +1,204 @@
+//! Does work in bulk.
+use crate::work::{Kind, Work};
+use cacache::env::{Clock, Env, Names};
+use cacache::store::Store;
+use cacache::{Integrity, Result};
+use std::alloc::{AllocError, Global};
+
+/// The key that is written over and over.
+const DEEP: &str = "deep";
+
+/// The key of the one large content.
+const LARGE: &str = "large";
+
+fn key_of(alloc: Global, number: u64) -> std::result::Result<String, AllocError> {
+    format!(in alloc; "key-{number}")
+}
+
+/// Makes a content that of a number: its eight bytes, the lowest first, as far as there is room, and zeros.
+fn number_content(content: &mut Vec<u8>, number: u64) {
+    for (byte, value) in content.iter_mut().zip(number.to_le_bytes()) {
+        *byte = value;
+    }
+}
+
+/// How many bytes the content of the work has.
+fn size_of(work: Work<'_>) -> u64 {
+    match work.kind {
+        Kind::Put | Kind::PutAgain => work.second,
+        Kind::GetDeep => 8,
+        Kind::PutLarge | Kind::Digest => work.first.saturating_mul(1024 * 1024),
+        Kind::Get | Kind::GetHash | Kind::GetLarge => 0,
+    }
+}
+
+/// The content of number 0 for the work.
+pub fn content_of(alloc: Global, work: Work<'_>) -> std::result::Result<Vec<u8>, AllocError> {
+    let size = usize::try_from(size_of(work)).unwrap_or(usize::MAX);
+    vec![in alloc; 0; size]
+}
+
+/// Puts the content of a number under a key.
+fn put<S: Store, C: Clock, N: Names>(
+    env: &mut Env<S, C, N>,
+    cache: &str,
+    key: &str,
+    number: u64,
+    content: &mut Vec<u8>,
+) -> Result<()> {
+    number_content(content, number);
+    match cacache::write_sync(env, cache, key, content) {
+        Ok(_) => Ok(()),
+        Err(error) => Err(error),
+    }
+}
+
+fn put_keys<S: Store, C: Clock, N: Names>(
+    env: &mut Env<S, C, N>,
+    cache: &str,
+    count: u64,
+    content: &mut Vec<u8>,
+) -> Result<()> {
+    for number in 0..count {
+        let key = key_of(env.alloc, number)?;
+        put(env, cache, key.as_str(), number, content)?;
+    }
+    Ok(())
+}
+
+fn put_deep<S: Store, C: Clock, N: Names>(
+    env: &mut Env<S, C, N>,
+    cache: &str,
+    depth: u64,
+    content: &mut Vec<u8>,
+) -> Result<()> {
+    for number in 0..depth {
+        put(env, cache, DEEP, number, content)?;
+    }
+    Ok(())
+}
+
+fn get<S: Store, C: Clock, N: Names>(env: &mut Env<S, C, N>, cache: &str, key: &str) -> Result<()> {
+    match cacache::read_sync(env, cache, key) {
+        Ok(_) => Ok(()),
+        Err(error) => Err(error),
+    }
+}
+
+fn get_keys<S: Store, C: Clock, N: Names>(
+    env: &mut Env<S, C, N>,
+    cache: &str,
+    count: u64,
+) -> Result<()> {
+    for number in 0..count {
+        let key = key_of(env.alloc, number)?;
+        get(env, cache, key.as_str())?;
+    }
+    Ok(())
+}
+
+fn get_deep<S: Store, C: Clock, N: Names>(
+    env: &mut Env<S, C, N>,
+    cache: &str,
+    count: u64,
+) -> Result<()> {
+    for _ in 0..count {
+        get(env, cache, DEEP)?;
+    }
+    Ok(())
+}
+
+/// The integrity of what a key holds.
+fn integrity_of<S: Store, C: Clock, N: Names>(
+    env: &mut Env<S, C, N>,
+    cache: &str,
+    key: &str,
+) -> Result<Integrity> {
+    match cacache::read_sync(env, cache, key) {
+        Ok(content) => Integrity::from(env.alloc, &content),
+        Err(error) => Err(error),
+    }
+}
+
+/// The integrities of what the keys hold.
+fn integrities_of<S: Store, C: Clock, N: Names>(
+    env: &mut Env<S, C, N>,
+    cache: &str,
+    count: u64,
+) -> Result<Vec<Integrity>> {
+    let mut integrities = Vec::new(env.alloc);
+    for number in 0..count {
+        let key = key_of(env.alloc, number)?;
+        integrities.push(integrity_of(env, cache, key.as_str())?)?;
+    }
+    Ok(integrities)
+}
+
+fn get_hash<S: Store, C: Clock, N: Names>(
+    env: &mut Env<S, C, N>,
+    cache: &str,
+    integrity: &Integrity,
+) -> Result<()> {
+    match cacache::read_hash_sync(env, cache, integrity) {
+        Ok(_) => Ok(()),
+        Err(error) => Err(error),
+    }
+}
+
+fn get_hashes<S: Store, C: Clock, N: Names>(
+    env: &mut Env<S, C, N>,
+    cache: &str,
+    integrities: &[Integrity],
+) -> Result<()> {
+    for integrity in integrities {
+        get_hash(env, cache, integrity)?;
+    }
+    Ok(())
+}
+
+fn digest(alloc: Global, content: &[u8]) -> Result<()> {
+    match Integrity::from(alloc, content) {
+        Ok(_) => Ok(()),
+        Err(error) => Err(error),
+    }
+}
+
+/// Makes in the cache what the work takes to be there, and answers the integrities that it reads by.
+pub fn prepare<S: Store, C: Clock, N: Names>(
+    env: &mut Env<S, C, N>,
+    work: Work<'_>,
+    content: &mut Vec<u8>,
+) -> Result<Vec<Integrity>> {
+    match work.kind {
+        Kind::PutAgain => put_keys(env, work.cache, work.first, content)?,
+        Kind::GetDeep => put_deep(env, work.cache, work.first, content)?,
+        Kind::GetHash => return integrities_of(env, work.cache, work.first),
+        _ => {}
+    }
+    Ok(Vec::new(env.alloc))
+}
+
+/// Does the work, and answers how many operations that were.
+pub fn perform<S: Store, C: Clock, N: Names>(
+    env: &mut Env<S, C, N>,
+    work: Work<'_>,
+    content: &mut Vec<u8>,
+    integrities: &[Integrity],
+) -> Result<u64> {
+    match work.kind {
+        Kind::Put | Kind::PutAgain => put_keys(env, work.cache, work.first, content)?,
+        Kind::Get => get_keys(env, work.cache, work.first)?,
+        Kind::GetHash => get_hashes(env, work.cache, integrities)?,
+        Kind::GetDeep => {
+            get_deep(env, work.cache, work.second)?;
+            return Ok(work.second);
+        }
+        Kind::PutLarge => put(env, work.cache, LARGE, 0, content)?,
+        Kind::GetLarge => get(env, work.cache, LARGE)?,
+        Kind::Digest => digest(env.alloc, content)?,
+    }
+    match work.kind {
+        Kind::PutLarge | Kind::GetLarge | Kind::Digest => Ok(1),
+        _ => Ok(work.first),
+    }
+}

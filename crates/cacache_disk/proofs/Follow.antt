@@ -1,0 +1,24 @@
+-- One link more.
+use Rattle.std.proofs.Common.{◌≡◌, ◌<◌, ◌-◌, ℕ, zero, suc, refl, arith, List}
+use Rattle.std.specs.Prelude.{Option, None, Some, Ok, Err}
+use Rattle.cacache_integrity.specs.declared.errors.Fault.{Fault}
+use Rattle.cacache_disk.specs.declared.node.Node.TheVariants.{Link}
+use Rattle.cacache_disk.specs.Names.{Names}
+use Rattle.cacache_disk.specs.Tree.{Tree, look}
+use Rattle.cacache_disk.specs.Found.{followed, standing, on_link, and_then}
+
+followed_next : (most : ℕ) (t : Tree) (names : Names) (target : List ℕ) → Some (Link target) ≡ look t names → 0 < most
+    → followed most t names ≡ and_then (standing t target) (followed (most - 1) t)
+unfolding followed
+followed_next zero t names target link some = absurd (omega arith)
+followed_next (suc most) t names target link some = let e : suc most - 1 ≡ most = omega arith in rw (← link, e)
+
+-- its target stands
+pub followed_ok : (most : ℕ) (t : Tree) (names : Names) (target : List ℕ) (next : Names) → Some (Link target) ≡ look t names → 0 < most → Ok next ≡ standing t target
+    → followed most t names ≡ followed (most - 1) t next
+followed_ok most t names target next link some found = rw (followed_next most t names target link some, ← found) refl
+
+-- its target doesn't
+pub followed_err : (most : ℕ) (t : Tree) (names : Names) (target : List ℕ) (fault : Fault) → Some (Link target) ≡ look t names → 0 < most → Err fault ≡ standing t target
+    → followed most t names ≡ Err fault
+followed_err most t names target fault link some found = rw (followed_next most t names target link some, ← found) refl

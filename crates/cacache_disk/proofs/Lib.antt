@@ -1,0 +1,6 @@
+pub mod Follow
+pub mod Maps
+pub mod NameLemmas
+pub mod Puts
+pub mod Told
+pub mod Walks

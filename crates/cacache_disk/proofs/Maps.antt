@@ -1,0 +1,78 @@
+-- The nodes as a finite map.
+use Rattle.std.proofs.Common.{◌≡◌, ℕ, Bool, true, false, cond, List, [], ◌∷◌, ◌++◌, refl, sym, ap, subst, ◌∙◌}
+use Rattle.std.specs.Prelude.{◌&&◌, T, Option, None, Some, map as keys_of}
+use Rattle.std.specs.List.{AllByRecursion, filter_map}
+use Rattle.std.specs.List.Sorted.{IsStrictlySortedBy}
+use Rattle.std.specs.FinMap.Entries.{below_all}
+use Rattle.std.specs.declared.cmp.Ordering.{Ordering}
+use Rattle.std.specs.declared.cmp.Ordering.TheVariants.{Less, Equal, Greater}
+use Rattle.std.specs.Ordering.{eq_by_cmp, is_eq, nat_cmp}
+use Rattle.std.specs.Cmp.{IsTotalOrder, eq_by_cmp_equiv}
+use Rattle.std.proofs.lemmas.Cmp.{nat_list_cmp_total, lists_total}
+use Rattle.std.specs.FinMap as map
+use Rattle.std.specs.FinMap.{IsAntisymmetric, nat_cmp-IsAntisymmetric, slice_cmp-IsAntisymmetric}
+use Rattle.std.specs.BTreeMap as btree
+use Rattle.std.specs.BTreeMap.{BTreeMap, is_at}
+use Rattle.std.specs.Map.{lookup}
+use Rattle.cacache_disk.specs.declared.node.Node.{Node}
+use Rattle.cacache_disk.specs.Tree.{Tree, Names, names_cmp, same_path, child_of, listing}
+use Rattle.cacache_base.specs.declared.store.answer.Name.{Name}
+
+pub total : IsTotalOrder names_cmp
+total = lists_total nat_list_cmp_total
+
+pub only : IsAntisymmetric names_cmp
+only = slice_cmp-IsAntisymmetric (slice_cmp-IsAntisymmetric nat_cmp-IsAntisymmetric)
+
+find_lookup : (q : Names) (es : List (Names × Node)) → map.find names_cmp q es ≡ lookup (is_at (names_cmp q)) es
+find_lookup q [] = refl
+find_lookup q (e ∷ es) = ap (cond (eq_by_cmp names_cmp q e.0) (Some e.1)) (find_lookup q es)
+
+pub get_map : (m : BTreeMap Names Node) (q : Names) → map.get (map.from_entries {R = names_cmp} m.entries) q ≡ btree.get names_cmp m q
+get_map m q = map.get-from_entries total m.entries q ∙ find_lookup q m.entries
+
+pub put_map : (m n : BTreeMap Names Node) (k : Names) (v : Node) → btree.Updates names_cmp m n k (Some v)
+    → map.from_entries {R = names_cmp} n.entries ≡ map.insert (map.from_entries m.entries) k v
+put_map m n k v u = map.same_map total only _ _ (λ q.
+    get_map n q ∙ u.0 q ∙ ap (λ b. cond b (Some v) (btree.get names_cmp m q)) ((eq_by_cmp_equiv total).symm k q)
+    ∙ sym (map.get-insert total (map.from_entries m.entries) k v q ∙ ap (cond (eq_by_cmp names_cmp q k) (Some v)) (get_map m q)))
+
+pub cut_map : (m n : BTreeMap Names Node) (k : Names) → btree.Updates names_cmp m n k None
+    → map.from_entries {R = names_cmp} n.entries ≡ map.remove (map.from_entries m.entries) k
+cut_map m n k u = map.same_map total only _ _ (λ q.
+    get_map n q ∙ u.0 q ∙ ap (λ b. cond b None (btree.get names_cmp m q)) ((eq_by_cmp_equiv total).symm k q)
+    ∙ sym (map.get-remove total (map.from_entries m.entries) k q ∙ ap (cond (eq_by_cmp names_cmp q k) None) (get_map m q)))
+
+is_eq_true : (o : Ordering) → is_eq o ≡ true → o ≡ Equal
+is_eq_true Less e = cc
+is_eq_true Equal e = refl
+is_eq_true Greater e = cc
+
+pub same_path-true : (p q : Names) → same_path p q ≡ true → p ≡ q
+same_path-true p q e = only p q (is_eq_true (names_cmp p q) e)
+
+-- a test and then another
+both : (a b : Bool) → T a → T b → T (a && b)
+both true b x y = y
+both false b x y = absurd x
+
+below_of : (x : Names) (es : List (Names × Node)) → AllByRecursion (λ y. names_cmp x y ≡ Less) (keys_of (λ e. e.0) es) → T (below_all names_cmp x es)
+below_of x [] h = tt
+below_of x (e ∷ es) h = rw h.0 (below_of x es h.1)
+
+sorted_of : (es : List (Names × Node)) → IsStrictlySortedBy names_cmp (keys_of (λ e. e.0) es) → T (map.is_sorted names_cmp es)
+unfolding IsStrictlySortedBy
+sorted_of [] h = tt
+sorted_of (e ∷ es) h = both _ _ (below_of e.0 es h.0) (sorted_of es h.1)
+
+-- the map's entries are those of the finite map, in the same order
+pub entries_map : (m : BTreeMap Names Node) → btree.IsOrdered names_cmp m → map.entries (map.from_entries {R = names_cmp} m.entries) ≡ m.entries
+entries_map m ordered =
+    let sorted : T (map.is_sorted names_cmp m.entries) = sorted_of m.entries ordered in
+    ap map.entries (map.same_map total only _ _ (λ q. map.get-from_entries total m.entries q ∙ sym (map.get-from_sorted names_cmp m.entries q sorted))) ∙ map.entries-from_sorted names_cmp m.entries sorted
+
+-- a listing is made of the map's entries
+pub listing_start : (m : BTreeMap Names Node) (t : Tree) (folder : Names) (found : List Name) (rest : List (Names × Node)) → btree.IsOrdered names_cmp m → map.from_entries m.entries ≡ t → found ≡ [] → rest ≡ m.entries
+    → found ++ filter_map (child_of folder) rest ≡ listing t folder
+unfolding listing
+listing_start m t folder found rest ordered is none all = rw (none, all, sym is, entries_map m ordered) refl

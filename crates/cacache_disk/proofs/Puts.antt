@@ -1,0 +1,59 @@
+-- Nodes that are put and cut.
+use Rattle.std.proofs.Common.{◌≡◌, Bool, true, false, cond, refl, sym, ap, ◌∙◌}
+use Rattle.std.specs.Prelude.{not, Option, None, Some}
+use Rattle.std.specs.FinMap as map
+use Rattle.std.specs.Bool.{nat_eq}
+use Rattle.std.specs.Ordering.{nat_cmp}
+use Rattle.std.specs.Cmp.{eq_by_cmp_equiv}
+use Rattle.std.specs.Cmp.Lexicographic.{pointwise, slice_cmp, lists_ties, texts_ties}
+use Rattle.cacache_disk.specs.declared.node.Node.{Node}
+use Rattle.cacache_disk.specs.Tree.{Tree, Names, look, put, cut, same_path}
+use Rattle.cacache_disk.proofs.Maps.{total, only, same_path-true}
+
+undone : (t : Tree) (p : Names) (node : Node) → None ≡ look t p → (q : Names) (b : Bool) → same_path q p ≡ b → cond b None (cond b (Some node) (look t q)) ≡ look t q
+undone t p node free q true e = free ∙ ap (look t) (sym (same_path-true q p e))
+undone t p node free q false e = refl
+
+-- what was put at a free path and then cut
+pub cut-put : (t : Tree) (p : Names) (node : Node) → None ≡ look t p → cut (put t p node) p ≡ t
+cut-put t p node free = map.same_map total only _ _ (λ q. map.get-remove total (put t p node) p q ∙ ap (cond (same_path q p) None) (map.get-insert total t p node q) ∙ undone t p node free q (same_path q p) refl)
+
+twice : (p q r : Names) (node : Node) (old : Option Node) (a b : Bool) → same_path r p ≡ a → same_path r q ≡ b → (p ≡ q → ⊥)
+    → cond b None (cond a (Some node) old) ≡ cond a (Some node) (cond b None old)
+twice p q r node old true true x y h = absurd (h (sym (same_path-true r p x) ∙ same_path-true r q y))
+twice p q r node old true false x y h = refl
+twice p q r node old false true x y h = refl
+twice p q r node old false false x y h = refl
+
+-- a file put at a path, and another path cut
+pub cut-put_apart : (t : Tree) (p q : Names) (node : Node) → (p ≡ q → ⊥) → cut (put t p node) q ≡ put (cut t q) p node
+cut-put_apart t p q node h = map.same_map total only _ _ (λ r.
+    map.get-remove total (put t p node) q r ∙ ap (cond (same_path r q) None) (map.get-insert total t p node r)
+    ∙ twice p q r node (look t r) (same_path r p) (same_path r q) refl refl h
+    ∙ sym (map.get-insert total (cut t q) p node r ∙ ap (cond (same_path r p) (Some node)) (map.get-remove total t q r)))
+
+over : (p r : Names) (node : Node) (old : Option Node) (a : Bool) → cond a (Some node) old ≡ cond a (Some node) (cond a None old)
+over p r node old true = refl
+over p r node old false = refl
+
+pub put-cut_same : (t : Tree) (p q : Names) (node : Node) → p ≡ q → put t p node ≡ put (cut t q) p node
+put-cut_same t p q node e = rw (sym e) (map.same_map total only _ _ (λ r.
+    map.get-insert total t p node r ∙ over p r node (look t r) (same_path r p)
+    ∙ sym (map.get-insert total (cut t p) p node r ∙ ap (cond (same_path r p) (Some node)) (map.get-remove total t p r))))
+
+same_names : (p q : Names) → pointwise (pointwise nat_eq) p q ≡ same_path p q
+same_names p q = lists_ties (slice_cmp nat_cmp) texts_ties p q
+
+not_false : (b : Bool) → false ≡ not b → b ≡ true
+not_false true e = refl
+not_false false e = e
+
+pub ne-false : (p q : Names) → false ≡ not (pointwise (pointwise nat_eq) p q) → p ≡ q
+ne-false p q e = same_path-true p q (sym (same_names p q) ∙ not_false _ e)
+
+not_of : (b : Bool) → true ≡ not b → b ≡ true → ⊥
+not_of true e h = cc
+not_of false e h = cc
+
+pub ne-true : (p q : Names) → true ≡ not (pointwise (pointwise nat_eq) p q) → p ≡ q → ⊥
+ne-true p q e h = not_of _ e (same_names p q ∙ ap (same_path p) (sym h) ∙ (eq_by_cmp_equiv total).refl p)

@@ -1,0 +1,72 @@
+-- The folders of a path, one by one.
+use Rattle.std.proofs.Common.{◌≡◌, ◌<◌, ◌≤◌, ◌+◌, ◌-◌, ◌==◌, ℕ, true, false, cond, List, [], ◌∷◌, ◌++◌, length, get_or, take, drop, refl, sym, ap, ◌∙◌, arith, drop-cons, add-one, length-drop, suc}
+use Rattle.std.proofs.lemmas.List.{take_more, drop_all}
+use Rattle.std.proofs.lemmas.Bool.Decides.{nat_tests}
+use Rattle.std.specs.Prelude.{Option, None, Some}
+use Rattle.cacache_disk.specs.declared.node.Node.{Node}
+use Rattle.cacache_disk.specs.declared.node.Node.TheVariants.{Folder}
+use Rattle.cacache_disk.specs.Tree.{Tree, Names, look, put}
+use Rattle.cacache_disk.specs.Found.{way_fault, through}
+use Rattle.cacache_disk.specs.Apply.{make_some, if_missing}
+
+pub drop_here : (path : Names) (i : ℕ) (d : List ℕ) → i < length path → drop i path ≡ get_or path i d ∷ drop (i + 1) path
+drop_here path i d h = let e : suc i ≤ length path = omega (arith, h) in rw add-one (drop-cons path i d e)
+
+pub way_next : (t : Tree) (above path : Names) (i : ℕ) (d : List ℕ) → i + 1 < length path
+    → way_fault t above (drop i path) ≡ through (look t (above ++ get_or path i d ∷ [])) (way_fault t (above ++ get_or path i d ∷ []) (drop (i + 1) path))
+way_next t above path i d h =
+    let here : i < length path = omega arith in
+    rw (drop_here path i d here, drop_here path (i + 1) d h)
+
+way_short : (t : Tree) (above rest : Names) → length rest ≤ 1 → way_fault t above rest ≡ None
+way_short t above [] h = refl
+way_short t above (name ∷ []) h = refl
+way_short t above (name ∷ next ∷ rest) h = absurd (omega arith)
+
+pub way_last : (t : Tree) (above path : Names) (i : ℕ) → length path ≤ i + 1 → way_fault t above (drop i path) ≡ None
+way_last t above path i h = way_short t above (drop i path) (rw length-drop (omega arith))
+
+-- one folder on the way
+pub way_at : (t : Tree) (above path : Names) (i : ℕ) (name : List ℕ) (new : Names) (here : Option Node) → i + 1 < length path
+    → name ≡ get_or path i name → new ≡ above ++ name ∷ [] → here ≡ look t new
+    → way_fault t above (drop i path) ≡ through here (way_fault t new (drop (i + 1) path))
+way_at t above path i name new here h n p l =
+    let e : above ++ get_or path i name ∷ [] ≡ new = ap (λ x. above ++ x ∷ []) (sym n) ∙ sym p in
+    way_next t above path i name h ∙ rw (e, l)
+
+pub make_next : (t : Tree) (above path : Names) (i most : ℕ) (d : List ℕ) → i < length path
+    → make_some t above (drop i path) most ≡ make_some
+    (if_missing (look t (above ++ get_or path i d ∷ [])) (cond (most == 0) t (put t (above ++ get_or path i d ∷ []) Folder)) t)
+    (above ++ get_or path i d ∷ [])
+    (drop (i + 1) path)
+    (if_missing (look t (above ++ get_or path i d ∷ [])) (most - 1) most)
+make_next t above path i most d h = rw (drop_here path i d h)
+
+pub drop_end : (t : Tree) (above path : Names) (i most : ℕ) → i ≡ length path → make_some t above (drop i path) most ≡ t
+drop_end t above path i most e = rw (drop_all i path (omega arith))
+
+-- the front of a path, one name longer
+pub front_next : (path : Names) (i : ℕ) (d : List ℕ) → i < length path → take i path ++ get_or path i d ∷ [] ≡ take (i + 1) path
+front_next path i d h = sym (take_more path i d h)
+
+pub make_there : (t : Tree) (path : Names) (i most : ℕ) (here : Names) (node : Node) → i < length path → here ≡ take (i + 1) path → Some node ≡ look t here
+    → make_some t (take i path) (drop i path) most ≡ make_some t (take (i + 1) path) (drop (i + 1) path) most
+make_there t path i most here node h p l =
+    let at : look t (take (i + 1) path) ≡ Some node = ap (look t) (sym p) ∙ sym l in
+    make_next t (take i path) path i most [] h ∙ rw (front_next path i [] h, at)
+
+pub make_missing : (t : Tree) (path : Names) (i most : ℕ) (here : Names) → i < length path → here ≡ take (i + 1) path → None ≡ look t here → 0 < most
+    → make_some t (take i path) (drop i path) most ≡ make_some (put t here Folder) (take (i + 1) path) (drop (i + 1) path) (most - 1)
+make_missing t path i most here h p l m =
+    let at : look t (take (i + 1) path) ≡ None = ap (look t) (sym p) ∙ sym l in
+    let some : (most == 0) ≡ false = grind (arith, nat_tests) in
+    make_next t (take i path) path i most [] h ∙ rw (front_next path i [] h, at, some, p)
+
+if_missing-same : {A : Type 0} (here : Option Node) (x : A) → if_missing here x x ≡ x
+if_missing-same None x = refl
+if_missing-same (Some node) x = refl
+
+pub make_none : (t : Tree) (above rest : Names) → make_some t above rest 0 ≡ t
+make_none t above [] = refl
+make_none t above (name ∷ rest) =
+    rw (if_missing-same {A = Tree} (look t (above ++ name ∷ [])) t, if_missing-same {A = ℕ} (look t (above ++ name ∷ [])) 0) (make_none t (above ++ name ∷ []) rest)

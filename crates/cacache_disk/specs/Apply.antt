@@ -1,0 +1,142 @@
+-- What a step answers on a tree, and the tree after it.
+use Rattle.std.specs.Prelude.{ℕ, ◌-◌, ◌==◌, Bool, true, false, cond, List, [], ◌∷◌, ◌++◌, Option, None, Some, Result, Ok, Err, length, take, drop, min, max}
+use Rattle.cacache_integrity.specs.declared.errors.Fault.{Fault}
+use Rattle.cacache_integrity.specs.declared.errors.Fault.TheVariants.{NotFound, NotADirectory, IsADirectory, InvalidInput, Closed, Device}
+use Rattle.cacache_base.specs.declared.store.handles.OpenData.{OpenData}
+use Rattle.cacache_base.specs.declared.store.handles.TempData.{TempData}
+use Rattle.cacache_base.specs.declared.store.step.Step.TheVariants.{MakeDirs, CreateTemp, Write, Persist, Append, ReadAll, Open, Read, Size, Exists, Symlink, Copy, Reflink, HardLink, ReadDir, RemoveFile, RemoveDir}
+use Rattle.cacache_base.specs.declared.store.answer.Answer.TheVariants as answer
+use Rattle.cacache_base.specs.declared.store.answer.Answer.TheVariants.{Done, Temp, Wrote, Took, Bytes, Got, There, Length, Failed}
+use Rattle.cacache_base.specs.Seen.{Asked, Told}
+use Rattle.cacache_disk.specs.declared.luck.Luck.{Luck}
+use Rattle.cacache_disk.specs.declared.luck.Luck.TheVariants.{Plain, Fail, Take}
+use Rattle.cacache_disk.specs.declared.node.Node.{Node}
+use Rattle.cacache_disk.specs.declared.node.Node.TheVariants.{Folder, File, Link}
+use Rattle.cacache_disk.specs.Names.{Names, names_of}
+use Rattle.cacache_disk.specs.Tree.{Tree, look, put, cut, bytes_of, listing}
+use Rattle.cacache_disk.specs.Found.{and_then, or_fault, where_no_folder, dirs_fault, dirs, free, known, kept, replaceable, writable, file_at, found, linked, folder, removable, emptied}
+
+-- a fault fails the step and changes nothing; else it goes on from what was found
+abbrev pub unless : {A : Type 0} → Result A Fault → Tree → (A → Told × Tree) → Told × Tree
+unless (Ok found) t go = go found
+unless (Err fault) t go = (Failed fault, t)
+
+-- how many of the bytes are taken, where at most so many may be
+abbrev pub taken : Option ℕ → List ℕ → ℕ
+taken None bytes = length bytes
+taken (Some most) bytes = min most (length bytes)
+
+-- how many bytes a read may give: at least one, where it asks for any
+abbrev pub readable : Option ℕ → ℕ → ℕ
+readable None size = size
+readable (Some most) size = min (max most 1) size
+
+-- one choice where a node is missing, another where it is there
+abbrev pub if_missing : Option Node → {A : Type 0} → A → A → A
+if_missing None missing there = missing
+if_missing (Some node) missing there = there
+
+-- the first `count` missing folders made, from the top down
+abbrev pub make_some : Tree → Names → Names → ℕ → Tree
+make_some t above [] count = t
+make_some t above (name ∷ rest) count =
+    make_some
+    (if_missing (look t (above ++ name ∷ [])) (cond (count == 0) t (put t (above ++ name ∷ []) Folder)) t)
+    (above ++ name ∷ [])
+    rest
+    (if_missing (look t (above ++ name ∷ [])) (count - 1) count)
+
+-- how many folders may be made of those that a path names
+abbrev pub making : Option ℕ → Names → ℕ
+making None names = length names
+making (Some most) names = most
+
+-- a temporary file that took more bytes; it is closed where its bytes aren't known
+abbrev pub grown : TempData → List ℕ → ℕ → Option (List ℕ) → Told
+grown temp bytes count None = Failed Closed
+grown temp bytes count (Some old) = Wrote (record { path = temp.path; bytes = Some (old ++ take count bytes) }) count
+
+-- at most so many bytes of an open file; it is closed where its bytes aren't known, or aren't as many as it has left
+abbrev pub given : OpenData → ℕ → Option (List ℕ) → Told
+given file size None = Failed Closed
+given file size (Some bytes) =
+    cond (file.left == length bytes) (Got (record { left = length bytes - min size (length bytes); bytes = Some (drop size bytes) }) (take size bytes)) (Failed Closed)
+
+-- whether something is there: for want of a folder on the way it isn't
+abbrev pub is_there : Result Names Fault → Told
+is_there (Ok names) = There true
+is_there (Err NotFound) = There false
+is_there (Err NotADirectory) = There false
+is_there (Err fault) = Failed fault
+
+-- the table of steps: the answer and the new tree, where at most `most` of its bytes or folders are done
+abbrev pub plain : Tree → Asked → Option ℕ → Told × Tree
+plain t (MakeDirs p) most = unless (dirs t p) t (λ names. (Done, make_some t [] names (making most names)))
+plain t (CreateTemp p) most = unless (free t p) t (λ names. (Temp (record { path = p; bytes = Some [] }), put t names (File [])))
+plain t (Write f bytes) most = (grown f bytes (taken most bytes) f.bytes, t)
+plain t (Persist f p) most = unless (known f.bytes) t (λ bytes. unless (kept t f.path) t (λ old. unless (replaceable t p) t (λ new. (Done, put (cut t old) new (File bytes)))))
+plain t (Append p bytes) most = unless (writable t p) t (λ names. (Took (taken most bytes), put t names (File (bytes_of (look t names) ++ take (taken most bytes) bytes))))
+plain t (ReadAll p) most = unless (file_at t p IsADirectory) t (λ bytes. (Bytes bytes, t))
+plain t (Open p) most = unless (file_at t p IsADirectory) t (λ bytes. (answer.File (record { left = length bytes; bytes = Some bytes }), t))
+plain t (Read f size) most = (given f (readable most size) f.bytes, t)
+plain t (Size p) most = unless (file_at t p IsADirectory) t (λ bytes. (Length (length bytes), t))
+plain t (Exists p) most = (is_there (found t p), t)
+plain t (Symlink target p) most = unless (free t p) t (λ names. (Done, put t names (Link target)))
+plain t (Copy p q) most = unless (file_at t p InvalidInput) t (λ bytes. unless (writable t q) t (λ names. (Took (length bytes), put t names (File (take (taken most bytes) bytes)))))
+plain t (Reflink p q) most = unless (free t q) t (λ names. unless (file_at t p IsADirectory) t (λ bytes. (Done, put t names (File bytes))))
+plain t (HardLink p q) most = unless (free t q) t (λ names. unless (linked t p) t (λ node. (Done, put t names node)))
+plain t (ReadDir p) most = unless (folder t p) t (λ names. (answer.Names (listing t names), t))
+plain t (RemoveFile p) most = unless (removable t p) t (λ names. (Done, cut t names))
+plain t (RemoveDir p) most = unless (emptied t p) t (λ names. (Done, cut t names))
+
+-- a step of which a take does only a part
+abbrev pub is_taking : Asked → Bool
+is_taking (Write f bytes) = true
+is_taking (Append p bytes) = true
+is_taking (Read f size) = true
+is_taking _ = false
+
+-- a step that leaves a part done where it fails
+abbrev pub is_parted : Asked → Bool
+is_parted (MakeDirs p) = true
+is_parted (Append p bytes) = true
+is_parted (Copy p q) = true
+is_parted _ = false
+
+-- that something is missing is never made up
+abbrev pub made_up : Fault → Fault
+made_up NotFound = Device
+made_up fault = fault
+
+-- what a failed step leaves, where so much of it was done
+abbrev pub left_by : Tree → Asked → Option ℕ → Tree
+left_by t step None = t
+left_by t step (Some part) = cond (is_parted step) (plain t step (Some part)).1 t
+
+-- why a step failed, if it did
+abbrev pub fault_of : Told → Option Fault
+fault_of (Failed fault) = Some fault
+fault_of _ = None
+
+-- the step's own failure wins over a made-up one
+abbrev pub fails : Option Fault → Fault → Tree → Tree → Told × Tree
+fails (Some own) fault t left = (Failed own, t)
+fails None fault t left = (Failed (made_up fault), left)
+
+-- the answer and the new tree
+unfoldable pub apply : Tree → Asked → Luck → Told × Tree
+apply t step Plain = plain t step None
+apply t step (Take most) = plain t step (cond (is_taking step) (Some most) None)
+apply t step (Fail fault part) = fails (fault_of (plain t step None).0) fault t (left_by t step part)
+
+-- the names of a path's folder
+abbrev pub above_last : Names → Names
+above_last names = take (length names - 1) names
+
+-- the tree after somebody else put a file at a path: the path's folder made, and the file put in place of a file or link
+unfoldable pub planted : Tree → List ℕ → List ℕ → Result Tree Fault
+planted t path bytes =
+    and_then (names_of path) (λ names.
+    and_then (or_fault (dirs_fault t [] (above_last names)) names) (λ names.
+    and_then (where_no_folder (look t names) names) (λ names.
+    Ok (put (make_some t [] (above_last names) (length (above_last names))) names (File bytes)))))

@@ -1,0 +1,175 @@
+-- What a path leads to in a tree, or why it leads nowhere.
+use Rattle.std.specs.Prelude.{ℕ, zero, suc, Bool, true, false, ◌==◌, cond, List, [], ◌∷◌, ◌++◌, length, Option, None, Some, Result, Ok, Err}
+use Rattle.cacache_integrity.specs.declared.errors.Fault.{Fault}
+use Rattle.cacache_integrity.specs.declared.errors.Fault.TheVariants.{NotFound, AlreadyExists, NotADirectory, IsADirectory, NotEmpty, TooDeep, Closed}
+use Rattle.cacache_disk.specs.declared.node.Node.{Node}
+use Rattle.cacache_disk.specs.declared.node.Node.TheVariants.{Folder, File, Link}
+use Rattle.cacache_disk.specs.Names.{Names, names_of}
+use Rattle.cacache_disk.specs.Tree.{Tree, look, listing}
+
+-- goes on from what was found, and stops at a fault
+abbrev pub and_then : {A B : Type 0} → Result A Fault → (A → Result B Fault) → Result B Fault
+and_then (Ok found) next = next found
+and_then (Err fault) next = Err fault
+
+-- what was found, where no fault stops it
+abbrev pub or_fault : {A : Type 0} → Option Fault → A → Result A Fault
+or_fault None found = Ok found
+or_fault (Some fault) found = Err fault
+
+-- what a node on the way says: a folder lets through
+abbrev pub through : Option Node → Option Fault → Option Fault
+through None later = Some NotFound
+through (Some Folder) later = later
+through (Some (File bytes)) later = Some NotADirectory
+through (Some (Link target)) later = Some NotADirectory
+
+-- why the folders above the last name don't lead there
+abbrev pub way_fault : Tree → Names → Names → Option Fault
+way_fault t above [] = None
+way_fault t above (name ∷ []) = None
+way_fault t above (name ∷ next ∷ rest) = through (look t (above ++ name ∷ [])) (way_fault t (above ++ name ∷ []) (next ∷ rest))
+
+-- the names of a path whose folder stands
+unfoldable pub place : Tree → List ℕ → Result Names Fault
+place t path = and_then (names_of path) (λ names. or_fault (way_fault t [] names) names)
+
+-- the names, where something stands
+abbrev pub where_there : Option Node → Names → Result Names Fault
+where_there None names = Err NotFound
+where_there (Some node) names = Ok names
+
+-- the names, where nothing stands
+abbrev pub where_free : Option Node → Names → Result Names Fault
+where_free None names = Ok names
+where_free (Some node) names = Err AlreadyExists
+
+-- the names, where no folder stands
+abbrev pub where_no_folder : Option Node → Names → Result Names Fault
+where_no_folder None names = Ok names
+where_no_folder (Some Folder) names = Err IsADirectory
+where_no_folder (Some (File bytes)) names = Ok names
+where_no_folder (Some (Link target)) names = Ok names
+
+-- the names, where a file or a link stands
+abbrev pub where_removable : Option Node → Names → Result Names Fault
+where_removable None names = Err NotFound
+where_removable (Some Folder) names = Err IsADirectory
+where_removable (Some (File bytes)) names = Ok names
+where_removable (Some (Link target)) names = Ok names
+
+-- the names, where a folder stands
+abbrev pub where_folder : Option Node → Names → Result Names Fault
+where_folder None names = Err NotFound
+where_folder (Some Folder) names = Ok names
+where_folder (Some (File bytes)) names = Err NotADirectory
+where_folder (Some (Link target)) names = Err NotADirectory
+
+-- the names, where a file stands
+abbrev pub where_file : Option Node → Names → Result Names Fault
+where_file None names = Err NotFound
+where_file (Some Folder) names = Err NotFound
+where_file (Some (File bytes)) names = Ok names
+where_file (Some (Link target)) names = Err NotFound
+
+-- the file's bytes; a folder is the given fault
+abbrev pub bytes_in : Fault → Option Node → Result (List ℕ) Fault
+bytes_in folder None = Err NotFound
+bytes_in folder (Some Folder) = Err folder
+bytes_in folder (Some (File bytes)) = Ok bytes
+bytes_in folder (Some (Link target)) = Err TooDeep
+
+-- the file or link
+abbrev pub linked_in : Option Node → Result Node Fault
+linked_in None = Err NotFound
+linked_in (Some Folder) = Err IsADirectory
+linked_in (Some (File bytes)) = Ok (File bytes)
+linked_in (Some (Link target)) = Ok (Link target)
+
+-- at a link its target is asked, and anywhere else the names stay
+abbrev pub on_link : Option Node → Names → (List ℕ → Result Names Fault) → Result Names Fault
+on_link None names go = Ok names
+on_link (Some Folder) names go = Ok names
+on_link (Some (File bytes)) names go = Ok names
+on_link (Some (Link target)) names go = go target
+
+-- the names of a path where something stands; nothing is followed
+unfoldable pub standing : Tree → List ℕ → Result Names Fault
+standing t path = and_then (place t path) (λ names. where_there (look t names) names)
+
+-- where names lead through at most so many links
+unfoldable pub followed : ℕ → Tree → Names → Result Names Fault
+followed zero t names = on_link (look t names) names (λ target. Err TooDeep)
+followed (suc most) t names = on_link (look t names) names (λ target. and_then (standing t target) (followed most t))
+
+-- where a path leads; nothing may stand there if the path itself is missing
+unfoldable pub leads : Tree → List ℕ → Result Names Fault
+leads t path = and_then (place t path) (followed 16 t)
+
+-- where a path leads, and something stands
+unfoldable pub found : Tree → List ℕ → Result Names Fault
+found t path = and_then (leads t path) (λ names. where_there (look t names) names)
+
+-- the bytes of the file that a path leads to; a folder there is the given fault
+unfoldable pub file_at : Tree → List ℕ → Fault → Result (List ℕ) Fault
+file_at t path folder = and_then (leads t path) (λ names. bytes_in folder (look t names))
+
+-- where a file can be written: the one that a path leads to, or a new one
+unfoldable pub writable : Tree → List ℕ → Result Names Fault
+writable t path = and_then (leads t path) (λ names. where_no_folder (look t names) names)
+
+-- where something new can be made
+unfoldable pub free : Tree → List ℕ → Result Names Fault
+free t path = and_then (place t path) (λ names. where_free (look t names) names)
+
+-- where a file can be put in place of a file or link
+unfoldable pub replaceable : Tree → List ℕ → Result Names Fault
+replaceable t path = and_then (place t path) (λ names. where_no_folder (look t names) names)
+
+-- where a temporary file still stands
+unfoldable pub kept : Tree → List ℕ → Result Names Fault
+kept t path = and_then (place t path) (λ names. where_file (look t names) names)
+
+-- the file or link at a path
+unfoldable pub linked : Tree → List ℕ → Result Node Fault
+linked t path = and_then (place t path) (λ names. linked_in (look t names))
+
+-- where a file or link can be removed
+unfoldable pub removable : Tree → List ℕ → Result Names Fault
+removable t path = and_then (place t path) (λ names. where_removable (look t names) names)
+
+-- the names of a folder
+unfoldable pub folder : Tree → List ℕ → Result Names Fault
+folder t path = and_then (place t path) (λ names. where_folder (look t names) names)
+
+-- the names, where a folder is empty and isn't the top
+abbrev pub where_empty : Tree → Names → Result Names Fault
+where_empty t names = cond (length names == 0) (Err NotEmpty) (cond (length (listing t names) == 0) (Ok names) (Err NotEmpty))
+
+-- where an empty folder can be removed
+unfoldable pub emptied : Tree → List ℕ → Result Names Fault
+emptied t path = and_then (folder t path) (where_empty t)
+
+-- a file or link where a folder is to be
+abbrev pub is_in_way : Option Node → Bool
+is_in_way None = false
+is_in_way (Some Folder) = false
+is_in_way (Some (File bytes)) = true
+is_in_way (Some (Link target)) = true
+
+-- why the folders of a path can't be made: a file or link stands at the last name, or on the way
+abbrev pub dirs_fault : Tree → Names → Names → Option Fault
+dirs_fault t above [] = None
+dirs_fault t above (name ∷ rest) =
+    cond (is_in_way (look t (above ++ name ∷ [])))
+    (Some (cond (length rest == 0) AlreadyExists NotADirectory))
+    (dirs_fault t (above ++ name ∷ []) rest)
+
+-- the names of a path whose folders stand or can be made
+unfoldable pub dirs : Tree → List ℕ → Result Names Fault
+dirs t path = and_then (names_of path) (λ names. or_fault (dirs_fault t [] names) names)
+
+-- what is known of a handle's bytes
+abbrev pub known : Option (List ℕ) → Result (List ℕ) Fault
+known None = Err Closed
+known (Some bytes) = Ok bytes

@@ -1,0 +1,68 @@
+-- A disk's tree: the node at each path. The top folder stands at the empty list of names.
+use Rattle.std.specs.Prelude.{ℕ, Bool, cond, List, [], ◌∷◌, ◌++◌, Option, None, Some, length, ◌==◌, ◌+◌, ◌&&◌, take, slice_index_or}
+use Rattle.std.specs.FinMap as map
+use Rattle.std.specs.declared.cmp.Ordering.{Ordering}
+use Rattle.std.specs.Ordering.{nat_cmp, eq_by_cmp}
+use Rattle.std.specs.Bool.{nat_eq}
+use Rattle.std.specs.Cmp.Lexicographic.{pointwise, slice_cmp}
+use Rattle.std.specs.List.{filter_map}
+use Rattle.cacache_base.specs.declared.store.answer.Kind.{Kind}
+use Rattle.cacache_base.specs.declared.store.answer.Kind.TheVariants as kinds
+use Rattle.cacache_base.specs.declared.store.answer.Name.{Name}
+use Rattle.cacache_disk.specs.declared.node.Node.{Node}
+use Rattle.cacache_disk.specs.declared.node.Node.TheVariants.{Folder, File, Link}
+pub use Rattle.cacache_disk.specs.Names.{Names}
+
+-- the order of paths, name by name
+abbrev pub names_cmp : Names → Names → Ordering
+names_cmp = slice_cmp (slice_cmp nat_cmp)
+
+-- whether two paths are the same
+abbrev pub same_path : Names → Names → Bool
+same_path p q = eq_by_cmp names_cmp p q
+
+-- the node at each path
+abbrev pub Tree : Type 0
+Tree = map.FinMap names_cmp Node
+
+-- the node at a path
+abbrev pub look : Tree → Names → Option Node
+look t names = map.get t names
+
+-- the tree with this node at the path
+abbrev pub put : Tree → Names → Node → Tree
+put t names node = map.insert t names node
+
+-- the tree with no node at the path
+abbrev pub cut : Tree → Names → Tree
+cut t names = map.remove t names
+
+-- nothing but the top folder
+abbrev pub bare : Tree
+bare = put map.empty [] Folder
+
+-- the bytes of a file, none for anything else
+abbrev pub bytes_of : Option Node → List ℕ
+bytes_of None = []
+bytes_of (Some Folder) = []
+bytes_of (Some (File bytes)) = bytes
+bytes_of (Some (Link target)) = []
+
+-- what a listing says of a node
+abbrev pub kind_of : Node → Kind
+kind_of Folder = kinds.Folder
+kind_of (File bytes) = kinds.File
+kind_of (Link target) = kinds.Link
+
+-- whether a path has one name more than a folder's, behind its names
+abbrev pub is_child : Names → Names → Bool
+is_child folder names = (length names == length folder + 1) && pointwise (pointwise nat_eq) (take (length folder) names) folder
+
+-- what a listing of a folder says of a node of the tree
+abbrev pub child_of : Names → Names × Node → Option Name
+child_of folder entry =
+    cond (is_child folder entry.0) (Some (record { name = slice_index_or entry.0 (length folder) []; kind = kind_of entry.1 })) None
+
+-- the names in a folder and what stands there, in the order of the names' bytes
+unfoldable pub listing : Tree → Names → List Name
+listing t folder = filter_map (child_of folder) (map.entries t)

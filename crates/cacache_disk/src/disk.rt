@@ -1,0 +1,88 @@
+//! The nodes of a disk, by their paths.
+ghost use Rattle.std.specs.Prelude.{◌≡◌, IfOk, OnOk, OnErr, option_copied};
+ghost use Rattle.cacache_disk.specs.Tree.{bare, look, put, cut, listing};
+
+use crate::node::Node;
+use crate::path::Path;
+use cacache_base::store::{Listing, Name};
+use std::alloc::{AllocError, Global};
+use std::collections::BTreeMap;
+use std::marker::Model;
+
+/// A disk in memory. Contracts see its tree: the node at each path.
+#[derive(Debug, Drop)]
+pub struct Disk {
+    alloc: Global,
+    nodes: BTreeMap<Path, Node>,
+}
+
+impl Model for Disk {
+    ghost use Rattle.std.specs.FinMap as map;
+    ghost use Rattle.cacache_disk.specs.Tree.{Tree};
+
+    ghost Value = { Tree };
+
+    ghost use Rattle.std.specs.Coded.{coded_list, coded_ℕ};
+    ghost use Rattle.cacache_disk.specs.contracts.node.Node as node;
+
+    ghost coded = { map.code (coded_list (coded_list coded_ℕ)) node.the_row.coded };
+
+    ghost view = { λ d. map.from_entries d.nodes.entries };
+}
+
+impl Disk {
+    /// A disk that holds nothing but its top folder.
+    pub fn new(alloc: Global) -> Result<Disk, AllocError>
+        ensures { IfOk result (λ d. d ≡ bare) }
+    {
+        let mut disk = Disk {
+            alloc,
+            nodes: BTreeMap::new(alloc),
+        };
+        disk.put(Path::top(alloc), Node::Folder)?;
+        Ok(disk)
+    }
+
+    /// Where its memory comes from.
+    pub(crate) fn alloc(&self) -> Global {
+        self.alloc
+    }
+
+    /// What stands at the path.
+    pub(crate) fn node(&self, path: &Path) -> Option<&Node>
+        ensures { option_copied result ≡ look self.now path.now }
+    {
+        self.nodes.get(path)
+    }
+
+    /// Puts the node at the path, in place of what stands there.
+    pub(crate) fn put(&mut self, path: Path, node: Node) -> Result<(), AllocError>
+        ensures ok { OnOk result (self.new ≡ put self.old path node) }
+        ensures err { OnErr result (self.new ≡ self.old) }
+    {
+        self.nodes.insert(path, node)?;
+        Ok(())
+    }
+
+    /// Takes away what stands at the path.
+    pub(crate) fn cut(&mut self, path: &Path)
+        ensures { self.new ≡ cut self.old path.now }
+    {
+        self.nodes.remove(path);
+    }
+
+    /// The names in a folder and what stands there, in the order of the names' bytes.
+    pub(crate) fn listing(&self, folder: &Path) -> Result<Listing, AllocError>
+        ensures { IfOk result (λ names. names ≡ listing self.now folder.now) }
+    {
+        let mut names: Vec<Name> = Vec::new(self.alloc);
+        for (path, node) in self.nodes.iter() {
+            if path.is_in(folder) {
+                let name = path.name(folder.len())?;
+                let kind = node.kind();
+                names.push(Name { name, kind })?;
+            }
+        }
+        Ok(Listing::new(names))
+    }
+}

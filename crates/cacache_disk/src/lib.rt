@@ -1,0 +1,14 @@
+//! A disk in memory: a tree of folders, files and links, and the steps of a store on it.
+#![tactic(auto)]
+
+mod disk;
+mod find;
+mod luck;
+mod node;
+mod path;
+mod steps;
+mod walk;
+
+pub use cacache_integrity::{errors, text};
+pub use disk::Disk;
+pub use luck::Luck;

@@ -1,0 +1,171 @@
+//! Paths as names from the top folder down.
+ghost use Rattle.std.specs.Prelude.{◌≡◌, ◌+◌, ◌++◌, ◌∷◌, ◌≤◌, ◌<◌, ◌==◌, [], List, IfOk, OnOk, OnErr, length, take, Some, slice_index_or};
+ghost use Rattle.cacache_disk.specs.Tree.{is_child};
+ghost use Rattle.std.specs.Bool.{OnTrue};
+ghost use Rattle.cacache_disk.specs.Names.{names_of, is_above, is_name};
+ghost use Rattle.std.proofs.Common.{refl};
+ghost use Rattle.std.specs.Bool.{nat_eq};
+ghost use Rattle.std.specs.Ordering.{nat_cmp};
+ghost use Rattle.std.specs.Cmp;
+ghost use Rattle.std.specs.Cmp.Lexicographic.{pointwise, slice_cmp, slice_partial_cmp, lists_equiv, lists_agrees, lists_total, lists_ties, nat_list_eq_equiv, nat_list_cmp_total, texts_ties, lists_po, texts_po};
+
+use crate::errors::Fault;
+use crate::text::Text;
+use std::alloc::{AllocError, Global};
+use std::cmp::Ordering;
+use std::marker::Model;
+
+/// The names of a path. Contracts see their list.
+#[derive(Debug, Drop)]
+pub(crate) struct Path {
+    names: Vec<Text>,
+}
+
+impl Model for Path {
+    ghost use Rattle.std.specs.Prelude.{ℕ, List};
+
+    ghost Value = { List (List ℕ) };
+
+    ghost view = { λ p. p.names.items };
+}
+
+impl Path {
+    /// The top folder, which takes no memory.
+    pub(crate) fn top(alloc: Global) -> Path
+        ensures { result ≡ [] }
+    {
+        Path {
+            names: Vec::new(alloc),
+        }
+    }
+
+    /// The names of a path's text, or why it has none.
+    pub(crate) fn of(alloc: Global, text: &str) -> Result<Result<Path, Fault>, AllocError>
+        ensures { IfOk result (λ r. r ≡ names_of text.now) }
+    {
+        if text.is_empty() {
+            return Ok(Err(Fault::NotFound));
+        }
+        if text.as_bytes().contains(&0) {
+            return Ok(Err(Fault::InvalidInput));
+        }
+        let mut names = Path::top(alloc);
+        for piece in text.split('/') {
+            if is_above(piece) {
+                return Ok(Err(Fault::InvalidInput));
+            }
+            if is_name(piece) {
+                names.push(Text::from_str(alloc, piece)?)?;
+            }
+        }
+        Ok(Ok(names))
+    }
+
+    pub(crate) fn len(&self) -> usize
+        ensures { result ≡ length self.now }
+    {
+        self.names.len()
+    }
+
+    pub(crate) fn is_top(&self) -> bool
+        ensures { result ≡ (length self.now == 0) }
+    {
+        self.names.is_empty()
+    }
+
+    /// Whether it has one name more than the folder, behind the folder's names.
+    pub(crate) fn is_in(&self, folder: &Path) -> bool
+        ensures same { result ≡ is_child folder.now self.now }
+        ensures longer { OnTrue result (length self.now ≡ length folder.now + 1) }
+    {
+        let count = folder.names.len();
+        self.names.len() == count + 1 && self.names[..count] == folder.names[..]
+    }
+
+    /// A copy of the name at an index.
+    pub(crate) fn name(&self, index: usize) -> Result<Text, AllocError>
+        requires { index < length self.now }
+        ensures { IfOk result (λ name. name ≡ slice_index_or self.now index name) }
+    {
+        self.names[index].clone()
+    }
+
+    /// One name more at the end.
+    pub(crate) fn push(&mut self, name: Text) -> Result<(), AllocError>
+        ensures ok { OnOk result (self.new ≡ self.old ++ name ∷ []) }
+        ensures err { OnErr result (self.new ≡ self.old) }
+    {
+        self.names.push(name)?;
+        Ok(())
+    }
+
+    /// The first `count` names.
+    pub(crate) fn front(&self, alloc: Global, count: usize) -> Result<Path, AllocError>
+        requires { count ≤ length self.now }
+        ensures { IfOk result (λ p. p ≡ take count self.now) }
+    {
+        let mut names: Vec<Text> = Vec::new(alloc);
+        for i in 0..count {
+            names.push(self.names[i].clone()?)?;
+        }
+        Ok(Path { names })
+    }
+
+    pub(crate) fn copy(&self, alloc: Global) -> Result<Path, AllocError>
+        ensures { IfOk result (λ p. p ≡ self.now) }
+    {
+        self.front(alloc, self.names.len())
+    }
+}
+
+/// Whether it is `..`.
+fn is_above(piece: &str) -> bool
+    ensures { result ≡ is_above piece.now }
+{
+    piece == ".."
+}
+
+/// Whether it names something.
+fn is_name(piece: &str) -> bool
+    ensures { result ≡ is_name piece.now }
+{
+    !(piece.is_empty() || piece == ".")
+}
+
+impl PartialEq for Path {
+    ghost eq = { pointwise (pointwise nat_eq) };
+
+    ghost laws = { Cmp.partial_equiv_from_equiv (lists_equiv nat_list_eq_equiv) };
+
+    fn eq(&self, other: &Path) -> bool {
+        self.names == other.names
+    }
+}
+
+impl Eq for Path {
+    ghost laws = { lists_equiv nat_list_eq_equiv };
+}
+
+impl PartialOrd for Path {
+    ghost partial_cmp = { slice_partial_cmp (λ xs ys. Some (slice_cmp nat_cmp xs ys)) };
+
+    ghost laws = { lists_po texts_po };
+
+    fn partial_cmp(&self, other: &Path) -> Option<Ordering> {
+        self.names.partial_cmp(&other.names)
+    }
+}
+
+impl Ord for Path {
+    ghost cmp = { slice_cmp (slice_cmp nat_cmp) };
+
+    ghost total = { lists_total nat_list_cmp_total };
+
+    ghost matches_partial_cmp = { λ xs ys. lists_agrees (λ x y. refl) xs ys };
+
+    ghost matches_eq = { λ xs ys. lists_ties (slice_cmp nat_cmp) texts_ties xs ys };
+
+    fn cmp(&self, other: &Path) -> Ordering {
+        self.names.cmp(&other.names)
+    }
+}

@@ -1,0 +1,4 @@
+pub mod Held
+pub mod Replay
+pub mod Refusals
+pub mod Kept

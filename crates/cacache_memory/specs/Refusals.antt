@@ -1,0 +1,23 @@
+-- When nothing is planted.
+use Rattle.std.specs.Prelude.{◌≡◌, Option, None, Some, Result, Ok, Err}
+use Rattle.cacache_integrity.specs.declared.errors.Error.{Error}
+use Rattle.cacache_integrity.specs.declared.errors.Error.TheVariants.{IoError, OutOfMemory}
+use Rattle.cacache_integrity.specs.declared.errors.Fault.{Fault}
+use Rattle.cacache_base.specs.declared.store.answer.Answer.TheVariants.{Failed}
+use Rattle.cacache_base.specs.Seen.{Told}
+
+-- the fault in an answer
+abbrev pub fault_in : Told → Option Fault
+fault_in (Failed fault) = Some fault
+fault_in _ = None
+
+-- an error that is the fault's, or comes from memory
+abbrev pub IsDueTo : Option Fault → Error → Type 0
+IsDueTo found (IoError fault message) = found ≡ Some fault
+IsDueTo found OutOfMemory = Unit {0}
+IsDueTo found _ = ⊥
+
+-- a call goes well only where there is no fault, and fails for the fault or for memory
+abbrev pub IsEarned : Option Fault → Result (Unit {0}) Error → Type 0
+IsEarned found (Ok done) = found ≡ None
+IsEarned found (Err error) = IsDueTo found error

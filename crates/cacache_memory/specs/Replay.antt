@@ -1,0 +1,61 @@
+-- The tree that a log leads to, from a bare disk on.
+use Rattle.std.specs.Prelude.{◌≡◌, ℕ, List, [], ◌∷◌, Option, None, Some, Result, Ok, Err}
+use Rattle.std.specs.Result.{result_err}
+use Rattle.cacache_integrity.specs.declared.errors.Fault.{Fault}
+use Rattle.cacache_base.specs.declared.store.step.Step.TheVariants.{MakeDirs, ReadAll}
+use Rattle.cacache_base.specs.declared.store.answer.Answer.TheVariants.{Done, Bytes, NoMemory}
+use Rattle.cacache_base.specs.declared.store.log.LogItem.{LogItem}
+use Rattle.cacache_base.specs.declared.store.log.LogItem.TheVariants.{Made, Foreign, ForeignFolder}
+use Rattle.cacache_base.specs.Seen.{Asked, Told}
+use Rattle.cacache_disk.specs.declared.luck.Luck.TheVariants.{Plain}
+use Rattle.cacache_disk.specs.Tree.{Tree, bare}
+use Rattle.cacache_disk.specs.Apply.{apply, planted}
+
+-- the new tree, or the old one where something failed
+abbrev pub changed : Tree → Result Tree Fault → Tree
+changed t (Ok new) = new
+changed t (Err fault) = t
+
+-- the tree after an item
+abbrev pub after : Tree → LogItem → Tree
+after t (Made step answer) = (apply t step Plain).1
+after t (Foreign path bytes) = changed t (planted t path bytes)
+after t (ForeignFolder path) = (apply t (MakeDirs path) Plain).1
+
+-- the item can happen on a disk with this tree: a step has the disk's answer, and what is foreign doesn't fail
+abbrev pub Happens : Tree → LogItem → Type 0
+Happens t (Made step answer) = answer ≡ (apply t step Plain).0
+Happens t (Foreign path bytes) = result_err (planted t path bytes) ≡ None
+Happens t (ForeignFolder path) = (apply t (MakeDirs path) Plain).0 ≡ Done
+
+-- the tree after the items of a log, one after another
+abbrev pub replay : Tree → List LogItem → Tree
+replay t [] = t
+replay t (item ∷ log) = replay (after t item) log
+
+-- each item of the log can happen at its place
+abbrev pub IsReplayable : Tree → List LogItem → Type 0
+IsReplayable t [] = Unit {0}
+IsReplayable t (item ∷ log) = Happens t item × IsReplayable (after t item) log
+
+-- the tree of a store whose log this is
+unfoldable pub tree_of : List LogItem → Tree
+tree_of log = replay bare log
+
+-- each item of the log is what a disk did that was bare at first
+unfoldable pub IsLog : List LogItem → Type 0
+IsLog log = IsReplayable bare log
+
+-- the bytes in the answer of a step that reads a file, none in any other
+abbrev pub bytes_in : Told → Option (List ℕ)
+bytes_in (Bytes bytes) = Some bytes
+bytes_in _ = None
+
+-- the bytes that reading the whole file gives, none where that fails
+abbrev pub shown : Tree → List ℕ → Option (List ℕ)
+shown t path = bytes_in (apply t (ReadAll path) Plain).0
+
+-- the answer is the disk's, but for want of memory
+abbrev pub Answers : Tree → Asked → Told → Type 0
+Answers t step (NoMemory back) = Unit {0}
+Answers t step answer = answer ≡ (apply t step Plain).0

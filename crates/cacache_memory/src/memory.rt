@@ -1,0 +1,195 @@
+//! A store in memory that tells its log.
+ghost use Rattle.std.specs.Prelude.{◌≡◌, ◌∷◌, ◌++◌, [], ◌<◌, Some, IfOk, IfErr, IfNone, OnOk, OnErr, OnSome, option_map, vec_len, vec_capacity};
+ghost use Rattle.std.specs.Result.{result_err};
+ghost use Rattle.cacache_integrity.specs.declared.errors.Error.TheVariants.{OutOfMemory};
+ghost use Rattle.cacache_base.specs.declared.store.log.LogItem.TheVariants.{Foreign, ForeignFolder};
+ghost use Rattle.cacache_base.specs.declared.store.step.Step.TheVariants.{MakeDirs};
+ghost use Rattle.cacache_base.specs.declared.store.answer.Answer.TheVariants.{Done};
+ghost use Rattle.cacache_base.specs.Seen.{asked, told};
+ghost use Rattle.cacache_base.specs.Fits.{Fits, Logs};
+ghost use Rattle.cacache_disk.specs.declared.luck.Luck.TheVariants.{Plain};
+ghost use Rattle.cacache_disk.specs.Apply.{apply, planted};
+ghost use Rattle.cacache_memory.specs.Held.{file_seen, temp_seen};
+ghost use Rattle.cacache_memory.specs.Replay.{tree_of, IsLog, shown, Answers};
+ghost use Rattle.cacache_memory.specs.Refusals.{fault_in, IsDueTo, IsEarned};
+
+use crate::handles::{MemFile, MemTemp, bared, handed, handed_back};
+use cacache_base::bytes::Bytes;
+use cacache_base::errors;
+use cacache_base::errors::{Error, Fault};
+use cacache_base::store::{Answer, LogItem, OpenData, Step, Store, TempData};
+use cacache_base::text::Text;
+use cacache_disk::{Disk, Luck};
+use std::alloc::{AllocError, Global};
+use std::marker::Model;
+
+/// Room for one item more.
+fn make_room(log: &mut Vec<LogItem>) -> Result<(), AllocError>
+    ensures items { log.new.items ≡ log.old.items }
+    ensures room { OnOk result (vec_len log.new < vec_capacity log.new) }
+{
+    log.reserve(1)?;
+    Ok(())
+}
+
+/// One item more, for which there is room.
+fn note(log: &mut Vec<LogItem>, item: LogItem)
+    requires { vec_len log.old < vec_capacity log.old }
+    ensures { log.new.items ≡ log.old.items ++ item ∷ [] }
+{
+    let _ = log.push(item);
+}
+
+/// Why nothing was planted at the path.
+fn refused(alloc: Global, fault: Fault, what: &str, path: &Text) -> Error
+    ensures { IsDueTo (Some fault) result }
+{
+    match format!(in alloc; "Failed to plant a {what} at {path}") {
+        Ok(message) => Error::IoError(fault, Text::new(message)),
+        Err(_) => Error::OutOfMemory,
+    }
+}
+
+/// The fault of an answer that tells one.
+fn fault_of(answer: Answer<OpenData, TempData>) -> Option<Fault>
+    ensures { result ≡ fault_in answer }
+{
+    match answer {
+        Answer::Failed(fault) => Some(fault),
+        _ => None,
+    }
+}
+
+/// Makes the missing folders of the path, or gives the fault of that.
+fn make_folders(disk: &mut Disk, path: Text) -> Result<Option<Fault>, AllocError>
+    ensures fault { IfOk result (λ fault. fault ≡ fault_in (apply disk.old (MakeDirs path) Plain).0) }
+    ensures made { IfOk result (λ fault. IfNone fault (apply disk.old (MakeDirs path) Plain ≡ (Done, disk.new))) }
+    ensures failed { IfOk result (λ fault. OnSome fault (disk.new ≡ disk.old)) }
+    ensures err { OnErr result (disk.new ≡ disk.old) }
+{
+    let step = Step::MakeDirs(path);
+    let (answer, _copy) = disk.apply(&step, Luck::Plain)?;
+    Ok(fault_of(answer))
+}
+
+/// A disk in memory, and the log of all that happened on it, which is kept for good. Each step is applied with
+/// plain luck. Contracts see the log, which the disk's tree follows from.
+#[derive(Drop)]
+pub struct MemStore {
+    alloc: Global,
+    disk: Disk,
+    log: Vec<LogItem>,
+}
+
+impl Model for MemStore {
+    ghost use Rattle.std.specs.Prelude.{List};
+    ghost use Rattle.cacache_base.specs.declared.store.log.LogItem.{LogItem};
+
+    ghost Value = { List LogItem };
+
+    ghost view = { λ s. s.log.items };
+
+    ghost use Rattle.cacache_memory.specs.Kept.{IsKept};
+
+    ghost invariant = { IsKept };
+}
+
+impl MemStore {
+    /// A store where nothing happened yet, with nothing but the top folder.
+    pub fn new(alloc: Global) -> Result<MemStore, AllocError>
+        ensures { IfOk result (λ store. store ≡ []) }
+    {
+        Ok(MemStore {
+            alloc,
+            disk: Disk::new(alloc)?,
+            log: Vec::new(alloc),
+        })
+    }
+
+    /// All that happened so far, oldest first. Each item is what a disk did that had nothing but the top folder
+    /// at first.
+    pub fn log(&self) -> &[LogItem]
+        ensures same { result.now ≡ self.now }
+        ensures replayable { IsLog self.now }
+    {
+        self.log.as_slice()
+    }
+
+    /// Puts a file with these bytes at the path as somebody else would, in place of a file or link there, and makes
+    /// the folders above it that are missing.
+    ///
+    /// `IoError` says why that can't be. On any error nothing happened.
+    pub fn plant(&mut self, path: &str, bytes: &[u8]) -> errors::Result<()>
+        ensures ok { OnOk result (self.new ≡ self.old ++ Foreign path.now bytes.now ∷ []) }
+        ensures err { OnErr result (self.new ≡ self.old) }
+        ensures earned { IsEarned (result_err (planted (tree_of self.old) path.now bytes.now)) result }
+    {
+        let path = Text::from_str(self.alloc, path)?;
+        let bytes = Bytes::new(self.alloc, Vec::from_slice(self.alloc, bytes)?)?;
+        make_room(&mut self.log)?;
+        match self.disk.plant(&path, &bytes)? {
+            Err(fault) => Err(refused(self.alloc, fault, "file", &path)),
+            Ok(()) => {
+                note(&mut self.log, LogItem::Foreign(path, bytes));
+                Ok(())
+            }
+        }
+    }
+
+    /// Makes the missing folders of the path as somebody else would.
+    ///
+    /// `IoError` says why that can't be. On any error nothing happened.
+    pub fn plant_folder(&mut self, path: &str) -> errors::Result<()>
+        ensures ok { OnOk result (self.new ≡ self.old ++ ForeignFolder path.now ∷ []) }
+        ensures err { OnErr result (self.new ≡ self.old) }
+        ensures earned { IsEarned (fault_in (apply (tree_of self.old) (MakeDirs path.now) Plain).0) result }
+    {
+        let path = Text::from_str(self.alloc, path)?;
+        make_room(&mut self.log)?;
+        match make_folders(&mut self.disk, path.clone()?)? {
+            Some(fault) => Err(refused(self.alloc, fault, "folder", &path)),
+            None => {
+                note(&mut self.log, LogItem::ForeignFolder(path));
+                Ok(())
+            }
+        }
+    }
+
+    /// The bytes that reading the whole file at the path gives, which are copied once, or None where that fails.
+    /// The log doesn't tell it. The only error is `OutOfMemory`.
+    pub fn bytes(&self, path: &str) -> errors::Result<Option<Vec<u8>>>
+        ensures ok { IfOk result (λ found. option_map (λ v. v.items) found ≡ shown (tree_of self.now) path.now) }
+        ensures err { IfErr result (λ error. error ≡ OutOfMemory) }
+    {
+        let path = Text::from_str(self.alloc, path)?;
+        match self.disk.read(&path)? {
+            Ok(bytes) => Ok(Some(bytes.into_vec(self.alloc)?)),
+            Err(_) => Ok(None),
+        }
+    }
+}
+
+impl Store for MemStore {
+    type File = MemFile;
+
+    type Temp = MemTemp;
+
+    ghost log = { λ log. Some log };
+
+    fn step(&mut self, step: Step<MemFile, MemTemp>) -> Answer<MemFile, MemTemp>
+        ensures fits { Fits (asked file_seen temp_seen step) (told file_seen temp_seen result) }
+        ensures logged { Logs (Some self.old) (Some self.new) (asked file_seen temp_seen step) (told file_seen temp_seen result) }
+        ensures answers { Answers (tree_of self.old) (asked file_seen temp_seen step) (told file_seen temp_seen result) }
+    {
+        let alloc = self.alloc;
+        let step = bared(step);
+        if make_room(&mut self.log).is_err() {
+            return Answer::NoMemory(handed(alloc, step));
+        }
+        let Ok((answer, copy)) = self.disk.apply(&step, Luck::Plain) else {
+            return Answer::NoMemory(handed(alloc, step));
+        };
+        note(&mut self.log, LogItem::Made(step, copy));
+        handed_back(alloc, answer)
+    }
+}
