@@ -3,7 +3,7 @@ ghost use Rattle.std.specs.Prelude.{◌≡◌, ℕ, List, IfOk, IsTrue, Some};
 ghost use Rattle.cacache_base.specs.Seen.{Asked, asked, told};
 ghost use Rattle.cacache_steps.specs.declared.jobs.reply.Reply.TheVariants.{Read};
 ghost use Rattle.cacache_steps.specs.Calls.{State, opening, after, over};
-ghost use Rattle.cacache_steps.specs.Stands.{PhaseAt, Stands, HasOut, GoesTo, HandsOut, IsAt, Keeps, state_of, is_ready, is_step, has_out, can_go_on};
+ghost use Rattle.cacache_steps.specs.Stands.{PhaseAt, Stands, HasOut, GoesTo, HandsOut, IsAt, is_ready, is_step, has_out, can_go_on};
 
 use crate::content::path::content_path;
 use crate::errors::Error;
@@ -13,7 +13,6 @@ use crate::jobs::phase::Phase;
 use crate::jobs::places::{bucket_path, temp_folder};
 use crate::jobs::reply::Reply;
 use crate::jobs::stage::{Commit, Content, Lookup, Stage};
-use crate::jobs::{commit, insertion, reading};
 use crate::store::{Answer, OpenedFile, Step, TempFile};
 use crate::text::Text;
 use std::alloc::{AllocError, Global};
@@ -28,10 +27,19 @@ pub enum Next<F, T> {
 
 /// One call, which asks for its steps: `next` hands one out, and `take` goes on with its answer, until
 /// `next` hands out the reply.
-#[derive(Drop)]
 pub struct Job<F, T> {
     alloc: Global,
     phase: Phase<F, T>,
+}
+
+// Written out, so that it is a call of its own, for the same reason as a stage's.
+impl<F: Drop, T: Drop> Drop for Job<F, T> {
+    fn drop(self) {
+        let Job {
+            alloc: _,
+            phase: _phase,
+        } = self;
+    }
 }
 
 /// The first phase of a commit.
@@ -89,39 +97,6 @@ fn open<F: OpenedFile, T: TempFile>(
     }
 }
 
-/// The phase after the answer to a stage's step.
-fn resume<F: OpenedFile, T: TempFile>(
-    alloc: Global,
-    stage: Stage<T>,
-    answer: Answer<F, T>,
-) -> Result<Phase<F, T>, AllocError>
-    ensures ready { IfOk result (λ phase. IsTrue (is_ready phase)) }
-    ensures goes_on { IfOk result (λ phase. (step : Asked) → Keeps stage → PhaseAt F.seen T.seen phase (after (state_of T.seen stage step) (told F.seen T.seen answer))) }
-{
-    match stage {
-        Stage::MakingTemps(commit, rest) => {
-            commit::after_making_temps(alloc, commit, rest, answer)
-        }
-        Stage::Creating(commit, rest) => commit::after_creating(alloc, commit, rest, answer),
-        Stage::Writing(commit, rest) => commit::after_writing(alloc, commit, rest, answer),
-        Stage::MakingContents(commit, file, path) => {
-            commit::after_making_contents(alloc, commit, file, path, answer)
-        }
-        Stage::Persisting(commit) => commit::after_persisting(alloc, commit, answer),
-        Stage::Confirming(commit, fault) => {
-            commit::after_confirming(alloc, commit, fault, answer)
-        }
-        Stage::MakingBucket(entering, line, path) => {
-            insertion::after_making_bucket(alloc, entering, line, path, answer)
-        }
-        Stage::Appending(entering, size) => {
-            insertion::after_appending(alloc, entering, size, answer)
-        }
-        Stage::ReadingBucket(lookup) => reading::after_reading_bucket(alloc, lookup, answer),
-        Stage::ReadingContent(content) => reading::after_reading_content(alloc, content, answer),
-    }
-}
-
 impl<F: OpenedFile, T: TempFile> Job<F, T> {
     /// A call on a cache that has asked for nothing yet. A put's temporary file has this number; relative link
     /// targets start from the base folder. Where memory is refused, the call is over with `OutOfMemory`.
@@ -161,7 +136,7 @@ impl<F: OpenedFile, T: TempFile> Job<F, T> {
     {
         match replace(&mut self.phase, Phase::Told) {
             Phase::Out(stage) => {
-                self.phase = match resume(self.alloc, stage, answer) {
+                self.phase = match stage.resume(self.alloc, answer) {
                     Ok(phase) => phase,
                     Err(_) => Phase::Finished(Reply::Refused(Error::OutOfMemory)),
                 };

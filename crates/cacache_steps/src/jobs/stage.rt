@@ -1,8 +1,17 @@
 //! How far a call is.
+ghost use Rattle.std.specs.Prelude.{IfOk, IsTrue};
+ghost use Rattle.cacache_base.specs.Seen.{Asked, told};
+ghost use Rattle.cacache_steps.specs.Calls.{after};
+ghost use Rattle.cacache_steps.specs.Stands.{PhaseAt, Keeps, state_of, is_ready};
+
 use crate::bytes::Bytes;
 use crate::errors::Fault;
 use crate::integrity::Integrity;
+use crate::jobs::phase::Phase;
+use crate::jobs::{commit, insertion, reading};
+use crate::store::{Answer, OpenedFile, TempFile};
 use crate::text::Text;
+use std::alloc::{AllocError, Global};
 
 /// A commit on its way: where to, under which number and key, and what its bytes are known by.
 #[derive(Drop)]
@@ -46,7 +55,6 @@ pub struct Content {
 
 /// How far a call is: what it does now, and what it needs after that. A temporary file is here
 /// while no step carries it.
-#[derive(Drop)]
 pub enum Stage<T> {
     /// The folder of temporary files is made; the bytes are still to write.
     MakingTemps(Commit, Bytes),
@@ -68,4 +76,60 @@ pub enum Stage<T> {
     ReadingBucket(Lookup),
     /// The content is read.
     ReadingContent(Content),
+}
+
+// Written out, so that it is a call of its own: whoever drops a stage then has a proof that doesn't go through each
+// field of each variant.
+impl<T: Drop> Drop for Stage<T> {
+    fn drop(self) {
+        match self {
+            Stage::MakingTemps(_commit, _rest) => {}
+            Stage::Creating(_commit, _rest) => {}
+            Stage::Writing(_commit, _rest) => {}
+            Stage::MakingContents(_commit, _file, _path) => {}
+            Stage::Persisting(_commit) => {}
+            Stage::Confirming(_commit, _fault) => {}
+            Stage::MakingBucket(_insertion, _line, _path) => {}
+            Stage::Appending(_insertion, _size) => {}
+            Stage::ReadingBucket(_lookup) => {}
+            Stage::ReadingContent(_content) => {}
+        }
+    }
+}
+
+impl<T: TempFile> Stage<T> {
+    /// The phase after the answer to the stage's step.
+    pub(crate) fn resume<F: OpenedFile>(
+        self,
+        alloc: Global,
+        answer: Answer<F, T>,
+    ) -> Result<Phase<F, T>, AllocError>
+        ensures ready { IfOk result (λ phase. IsTrue (is_ready phase)) }
+        ensures goes_on { IfOk result (λ phase. (step : Asked) → Keeps self → PhaseAt F.seen T.seen phase (after (state_of T.seen self step) (told F.seen T.seen answer))) }
+    {
+        match self {
+            Stage::MakingTemps(commit, rest) => {
+                commit::after_making_temps(alloc, commit, rest, answer)
+            }
+            Stage::Creating(commit, rest) => commit::after_creating(alloc, commit, rest, answer),
+            Stage::Writing(commit, rest) => commit::after_writing(alloc, commit, rest, answer),
+            Stage::MakingContents(commit, file, path) => {
+                commit::after_making_contents(alloc, commit, file, path, answer)
+            }
+            Stage::Persisting(commit) => commit::after_persisting(alloc, commit, answer),
+            Stage::Confirming(commit, fault) => {
+                commit::after_confirming(alloc, commit, fault, answer)
+            }
+            Stage::MakingBucket(entering, line, path) => {
+                insertion::after_making_bucket(alloc, entering, line, path, answer)
+            }
+            Stage::Appending(entering, size) => {
+                insertion::after_appending(alloc, entering, size, answer)
+            }
+            Stage::ReadingBucket(lookup) => reading::after_reading_bucket(alloc, lookup, answer),
+            Stage::ReadingContent(content) => {
+                reading::after_reading_content(alloc, content, answer)
+            }
+        }
+    }
 }

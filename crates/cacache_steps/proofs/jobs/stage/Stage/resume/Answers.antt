@@ -1,4 +1,4 @@
-use Rattle.cacache_steps.proofs.jobs.job.resume.Goals as goal
+use Rattle.cacache_steps.proofs.jobs.stage.Stage.resume.Goals as goal
 
 pub returns-in-Writing-clause-goes_on : goal.returns-in-Writing-clause-goes_on
 returns-in-Writing-clause-goes_on g c = rw c.in-Writing.is c.after_writing.ensures.goes_on
