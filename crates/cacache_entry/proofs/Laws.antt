@@ -1,7 +1,6 @@
 -- What lines and their beginnings add to a bucket's bytes.
 use Rattle.std.proofs.Common.{◌≡◌, ℕ, zero, suc, ◌+◌, ◌-◌, ◌<◌, ◌≤◌, List, [], ◌∷◌, ◌++◌, Bool, true, false, cond, length, take, Option, Some, None, option_and_then, map, filter_map, bytes_eq, refl, ap, ◌∙◌, arith, append-nil, length-append, inl, inr, ◌⊎◌}
-use Rattle.std.proofs.lemmas.List.{map-append, take-append-le}
-use Rattle.std.proofs.lemmas.List.Elements.{filter_map-append}
+use Rattle.std.proofs.lemmas.List.{take-append-le}
 use Rattle.std.proofs.lemmas.Bool.{cases_lt}
 use Rattle.std.proofs.lemmas.Str.{is_utf8-from_IsUtf8}
 use Rattle.std.proofs.lemmas.Slice.Eq.{bytes_eq-Decides}
@@ -14,18 +13,13 @@ use Rattle.cacache_entry.specs.Entry.{Entry, members_of, text_of, piece_of, line
 use Rattle.cacache_entry.specs.Reading.{entry_of, read_entry}
 use Rattle.cacache_entry.specs.Fits.{IsEntry, Fits}
 use Rattle.cacache_entry.specs.Bucket.{cut, without_cr, entry_of_parts, entry_of_piece, entries_of}
-use Rattle.cacache_entry.specs.Laws.{LinesAppend, TornTextsReadAsNothing, TornLinesAddNothing, TornLinesHurtNoOther, EntriesSplit}
+use Rattle.cacache_entry.specs.Laws.{LinesAppend, TornTextsReadAsNothing, TornLinesAddNothing, TornLinesHurtNoOther}
 use Rattle.cacache_entry.proofs.Cuts.{lacks, lacks-append, lacks-take, cut-append, cut-lacks, without_cr-lacks}
+use Rattle.cacache_entry.proofs.Pieces.{entries_split}
 use Rattle.cacache_entry.proofs.Digits.{lacks-sha256_hex, IsUtf8-piece}
 use Rattle.cacache_entry.proofs.Plain.{lacks-plain, plain-compact_text}
 use Rattle.cacache_entry.proofs.ReadsBack.{MembersAreWhole-members_of, read_entry-text_of}
 use Rattle.cacache_entry.proofs.Torn.{read-torn}
-
--- the entries of bytes with a line feed between them
-pub entries_split : EntriesSplit
-entries_split x y =
-    ap (λ ps. filter_map entry_of_piece (map without_cr ps)) (cut-append 10 x y)
-    ∙ ap (filter_map entry_of_piece) (map-append without_cr (cut 10 x) (cut 10 y)) ∙ filter_map-append entry_of_piece (map without_cr (cut 10 x)) (map without_cr (cut 10 y))
 
 -- behind bytes and a line feed, a piece with no LF and no CR adds the entry that it is
 entries_piece : (x p : List ℕ) (o : Option Entry) → lacks 10 p ≡ true → lacks 13 p ≡ true → entry_of_piece p ≡ o → entries_of (x ++ 10 ∷ p) ≡ entries_of x ++ cons_option o []

@@ -1,10 +1,14 @@
 -- The last entry that answers to a key decides a lookup.
-use Rattle.std.proofs.Common.{◌≡◌, ℕ, List, [], ◌∷◌, Option, None, fold, refl, ap, ◌∙◌}
+use Rattle.std.proofs.Common.{◌≡◌, ℕ, ◌+◌, List, [], ◌∷◌, ◌++◌, Option, None, Some, option_map, option_and_then, drop, take, fold, refl, sym, ap, ◌∙◌, append-nil}
 use Rattle.std.specs.Prelude.{unwrap_or}
+use Rattle.std.specs.Option.{option_to_list, option_flatten}
 use Rattle.std.proofs.lemmas.List.Sums.{fold-append}
+use Rattle.memchr.specs.Find.{IsLastByte, is_byte}
 use Rattle.cacache_entry.specs.Entry.{Entry}
-use Rattle.cacache_entry.specs.Latest.{Found, after_entry, latest, NoneAnswers}
+use Rattle.cacache_entry.specs.Bucket.{without_cr, entry_of_piece, entries_of}
+use Rattle.cacache_entry.specs.Latest.{Found, answer_to, after_entry, latest, NoneAnswers}
 use Rattle.cacache_entry.specs.Laws.{LastAnswerDecides, NoAnswerIsNone}
+use Rattle.cacache_entry.proofs.Pieces.{found, entries-piece, entries-last}
 
 -- entries that answer nothing change nothing
 after_none : (key : List ℕ) (found : Option Found) (es : List Entry) → NoneAnswers key es → fold (after_entry key) found es ≡ found
@@ -17,3 +21,28 @@ last_answer_decides key before after e found is none =
 
 pub no_answer_is_none : NoAnswerIsNone
 no_answer_is_none key es none = after_none key None es none
+
+-- ---- the pieces from the end
+
+-- an entry more, where there is one, answers in place of those before it
+latest-more : (key : List ℕ) (es : List Entry) (o : Option Entry) → latest key (es ++ option_to_list o) ≡ unwrap_or (option_and_then (answer_to key) o) (latest key es)
+latest-more key es None = ap (latest key) (append-nil es)
+latest-more key es (Some e) = fold-append (after_entry key) None es (e ∷ [])
+
+-- a lookup finds what the piece behind the last line feed answers, or else what stands before it
+pub latest-last : (key bs p : List ℕ) (i : ℕ) (answer : Option (Option Found)) → IsLastByte (is_byte 10) bs (Some i) → p ≡ drop (i + 1) bs → answer ≡ option_and_then (answer_to key) (entry_of_piece (without_cr p))
+    → unwrap_or answer (latest key (entries_of (take i bs))) ≡ latest key (entries_of bs)
+latest-last key bs p i answer h behind is =
+    let before = latest key (entries_of (take i bs)) in
+    ap (λ a. unwrap_or a before) (is ∙ ap (λ q. option_and_then (answer_to key) (entry_of_piece (without_cr q))) behind)
+    ∙ sym (latest-more key (entries_of (take i bs)) (entry_of_piece (without_cr (drop (i + 1) bs)))) ∙ ap (latest key) (sym (entries-last bs i h))
+
+flat : {A B : Type 0} (f : A → B) (o : Option (Option A)) → option_map f (option_flatten o) ≡ unwrap_or (option_map (option_map f) o) None
+flat f None = refl
+flat f (Some a) = refl
+
+-- and in a piece alone what it answers, if it does
+pub latest-alone : {A : Type 0} (view : A → Found) (key p : List ℕ) (answer : Option (Option A)) → IsLastByte (is_byte 10) p None → option_map (option_map view) answer ≡ option_and_then (answer_to key) (entry_of_piece (without_cr p))
+    → option_map view (option_flatten answer) ≡ latest key (entries_of p)
+latest-alone view key p answer h is =
+    flat view answer ∙ ap (λ a. unwrap_or a None) is ∙ sym (latest-more key [] (entry_of_piece (without_cr p))) ∙ ap (latest key) (sym (entries-piece p (found 10 p None h)))

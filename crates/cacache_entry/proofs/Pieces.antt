@@ -1,7 +1,8 @@
--- How the first piece is cut off.
-use Rattle.std.proofs.Common.{◌≡◌, ◌≢◌, ℕ, zero, suc, ◌+◌, ◌<◌, List, [], ◌∷◌, ◌++◌, Bool, true, false, not, ◌==◌, cond, Option, Some, None, length, get_or, take, drop, refl, sym, ap, ◌∙◌, arith, bytes_eq, take-append-drop}
+-- How bytes are cut into pieces, from their beginning and from their end.
+use Rattle.std.proofs.Common.{◌≡◌, ◌≢◌, ℕ, zero, suc, ◌+◌, ◌<◌, ◌≤◌, List, [], ◌∷◌, ◌++◌, Bool, true, false, not, ◌==◌, cond, Option, Some, None, length, get_or, take, drop, refl, sym, ap, ◌∙◌, arith, bytes_eq, take-append-drop, length-drop}
 use Rattle.std.proofs.lemmas.Bool.{eqb-true, and_from}
-use Rattle.std.proofs.lemmas.List.{drop_more}
+use Rattle.std.proofs.lemmas.List.{drop_more, get_or-drop, map-append}
+use Rattle.std.proofs.lemmas.List.Elements.{filter_map-append}
 use Rattle.cacache_integrity.specs.Digests.{sha256_hex}
 use Rattle.cacache_entry.specs.Entry.{Entry}
 use Rattle.cacache_entry.specs.Reading.{read_entry}
@@ -12,7 +13,8 @@ use Rattle.std.specs.Prelude.{MatchOption, IsUtf8, is_some, map, filter_map}
 use Rattle.std.specs.Option.{option_to_list}
 use Rattle.std.specs.List.{cons_option}
 use Rattle.std.specs.Str.{is_utf8}
-use Rattle.memchr.specs.Find.{IsFirstByte, is_byte}
+use Rattle.cacache_entry.specs.Laws.{EntriesSplit}
+use Rattle.memchr.specs.Find.{IsFirstByte, IsLastByte, is_byte}
 use Rattle.cacache_entry.proofs.Cuts.{lacks, cut_some, cut-append, cut-lacks}
 
 differs : (t : Bool) → (t ≡ true → ⊥) → not t ≡ true
@@ -30,12 +32,19 @@ lacks-front at zero bs h = refl
 lacks-front at (suc i) [] h = refl
 lacks-front at (suc i) (b ∷ bs) h = and_from _ _ (differs (b == at) (h 0 (omega arith))) (lacks-front at i bs (λ k l. h (suc k) (omega arith)))
 
+-- and so does its end, where the places from i on differ
+lacks-back : (at i : ℕ) (bs : List ℕ) → ((k : ℕ) → i ≤ k → k < length bs → (get_or bs k 0 == at) ≡ true → ⊥) → lacks at (drop i bs) ≡ true
+lacks-back at i bs h = lacks-from at (drop i bs) (λ k l e. h (i + k) (omega arith) (omega (arith, length-drop i bs)) (ap (λ b. b == at) (sym (get_or-drop i bs k 0)) ∙ e))
+
+-- a list around one of its places
+around : (at : ℕ) (bs : List ℕ) (i : ℕ) → i < length bs → get_or bs i 0 ≡ at → bs ≡ take i bs ++ at ∷ drop (i + 1) bs
+around at bs i inside is = sym (take-append-drop i bs) ∙ ap (λ l. take i bs ++ l) (drop_more bs i 0 inside ∙ ap (λ b. b ∷ drop (i + 1) bs) is)
+
 -- the first piece ends where the byte stands first
 pub cuts_at : (at : ℕ) (bs : List ℕ) (i : ℕ) → i < length bs → get_or bs i 0 ≡ at → lacks at (take i bs) ≡ true → CutsAt at bs i
 cuts_at at bs i inside is front =
-    let here : bs ≡ take i bs ++ at ∷ drop (i + 1) bs = sym (take-append-drop i bs) ∙ ap (λ l. take i bs ++ l) (drop_more bs i 0 inside ∙ ap (λ b. b ∷ drop (i + 1) bs) is) in
     let alone = cut-lacks at (take i bs) front in
-    (inside, is, ap (cut at) here ∙ cut-append at (take i bs) (drop (i + 1) bs) ∙ ap (λ ps. ps ++ cut at (drop (i + 1) bs)) alone, alone)
+    (inside, is, ap (cut at) (around at bs i inside is) ∙ cut-append at (take i bs) (drop (i + 1) bs) ∙ ap (λ ps. ps ++ cut at (drop (i + 1) bs)) alone, alone)
 
 more_parts : (a b : List ℕ) (ps : List (List ℕ)) → ps ≢ [] → entry_of_parts (a ∷ b ∷ ps) ≡ None
 more_parts a b [] some = absurd (some refl)
@@ -106,7 +115,7 @@ entry_of_piece-read p rest i utf8 h e r m s right =
     ap (λ b. cond b (entry_of_parts (cut 9 p)) None) (is_utf8-from_IsUtf8 p utf8) ∙ ap entry_of_parts (two p rest i h e r m s)
     ∙ ap (λ b. cond b (read_entry rest) None) ((bytes_eq-Decides (take i p) (sha256_hex rest)).1 right)
 
--- ---- the loop over the pieces
+-- ---- the loops over the pieces
 
 one : (o : Option Entry) → cons_option o [] ≡ option_to_list o
 one None = refl
@@ -123,3 +132,16 @@ entries-first bs i h = ap (λ ps. filter_map entry_of_piece (map without_cr ps))
     onto : (o : Option Entry) (es : List Entry) → cons_option o es ≡ option_to_list o ++ es
     onto None es = refl
     onto (Some e) es = refl
+
+-- the entries of bytes with a line feed between them
+pub entries_split : EntriesSplit
+entries_split x y =
+    ap (λ ps. filter_map entry_of_piece (map without_cr ps)) (cut-append 10 x y)
+    ∙ ap (filter_map entry_of_piece) (map-append without_cr (cut 10 x) (cut 10 y)) ∙ filter_map-append entry_of_piece (map without_cr (cut 10 x)) (map without_cr (cut 10 y))
+
+-- the entries of what stands before the last line feed, and of the piece behind it
+pub entries-last : (bs : List ℕ) (i : ℕ) → IsLastByte (is_byte 10) bs (Some i) → entries_of bs ≡ entries_of (take i bs) ++ option_to_list (entry_of_piece (without_cr (drop (i + 1) bs)))
+entries-last bs i h =
+    let behind = drop (i + 1) bs in
+    ap entries_of (around 10 bs i h.0.high (eqb-true _ _ h.1)) ∙ entries_split (take i bs) behind
+    ∙ ap (λ es. entries_of (take i bs) ++ es) (entries-piece behind (cut-lacks 10 behind (lacks-back 10 (i + 1) bs h.0.after)))

@@ -188,6 +188,31 @@ fn lookups(rt: HostRuntime) -> Result<(), Fail> {
     Ok(())
 }
 
+#[test]
+fn lookups_in_a_damaged_bucket(rt: HostRuntime) -> Result<(), Fail> {
+    let alloc = rt.alloc();
+    let sri = Some("sha256-uU0nuZNNPgilLlLX2n2r+sSE7+N6U4DukIj3rOLvzek=");
+    let mut bytes = Vec::new(alloc);
+    for (key, integrity, time) in [
+        ("hello", sri, 1),
+        ("other", sri, 2),
+        ("other", None, 3),
+        ("hello", sri, 4),
+        ("hello", Some("sha256-no"), 5),
+        ("other", sri, 6),
+    ] {
+        bytes.extend_from_slice(&line_of(alloc, key, integrity, time)?)?;
+    }
+    assert!(rt; found_time(alloc, &bytes, "hello")? == Some(4));
+    assert!(rt; found_time(alloc, &bytes, "other")? == Some(6));
+    // Tears the last line, so that the tombstone stands last.
+    bytes.pop();
+    assert!(rt; found_time(alloc, &bytes, "hello")? == Some(4));
+    assert!(rt; found_time(alloc, &bytes, "other")? == None);
+    assert!(rt; found_time(alloc, &bytes, "third")? == None);
+    Ok(())
+}
+
 // Why the entry is refused; a refusal names the key.
 fn refusal_of(
     rt: &impl Abort,

@@ -1,4 +1,4 @@
-use Rattle.cacache_entry.proofs.Laws.{entries_split}
+use Rattle.cacache_entry.proofs.Pieces.{entries_split}
 use Rattle.cacache_entry.proofs.read.entries.Goals as goal
 
 pub returns-clause-split : goal.returns-clause-split
