@@ -8,7 +8,7 @@ pub mod store;
 mod tests;
 
 pub use cacache_put::put;
-pub use cacache_put::put::{write_hash_sync, write_sync};
+pub use cacache_put::put::{write_hash_sync, write_sync, write_vec_sync};
 pub use cacache_steps::errors::{Error, Result};
 pub use cacache_steps::index::Metadata;
 pub use cacache_steps::integrity::{Algorithm, Integrity};

@@ -4,6 +4,7 @@ use cacache::env::{Clock, Env, Names};
 use cacache::store::Store;
 use cacache::{Integrity, Result};
 use std::alloc::{AllocError, Global};
+use std::mem::replace;
 
 /// The key that is written over and over.
 const DEEP: &str = "deep";
@@ -76,6 +77,19 @@ fn put_deep<S: Store, C: Clock, N: Names>(
         put(env, cache, DEEP, number, content)?;
     }
     Ok(())
+}
+
+/// Puts the large content, which is moved into the call.
+fn put_large<S: Store, C: Clock, N: Names>(
+    env: &mut Env<S, C, N>,
+    cache: &str,
+    content: &mut Vec<u8>,
+) -> Result<()> {
+    let moved = replace(content, Vec::new(env.alloc));
+    match cacache::write_vec_sync(env, cache, LARGE, moved) {
+        Ok(_) => Ok(()),
+        Err(error) => Err(error),
+    }
 }
 
 fn get<S: Store, C: Clock, N: Names>(env: &mut Env<S, C, N>, cache: &str, key: &str) -> Result<()> {
@@ -193,7 +207,7 @@ pub fn perform<S: Store, C: Clock, N: Names>(
             get_deep(env, work.cache, work.second)?;
             return Ok(work.second);
         }
-        Kind::PutLarge => put(env, work.cache, LARGE, 0, content)?,
+        Kind::PutLarge => put_large(env, work.cache, content)?,
         Kind::GetLarge => get(env, work.cache, LARGE)?,
         Kind::Digest => digest(env.alloc, content)?,
     }

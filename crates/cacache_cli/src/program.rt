@@ -45,11 +45,11 @@ fn stored<S: Store, C: Clock, N: Names>(
     env: &mut Env<S, C, N>,
     cache: &str,
     key: &str,
-    data: &[u8],
+    data: Vec<u8>,
 ) -> Result<String>
-    ensures { IfOk result (λ line. Stores cache.now key.now «data».now (string_bytes line) (S.log env.old.store) (S.log env.new.store)) }
+    ensures { IfOk result (λ line. Stores cache.now key.now «data».items (string_bytes line) (S.log env.old.store) (S.log env.new.store)) }
 {
-    let integrity = cacache::write_sync(env, cache, key, data)?;
+    let integrity = cacache::write_vec_sync(env, cache, key, data)?;
     Ok(format!(in env.alloc; "{integrity}\n")?)
 }
 
@@ -69,7 +69,7 @@ fn write<S: Store, C: Clock, N: Names, R: Read, W: Write, E: Write>(
     if input.read_to_end(&mut data).is_err() {
         return failed(errors, b"input failed\n");
     }
-    match stored(env, cache, key, &data) {
+    match stored(env, cache, key, data) {
         Ok(line) => put_out(output, line.as_bytes(), errors),
         Err(error) => told(errors, &error),
     }

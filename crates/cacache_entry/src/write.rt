@@ -18,6 +18,12 @@ use serde_json::Value;
 use sha2::{Digest, Sha256};
 use std::alloc::{AllocError, Global};
 
+// Room for all of a line but its text: LF, the digest's 64 digits and TAB.
+const DIGEST_ROOM: usize = 66;
+
+// Room for all of an entry's text but its key, where it has one SHA-256 digest and no metadata.
+const TEXT_ROOM: usize = 192;
+
 // How deep metadata may nest inside the entry's own object.
 const METADATA_LEVELS: u64 = 126;
 
@@ -90,7 +96,7 @@ fn joined(alloc: Global, text: &str) -> Result<Vec<u8>, AllocError>
     ensures { IfOk result (λ bytes. bytes.items ≡ 10 ∷ (sha256_hex text.now ++ 9 ∷ text.now)) }
 {
     let digest = hex::encode(alloc, Sha256::digest(text.as_bytes()))?;
-    let mut out = Vec::new(alloc);
+    let mut out = Vec::with_capacity(alloc, text.len().saturating_add(DIGEST_ROOM))?;
     out.push(b'\n')?;
     out.extend_from_slice(digest.as_bytes())?;
     out.push(b'\t')?;
@@ -117,7 +123,7 @@ fn text(
     let key = Value::try_from_str(alloc, &entry.key)?;
     let integrity = text_value(alloc, &entry.integrity)?;
     let raw_metadata = bytes_value(alloc, &entry.raw_metadata)?;
-    let mut out = String::new(alloc);
+    let mut out = String::with_capacity(alloc, entry.key.len().saturating_add(TEXT_ROOM))?;
     put(&mut out, alloc, "{\"key\":", &key)?;
     put(&mut out, alloc, ",\"integrity\":", &integrity)?;
     put(&mut out, alloc, ",\"time\":", &Value::from(time))?;

@@ -10,12 +10,24 @@ use crate::integrity::{Hash, Integrity};
 use crate::text::Text;
 use std::alloc::{AllocError, Global};
 
+// Room for the names behind a cache folder in the path of a SHA-256 content.
+const ROOM: usize = 96;
+
+// A copy of a path, with room for the names that follow it, so that it needn't grow name by name.
+fn roomy(alloc: Global, path: &str) -> Result<String, AllocError>
+    ensures { IfOk result (λ s. string_bytes s ≡ path.now) }
+{
+    let mut copy = String::with_capacity(alloc, path.len().saturating_add(ROOM))?;
+    copy.push_str(path)?;
+    Ok(copy)
+}
+
 /// A path and a name below it. An empty path gives the name, and a path that ends in `/` gets no
 /// further one.
 pub fn join(alloc: Global, path: &str, name: &str) -> Result<Text, AllocError>
     ensures { IfOk result (λ t. t ≡ join_of path.now name.now) }
 {
-    let mut joined = String::from_str(alloc, path)?;
+    let mut joined = roomy(alloc, path)?;
     push_name(&mut joined, name)?;
     Ok(Text::new(joined))
 }
@@ -83,7 +95,7 @@ fn place_in(alloc: Global, folder: String, digest: &[u8]) -> Result<Place, Alloc
     ensures folder { IfOk result (λ p. p.folder ≡ string_bytes folder) }
     ensures path { IfOk result (λ p. p.path ≡ join_of (string_bytes folder) (drop 4 (encode_lower digest.now))) }
 {
-    let mut path = folder.clone()?;
+    let mut path = roomy(alloc, folder.as_str())?;
     push_last_name(alloc, &mut path, digest)?;
     Ok(Place {
         folder: Text::new(folder),
@@ -95,7 +107,7 @@ fn folder_of_content(alloc: Global, cache: &str, address: &Hash) -> Result<Strin
     requires { 2 ≤ length address.now.digest }
     ensures { IfOk result (λ s. string_bytes s ≡ joined cache.now (folder_names (content_names address.now))) }
 {
-    let mut path = String::from_str(alloc, cache)?;
+    let mut path = roomy(alloc, cache)?;
     push_name(&mut path, "content-v2")?;
     push_name(&mut path, address.algorithm.name())?;
     push_first_names(alloc, &mut path, address.digest.as_slice())?;
@@ -106,7 +118,7 @@ fn folder_of_bucket(alloc: Global, cache: &str, digest: &[u8]) -> Result<String,
     requires { 2 ≤ length digest.now }
     ensures { IfOk result (λ s. string_bytes s ≡ joined cache.now (codes "index-v5" ∷ folder_names (cut_digits (encode_lower digest.now)))) }
 {
-    let mut path = String::from_str(alloc, cache)?;
+    let mut path = roomy(alloc, cache)?;
     push_name(&mut path, "index-v5")?;
     push_first_names(alloc, &mut path, digest)?;
     Ok(path)

@@ -1,7 +1,10 @@
 //! The open files and temporary files of a store in memory.
-ghost use Rattle.std.specs.Prelude.{◌≡◌, ◌++◌, IfOk};
+ghost use Rattle.std.specs.Prelude.{◌≡◌, ◌++◌, IfOk, IsOk, length};
+ghost use Rattle.std.specs.Io.{ReadsAtMost};
+ghost use Rattle.std.specs.Io.KnownBytes.{ReadConsumes, WriteAppends};
+ghost use Rattle.cacache_base.specs.Handles.{LeftFalls};
 ghost use Rattle.cacache_base.specs.Seen.{asked, told};
-ghost use Rattle.cacache_memory.specs.Held.{file_seen, temp_seen};
+ghost use Rattle.cacache_memory.specs.Held.{file_seen, temp_seen, GivesAll};
 
 use cacache_base::bytes::Bytes;
 use cacache_base::store::{Answer, OpenData, OpenedFile, Step, TempData, TempFile};
@@ -25,7 +28,11 @@ pub struct MemTemp {
 impl Read for MemFile {
     ghost remaining = { λ f. f.seen.bytes };
 
-    fn read(&mut self, buf: &mut [u8]) -> io::Result<usize> {
+    fn read(&mut self, buf: &mut [u8]) -> io::Result<usize>
+        ensures bound { ReadsAtMost result buf.new }
+        ensures bytes { ReadConsumes self.old.seen.bytes self.new.seen.bytes result buf.new }
+        ensures gives_all { GivesAll self.old.seen (length buf.old) result }
+    {
         self.read_some(buf)
     }
 }
@@ -33,7 +40,12 @@ impl Read for MemFile {
 impl OpenedFile for MemFile {
     ghost seen = { file_seen };
 
-    fn read_some(&mut self, buf: &mut [u8]) -> io::Result<usize> {
+    fn read_some(&mut self, buf: &mut [u8]) -> io::Result<usize>
+        ensures bound { ReadsAtMost result buf.new }
+        ensures left { LeftFalls self.old.seen.left self.new.seen.left result }
+        ensures bytes { ReadConsumes self.old.seen.bytes self.new.seen.bytes result buf.new }
+        ensures gives_all { GivesAll self.old.seen (length buf.old) result }
+    {
         let Some(bytes) = self.seen.bytes.take() else {
             return Err(io::Error::from(ErrorKind::Unsupported));
         };
@@ -62,11 +74,17 @@ fn joined(alloc: Global, front: &Bytes, back: &[u8]) -> Result<Bytes, AllocError
 impl Write for MemTemp {
     ghost contents = { λ t. t.seen.bytes };
 
-    fn write(&mut self, buf: &[u8]) -> io::Result<usize> {
+    fn write(&mut self, buf: &[u8]) -> io::Result<usize>
+        ensures bytes { WriteAppends self.old.seen.bytes self.new.seen.bytes result buf.now }
+        ensures takes_all { IfOk result (λ count. count ≡ length buf.now) }
+    {
         self.write_some(buf)
     }
 
-    fn flush(&mut self) -> io::Result<()> {
+    fn flush(&mut self) -> io::Result<()>
+        ensures bytes { self.new.seen.bytes ≡ self.old.seen.bytes }
+        ensures done { IsOk result }
+    {
         Ok(())
     }
 }
@@ -74,7 +92,11 @@ impl Write for MemTemp {
 impl TempFile for MemTemp {
     ghost seen = { temp_seen };
 
-    fn write_some(&mut self, buf: &[u8]) -> io::Result<usize> {
+    fn write_some(&mut self, buf: &[u8]) -> io::Result<usize>
+        ensures path { self.new.seen.path ≡ self.old.seen.path }
+        ensures bytes { WriteAppends self.old.seen.bytes self.new.seen.bytes result buf.now }
+        ensures takes_all { IfOk result (λ count. count ≡ length buf.now) }
+    {
         let Some(bytes) = &self.seen.bytes else {
             return Err(io::Error::from(ErrorKind::Unsupported));
         };

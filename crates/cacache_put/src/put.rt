@@ -15,12 +15,17 @@ use cacache_steps::store::Store;
 use cacache_steps::text::Text;
 use std::alloc::{AllocError, Global};
 
-/// What to store: a copy of the bytes, under a key.
-fn keyed(alloc: Global, key: &str, data: &[u8], moment: u64) -> std::result::Result<Put, AllocError>
-    ensures { IfOk result (λ put. put ≡ keyed_put key.now «data».now moment) }
+/// What to store: the bytes, under a key.
+fn keyed(
+    alloc: Global,
+    key: &str,
+    data: Vec<u8>,
+    moment: u64,
+) -> std::result::Result<Put, AllocError>
+    ensures { IfOk result (λ put. put ≡ keyed_put key.now «data».items moment) }
 {
     let key = Some(Text::from_str(alloc, key)?);
-    let data = Bytes::new(alloc, Vec::from_slice(alloc, data)?)?;
+    let data = Bytes::new(alloc, data)?;
     let moment = u128::from(moment);
     Ok(Put { key, data, moment })
 }
@@ -72,6 +77,26 @@ pub fn write_sync<S: Store, C: Clock, N: Names>(
     ensures ran { (moment number : ℕ) × AsksOnce (C.given env.old.clock) (C.given env.new.clock) moment
         × AsksOnce (N.given env.old.names) (N.given env.new.names) number
         × Ran (opening cache.now (Command.Put (keyed_put key.now «data».now moment)) number) (stored_reply result) (S.log env.old.store) (S.log env.new.store) }
+    ensures base { env.new.base ≡ env.old.base }
+{
+    let moment = env.clock.now();
+    let number = env.names.fresh();
+    let put = keyed(env.alloc, key, Vec::from_slice(env.alloc, data)?, moment)?;
+    let base = env.base.as_str();
+    stored(&mut env.store, env.alloc, cache, base, put, number)
+}
+
+/// What `write_sync` does, with bytes that are moved in, so that none is copied.
+pub fn write_vec_sync<S: Store, C: Clock, N: Names>(
+    env: &mut Env<S, C, N>,
+    cache: &str,
+    key: &str,
+    data: Vec<u8>,
+) -> Result<Integrity>
+    ensures stored { IfOk result (λ i. i ≡ integrity_under Sha256 «data».items) }
+    ensures ran { (moment number : ℕ) × AsksOnce (C.given env.old.clock) (C.given env.new.clock) moment
+        × AsksOnce (N.given env.old.names) (N.given env.new.names) number
+        × Ran (opening cache.now (Command.Put (keyed_put key.now «data».items moment)) number) (stored_reply result) (S.log env.old.store) (S.log env.new.store) }
     ensures base { env.new.base ≡ env.old.base }
 {
     let moment = env.clock.now();

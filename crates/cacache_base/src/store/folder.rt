@@ -8,6 +8,7 @@ mod paths;
 mod temp;
 #[cfg(test)]
 mod tests;
+mod whole;
 
 use crate::bytes::Bytes;
 use crate::errors::Fault;
@@ -17,10 +18,11 @@ use crate::store::handles::{OpenedFile, TempFile};
 use crate::store::step::Step;
 pub use opened::FolderFile;
 use std::fs::{File, OpenFile};
-use std::io::{ErrorKind, Read, Write};
+use std::io::{ErrorKind, Write};
 use std::rt::Files;
 use std::{fs, io};
 pub use temp::FolderTemp;
+use whole::read_whole;
 
 /// The folders and files of a runtime's file system, by the system's own rules. It tells no log.
 #[derive(Drop)]
@@ -74,14 +76,12 @@ impl<R: Files + AllocGlobal + Drop> FolderStore<R> {
         file.write(bytes)
     }
 
-    /// The whole file, read into room for one byte more than it says it has, so that the end shows without growing.
+    /// The whole file.
     fn read_all(&self, path: &str) -> io::Result<Bytes> {
         let alloc = self.rt.alloc();
         let mut file = File::open(&self.rt, path)?;
         let size = usize::try_from(file.metadata()?.len()).unwrap_or(usize::MAX);
-        let mut bytes = Vec::with_capacity(alloc, size.saturating_add(1))?;
-        file.read_to_end(&mut bytes)?;
-        Ok(Bytes::new(alloc, bytes)?)
+        Ok(Bytes::new(alloc, read_whole(alloc, &mut file, size)?)?)
     }
 
     /// Whether a file or folder stands at the path.

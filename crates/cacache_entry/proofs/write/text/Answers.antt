@@ -17,7 +17,7 @@ returns-clause-text c =
       c.in_ok-put-3.ensures.ok,
       c.in_ok-put-2.ensures.ok,
       c.in_ok-put.ensures.ok,
-      c.new-out.ensures.bytes,
+      c.in_ok-out.ensures.bytes,
       c.in_ok-key.ensures,
       c.deref.ensures,
       c.in_ok-integrity.ensures,
