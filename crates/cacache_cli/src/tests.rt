@@ -1,3 +1,7 @@
+//! The program and the first calls over real folders, with values from outside.
+ghost use Rattle.std.specs.Prelude.{IsTrue};
+ghost use Rattle.cacache_steps.specs.Stands.{can_go_on, has_out};
+
 use crate::program::{USAGE, run};
 use cacache::bytes::Bytes;
 use cacache::content::path::content_path;
@@ -146,34 +150,62 @@ type FolderJob = Job<
     <FolderStore<HostRuntime> as Store>::Temp,
 >;
 
+/// Hands the wanted step out, and takes it back.
+fn handed_back(job: &mut FolderJob) -> bool
+    requires { IsTrue (can_go_on job.old) }
+    ensures { IsTrue result → IsTrue (can_go_on job.new) }
+{
+    match job.next() {
+        Next::Step(step) => {
+            job.back(step);
+            true
+        }
+        Next::Over(_) => false,
+    }
+}
+
+/// Hands the wanted step out: is it to read a whole file?
+fn reads(job: &mut FolderJob) -> bool
+    requires { IsTrue (can_go_on job.old) }
+    ensures { IsTrue result → IsTrue (has_out job.new) }
+{
+    matches!(job.next(), Next::Step(Step::ReadAll(_)))
+}
+
+/// The reply, where the call is over.
+fn told(job: &mut FolderJob) -> Option<Reply>
+    requires { IsTrue (can_go_on job.old) }
+{
+    match job.next() {
+        Next::Step(_) => None,
+        Next::Over(reply) => Some(reply),
+    }
+}
+
 /// A read of `hello world`, whose step is handed back once and then answered with these bytes.
-fn answered(rt: &HostRuntime, bytes: &[u8]) -> Result<Reply, Fail> {
+fn answered(rt: &HostRuntime, bytes: &[u8]) -> Result<Option<Reply>, Fail> {
     let alloc = rt.alloc();
     let sri = Integrity::from(alloc, b"hello world")?;
+    let content = Bytes::new(alloc, Vec::from_slice(alloc, bytes)?)?;
     let mut job: FolderJob = Job::new(alloc, "c", ".", Command::GetHash(sri), 0);
-    if let Next::Step(step) = job.next() {
-        job.back(step);
-        if let Next::Step(Step::ReadAll(_)) = job.next() {
-            job.take(Answer::Bytes(Bytes::new(alloc, Vec::from_slice(alloc, bytes)?)?));
-            if let Next::Over(reply) = job.next() {
-                return Ok(reply);
-            }
-        }
+    if handed_back(&mut job) && reads(&mut job) {
+        job.take(Answer::Bytes(content));
+        return Ok(told(&mut job));
     }
-    Ok(Reply::Refused(Error::OutOfMemory))
+    Ok(None)
 }
 
 #[test]
 fn jobs_go_step_by_step(rt: HostRuntime) -> Result<(), Fail> {
     let whole = answered(&rt, b"hello world")?;
     assert!(rt;
-        matches!(&whole, Reply::Read(bytes) if bytes.as_slice() == b"hello world".as_slice())
+        matches!(&whole, Some(Reply::Read(bytes)) if bytes.as_slice() == b"hello world".as_slice())
     );
     let damaged = answered(&rt, b"hello w0rld")?;
     assert!(rt;
         matches!(
             &damaged,
-            Reply::Refused(Error::IntegrityError(IntegrityFault::Check(_, _)))
+            Some(Reply::Refused(Error::IntegrityError(IntegrityFault::Check(_, _))))
         )
     );
     Ok(())

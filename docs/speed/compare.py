@@ -1,0 +1,134 @@
+#!/usr/bin/env python3
+"""Runs cacache_bench, the bare system calls (floor.c) and the program in turn on tmpfs, and prints medians and ratios.
+
+compare.py BENCH PROGRAM [ROUNDS]: the built binaries of cacache_bench and cacache_cli. Figures by the clock are the programs' own
+(of the whole process for the program cacache); processor time is user and system of the whole process.
+"""
+import os
+import re
+import shutil
+import statistics
+import subprocess
+import sys
+import tempfile
+import time
+
+MIB = 64
+KEYS, SIZE = 2000, 1024
+DEPTHS = [(100, 1000), (1000, 100), (10000, 10)]
+SMALL = ["put", "get", "put-again", "get-hash"]
+# Blocks of SHA-256 in an operation on 1 KiB: 17 of the content and, but for get-hash, 3 of the line's text.
+BLOCKS = {"put": 20, "get": 20, "put-again": 20, "get-hash": 17}
+
+figures = {}  # name -> list of (ns by the clock, ns of the processor)
+peaks = {}  # name -> KiB
+buckets = {}  # depth -> bytes of the bucket
+
+
+def run(name, words, per=1, stdin=None, stdout=subprocess.DEVNULL):
+    start = time.monotonic_ns()
+    child = subprocess.Popen(words, stdin=stdin, stdout=stdout, stderr=subprocess.PIPE)
+    errors = child.stderr.read().decode()
+    _, status, used = os.wait4(child.pid, 0)
+    child.returncode = os.waitstatus_to_exitcode(status)
+    spent = time.monotonic_ns() - start
+    if child.returncode != 0:
+        sys.exit(f"{words}: status {child.returncode}: {errors}")
+    told = re.search(r"ns (\d+)", errors)
+    clock = int(told.group(1)) if told else spent
+    figures.setdefault(name, []).append((clock, (used.ru_utime + used.ru_stime) * 1e9 / per))
+    peaks[name] = max(peaks.get(name, 0), used.ru_maxrss)
+
+
+def run_small(bench, floor, at):
+    for kind in SMALL:
+        # get reads what put wrote; the two others write first what they need
+        folder = {"get": "put", "get-hash": "put"}.get(kind, kind)
+        more = [str(SIZE)] if kind.startswith("put") else []
+        for who, program in (("ours", bench), ("floor", floor)):
+            run(f"{kind} {who}", [program, kind, f"{at}/{folder}-{who}", str(KEYS)] + more, KEYS)
+
+
+def run_large(bench, at):
+    for kind in ["put-large", "get-large"]:
+        run("digest", [bench, "digest", str(MIB)])
+        run(kind, [bench, kind, f"{at}/large", str(MIB)])
+
+
+def run_deep(bench, at):
+    for depth, reads in DEPTHS:
+        folder = f"{at}/deep-{depth}"
+        run(f"get-deep {depth}", [bench, "get-deep", folder, str(depth), str(reads)])
+        files = [os.path.join(top, name) for top, _, names in os.walk(folder + "/index-v5") for name in names]
+        buckets[depth] = sum(map(os.path.getsize, files))
+
+
+def run_program(bench, program, at):
+    given, back = f"{at}/given", f"{at}/back"
+    with open(given, "wb") as file:
+        for _ in range(MIB):
+            file.write(os.urandom(1 << 20))
+    run("digest", [bench, "digest", str(MIB)])
+    with open(given, "rb") as file:
+        run("write < file", [program, "write", f"{at}/program", "large"], stdin=file)
+    run("read > /dev/null", [program, "read", f"{at}/program", "large"])
+    with open(back, "wb") as file:
+        run("read > file", [program, "read", f"{at}/program", "large"], stdout=file)
+    if subprocess.run(["cmp", given, back]).returncode != 0:
+        sys.exit("the program gave other bytes back")
+    with subprocess.Popen(["cat", given], stdout=subprocess.PIPE) as cat:
+        run("write < pipe", [program, "write", f"{at}/program-2", "large"], stdin=cat.stdout)
+
+
+def median(name, of=0):
+    return statistics.median(figure[of] for figure in figures[name])
+
+
+def ratio(over, under, of=0):
+    above, below = [f[of] for f in figures[over]], [f[of] for f in figures[under]]
+    if len(above) != len(below):
+        below = [statistics.median(below)] * len(above)
+    each = [a / b for a, b in zip(above, below)]
+    return f"{median(over, of) / median(under, of):.2f} ({min(each):.2f} to {max(each):.2f})"
+
+
+def tell():
+    block = median("digest") / (MIB << 14)
+    print(f"small calls, us; a block of SHA-256 takes {block / 1e3:.3f} us")
+    for kind in SMALL:
+        ours, floor = f"{kind} ours", f"{kind} floor"
+        with_digests = median(ours) / (median(floor) + BLOCKS[kind] * block)
+        print(f"  {kind:10} ours {median(ours) / 1e3:6.2f}  floor {median(floor) / 1e3:6.2f}  by the clock {ratio(ours, floor)}  by the processor {ratio(ours, floor, 1)}  over floor and digests {with_digests:.2f}")
+    print(f"{MIB} MiB, ms; over the digest")
+    for kind in [name for name in figures if name == "digest" or "large" in name or "<" in name or ">" in name]:
+        print(f"  {kind:16} {median(kind) / 1e6:7.1f}  {ratio(kind, 'digest')}  peak memory {peaks[kind] / 1024 / MIB:.2f} times the content")
+    print(f"get-deep, ns a byte of the bucket; the digest alone {block / 64:.2f}")
+    for depth, bytes_ in buckets.items():
+        each = [figure[0] / bytes_ for figure in figures[f"get-deep {depth}"]]
+        print(f"  depth {depth:5}, {bytes_:7} bytes: median {statistics.median(each):.2f}, best {min(each):.2f}")
+
+
+def main():
+    bench, program = (os.path.realpath(word) for word in sys.argv[1:3])
+    rounds = int(sys.argv[3]) if len(sys.argv) > 3 else 5
+    source = os.path.join(os.path.dirname(os.path.realpath(__file__)), "floor.c")
+    root = tempfile.mkdtemp(prefix="compare-", dir="/dev/shm")
+    try:
+        floor = f"{root}/floor"
+        subprocess.run(["gcc", "-O2", "-Wall", "-o", floor, source], check=True)
+        load = os.getloadavg()[0]
+        for turn in range(rounds):
+            at = f"{root}/{turn}"
+            os.mkdir(at)
+            run_small(bench, floor, at)
+            run_large(bench, at)
+            run_deep(bench, at)
+            run_program(bench, program, at)
+            shutil.rmtree(at)
+        print(f"{time.strftime('%F %T')}, {os.cpu_count()} processors, load before {load:.2f} and after {os.getloadavg()[0]:.2f}, {rounds} rounds")
+        tell()
+    finally:
+        shutil.rmtree(root, ignore_errors=True)
+
+
+main()

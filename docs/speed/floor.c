@@ -1,0 +1,154 @@
+// The system calls of one put or get of the cache, and nothing else: no digest, no entry, no allocation.
+// floor put|put-again|get|get-hash FOLDER N [BYTES]; prints "ns PER_OPERATION" on standard error. Built with: gcc -O2 -o floor floor.c
+#define _GNU_SOURCE
+#include <errno.h>
+#include <fcntl.h>
+#include <stdint.h>
+#include <stdio.h>
+#include <stdlib.h>
+#include <string.h>
+#include <sys/stat.h>
+#include <time.h>
+#include <unistd.h>
+
+static char buffer[1 << 20];
+static char line[512];
+static char tmp_folder[4096], tmp_path[4096], content[4096], bucket[4096];
+static size_t content_start, bucket_start, tmp_start;
+static const char digits[] = "0123456789abcdef";
+
+static void fail(const char *what) {
+    perror(what);
+    exit(1);
+}
+
+static uint64_t mix(uint64_t *state) {
+    uint64_t z = (*state += 0x9e3779b97f4a7c15u);
+    z = (z ^ (z >> 30)) * 0xbf58476d1ce4e5b9u;
+    z = (z ^ (z >> 27)) * 0x94d049bb133111ebu;
+    return z ^ (z >> 31);
+}
+
+// xx/yy/REST at `at`, of `bytes` bytes that look like a digest; returns where the folder's name ends.
+static size_t name_at(char *path, size_t at, uint64_t number, uint64_t kind, int bytes) {
+    uint64_t state = number * 2 + kind, word = 0;
+    size_t end = 0;
+    for (int i = 0; i < bytes; i++) {
+        if (i % 8 == 0) word = mix(&state);
+        path[at++] = digits[(word >> 4) & 15];
+        path[at++] = digits[word & 15];
+        word >>= 8;
+        if (i == 1) end = at;
+        if (i <= 1) path[at++] = '/';
+    }
+    path[at] = 0;
+    return end;
+}
+
+static void make_dir(const char *path) {
+    if (mkdir(path, 0777) != 0 && errno != EEXIST) fail(path);
+}
+
+static void make_missing(char *path) {
+    if (mkdir(path, 0777) == 0 || errno == EEXIST) return;
+    char *slash = strrchr(path, '/');
+    if (errno != ENOENT || slash == NULL) fail(path);
+    *slash = 0;
+    make_missing(path);
+    *slash = '/';
+    make_dir(path);
+}
+
+// Makes the folder that ends at `end` of the path.
+static void make_dirs(char *path, size_t end) {
+    struct statx found;
+    char kept = path[end];
+    path[end] = 0;
+    if (statx(AT_FDCWD, path, 0, STATX_ALL, &found) != 0) make_missing(path);
+    path[end] = kept;
+}
+
+static uint64_t temporary;
+
+static void put(uint64_t number, size_t bytes) {
+    size_t content_end = name_at(content, content_start, number, 0, 32);
+    size_t bucket_end = name_at(bucket, bucket_start, number, 1, 20);
+    uint64_t state = temporary++;
+    uint64_t word = mix(&state);
+    for (int i = 0; i < 16; i++, word >>= 4) tmp_path[tmp_start + i] = digits[word & 15];
+    tmp_path[tmp_start + 16] = 0;
+    size_t line_size = 208;
+    for (uint64_t n = number; n >= 10; n /= 10) line_size++;
+    for (size_t n = bytes; n >= 10; n /= 10) line_size++;
+    memcpy(buffer, &number, bytes < 8 ? bytes : 8);
+
+    make_dirs(tmp_folder, strlen(tmp_folder));
+    int fd = open(tmp_path, O_RDWR | O_CREAT | O_EXCL | O_NOCTTY | O_CLOEXEC, 0666);
+    if (fd < 0 || write(fd, buffer, bytes) != (ssize_t)bytes) fail(tmp_path);
+    make_dirs(content, content_end);
+    if (rename(tmp_path, content) != 0) fail(content);
+    close(fd);
+    make_dirs(bucket, bucket_end);
+    fd = open(bucket, O_WRONLY | O_APPEND | O_CREAT | O_NOCTTY | O_CLOEXEC, 0666);
+    if (fd < 0 || write(fd, line, line_size) != (ssize_t)line_size) fail(bucket);
+    close(fd);
+}
+
+static void read_all(const char *path) {
+    struct statx found;
+    int fd = open(path, O_RDONLY | O_NOCTTY | O_CLOEXEC);
+    if (fd < 0 || statx(fd, "", AT_EMPTY_PATH, STATX_ALL, &found) != 0) fail(path);
+    size_t filled = 0;
+    for (;;) {
+        ssize_t count = read(fd, buffer, found.stx_size + 1 - filled);
+        if (count < 0) fail(path);
+        if (count == 0) break;
+        filled += count;
+    }
+    close(fd);
+}
+
+static void get(uint64_t number) {
+    name_at(bucket, bucket_start, number, 1, 20);
+    read_all(bucket);
+    name_at(content, content_start, number, 0, 32);
+    read_all(content);
+}
+
+static void get_hash(uint64_t number) {
+    name_at(content, content_start, number, 0, 32);
+    read_all(content);
+}
+
+int main(int count, char **words) {
+    if (count < 4) {
+        fprintf(stderr, "usage: floor put|put-again FOLDER N BYTES | get|get-hash FOLDER N\n");
+        return 2;
+    }
+    const char *kind = words[1], *cache = words[2];
+    uint64_t n = strtoull(words[3], NULL, 10);
+    size_t bytes = count > 4 ? strtoull(words[4], NULL, 10) : 0;
+    memset(line, 'x', sizeof line);
+    sprintf(tmp_folder, "%s/tmp", cache);
+    tmp_start = sprintf(tmp_path, "%s/tmp/.tmp", cache);
+    content_start = sprintf(content, "%s/content-v2/sha256/", cache);
+    bucket_start = sprintf(bucket, "%s/index-v5/", cache);
+    int again = strcmp(kind, "put-again") == 0, putting = again || strcmp(kind, "put") == 0;
+    int hash = strcmp(kind, "get-hash") == 0;
+    if (again)
+        for (uint64_t i = 0; i < n; i++) put(i, bytes);
+    if (hash)
+        for (uint64_t i = 0; i < n; i++) get(i);
+    struct timespec start, end;
+    clock_gettime(CLOCK_MONOTONIC, &start);
+    if (putting)
+        for (uint64_t i = 0; i < n; i++) put(i, bytes);
+    else if (hash)
+        for (uint64_t i = 0; i < n; i++) get_hash(i);
+    else
+        for (uint64_t i = 0; i < n; i++) get(i);
+    clock_gettime(CLOCK_MONOTONIC, &end);
+    uint64_t spent = (end.tv_sec - start.tv_sec) * 1000000000ull + end.tv_nsec - start.tv_nsec;
+    fprintf(stderr, "ns %llu\n", (unsigned long long)(spent / (n ? n : 1)));
+    return 0;
+}
