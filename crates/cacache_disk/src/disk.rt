@@ -43,6 +43,12 @@ impl Disk {
         Ok(disk)
     }
 
+    /// The nodes by their paths.
+    #[cfg(test)]
+    pub(crate) fn nodes(&self) -> &BTreeMap<Path, Node> {
+        &self.nodes
+    }
+
     /// Where its memory comes from.
     pub(crate) fn alloc(&self) -> Global {
         self.alloc

@@ -7,6 +7,8 @@ mod luck;
 mod node;
 mod path;
 mod steps;
+#[cfg(test)]
+mod tests;
 mod walk;
 
 pub use cacache_integrity::{errors, text};

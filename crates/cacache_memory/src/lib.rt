@@ -3,6 +3,8 @@
 
 mod handles;
 mod memory;
+#[cfg(test)]
+mod tests;
 
 pub use handles::{MemFile, MemTemp};
 pub use memory::MemStore;
