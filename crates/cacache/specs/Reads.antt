@@ -1,6 +1,6 @@
 -- Which commands read, and what a reading call answers, as the reply that it stands for.
 use Rattle.std.specs.Prelude.{ℕ, List, Vec, Result, Ok, Err}
-use Rattle.cacache_integrity.specs.declared.errors.Error.{Error}
+use Rattle.cacache_core.specs.declared.errors.Error.{Error}
 use Rattle.cacache_steps.specs.declared.jobs.command.Command.{Command}
 use Rattle.cacache_steps.specs.declared.jobs.command.Command.TheVariants.{Put, Get, GetHash}
 use Rattle.cacache_steps.specs.declared.jobs.reply.Reply.{Reply}

@@ -1,19 +1,19 @@
 //! Calls that read bytes.
 ghost use Rattle.std.specs.Prelude.{◌≡◌, IfOk};
 ghost use Rattle.cacache_steps.specs.declared.jobs.command.Command.TheVariants.{Get, GetHash};
-ghost use Rattle.cacache_integrity.specs.Integrity.{Meets};
+ghost use Rattle.cacache_core.specs.Integrity.{Meets};
 ghost use Rattle.cacache_steps.specs.Calls.{opening};
 ghost use Rattle.cacache_steps.specs.Promises.{Promises};
 ghost use Rattle.cacache_steps.specs.Runs.{Ran};
 ghost use Rattle.cacache_steps.specs.Verified.{FindsBytes, ReadsFound};
 ghost use Rattle.cacache.specs.Reads.{IsReading, read_reply};
 
-use cacache_steps::env::{Clock, Env, Names};
-use cacache_steps::errors::Result;
-use cacache_steps::integrity::Integrity;
+use cacache_base::env::{Clock, Env, Names};
+use cacache_base::store::Store;
+use cacache_core::errors::Result;
+use cacache_core::integrity::Integrity;
+use cacache_core::text::Text;
 use cacache_steps::jobs::{Command, Reply, call};
-use cacache_steps::store::Store;
-use cacache_steps::text::Text;
 use std::alloc::Global;
 
 /// Makes a call that reads.

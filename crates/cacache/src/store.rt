@@ -1,7 +1,8 @@
 //! What a cache lies on: real folders, or a disk in memory.
-pub use cacache_disk::{Disk, Luck};
-pub use cacache_memory::{MemFile, MemStore, MemTemp};
-pub use cacache_steps::store::{
-    Answer, FolderFile, FolderStore, FolderTemp, Kind, Listing, LogItem, Name, OpenData,
-    OpenedFile, Step, Store, TempData, TempFile,
+pub use cacache_base::store::{
+    Answer, FileHandle, Kind, Listing, LogItem, Name, OpenedFile, PlainFile, PlainTemp, Step,
+    Store, TempFile, TempHandle,
 };
+pub use cacache_disk::{Disk, Luck};
+pub use cacache_folder::{FolderFile, FolderStore, FolderTemp};
+pub use cacache_memory::MemStore;

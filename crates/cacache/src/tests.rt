@@ -2,7 +2,7 @@
 use crate::env::{Clock, CountNames, Env};
 use crate::errors::Error;
 use crate::integrity::Integrity;
-use crate::store::{Answer, FolderStore, LogItem, MemStore, OpenData, Step, Store, TempData};
+use crate::store::{Answer, FolderStore, LogItem, MemStore, PlainFile, PlainTemp, Step, Store};
 use std::alloc::Global;
 use std::test::Fail;
 
@@ -75,7 +75,7 @@ fn folder_and_memory_answer_the_same(rt: HostRuntime) -> Result<(), Fail> {
 }
 
 /// A line on a step.
-fn asked(alloc: Global, step: &Step<OpenData, TempData>) -> Result<String, Fail> {
+fn asked(alloc: Global, step: &Step<PlainFile, PlainTemp>) -> Result<String, Fail> {
     Ok(match step {
         Step::MakeDirs(path) => format!(in alloc; "MakeDirs {path}")?,
         Step::CreateTemp(path) => format!(in alloc; "CreateTemp {path}")?,

@@ -4,10 +4,10 @@ use Rattle.cacache_base.specs.declared.store.step.Step.TheVariants.{MakeDirs, Cr
 use Rattle.cacache_base.specs.declared.store.answer.Answer.TheVariants.{Done, Temp, Wrote, Took, Bytes, File, Got, There, Length, Names, Failed, NoMemory}
 use Rattle.cacache_base.specs.declared.store.log.LogItem.{LogItem}
 use Rattle.cacache_base.specs.declared.store.log.LogItem.TheVariants.{Made}
-use Rattle.cacache_base.specs.Seen.{Asked, Told}
+use Rattle.cacache_base.specs.Seen.{PlainStep, PlainAnswer}
 
 -- the answer is one of the step's kind, and its count at most what was asked
-abbrev pub Fits : Asked → Told → Type 0
+abbrev pub Fits : PlainStep → PlainAnswer → Type 0
 Fits a (Failed fault) = Unit {0}
 Fits a (NoMemory b) = b ≡ a
 Fits (MakeDirs p) Done = Unit {0}
@@ -30,10 +30,10 @@ Fits (RemoveDir p) Done = Unit {0}
 Fits _ _ = ⊥
 
 -- the step came back for want of memory
-abbrev pub is_no_memory : Told → Bool
+abbrev pub is_no_memory : PlainAnswer → Bool
 is_no_memory (NoMemory b) = true
 is_no_memory _ = false
 
 -- where the log is told, it gains this item, and none for a step that found no memory
-abbrev pub Logs : Option (List LogItem) → Option (List LogItem) → Asked → Told → Type 0
+abbrev pub Logs : Option (List LogItem) → Option (List LogItem) → PlainStep → PlainAnswer → Type 0
 Logs old new a t = new ≡ cond (is_no_memory t) old (option_map (λ log. log ++ Made a t ∷ []) old)

@@ -4,8 +4,8 @@ ghost use Rattle.std.specs.Prelude.{◌≡◌, IfOk};
 mod clock;
 mod names;
 
-use crate::text::Text;
-pub use clock::{Clock, SystemClock};
+use cacache_core::text::Text;
+pub use clock::Clock;
 pub use names::{CountNames, Names};
 use std::alloc::{AllocError, Global};
 

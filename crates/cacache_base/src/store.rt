@@ -1,19 +1,19 @@
 //! A store does one step at a time, whole, and answers it.
 ghost use Rattle.std.specs.Prelude.{List, Option};
 ghost use Rattle.cacache_base.specs.declared.store.log.LogItem.{LogItem};
-ghost use Rattle.cacache_base.specs.Seen.{asked, told};
+ghost use Rattle.cacache_base.specs.Seen.{plain_step, plain_answer};
 ghost use Rattle.cacache_base.specs.Fits.{Fits, Logs};
 
 mod answer;
-mod folder;
 mod handles;
 mod log;
+mod plain;
 mod step;
 
 pub use answer::{Answer, Kind, Listing, Name};
-pub use folder::{FolderFile, FolderStore, FolderTemp};
-pub use handles::{OpenData, OpenedFile, TempData, TempFile};
+pub use handles::{FileHandle, OpenedFile, TempFile, TempHandle};
 pub use log::LogItem;
+pub use plain::{PlainFile, PlainTemp};
 pub use step::Step;
 
 /// Where a cache lies: real folders, or a disk in memory.
@@ -30,6 +30,6 @@ pub trait Store {
     /// Does one step, and answers it. `Answer::Failed` says why it failed; `Answer::NoMemory` hands the step back,
     /// and nothing changed.
     fn step(&mut self, step: Step<Self::File, Self::Temp>) -> Answer<Self::File, Self::Temp>
-        ensures fits { Fits (asked Self.File.seen Self.Temp.seen step) (told Self.File.seen Self.Temp.seen result) }
-        ensures logged { Logs (log self.old) (log self.new) (asked Self.File.seen Self.Temp.seen step) (told Self.File.seen Self.Temp.seen result) };
+        ensures fits { Fits (plain_step Self.File.seen Self.Temp.seen step) (plain_answer Self.File.seen Self.Temp.seen result) }
+        ensures logged { Logs (log self.old) (log self.new) (plain_step Self.File.seen Self.Temp.seen step) (plain_answer Self.File.seen Self.Temp.seen result) };
 }

@@ -1,9 +1,9 @@
 -- What the program does with a store and with its streams.
 use Rattle.std.specs.Prelude.{◌≡◌, ℕ, List, [], ◌∷◌, ◌++◌, Option, IfSome}
 use Rattle.std.specs.Io.KnownBytes.{Appends}
-use Rattle.cacache_integrity.specs.declared.integrity.algorithm.Algorithm.TheVariants.{Sha256}
-use Rattle.cacache_integrity.specs.Integrity.{integrity_under}
-use Rattle.cacache_integrity.specs.Texts.{text_of}
+use Rattle.cacache_core.specs.declared.integrity.algorithm.Algorithm.TheVariants.{Sha256}
+use Rattle.cacache_core.specs.Integrity.{integrity_under}
+use Rattle.cacache_core.specs.Texts.{text_of}
 use Rattle.cacache_base.specs.declared.store.log.LogItem.{LogItem}
 use Rattle.cacache_steps.specs.declared.jobs.command.Command.TheVariants.{Put, Get}
 use Rattle.cacache_steps.specs.declared.jobs.reply.Reply.TheVariants.{Stored, Read}

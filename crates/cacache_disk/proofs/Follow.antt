@@ -1,9 +1,9 @@
 -- One link more.
 use Rattle.std.proofs.Common.{◌≡◌, ◌<◌, ◌-◌, ℕ, zero, suc, refl, arith, List}
 use Rattle.std.specs.Prelude.{Option, None, Some, Ok, Err}
-use Rattle.cacache_integrity.specs.declared.errors.Fault.{Fault}
+use Rattle.cacache_core.specs.declared.errors.Fault.{Fault}
 use Rattle.cacache_disk.specs.declared.node.Node.TheVariants.{Link}
-use Rattle.cacache_disk.specs.Names.{Names}
+use Rattle.cacache_core.specs.PathNames.{Names}
 use Rattle.cacache_disk.specs.Tree.{Tree, look}
 use Rattle.cacache_disk.specs.Found.{followed, standing, on_link, and_then}
 

@@ -1,3 +1,4 @@
+pub mod Below
 pub mod Follow
 pub mod Maps
 pub mod NameLemmas

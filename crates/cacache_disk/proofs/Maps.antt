@@ -1,6 +1,6 @@
 -- The nodes as a finite map.
 use Rattle.std.proofs.Common.{◌≡◌, ℕ, Bool, true, false, cond, List, [], ◌∷◌, ◌++◌, refl, sym, ap, subst, ◌∙◌}
-use Rattle.std.specs.Prelude.{◌&&◌, T, Option, None, Some, map as keys_of}
+use Rattle.std.specs.Prelude.{◌&&◌, T, Option, None, Some, IsSome, map as keys_of}
 use Rattle.std.specs.List.{AllByRecursion, filter_map}
 use Rattle.std.specs.List.Sorted.{IsStrictlySortedBy}
 use Rattle.std.specs.FinMap.Entries.{below_all}
@@ -43,7 +43,7 @@ cut_map m n k u = map.same_map total only _ _ (λ q.
     get_map n q ∙ u.0 q ∙ ap (λ b. cond b None (btree.get names_cmp m q)) ((eq_by_cmp_equiv total).symm k q)
     ∙ sym (map.get-remove total (map.from_entries m.entries) k q ∙ ap (cond (eq_by_cmp names_cmp q k) None) (get_map m q)))
 
-is_eq_true : (o : Ordering) → is_eq o ≡ true → o ≡ Equal
+pub is_eq_true : (o : Ordering) → is_eq o ≡ true → o ≡ Equal
 is_eq_true Less e = cc
 is_eq_true Equal e = refl
 is_eq_true Greater e = cc
@@ -71,8 +71,15 @@ entries_map m ordered =
     let sorted : T (map.is_sorted names_cmp m.entries) = sorted_of m.entries ordered in
     ap map.entries (map.same_map total only _ _ (λ q. map.get-from_entries total m.entries q ∙ sym (map.get-from_sorted names_cmp m.entries q sorted))) ∙ map.entries-from_sorted names_cmp m.entries sorted
 
--- a listing is made of the map's entries
-pub listing_start : (m : BTreeMap Names Node) (t : Tree) (folder : Names) (found : List Name) (rest : List (Names × Node)) → btree.IsOrdered names_cmp m → map.from_entries m.entries ≡ t → found ≡ [] → rest ≡ m.entries
-    → found ++ filter_map (child_of folder) rest ≡ listing t folder
-unfolding listing
-listing_start m t folder found rest ordered is none all = rw (none, all, sym is, entries_map m ordered) refl
+-- a value that is written at a key of the map
+pub written_map : (m n : BTreeMap Names Node) (k : Names) (v : Node) → IsSome (btree.get names_cmp m k) → btree.WritesThrough names_cmp (names_cmp k) m v n
+    → map.from_entries {R = names_cmp} n.entries ≡ map.insert (map.from_entries m.entries) k v
+written_map m n k v there written = put_map m n k v (written.3 there)
+
+same_at : (t : Tree) (k q : Names) (v : Node) (b : Bool) → Some v ≡ map.get t k → same_path q k ≡ b → cond b (Some v) (map.get t q) ≡ map.get t q
+same_at t k q v true there e = there ∙ ap (map.get t) (sym (same_path-true q k e))
+same_at t k q v false there e = refl
+
+-- what stands at a key, put there again
+pub put_same : (t : Tree) (k : Names) (v : Node) → Some v ≡ map.get t k → map.insert t k v ≡ t
+put_same t k v there = map.same_map total only _ _ (λ q. map.get-insert total t k v q ∙ same_at t k q v _ there refl)

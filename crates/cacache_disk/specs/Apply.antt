@@ -1,23 +1,23 @@
 -- What a step answers on a tree, and the tree after it.
 use Rattle.std.specs.Prelude.{ℕ, ◌-◌, ◌==◌, Bool, true, false, cond, List, [], ◌∷◌, ◌++◌, Option, None, Some, Result, Ok, Err, length, take, drop, min, max}
-use Rattle.cacache_integrity.specs.declared.errors.Fault.{Fault}
-use Rattle.cacache_integrity.specs.declared.errors.Fault.TheVariants.{NotFound, NotADirectory, IsADirectory, InvalidInput, Closed, Device}
-use Rattle.cacache_base.specs.declared.store.handles.OpenData.{OpenData}
-use Rattle.cacache_base.specs.declared.store.handles.TempData.{TempData}
+use Rattle.cacache_core.specs.declared.errors.Fault.{Fault}
+use Rattle.cacache_core.specs.declared.errors.Fault.TheVariants.{NotFound, NotADirectory, IsADirectory, InvalidInput, Closed, Device}
+use Rattle.cacache_base.specs.declared.store.plain.PlainFile.{PlainFile}
+use Rattle.cacache_base.specs.declared.store.plain.PlainTemp.{PlainTemp}
 use Rattle.cacache_base.specs.declared.store.step.Step.TheVariants.{MakeDirs, CreateTemp, Write, Persist, Append, ReadAll, Open, Read, Size, Exists, Symlink, Copy, Reflink, HardLink, ReadDir, RemoveFile, RemoveDir}
 use Rattle.cacache_base.specs.declared.store.answer.Answer.TheVariants as answer
 use Rattle.cacache_base.specs.declared.store.answer.Answer.TheVariants.{Done, Temp, Wrote, Took, Bytes, Got, There, Length, Failed}
-use Rattle.cacache_base.specs.Seen.{Asked, Told}
+use Rattle.cacache_base.specs.Seen.{PlainStep, PlainAnswer}
 use Rattle.cacache_disk.specs.declared.luck.Luck.{Luck}
 use Rattle.cacache_disk.specs.declared.luck.Luck.TheVariants.{Plain, Fail, Take}
 use Rattle.cacache_disk.specs.declared.node.Node.{Node}
 use Rattle.cacache_disk.specs.declared.node.Node.TheVariants.{Folder, File, Link}
-use Rattle.cacache_disk.specs.Names.{Names, names_of}
+use Rattle.cacache_core.specs.PathNames.{Names, names_of}
 use Rattle.cacache_disk.specs.Tree.{Tree, look, put, cut, bytes_of, listing}
 use Rattle.cacache_disk.specs.Found.{and_then, or_fault, where_no_folder, dirs_fault, dirs, free, known, kept, replaceable, writable, file_at, found, linked, folder, removable, emptied}
 
 -- a fault fails the step and changes nothing; else it goes on from what was found
-abbrev pub unless : {A : Type 0} → Result A Fault → Tree → (A → Told × Tree) → Told × Tree
+abbrev pub unless : {A : Type 0} → Result A Fault → Tree → (A → PlainAnswer × Tree) → PlainAnswer × Tree
 unless (Ok found) t go = go found
 unless (Err fault) t go = (Failed fault, t)
 
@@ -52,25 +52,25 @@ making None names = length names
 making (Some most) names = most
 
 -- a temporary file that took more bytes; it is closed where its bytes aren't known
-abbrev pub grown : TempData → List ℕ → ℕ → Option (List ℕ) → Told
+abbrev pub grown : PlainTemp → List ℕ → ℕ → Option (List ℕ) → PlainAnswer
 grown temp bytes count None = Failed Closed
 grown temp bytes count (Some old) = Wrote (record { path = temp.path; bytes = Some (old ++ take count bytes) }) count
 
 -- at most so many bytes of an open file; it is closed where its bytes aren't known, or aren't as many as it has left
-abbrev pub given : OpenData → ℕ → Option (List ℕ) → Told
+abbrev pub given : PlainFile → ℕ → Option (List ℕ) → PlainAnswer
 given file size None = Failed Closed
 given file size (Some bytes) =
     cond (file.left == length bytes) (Got (record { left = length bytes - min size (length bytes); bytes = Some (drop size bytes) }) (take size bytes)) (Failed Closed)
 
 -- whether something is there: for want of a folder on the way it isn't
-abbrev pub is_there : Result Names Fault → Told
+abbrev pub is_there : Result Names Fault → PlainAnswer
 is_there (Ok names) = There true
 is_there (Err NotFound) = There false
 is_there (Err NotADirectory) = There false
 is_there (Err fault) = Failed fault
 
 -- the table of steps: the answer and the new tree, where at most `most` of its bytes or folders are done
-abbrev pub plain : Tree → Asked → Option ℕ → Told × Tree
+abbrev pub plain : Tree → PlainStep → Option ℕ → PlainAnswer × Tree
 plain t (MakeDirs p) most = unless (dirs t p) t (λ names. (Done, make_some t [] names (making most names)))
 plain t (CreateTemp p) most = unless (free t p) t (λ names. (Temp (record { path = p; bytes = Some [] }), put t names (File [])))
 plain t (Write f bytes) most = (grown f bytes (taken most bytes) f.bytes, t)
@@ -90,14 +90,14 @@ plain t (RemoveFile p) most = unless (removable t p) t (λ names. (Done, cut t n
 plain t (RemoveDir p) most = unless (emptied t p) t (λ names. (Done, cut t names))
 
 -- a step of which a take does only a part
-abbrev pub is_taking : Asked → Bool
+abbrev pub is_taking : PlainStep → Bool
 is_taking (Write f bytes) = true
 is_taking (Append p bytes) = true
 is_taking (Read f size) = true
 is_taking _ = false
 
 -- a step that leaves a part done where it fails
-abbrev pub is_parted : Asked → Bool
+abbrev pub is_parted : PlainStep → Bool
 is_parted (MakeDirs p) = true
 is_parted (Append p bytes) = true
 is_parted (Copy p q) = true
@@ -109,22 +109,22 @@ made_up NotFound = Device
 made_up fault = fault
 
 -- what a failed step leaves, where so much of it was done
-abbrev pub left_by : Tree → Asked → Option ℕ → Tree
+abbrev pub left_by : Tree → PlainStep → Option ℕ → Tree
 left_by t step None = t
 left_by t step (Some part) = cond (is_parted step) (plain t step (Some part)).1 t
 
 -- why a step failed, if it did
-abbrev pub fault_of : Told → Option Fault
+abbrev pub fault_of : PlainAnswer → Option Fault
 fault_of (Failed fault) = Some fault
 fault_of _ = None
 
 -- the step's own failure wins over a made-up one
-abbrev pub fails : Option Fault → Fault → Tree → Tree → Told × Tree
+abbrev pub fails : Option Fault → Fault → Tree → Tree → PlainAnswer × Tree
 fails (Some own) fault t left = (Failed own, t)
 fails None fault t left = (Failed (made_up fault), left)
 
 -- the answer and the new tree
-unfoldable pub apply : Tree → Asked → Luck → Told × Tree
+unfoldable pub apply : Tree → PlainStep → Luck → PlainAnswer × Tree
 apply t step Plain = plain t step None
 apply t step (Take most) = plain t step (cond (is_taking step) (Some most) None)
 apply t step (Fail fault part) = fails (fault_of (plain t step None).0) fault t (left_by t step part)

@@ -1,4 +1,3 @@
-pub mod Names
 pub mod Tree
 pub mod Found
 pub mod Apply

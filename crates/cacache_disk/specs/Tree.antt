@@ -11,7 +11,7 @@ use Rattle.cacache_base.specs.declared.store.answer.Kind.TheVariants as kinds
 use Rattle.cacache_base.specs.declared.store.answer.Name.{Name}
 use Rattle.cacache_disk.specs.declared.node.Node.{Node}
 use Rattle.cacache_disk.specs.declared.node.Node.TheVariants.{Folder, File, Link}
-pub use Rattle.cacache_disk.specs.Names.{Names}
+pub use Rattle.cacache_core.specs.PathNames.{Names}
 
 -- the order of paths, name by name
 abbrev pub names_cmp : Names → Names → Ordering
@@ -54,9 +54,13 @@ kind_of Folder = kinds.Folder
 kind_of (File bytes) = kinds.File
 kind_of (Link target) = kinds.Link
 
+-- whether a path begins with a folder's names
+abbrev pub is_below : Names → Names → Bool
+is_below folder names = pointwise (pointwise nat_eq) (take (length folder) names) folder
+
 -- whether a path has one name more than a folder's, behind its names
 abbrev pub is_child : Names → Names → Bool
-is_child folder names = (length names == length folder + 1) && pointwise (pointwise nat_eq) (take (length folder) names) folder
+is_child folder names = (length names == length folder + 1) && is_below folder names
 
 -- what a listing of a folder says of a node of the tree
 abbrev pub child_of : Names → Names × Node → Option Name

@@ -1,10 +1,12 @@
 //! The nodes of a disk, by their paths.
-ghost use Rattle.std.specs.Prelude.{◌≡◌, IfOk, OnOk, OnErr, option_copied};
-ghost use Rattle.cacache_disk.specs.Tree.{bare, look, put, cut, listing};
+ghost use Rattle.std.specs.Prelude.{◌≡◌, ◌==◌, ◌++◌, IfOk, OnOk, OnErr, length, option_copied};
+ghost use Rattle.cacache_disk.specs.declared.node.Node.TheVariants.{File};
+ghost use Rattle.cacache_disk.specs.Tree.{bare, look, put, cut, bytes_of, listing};
 
 use crate::node::Node;
 use crate::path::Path;
 use cacache_base::store::{Listing, Name};
+use cacache_core::bytes::Bytes;
 use std::alloc::{AllocError, Global};
 use std::collections::BTreeMap;
 use std::marker::Model;
@@ -70,6 +72,17 @@ impl Disk {
         Ok(())
     }
 
+    /// Puts more bytes behind what the file at the path holds, in place where nobody shares that.
+    pub(crate) fn lengthen(&mut self, path: Path, more: Bytes) -> Result<(), AllocError>
+        ensures ok { OnOk result (self.new ≡ put self.old path (File (bytes_of (look self.old path) ++ more))) }
+        ensures err { OnErr result (self.new ≡ self.old) }
+    {
+        if let Some(node) = self.nodes.get_mut(&path) {
+            return node.lengthen(&more);
+        }
+        self.put(path, Node::File(more))
+    }
+
     /// Takes away what stands at the path.
     pub(crate) fn cut(&mut self, path: &Path)
         ensures { self.new ≡ cut self.old path.now }
@@ -82,7 +95,10 @@ impl Disk {
         ensures { IfOk result (λ names. names ≡ listing self.now folder.now) }
     {
         let mut names: Vec<Name> = Vec::new(self.alloc);
-        for (path, node) in self.nodes.iter() {
+        for (path, node) in self.nodes.range(folder..) {
+            if !path.is_below(folder) {
+                return Ok(Listing::new(names));
+            }
             if path.is_in(folder) {
                 let name = path.name(folder.len())?;
                 let kind = node.kind();
@@ -90,5 +106,20 @@ impl Disk {
             }
         }
         Ok(Listing::new(names))
+    }
+
+    /// Whether a folder has no names.
+    pub(crate) fn is_empty_at(&self, folder: &Path) -> bool
+        ensures { result ≡ (length (listing self.now folder.now) == 0) }
+    {
+        for (path, _) in self.nodes.range(folder..) {
+            if !path.is_below(folder) {
+                return true;
+            }
+            if path.is_in(folder) {
+                return false;
+            }
+        }
+        true
     }
 }

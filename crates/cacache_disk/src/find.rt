@@ -4,11 +4,11 @@ ghost use Rattle.cacache_disk.specs.Tree.{look};
 ghost use Rattle.cacache_disk.specs.Found.{place, standing, followed, leads, found, file_at, writable, free, replaceable, kept, linked, removable, folder, emptied, dirs, where_there, where_free, where_no_folder, where_removable, where_folder, where_file, bytes_in, linked_in};
 
 use crate::disk::Disk;
-use crate::errors::Fault;
 use crate::node::Node;
 use crate::path::Path;
-use crate::text::Text;
-use cacache_base::bytes::Bytes;
+use cacache_core::bytes::Bytes;
+use cacache_core::errors::Fault;
+use cacache_core::text::Text;
 use std::alloc::AllocError;
 
 /// How many links may be followed, one after another.
@@ -202,7 +202,7 @@ impl Disk {
         if names.is_top() {
             return Ok(Err(Fault::NotEmpty));
         }
-        if self.listing(&names)?.as_slice().is_empty() {
+        if self.is_empty_at(&names) {
             Ok(Ok(names))
         } else {
             Ok(Err(Fault::NotEmpty))

@@ -11,6 +11,5 @@ mod steps;
 mod tests;
 mod walk;
 
-pub use cacache_integrity::{errors, text};
 pub use disk::Disk;
 pub use luck::Luck;

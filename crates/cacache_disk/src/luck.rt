@@ -1,5 +1,5 @@
 //! How a step turns out.
-use crate::errors::Fault;
+use cacache_core::errors::Fault;
 
 /// How a step turns out that would go well. A step that fails on its own does so under any luck.
 #[derive(Clone, Copy, Debug, PartialEq, Eq)]

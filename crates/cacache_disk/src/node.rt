@@ -1,10 +1,12 @@
 //! What stands at a path.
-ghost use Rattle.std.specs.Prelude.{◌≡◌};
-ghost use Rattle.cacache_disk.specs.Tree.{kind_of};
+ghost use Rattle.std.specs.Prelude.{◌≡◌, ◌++◌, Some, OnOk, OnErr};
+ghost use Rattle.cacache_disk.specs.declared.node.Node.TheVariants.{File};
+ghost use Rattle.cacache_disk.specs.Tree.{bytes_of, kind_of};
 
-use crate::text::Text;
-use cacache_base::bytes::Bytes;
 use cacache_base::store::Kind;
+use cacache_core::bytes::Bytes;
+use cacache_core::text::Text;
+use std::alloc::AllocError;
 
 /// What stands at a path of a disk.
 #[derive(Debug, Drop)]
@@ -25,5 +27,17 @@ impl Node {
             Node::File(_) => Kind::File,
             Node::Link(_) => Kind::Link,
         }
+    }
+
+    /// Puts more bytes behind a file's, in place where nobody shares those. Anything else becomes a file of them.
+    pub(crate) fn lengthen(&mut self, more: &Bytes) -> Result<(), AllocError>
+        ensures ok { OnOk result (self.new ≡ File (bytes_of (Some self.old) ++ more.now)) }
+        ensures err { OnErr result (self.new ≡ self.old) }
+    {
+        if let Node::File(old) = self {
+            return old.extend(more.as_slice());
+        }
+        *self = Node::File(more.share()?);
+        Ok(())
     }
 }

@@ -1,16 +1,16 @@
 //! Paths as names from the top folder down.
 ghost use Rattle.std.specs.Prelude.{◌≡◌, ◌+◌, ◌++◌, ◌∷◌, ◌≤◌, ◌<◌, ◌==◌, [], List, IfOk, OnOk, OnErr, length, take, Some, slice_index_or};
-ghost use Rattle.cacache_disk.specs.Tree.{is_child};
+ghost use Rattle.cacache_disk.specs.Tree.{is_below, is_child};
 ghost use Rattle.std.specs.Bool.{OnTrue};
-ghost use Rattle.cacache_disk.specs.Names.{names_of, is_above, is_name};
+ghost use Rattle.cacache_core.specs.PathNames.{names_of, is_above, is_name};
 ghost use Rattle.std.proofs.Common.{refl};
 ghost use Rattle.std.specs.Bool.{nat_eq};
 ghost use Rattle.std.specs.Ordering.{nat_cmp};
 ghost use Rattle.std.specs.Cmp;
 ghost use Rattle.std.specs.Cmp.Lexicographic.{pointwise, slice_cmp, slice_partial_cmp, lists_equiv, lists_agrees, lists_total, lists_ties, nat_list_eq_equiv, nat_list_cmp_total, texts_ties, lists_po, texts_po};
 
-use crate::errors::Fault;
-use crate::text::Text;
+use cacache_core::errors::Fault;
+use cacache_core::text::Text;
 use std::alloc::{AllocError, Global};
 use std::cmp::Ordering;
 use std::marker::Model;
@@ -80,6 +80,14 @@ impl Path {
     {
         let count = folder.names.len();
         self.names.len() == count + 1 && self.names[..count] == folder.names[..]
+    }
+
+    /// Whether it begins with the folder's names.
+    pub(crate) fn is_below(&self, folder: &Path) -> bool
+        ensures { result ≡ is_below folder.now self.now }
+    {
+        let count = self.names.len().min(folder.names.len());
+        self.names[..count] == folder.names[..]
     }
 
     /// A copy of the name at an index.

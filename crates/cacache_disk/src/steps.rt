@@ -13,14 +13,14 @@ mod plant;
 mod temps;
 
 use crate::disk::Disk;
-use crate::errors::Fault;
 use crate::luck::Luck;
 use answers::{Twice, failed_twice};
-use cacache_base::store::{Answer, OpenData, Step, TempData};
+use cacache_base::store::{Answer, PlainFile, PlainTemp, Step};
+use cacache_core::errors::Fault;
 use std::alloc::AllocError;
 
 /// Whether a take does only a part of the step.
-fn is_taking(step: &Step<OpenData, TempData>) -> bool
+fn is_taking(step: &Step<PlainFile, PlainTemp>) -> bool
     ensures { result ≡ is_taking step.now }
 {
     matches!(
@@ -30,7 +30,7 @@ fn is_taking(step: &Step<OpenData, TempData>) -> bool
 }
 
 /// Whether the step leaves a part done where it fails.
-fn is_parted(step: &Step<OpenData, TempData>) -> bool
+fn is_parted(step: &Step<PlainFile, PlainTemp>) -> bool
     ensures { result ≡ is_parted step.now }
 {
     matches!(
@@ -54,9 +54,9 @@ impl Disk {
     #[tactic(auto, unfolding(crate::specs::Apply::apply))]
     pub fn apply(
         &mut self,
-        step: &Step<OpenData, TempData>,
+        step: &Step<PlainFile, PlainTemp>,
         luck: Luck,
-    ) -> Result<(Answer<OpenData, TempData>, Answer<OpenData, TempData>), AllocError>
+    ) -> Result<(Answer<PlainFile, PlainTemp>, Answer<PlainFile, PlainTemp>), AllocError>
         ensures ok { IfOk result (λ r. apply self.old step.now luck ≡ (r.0, self.new)) }
         ensures copy { IfOk result (λ r. r.1 ≡ r.0) }
         ensures fits { IfOk result (λ r. Fits step.now r.0) }
@@ -74,7 +74,7 @@ impl Disk {
     #[tactic(auto, unfolding(crate::specs::Apply::apply))]
     fn failing(
         &mut self,
-        step: &Step<OpenData, TempData>,
+        step: &Step<PlainFile, PlainTemp>,
         fault: Fault,
         part: Option<usize>,
     ) -> Result<Twice, AllocError>
@@ -97,7 +97,7 @@ impl Disk {
     /// A step that goes its own way, where at most `most` of its bytes or folders are done.
     fn plain(
         &mut self,
-        step: &Step<OpenData, TempData>,
+        step: &Step<PlainFile, PlainTemp>,
         most: Option<usize>,
     ) -> Result<Twice, AllocError>
         ensures ok { IfOk result (λ r. plain self.old step.now most ≡ (r.0, self.new)) }

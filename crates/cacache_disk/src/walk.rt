@@ -5,9 +5,9 @@ ghost use Rattle.cacache_disk.specs.Found.{way_fault, dirs_fault, is_in_way};
 ghost use Rattle.cacache_disk.specs.Apply.{make_some};
 
 use crate::disk::Disk;
-use crate::errors::Fault;
 use crate::node::Node;
 use crate::path::Path;
+use cacache_core::errors::Fault;
 use std::alloc::AllocError;
 
 impl Disk {

@@ -5,8 +5,8 @@ use Rattle.std.proofs.lemmas.Bool.{leb-true, leb-false, ltb-false, le-ltb, lt-lt
 use Rattle.serde_json.specs.Data.{depth, items_depth, object}
 use Rattle.serde_json.specs.Read.{max_depth}
 use Rattle.serde_json.specs.Written.{has_float}
-use Rattle.cacache_integrity.specs.declared.errors.SerdeCause.{SerdeCause}
-use Rattle.cacache_integrity.specs.declared.errors.SerdeCause.TheVariants.{TimeTooLarge, NotWhole, TooDeep}
+use Rattle.cacache_core.specs.declared.errors.SerdeCause.{SerdeCause}
+use Rattle.cacache_core.specs.declared.errors.SerdeCause.TheVariants.{TimeTooLarge, NotWhole, TooDeep}
 use Rattle.cacache_entry.specs.Entry.{Entry, text_or_null, byte_items, bytes_or_null, members_of}
 use Rattle.cacache_entry.specs.Fits.{IsEntry, Fits, cause_of}
 

@@ -7,7 +7,7 @@ use Rattle.std.proofs.lemmas.Str.{IsUtf8-append, IsUtf8-from_ascii}
 use Rattle.hex.specs.Hex.{lower_digits, encode_with}
 use Rattle.hex.proofs.HexLemmas.{IsAscii-encode_with}
 use Rattle.sha2.specs.Sha256.{sha256}
-use Rattle.cacache_integrity.specs.Digests.{sha256_hex}
+use Rattle.cacache_core.specs.Digests.{sha256_hex}
 use Rattle.cacache_entry.proofs.Cuts.{lacks, lacks-append}
 
 lacks-digit : (at : ℕ) (t : List ℕ) (i : ℕ) → lacks at (0 ∷ t) ≡ true → lacks at (get_or t i 0 ∷ []) ≡ true

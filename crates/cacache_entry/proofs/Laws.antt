@@ -8,7 +8,7 @@ use Rattle.std.specs.List.{cons_option}
 use Rattle.std.specs.Str.{is_utf8}
 use Rattle.hex.specs.Hex.{lower_digits}
 use Rattle.serde_json.specs.Data.{object}
-use Rattle.cacache_integrity.specs.Digests.{sha256_hex}
+use Rattle.cacache_core.specs.Digests.{sha256_hex}
 use Rattle.cacache_entry.specs.Entry.{Entry, members_of, text_of, piece_of, line_of}
 use Rattle.cacache_entry.specs.Reading.{entry_of, read_entry}
 use Rattle.cacache_entry.specs.Fits.{IsEntry, Fits}

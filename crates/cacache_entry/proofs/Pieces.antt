@@ -3,7 +3,7 @@ use Rattle.std.proofs.Common.{◌≡◌, ◌≢◌, ℕ, zero, suc, ◌+◌, ◌
 use Rattle.std.proofs.lemmas.Bool.{eqb-true, and_from}
 use Rattle.std.proofs.lemmas.List.{drop_more, get_or-drop, map-append}
 use Rattle.std.proofs.lemmas.List.Elements.{filter_map-append}
-use Rattle.cacache_integrity.specs.Digests.{sha256_hex}
+use Rattle.cacache_core.specs.Digests.{sha256_hex}
 use Rattle.cacache_entry.specs.Entry.{Entry}
 use Rattle.cacache_entry.specs.Reading.{read_entry}
 use Rattle.cacache_entry.specs.Bucket.{cut, without_cr, entry_of_parts, entry_of_piece, entries_of, CutsAt}

@@ -2,7 +2,7 @@
 use Rattle.std.specs.Prelude.{ℕ, List, [], ◌∷◌, ◌++◌, codes, Option, Some, None}
 use Rattle.serde_json.specs.Data.{unsigned, Data, null, number, string, array, object, Items, no_items, item, Members, no_members, member}
 use Rattle.serde_json.specs.Written.{compact_text}
-use Rattle.cacache_integrity.specs.Digests.{sha256_hex}
+use Rattle.cacache_core.specs.Digests.{sha256_hex}
 
 -- what a line of a bucket says; without an integrity it is a tombstone
 pub record Entry : Type 0 where

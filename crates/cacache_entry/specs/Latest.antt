@@ -1,9 +1,9 @@
 -- What a lookup of a key answers.
 use Rattle.std.specs.Prelude.{◌≡◌, ℕ, List, [], ◌∷◌, Option, Some, None, Result, Ok, Err, cond, bytes_eq, unwrap_or, fold}
 use Rattle.serde_json.specs.Data.{Data}
-use Rattle.cacache_integrity.specs.declared.errors.IntegrityFault.{IntegrityFault}
-use Rattle.cacache_integrity.specs.declared.integrity.digest.Hash.{Hash}
-use Rattle.cacache_integrity.specs.Texts.{read_integrity}
+use Rattle.cacache_core.specs.declared.errors.IntegrityFault.{IntegrityFault}
+use Rattle.cacache_core.specs.declared.integrity.digest.Hash.{Hash}
+use Rattle.cacache_core.specs.Texts.{read_integrity}
 use Rattle.cacache_entry.specs.Entry.{Entry}
 
 -- a found entry, with the integrity that its text reads as

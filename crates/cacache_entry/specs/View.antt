@@ -1,8 +1,8 @@
 -- What entries the program's values stand for, and what a refusal says.
 use Rattle.std.specs.Prelude.{◌≡◌, ℕ, List, ◌++◌, codes, Some, option_map, string_bytes}
 use Rattle.serde_json.specs.View.{view}
-use Rattle.cacache_integrity.specs.declared.errors.Error.{Error}
-use Rattle.cacache_integrity.specs.declared.errors.Error.TheVariants.{EntryNotFound, SizeMismatch, IoError, SerdeError, IntegrityError, OutOfMemory}
+use Rattle.cacache_core.specs.declared.errors.Error.{Error}
+use Rattle.cacache_core.specs.declared.errors.Error.TheVariants.{EntryNotFound, SizeMismatch, IoError, SerdeError, IntegrityError, OutOfMemory}
 use Rattle.cacache_entry.specs.Entry.{Entry}
 use Rattle.cacache_entry.specs.Fits.{cause_of}
 use Rattle.cacache_entry.specs.Latest.{Found}

@@ -1,6 +1,6 @@
 //! The lookup of a key.
 ghost use Rattle.std.specs.Prelude.{◌≡◌, IfOk, IfErr, option_map, option_and_then};
-ghost use Rattle.cacache_integrity.specs.declared.errors.Error.TheVariants.{OutOfMemory};
+ghost use Rattle.cacache_core.specs.declared.errors.Error.TheVariants.{OutOfMemory};
 ghost use Rattle.cacache_entry.specs.Bucket.{without_cr as less_cr, entry_of_piece, entries_of};
 ghost use Rattle.cacache_entry.specs.Latest.{found_of, answer_of, answer_to, latest as latest_of};
 ghost use Rattle.cacache_entry.specs.Laws.{LastAnswerDecides, NoAnswerIsNone};
@@ -8,8 +8,8 @@ ghost use Rattle.cacache_entry.specs.View.{entry_view, found_view};
 
 use crate::metadata::{Metadata, SerializableMetadata};
 use crate::read::{piece_entry, without_cr};
-use cacache_integrity::errors::{self, Error};
-use cacache_integrity::integrity::Integrity;
+use cacache_core::errors::{self, Error};
+use cacache_core::integrity::Integrity;
 use memchr::memrchr;
 use std::alloc::Global;
 

@@ -6,7 +6,7 @@ ghost use Rattle.std.specs.Hash as fed;
 ghost use Rattle.std.specs.Ordering.{on};
 ghost use Rattle.cacache_entry.specs.declared.metadata.SerializableMetadata.{SerializableMetadata as Said};
 
-use cacache_integrity::integrity::Integrity;
+use cacache_core::integrity::Integrity;
 use serde_json::Value;
 use std::hash::{Hash, Hasher};
 

@@ -1,15 +1,15 @@
 //! The entries of a bucket.
 ghost use Rattle.std.specs.Prelude.{◌≡◌, [], ◌∷◌, ◌++◌, IfOk, IfErr, MatchOption, OnOk, map, option_map, IsTrue, ◌↔◌};
 ghost use Rattle.std.specs.Option.{option_to_list};
-ghost use Rattle.cacache_integrity.specs.Digests.{sha256_hex};
-ghost use Rattle.cacache_integrity.specs.declared.errors.Error.TheVariants.{OutOfMemory};
+ghost use Rattle.cacache_core.specs.Digests.{sha256_hex};
+ghost use Rattle.cacache_core.specs.declared.errors.Error.TheVariants.{OutOfMemory};
 ghost use Rattle.cacache_entry.specs.Bucket.{cut, CutsAt, without_cr as less_cr, entry_of_piece, entries_of};
 ghost use Rattle.cacache_entry.specs.Laws.{EntriesSplit};
 ghost use Rattle.cacache_entry.specs.View.{entry_view};
 
 use crate::metadata::SerializableMetadata;
 use crate::parse::read_entry;
-use cacache_integrity::errors;
+use cacache_core::errors;
 use memchr::memchr;
 use sha2::{Digest, Sha256};
 use std::alloc::{AllocError, Global};

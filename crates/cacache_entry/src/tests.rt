@@ -1,6 +1,6 @@
 //! Lines and texts with values from outside: the Rust crate's lines, and texts that a foreign writer might leave.
 use super::*;
-use cacache_integrity::errors::{self, Error, SerdeCause};
+use cacache_core::errors::{self, Error, SerdeCause};
 use serde_json::Value;
 use sha2::{Digest, Sha256};
 use std::alloc::{AllocError, Global};

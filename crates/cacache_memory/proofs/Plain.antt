@@ -2,13 +2,13 @@
 use Rattle.std.proofs.Common.{◌≡◌, ℕ, List, refl, sym, ap, ◌∙◌, subst}
 use Rattle.std.specs.Prelude.{Option, None, Some, Result, Ok, Err, IfNone, OnSome}
 use Rattle.std.specs.Result.{result_ok}
-use Rattle.cacache_integrity.specs.declared.errors.Fault.{Fault}
-use Rattle.cacache_integrity.specs.declared.errors.Fault.TheVariants.{IsADirectory}
+use Rattle.cacache_core.specs.declared.errors.Fault.{Fault}
+use Rattle.cacache_core.specs.declared.errors.Fault.TheVariants.{IsADirectory}
 use Rattle.cacache_base.specs.declared.store.step.Step.TheVariants.{MakeDirs}
 use Rattle.cacache_base.specs.declared.store.answer.Answer.TheVariants.{Done, Failed, Bytes}
-use Rattle.cacache_base.specs.Seen.{Told}
+use Rattle.cacache_base.specs.Seen.{PlainAnswer}
 use Rattle.cacache_disk.specs.declared.luck.Luck.TheVariants.{Plain}
-use Rattle.cacache_disk.specs.Names.{Names}
+use Rattle.cacache_core.specs.PathNames.{Names}
 use Rattle.cacache_disk.specs.Tree.{Tree}
 use Rattle.cacache_disk.specs.Found.{dirs, file_at}
 use Rattle.cacache_disk.specs.Apply.{apply, unless}
@@ -16,7 +16,7 @@ use Rattle.cacache_memory.specs.Replay.{bytes_in, shown}
 use Rattle.cacache_memory.specs.Refusals.{fault_in}
 
 -- folders that can't be made change nothing; else they are made
-abbrev MadeOrNot : Tree → Told → Tree → Type 0
+abbrev MadeOrNot : Tree → PlainAnswer → Tree → Type 0
 MadeOrNot t Done new = Unit {0}
 MadeOrNot t (Failed fault) new = new ≡ t
 MadeOrNot t _ new = ⊥
@@ -29,21 +29,21 @@ dirs-made : (t : Tree) (p : List ℕ) → MadeOrNot t (apply t (MakeDirs p) Plai
 unfolding apply
 dirs-made t p = unless-dirs (dirs t p) t _
 
-failed-else : (t new : Tree) (a : Told) → MadeOrNot t a new → OnSome (fault_in a) (new ≡ t)
+failed-else : (t new : Tree) (a : PlainAnswer) → MadeOrNot t a new → OnSome (fault_in a) (new ≡ t)
 failed-else t new Done made = tt
 failed-else t new (Failed fault) made = made
 failed-else t new _ made = absurd made
 
-done-else : (t new : Tree) (a : Told) → MadeOrNot t a new → IfNone (fault_in a) (a ≡ Done)
+done-else : (t new : Tree) (a : PlainAnswer) → MadeOrNot t a new → IfNone (fault_in a) (a ≡ Done)
 done-else t new Done made = refl
 done-else t new (Failed fault) made = tt
 done-else t new _ made = absurd made
 
-dirs-answer : (t : Tree) (p : List ℕ) (a : Told) (new : Tree) → apply t (MakeDirs p) Plain ≡ (a, new) → MadeOrNot t a new
-dirs-answer t p a new applied = subst (λ (r : Told × Tree). MadeOrNot t r.0 r.1) applied (dirs-made t p)
+dirs-answer : (t : Tree) (p : List ℕ) (a : PlainAnswer) (new : Tree) → apply t (MakeDirs p) Plain ≡ (a, new) → MadeOrNot t a new
+dirs-answer t p a new applied = subst (λ (r : PlainAnswer × Tree). MadeOrNot t r.0 r.1) applied (dirs-made t p)
 
 -- folders that can't be made change nothing
-pub dirs-failed : (t : Tree) (p : List ℕ) (a : Told) (new : Tree) (found : Option Fault)
+pub dirs-failed : (t : Tree) (p : List ℕ) (a : PlainAnswer) (new : Tree) (found : Option Fault)
     → apply t (MakeDirs p) Plain ≡ (a, new) → found ≡ fault_in a → OnSome found (new ≡ t)
 dirs-failed t p a new found applied same = subst (λ (o : Option Fault). OnSome o (new ≡ t)) (sym same) (failed-else t new a (dirs-answer t p a new applied))
 
@@ -52,7 +52,7 @@ IfNone-map None A B f a = f a
 IfNone-map (Some fault) A B f a = tt
 
 -- and else are made
-pub dirs-done : (t : Tree) (p : List ℕ) (a : Told) (new : Tree) (found : Option Fault)
+pub dirs-done : (t : Tree) (p : List ℕ) (a : PlainAnswer) (new : Tree) (found : Option Fault)
     → apply t (MakeDirs p) Plain ≡ (a, new) → found ≡ fault_in a → IfNone found (apply t (MakeDirs p) Plain ≡ (Done, new))
 dirs-done t p a new found applied same =
     subst (λ (o : Option Fault). IfNone o (apply t (MakeDirs p) Plain ≡ (Done, new))) (sym same)

@@ -1,4 +1,3 @@
-pub mod Held
 pub mod Replay
 pub mod Refusals
 pub mod Kept

@@ -1,13 +1,13 @@
 -- When nothing is planted.
 use Rattle.std.specs.Prelude.{◌≡◌, Option, None, Some, Result, Ok, Err}
-use Rattle.cacache_integrity.specs.declared.errors.Error.{Error}
-use Rattle.cacache_integrity.specs.declared.errors.Error.TheVariants.{IoError, OutOfMemory}
-use Rattle.cacache_integrity.specs.declared.errors.Fault.{Fault}
+use Rattle.cacache_core.specs.declared.errors.Error.{Error}
+use Rattle.cacache_core.specs.declared.errors.Error.TheVariants.{IoError, OutOfMemory}
+use Rattle.cacache_core.specs.declared.errors.Fault.{Fault}
 use Rattle.cacache_base.specs.declared.store.answer.Answer.TheVariants.{Failed}
-use Rattle.cacache_base.specs.Seen.{Told}
+use Rattle.cacache_base.specs.Seen.{PlainAnswer}
 
 -- the fault in an answer
-abbrev pub fault_in : Told → Option Fault
+abbrev pub fault_in : PlainAnswer → Option Fault
 fault_in (Failed fault) = Some fault
 fault_in _ = None
 

@@ -1,12 +1,12 @@
 -- The tree that a log leads to, from a bare disk on.
 use Rattle.std.specs.Prelude.{◌≡◌, ℕ, List, [], ◌∷◌, Option, None, Some, Result, Ok, Err}
 use Rattle.std.specs.Result.{result_err}
-use Rattle.cacache_integrity.specs.declared.errors.Fault.{Fault}
+use Rattle.cacache_core.specs.declared.errors.Fault.{Fault}
 use Rattle.cacache_base.specs.declared.store.step.Step.TheVariants.{MakeDirs, ReadAll}
 use Rattle.cacache_base.specs.declared.store.answer.Answer.TheVariants.{Done, Bytes, NoMemory}
 use Rattle.cacache_base.specs.declared.store.log.LogItem.{LogItem}
 use Rattle.cacache_base.specs.declared.store.log.LogItem.TheVariants.{Made, Foreign, ForeignFolder}
-use Rattle.cacache_base.specs.Seen.{Asked, Told}
+use Rattle.cacache_base.specs.Seen.{PlainStep, PlainAnswer}
 use Rattle.cacache_disk.specs.declared.luck.Luck.TheVariants.{Plain}
 use Rattle.cacache_disk.specs.Tree.{Tree, bare}
 use Rattle.cacache_disk.specs.Apply.{apply, planted}
@@ -47,7 +47,7 @@ unfoldable pub IsLog : List LogItem → Type 0
 IsLog log = IsReplayable bare log
 
 -- the bytes in the answer of a step that reads a file, none in any other
-abbrev pub bytes_in : Told → Option (List ℕ)
+abbrev pub bytes_in : PlainAnswer → Option (List ℕ)
 bytes_in (Bytes bytes) = Some bytes
 bytes_in _ = None
 
@@ -56,6 +56,6 @@ abbrev pub shown : Tree → List ℕ → Option (List ℕ)
 shown t path = bytes_in (apply t (ReadAll path) Plain).0
 
 -- the answer is the disk's, but for want of memory
-abbrev pub Answers : Tree → Asked → Told → Type 0
+abbrev pub Answers : Tree → PlainStep → PlainAnswer → Type 0
 Answers t step (NoMemory back) = Unit {0}
 Answers t step answer = answer ≡ (apply t step Plain).0

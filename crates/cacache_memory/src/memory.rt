@@ -1,24 +1,21 @@
 //! A store in memory that tells its log.
 ghost use Rattle.std.specs.Prelude.{◌≡◌, ◌∷◌, ◌++◌, [], ◌<◌, Some, IfOk, IfErr, IfNone, OnOk, OnErr, OnSome, option_map, vec_len, vec_capacity};
 ghost use Rattle.std.specs.Result.{result_err};
-ghost use Rattle.cacache_integrity.specs.declared.errors.Error.TheVariants.{OutOfMemory};
+ghost use Rattle.cacache_core.specs.declared.errors.Error.TheVariants.{OutOfMemory};
 ghost use Rattle.cacache_base.specs.declared.store.log.LogItem.TheVariants.{Foreign, ForeignFolder};
 ghost use Rattle.cacache_base.specs.declared.store.step.Step.TheVariants.{MakeDirs};
 ghost use Rattle.cacache_base.specs.declared.store.answer.Answer.TheVariants.{Done};
-ghost use Rattle.cacache_base.specs.Seen.{asked, told};
 ghost use Rattle.cacache_base.specs.Fits.{Fits, Logs};
 ghost use Rattle.cacache_disk.specs.declared.luck.Luck.TheVariants.{Plain};
 ghost use Rattle.cacache_disk.specs.Apply.{apply, planted};
-ghost use Rattle.cacache_memory.specs.Held.{file_seen, temp_seen};
 ghost use Rattle.cacache_memory.specs.Replay.{tree_of, IsLog, shown, Answers};
 ghost use Rattle.cacache_memory.specs.Refusals.{fault_in, IsDueTo, IsEarned};
 
-use crate::handles::{MemFile, MemTemp, bared, handed, handed_back};
-use cacache_base::bytes::Bytes;
-use cacache_base::errors;
-use cacache_base::errors::{Error, Fault};
-use cacache_base::store::{Answer, LogItem, OpenData, Step, Store, TempData};
-use cacache_base::text::Text;
+use cacache_base::store::{Answer, LogItem, PlainFile, PlainTemp, Step, Store};
+use cacache_core::bytes::Bytes;
+use cacache_core::errors;
+use cacache_core::errors::{Error, Fault};
+use cacache_core::text::Text;
 use cacache_disk::{Disk, Luck};
 use std::alloc::{AllocError, Global};
 use std::marker::Model;
@@ -51,7 +48,7 @@ fn refused(alloc: Global, fault: Fault, what: &str, path: &Text) -> Error
 }
 
 /// The fault of an answer that tells one.
-fn fault_of(answer: Answer<OpenData, TempData>) -> Option<Fault>
+fn fault_of(answer: Answer<PlainFile, PlainTemp>) -> Option<Fault>
     ensures { result ≡ fault_in answer }
 {
     match answer {
@@ -170,26 +167,24 @@ impl MemStore {
 }
 
 impl Store for MemStore {
-    type File = MemFile;
+    type File = PlainFile;
 
-    type Temp = MemTemp;
+    type Temp = PlainTemp;
 
     ghost log = { λ log. Some log };
 
-    fn step(&mut self, step: Step<MemFile, MemTemp>) -> Answer<MemFile, MemTemp>
-        ensures fits { Fits (asked file_seen temp_seen step) (told file_seen temp_seen result) }
-        ensures logged { Logs (Some self.old) (Some self.new) (asked file_seen temp_seen step) (told file_seen temp_seen result) }
-        ensures answers { Answers (tree_of self.old) (asked file_seen temp_seen step) (told file_seen temp_seen result) }
+    fn step(&mut self, step: Step<PlainFile, PlainTemp>) -> Answer<PlainFile, PlainTemp>
+        ensures fits { Fits step result }
+        ensures logged { Logs (Some self.old) (Some self.new) step result }
+        ensures answers { Answers (tree_of self.old) step result }
     {
-        let alloc = self.alloc;
-        let step = bared(step);
         if make_room(&mut self.log).is_err() {
-            return Answer::NoMemory(handed(alloc, step));
+            return Answer::NoMemory(step);
         }
         let Ok((answer, copy)) = self.disk.apply(&step, Luck::Plain) else {
-            return Answer::NoMemory(handed(alloc, step));
+            return Answer::NoMemory(step);
         };
         note(&mut self.log, LogItem::Made(step, copy));
-        handed_back(alloc, answer)
+        answer
     }
 }

@@ -1,7 +1,7 @@
 -- What a writing call asks of its environment, and what it puts.
 use Rattle.std.specs.Prelude.{◌≡◌, ℕ, List, [], ◌∷◌, ◌++◌, Option, None, Some, Result, Ok, Err, option_map}
-use Rattle.cacache_integrity.specs.declared.errors.Error.{Error}
-use Rattle.cacache_integrity.specs.declared.integrity.digest.Hash.{Hash}
+use Rattle.cacache_core.specs.declared.errors.Error.{Error}
+use Rattle.cacache_core.specs.declared.integrity.digest.Hash.{Hash}
 use Rattle.cacache_steps.specs.declared.jobs.command.Put.{Put}
 use Rattle.cacache_steps.specs.declared.jobs.reply.Reply.{Reply}
 use Rattle.cacache_steps.specs.declared.jobs.reply.Reply.TheVariants.{Stored, Refused}

@@ -1,18 +1,18 @@
 //! Calls that store bytes.
 ghost use Rattle.std.specs.Prelude.{◌≡◌, ℕ, IfOk};
-ghost use Rattle.cacache_integrity.specs.declared.integrity.algorithm.Algorithm.TheVariants.{Sha256};
-ghost use Rattle.cacache_integrity.specs.Integrity.{integrity_under};
+ghost use Rattle.cacache_core.specs.declared.integrity.algorithm.Algorithm.TheVariants.{Sha256};
+ghost use Rattle.cacache_core.specs.Integrity.{integrity_under};
 ghost use Rattle.cacache_steps.specs.Calls.{opening};
 ghost use Rattle.cacache_steps.specs.Runs.{Ran};
 ghost use Rattle.cacache_put.specs.Writes.{AsksOnce, keyed_put, unkeyed_put, stored_reply};
 
-use cacache_steps::bytes::Bytes;
-use cacache_steps::env::{Clock, Env, Names};
-use cacache_steps::errors::Result;
-use cacache_steps::integrity::Integrity;
+use cacache_base::env::{Clock, Env, Names};
+use cacache_base::store::Store;
+use cacache_core::bytes::Bytes;
+use cacache_core::errors::Result;
+use cacache_core::integrity::Integrity;
+use cacache_core::text::Text;
 use cacache_steps::jobs::{Command, Put, Reply, call};
-use cacache_steps::store::Store;
-use cacache_steps::text::Text;
 use std::alloc::{AllocError, Global};
 
 /// What to store: the bytes, under a key.

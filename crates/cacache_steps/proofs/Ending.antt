@@ -1,15 +1,15 @@
 -- Runs end: each answer lowers the effort that is still to come.
 use Rattle.std.proofs.Common.{◌≡◌, ℕ, zero, suc, ◌+◌, ◌<◌, ◌≤◌, ◌==◌, List, [], ◌∷◌, Option, Some, None, Bool, true, false, cond, nat_le, Result, Ok, Err, refl, length, drop, arith, length-drop}
 use Rattle.std.proofs.lemmas.Bool.{eqb-false}
-use Rattle.cacache_integrity.specs.declared.errors.Fault.{Fault}
-use Rattle.cacache_integrity.specs.declared.errors.Fault.TheVariants as faults
-use Rattle.cacache_integrity.specs.declared.errors.SerdeCause.{SerdeCause}
-use Rattle.cacache_integrity.specs.declared.errors.IntegrityFault.TheVariants.{Check}
-use Rattle.cacache_integrity.specs.declared.errors.Error.{Error}
-use Rattle.cacache_integrity.specs.declared.errors.Error.TheVariants.{IoError, IntegrityError}
-use Rattle.cacache_integrity.specs.Integrity.{actual}
-use Rattle.cacache_base.specs.declared.store.handles.TempData.{TempData}
-use Rattle.cacache_base.specs.Seen.{Asked, Told}
+use Rattle.cacache_core.specs.declared.errors.Fault.{Fault}
+use Rattle.cacache_core.specs.declared.errors.Fault.TheVariants as faults
+use Rattle.cacache_core.specs.declared.errors.SerdeCause.{SerdeCause}
+use Rattle.cacache_core.specs.declared.errors.IntegrityFault.TheVariants.{Check}
+use Rattle.cacache_core.specs.declared.errors.Error.{Error}
+use Rattle.cacache_core.specs.declared.errors.Error.TheVariants.{IoError, IntegrityError}
+use Rattle.cacache_core.specs.Integrity.{actual}
+use Rattle.cacache_base.specs.declared.store.plain.PlainTemp.{PlainTemp}
+use Rattle.cacache_base.specs.Seen.{PlainStep, PlainAnswer}
 use Rattle.cacache_entry.specs.Latest.{Found}
 use Rattle.cacache_steps.specs.declared.jobs.reply.Reply.TheVariants.{Stored, Read}
 use Rattle.cacache_steps.specs.declared.jobs.stage.Commit.{Commit}
@@ -32,17 +32,17 @@ cond_below : (b : Bool) (s t : State) (n : ℕ) → effort s < n → effort t < 
 cond_below true s t n h k = h
 cond_below false s t n h k = k
 
-rest_below : (c : Commit) (file : TempData) (rest : List ℕ) → effort (write_rest c file rest) < length rest + 7
+rest_below : (c : Commit) (file : PlainTemp) (rest : List ℕ) → effort (write_rest c file rest) < length rest + 7
 rest_below c file [] = omega arith
 rest_below c file (b ∷ bs) = omega arith
 
 -- a write that took something leaves less
-less_below : (c : Commit) (file : TempData) (rest : List ℕ) (n : ℕ) → 0 < n → effort (write_rest c file (drop n rest)) < length rest + 6
+less_below : (c : Commit) (file : PlainTemp) (rest : List ℕ) (n : ℕ) → 0 < n → effort (write_rest c file (drop n rest)) < length rest + 6
 less_below c file rest zero h = absurd (omega arith)
 less_below c file [] (suc n) h = omega arith
 less_below c file (b ∷ bs) (suc n) h = omega (arith, rest_below c file (drop (suc n) (b ∷ bs)), length-drop (suc n) (b ∷ bs))
 
-wrote_below : (c : Commit) (rest : List ℕ) (w : Written TempData) → effort (after_write c rest w) < length rest + 6
+wrote_below : (c : Commit) (rest : List ℕ) (w : Written PlainTemp) → effort (after_write c rest w) < length rest + 6
 wrote_below c rest w = by_count (w.count == 0) refl
   where
     by_count : (b : Bool) → (w.count == 0) ≡ b → effort (cond b (ends_with (IoError faults.WriteZero [])) (write_rest c w.file (drop w.count rest))) < length rest + 6
@@ -83,7 +83,7 @@ bucket_below l (Err refusal) = omega arith
 checked_below : (k : Content) (bytes : List ℕ) → effort (checked k bytes) < 1
 checked_below k bytes = cond_below (meets k.integrity bytes) (over (Read bytes)) (ends_with (IntegrityError (Check k.integrity (actual k.integrity bytes)))) 1 (omega arith) (omega arith)
 
-pub falls : (s : State) (a : Asked) (t : Told) → wants s ≡ Some a → effort (after s t) < effort s
+pub falls : (s : State) (a : PlainStep) (t : PlainAnswer) → wants s ≡ Some a → effort (after s t) < effort s
 falls (making_temps c rest) a t e = go_on_below (done_in t) (λ _. creating c rest) (length rest + 8) (omega arith) (λ _. omega arith)
 falls (creating c rest) a t e = go_on_below (temp_in t) (λ file. write_rest c file rest) (length rest + 7) (omega arith) (λ file. rest_below c file rest)
 falls (writing c file rest) a t e = go_on_below (written_in t) (after_write c rest) (length rest + 6) (omega arith) (λ w. wrote_below c rest w)
@@ -97,7 +97,7 @@ falls (reading_content k) a t e = go_on_below (bytes_in t) (checked k) 1 (omega 
 falls (over reply) a t e = absurd cc
 
 -- a call that wants a step isn't over
-pub wants_some : (s : State) (a : Asked) → wants s ≡ Some a → 0 < effort s
+pub wants_some : (s : State) (a : PlainStep) → wants s ≡ Some a → 0 < effort s
 wants_some (making_temps c rest) a e = omega arith
 wants_some (creating c rest) a e = omega arith
 wants_some (writing c file rest) a e = omega arith

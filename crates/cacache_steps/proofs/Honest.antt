@@ -1,15 +1,15 @@
 -- A call's replies keep what its state promises, whatever the answers are.
 use Rattle.std.proofs.Common.{◌≡◌, ◌⊎◌, inl, inr, ℕ, ◌==◌, List, [], ◌∷◌, Option, Some, None, Bool, true, false, cond, nat_le, Result, Ok, Err, refl, drop, length}
-use Rattle.cacache_integrity.specs.declared.errors.Fault.{Fault}
-use Rattle.cacache_integrity.specs.declared.errors.Fault.TheVariants as faults
-use Rattle.cacache_integrity.specs.declared.errors.SerdeCause.{SerdeCause}
-use Rattle.cacache_integrity.specs.declared.errors.IntegrityFault.TheVariants.{Check}
-use Rattle.cacache_integrity.specs.declared.errors.Error.{Error}
-use Rattle.cacache_integrity.specs.declared.errors.Error.TheVariants.{EntryNotFound, IoError, SerdeError, IntegrityError, OutOfMemory}
-use Rattle.cacache_integrity.specs.declared.integrity.digest.Hash.{Hash}
-use Rattle.cacache_integrity.specs.Integrity.{actual}
-use Rattle.cacache_base.specs.declared.store.handles.TempData.{TempData}
-use Rattle.cacache_base.specs.Seen.{Asked, Told}
+use Rattle.cacache_core.specs.declared.errors.Fault.{Fault}
+use Rattle.cacache_core.specs.declared.errors.Fault.TheVariants as faults
+use Rattle.cacache_core.specs.declared.errors.SerdeCause.{SerdeCause}
+use Rattle.cacache_core.specs.declared.errors.IntegrityFault.TheVariants.{Check}
+use Rattle.cacache_core.specs.declared.errors.Error.{Error}
+use Rattle.cacache_core.specs.declared.errors.Error.TheVariants.{EntryNotFound, IoError, SerdeError, IntegrityError, OutOfMemory}
+use Rattle.cacache_core.specs.declared.integrity.digest.Hash.{Hash}
+use Rattle.cacache_core.specs.Integrity.{actual}
+use Rattle.cacache_base.specs.declared.store.plain.PlainTemp.{PlainTemp}
+use Rattle.cacache_base.specs.Seen.{PlainStep, PlainAnswer}
 use Rattle.cacache_entry.specs.Latest.{Found}
 use Rattle.cacache_steps.specs.declared.jobs.reply.Reply.{Reply}
 use Rattle.cacache_steps.specs.declared.jobs.reply.Reply.TheVariants.{Stored, Read, Refused}
@@ -51,11 +51,11 @@ module _ (P : Reply → Type 0) (refuses : (e : Error) → P (Refused e)) where
 stored : (i : List Hash) (e : Error) → StoresOnly i (Refused e)
 stored i e = tt
 
-wrote_rest : (c : Commit) (file : TempData) (rest : List ℕ) (r : Reply) → Promises (write_rest c file rest) r → StoresOnly c.integrity r
+wrote_rest : (c : Commit) (file : PlainTemp) (rest : List ℕ) (r : Reply) → Promises (write_rest c file rest) r → StoresOnly c.integrity r
 wrote_rest c file [] r h = h
 wrote_rest c file (b ∷ bs) r h = h
 
-wrote : (c : Commit) (rest : List ℕ) (w : Written TempData) (r : Reply) → Promises (after_write c rest w) r → StoresOnly c.integrity r
+wrote : (c : Commit) (rest : List ℕ) (w : Written PlainTemp) (r : Reply) → Promises (after_write c rest w) r → StoresOnly c.integrity r
 wrote c rest w r h =
     kept_cond (StoresOnly c.integrity) (stored c.integrity) (w.count == 0) (ends_with (IoError faults.WriteZero [])) (write_rest c w.file (drop w.count rest)) r
     (λ _ k. kept_refused (StoresOnly c.integrity) (stored c.integrity) (IoError faults.WriteZero []) r k)
@@ -110,7 +110,7 @@ content_read k bytes r h =
     (λ g. kept_refused (ReadsMeeting k.integrity) (λ e. tt) (IntegrityError (Check k.integrity (actual k.integrity bytes))) r g) h
 
 -- what holds of every reply after an answer holds before it
-pub Promises-after : (s : State) (t : Told) (r : Reply) → Promises (after s t) r → Promises s r
+pub Promises-after : (s : State) (t : PlainAnswer) (r : Reply) → Promises (after s t) r → Promises s r
 Promises-after (making_temps c rest) t r h = kept_go_on (StoresOnly c.integrity) (stored c.integrity) (done_in t) (λ _. creating c rest) r (λ x k. k) h
 Promises-after (creating c rest) t r h = kept_go_on (StoresOnly c.integrity) (stored c.integrity) (temp_in t) (λ file. write_rest c file rest) r (λ file k. wrote_rest c file rest r k) h
 Promises-after (writing c file rest) t r h = kept_go_on (StoresOnly c.integrity) (stored c.integrity) (written_in t) (after_write c rest) r (λ w k. wrote c rest w r k) h
@@ -138,7 +138,7 @@ memory_kept (reading_content k) = tt
 memory_kept (over reply) = inr refl
 
 -- every run keeps what its first state promises
-pub Promises-Runs : (s : State) (items : List (Asked × Told)) (r : Reply) → Runs s items r → Promises s r
+pub Promises-Runs : (s : State) (items : List (PlainStep × PlainAnswer)) (r : Reply) → Runs s items r → Promises s r
 Promises-Runs s [] r (inl e) = rw e (inl refl)
 Promises-Runs s [] r (inr e) = rw e (memory_kept s)
 Promises-Runs s (item ∷ items) r run = Promises-after s item.1 r (Promises-Runs (after s item.1) items r run.2)

@@ -2,15 +2,15 @@
 use Rattle.std.proofs.Common.{◌≡◌, ℕ, ◌<◌, ◌==◌, zero, suc, List, [], ◌∷◌, length, get_or, Bool, true, false, ◌&&◌, ◌||◌, bytes_eq, cond, refl, sym, ap, ap₂, ◌∙◌, arith}
 use Rattle.std.specs.List.{list_any, Contains}
 use Rattle.std.proofs.lemmas.Slice.Eq.{bytes_eq-Decides}
-use Rattle.cacache_integrity.specs.declared.integrity.algorithm.Algorithm.{Algorithm}
-use Rattle.cacache_integrity.specs.declared.integrity.algorithm.Algorithm.TheVariants.{Sha1, Sha256, Sha384, Sha512}
-use Rattle.cacache_integrity.specs.declared.integrity.digest.Hash.{Hash}
-use Rattle.cacache_integrity.specs.Digests.{digest}
-use Rattle.cacache_integrity.specs.declared.errors.Error.TheVariants.{IntegrityError}
-use Rattle.cacache_integrity.specs.declared.errors.IntegrityFault.{IntegrityFault}
-use Rattle.cacache_integrity.specs.declared.errors.IntegrityFault.TheVariants.{BadText, ShortDigest, Check}
-use Rattle.cacache_integrity.specs.Integrity.{rank, hash_of, actual, Meets}
-use Rattle.cacache_integrity.specs.Refusals.{Tells}
+use Rattle.cacache_core.specs.declared.integrity.algorithm.Algorithm.{Algorithm}
+use Rattle.cacache_core.specs.declared.integrity.algorithm.Algorithm.TheVariants.{Sha1, Sha256, Sha384, Sha512}
+use Rattle.cacache_core.specs.declared.integrity.digest.Hash.{Hash}
+use Rattle.cacache_core.specs.Digests.{digest}
+use Rattle.cacache_core.specs.declared.errors.Error.TheVariants.{IntegrityError}
+use Rattle.cacache_core.specs.declared.errors.IntegrityFault.{IntegrityFault}
+use Rattle.cacache_core.specs.declared.errors.IntegrityFault.TheVariants.{BadText, ShortDigest, Check}
+use Rattle.cacache_core.specs.Integrity.{rank, hash_of, actual, Meets}
+use Rattle.cacache_core.specs.Refusals.{Tells}
 use Rattle.cacache_steps.specs.declared.jobs.reply.Reply.TheVariants.{Read}
 use Rattle.cacache_steps.specs.declared.jobs.stage.Content.{Content}
 use Rattle.cacache_steps.specs.Calls.{over, ends_with, checked}

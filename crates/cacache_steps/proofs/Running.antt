@@ -1,13 +1,13 @@
 -- How a run grows by a step, and how a job's phases follow it.
 use Rattle.std.proofs.Common.{◌≡◌, ◌⊎◌, inl, inr, ℕ, ◌+◌, ◌<◌, List, [], ◌∷◌, ◌++◌, map, Option, Some, None, option_map, Bool, true, false, cond, Result, Ok, Err, refl, sym, ◌∙◌, ap, arith, append_assoc, append-nil}
 use Rattle.std.proofs.lemmas.List.{map-append}
-use Rattle.cacache_integrity.specs.declared.errors.Error.TheVariants.{OutOfMemory}
-use Rattle.cacache_base.specs.declared.store.handles.OpenData.{OpenData}
-use Rattle.cacache_base.specs.declared.store.handles.TempData.{TempData}
+use Rattle.cacache_core.specs.declared.errors.Error.TheVariants.{OutOfMemory}
+use Rattle.cacache_base.specs.declared.store.plain.PlainFile.{PlainFile}
+use Rattle.cacache_base.specs.declared.store.plain.PlainTemp.{PlainTemp}
 use Rattle.cacache_base.specs.declared.store.log.LogItem.{LogItem}
 use Rattle.cacache_base.specs.declared.store.log.LogItem.TheVariants.{Made}
 use Rattle.cacache_base.specs.declared.store.answer.Answer.TheVariants as answers
-use Rattle.cacache_base.specs.Seen.{Asked, Told, asked}
+use Rattle.cacache_base.specs.Seen.{PlainStep, PlainAnswer, plain_step}
 use Rattle.cacache_base.specs.Fits.{Fits, Logs, is_no_memory}
 use Rattle.cacache_steps.specs.declared.jobs.reply.Reply.{Reply}
 use Rattle.cacache_steps.specs.declared.jobs.reply.Reply.TheVariants.{Refused}
@@ -20,27 +20,27 @@ use Rattle.cacache_steps.specs.Stands.{state_of, IsAt, PhaseAt, OutAt, IsOutOfMe
 use Rattle.cacache_steps.proofs.Ending.{falls, wants_some}
 
 -- an item of the log
-abbrev made : Asked × Told → LogItem
+abbrev made : PlainStep × PlainAnswer → LogItem
 made item = Made item.0 item.1
 
 -- the steps so far lead from the first state to this one
 pub record Reached (s0 : State) (old new : Option (List LogItem)) (s : State) : Type 0 where
-  pub items : List (Asked × Told)
+  pub items : List (PlainStep × PlainAnswer)
   pub gains : Gains old new items
-  pub goes : (more : List (Asked × Told)) (r : Reply) → Runs s more r → Runs s0 (items ++ more) r
+  pub goes : (more : List (PlainStep × PlainAnswer)) (r : Reply) → Runs s more r → Runs s0 (items ++ more) r
 
 -- want of memory may end any run
-pub memory_runs : (s : State) (more : List (Asked × Told)) (r : Reply) → Runs (over (Refused OutOfMemory)) more r → Runs s more r
+pub memory_runs : (s : State) (more : List (PlainStep × PlainAnswer)) (r : Reply) → Runs (over (Refused OutOfMemory)) more r → Runs s more r
 memory_runs s [] r (inl e) = inr cc
 memory_runs s [] r (inr e) = inr e
 memory_runs s (item ∷ more) r h = absurd (let e : None ≡ Some item.0 = h.0 in cc)
 
 -- a run's reply may be lost for want of memory
-pub memory_lost : (s : State) (items : List (Asked × Told)) (r : Reply) → Runs s items r → Runs s items (Refused OutOfMemory)
+pub memory_lost : (s : State) (items : List (PlainStep × PlainAnswer)) (r : Reply) → Runs s items r → Runs s items (Refused OutOfMemory)
 memory_lost s [] r h = inr refl
 memory_lost s (item ∷ items) r h = (h.0, h.1, memory_lost (after s item.1) items r h.2)
 
-no_memory_after : (s : State) (a b : Asked) → wants s ≡ Some a → after s (answers.NoMemory b) ≡ over (Refused OutOfMemory)
+no_memory_after : (s : State) (a b : PlainStep) → wants s ≡ Some a → after s (answers.NoMemory b) ≡ over (Refused OutOfMemory)
 no_memory_after (making_temps c rest) a b e = refl
 no_memory_after (creating c rest) a b e = refl
 no_memory_after (writing c file rest) a b e = refl
@@ -53,7 +53,7 @@ no_memory_after (reading_bucket l) a b e = refl
 no_memory_after (reading_content k) a b e = refl
 no_memory_after (over reply) a b e = absurd cc
 
-told_cases : (t : Told) → ((b : Asked) × (t ≡ answers.NoMemory b)) ⊎ (is_no_memory t ≡ false)
+told_cases : (t : PlainAnswer) → ((b : PlainStep) × (t ≡ answers.NoMemory b)) ⊎ (is_no_memory t ≡ false)
 told_cases (answers.NoMemory b) = inl (b, refl)
 told_cases answers.Done = inr refl
 told_cases (answers.Temp t) = inr refl
@@ -71,13 +71,13 @@ told_cases (answers.Failed fault) = inr refl
 stops : {s0 : State} {old new : Option (List LogItem)} {s : State} → Reached s0 old new s → Reached s0 old new (over (Refused OutOfMemory))
 stops {s = s} x = record { items = x.items; gains = x.gains; goes = λ more r h. x.goes more r (memory_runs s more r h) }
 
-gains_one : (old new : Option (List LogItem)) (items : List (Asked × Told)) (item : Asked × Told) → Gains old new items → Gains old (option_map (λ log. log ++ made item ∷ []) new) (items ++ item ∷ [])
+gains_one : (old new : Option (List LogItem)) (items : List (PlainStep × PlainAnswer)) (item : PlainStep × PlainAnswer) → Gains old new items → Gains old (option_map (λ log. log ++ made item ∷ []) new) (items ++ item ∷ [])
 gains_one None new items item e = rw e refl
 gains_one (Some log) new items item e =
     rw e (ap Some (append_assoc log (map made items) (made item ∷ []) ∙ ap (λ more. log ++ more) (sym (map-append made items (item ∷ [])))))
 
 -- one step more
-steps : {s0 : State} {old new next : Option (List LogItem)} {s : State} (a : Asked) (t : Told) → Reached s0 old new s → wants s ≡ Some a → Fits a t → Logs new next a t → Reached s0 old next (after s t)
+steps : {s0 : State} {old new next : Option (List LogItem)} {s : State} (a : PlainStep) (t : PlainAnswer) → Reached s0 old new s → wants s ≡ Some a → Fits a t → Logs new next a t → Reached s0 old next (after s t)
 steps {s0} {old} {new} {next} {s} a t x w fits logs =
     elim (told_cases t) [
       | inl p ↦ rw p.1 (rw (no_memory_after s a p.0 w) (stops {s = s} (let e : next ≡ new = rw p.1 at logs in rw e x)))
@@ -88,14 +88,14 @@ steps {s0} {old} {new} {next} {s} a t x w fits logs =
       }
     ]
 
-module _ {F T : Type 0} (file : F → OpenData) (temp : T → TempData) where
+module _ {F T : Type 0} (file : F → PlainFile) (temp : T → PlainTemp) where
   phase_effort_is : (p : Phase F T) (s : State) → PhaseAt file temp p s → phase_effort file temp p ≡ effort s
   phase_effort_is (phases.Ready stage step) s e = ap effort (sym e.state)
   phase_effort_is (phases.Out stage) s e = absurd e
   phase_effort_is (phases.Finished reply) s e = ap effort (sym e)
   phase_effort_is phases.Told s e = absurd e
 
-  out_wants : (p : Phase F T) (s : State) (a : Asked) → OutAt temp p s a → wants s ≡ Some a
+  out_wants : (p : Phase F T) (s : State) (a : PlainStep) → OutAt temp p s a → wants s ≡ Some a
   out_wants (phases.Ready stage step) s a e = absurd e
   out_wants (phases.Out stage) s a e = e.wanted
   out_wants (phases.Finished reply) s a e = absurd e
@@ -112,11 +112,11 @@ module _ {F T : Type 0} (file : F → OpenData) (temp : T → TempData) where
   turn_stands p s (inl e) = (s, e)
   turn_stands p s (inr e) = (over (Refused OutOfMemory), memory_at p e)
 
-  pub turn_reached : (s0 s : State) (old new next : Option (List LogItem)) (q p : Phase F T) (a : Asked) (t : Told) → Reached s0 old new s → OutAt temp q s a → Fits a t → Logs new next a t → PhaseAt file temp p (after s t) ⊎ IsOutOfMemory p → (u : State) × PhaseAt file temp p u × Reached s0 old next u
+  pub turn_reached : (s0 s : State) (old new next : Option (List LogItem)) (q p : Phase F T) (a : PlainStep) (t : PlainAnswer) → Reached s0 old new s → OutAt temp q s a → Fits a t → Logs new next a t → PhaseAt file temp p (after s t) ⊎ IsOutOfMemory p → (u : State) × PhaseAt file temp p u × Reached s0 old next u
   turn_reached s0 s old new next q p a t x out fits logs (inl e) = (after s t, e, steps a t x (out_wants q s a out) fits logs)
   turn_reached s0 s old new next q p a t x out fits logs (inr e) = (over (Refused OutOfMemory), memory_at p e, stops (steps a t x (out_wants q s a out) fits logs))
 
-  pub turn_shrinks : (r q p : Phase F T) (s : State) (a : Asked) (t : Told) → PhaseAt file temp r s → OutAt temp q s a → PhaseAt file temp p (after s t) ⊎ IsOutOfMemory p → phase_effort file temp p < phase_effort file temp r
+  pub turn_shrinks : (r q p : Phase F T) (s : State) (a : PlainStep) (t : PlainAnswer) → PhaseAt file temp r s → OutAt temp q s a → PhaseAt file temp p (after s t) ⊎ IsOutOfMemory p → phase_effort file temp p < phase_effort file temp r
   turn_shrinks r q p s a t now out (inl e) = rw (phase_effort_is p (after s t) e) (rw (phase_effort_is r s now) (falls s a t (out_wants q s a out)))
   turn_shrinks r q p s a t now out (inr e) = rw (phase_effort_is p (over (Refused OutOfMemory)) (memory_at p e)) (rw (phase_effort_is r s now) (wants_some s a (out_wants q s a out)))
 

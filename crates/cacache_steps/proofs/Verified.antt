@@ -1,11 +1,11 @@
 -- A call by key answers only bytes that meet what its own read of the bucket gives.
 use Rattle.std.proofs.Common.{◌≡◌, inl, inr, ℕ, List, [], ◌∷◌, Option, Some, None, Result, Ok, Err, refl, sym}
 use Rattle.std.proofs.lemmas.Option.{same_Some}
-use Rattle.cacache_integrity.specs.declared.errors.Fault.TheVariants as faults
-use Rattle.cacache_integrity.specs.declared.errors.Error.TheVariants.{EntryNotFound}
-use Rattle.cacache_integrity.specs.Integrity.{Meets}
+use Rattle.cacache_core.specs.declared.errors.Fault.TheVariants as faults
+use Rattle.cacache_core.specs.declared.errors.Error.TheVariants.{EntryNotFound}
+use Rattle.cacache_core.specs.Integrity.{Meets}
 use Rattle.cacache_base.specs.declared.store.log.LogItem.{LogItem}
-use Rattle.cacache_base.specs.Seen.{Asked, Told}
+use Rattle.cacache_base.specs.Seen.{PlainStep, PlainAnswer}
 use Rattle.cacache_entry.specs.Latest.{Found}
 use Rattle.cacache_steps.specs.declared.jobs.answers.Refusal.{Refusal}
 use Rattle.cacache_steps.specs.declared.jobs.answers.Refusal.TheVariants as refusals
@@ -36,7 +36,7 @@ bucket_suits l (Err (refusals.Fault faults.NotFound)) bytes h = found_suits l (f
 bucket_suits l (Err refusal) bytes (inl e) = absurd cc
 bucket_suits l (Err refusal) bytes (inr e) = absurd cc
 
-run_found : (l : Lookup) (items : List (Asked × Told)) (bytes : List ℕ) → Runs (reading_bucket l) items (Read bytes) → AreFound l.cache l.key items bytes
+run_found : (l : Lookup) (items : List (PlainStep × PlainAnswer)) (bytes : List ℕ) → Runs (reading_bucket l) items (Read bytes) → AreFound l.cache l.key items bytes
 run_found l [] bytes (inl e) = absurd cc
 run_found l [] bytes (inr e) = absurd cc
 run_found l (item ∷ items) bytes run = (sym (same_Some _ _ run.0), bucket_suits l (bytes_in item.1) bytes (Promises-Runs _ items (Read bytes) run.2))

@@ -1,20 +1,20 @@
 -- Calls as steps: the state that a call is in, the step that it wants there, and where an answer takes it.
 use Rattle.std.specs.Prelude.{◌≡◌, ℕ, ◌+◌, ◌==◌, List, [], ◌∷◌, ◌++◌, Option, None, Some, Result, Ok, Err, Bool, cond, nat_le, length, drop}
 use Rattle.serde_json.specs.Data.{null}
-use Rattle.cacache_integrity.specs.declared.errors.Fault.{Fault}
-use Rattle.cacache_integrity.specs.declared.errors.Fault.TheVariants as faults
-use Rattle.cacache_integrity.specs.declared.errors.SerdeCause.{SerdeCause}
-use Rattle.cacache_integrity.specs.declared.errors.IntegrityFault.TheVariants.{Check}
-use Rattle.cacache_integrity.specs.declared.errors.Error.{Error}
-use Rattle.cacache_integrity.specs.declared.errors.Error.TheVariants.{EntryNotFound, SizeMismatch, IoError, SerdeError, IntegrityError, OutOfMemory}
-use Rattle.cacache_integrity.specs.declared.integrity.digest.Hash.{Hash}
-use Rattle.cacache_integrity.specs.declared.integrity.algorithm.Algorithm.TheVariants.{Sha256}
-use Rattle.cacache_integrity.specs.Integrity.{integrity_under, actual}
+use Rattle.cacache_core.specs.declared.errors.Fault.{Fault}
+use Rattle.cacache_core.specs.declared.errors.Fault.TheVariants as faults
+use Rattle.cacache_core.specs.declared.errors.SerdeCause.{SerdeCause}
+use Rattle.cacache_core.specs.declared.errors.IntegrityFault.TheVariants.{Check}
+use Rattle.cacache_core.specs.declared.errors.Error.{Error}
+use Rattle.cacache_core.specs.declared.errors.Error.TheVariants.{EntryNotFound, SizeMismatch, IoError, SerdeError, IntegrityError, OutOfMemory}
+use Rattle.cacache_core.specs.declared.integrity.digest.Hash.{Hash}
+use Rattle.cacache_core.specs.declared.integrity.algorithm.Algorithm.TheVariants.{Sha256}
+use Rattle.cacache_core.specs.Integrity.{integrity_under, actual}
 use Rattle.cacache_steps.specs.Meeting.{meets}
-use Rattle.cacache_integrity.specs.Texts.{text_of as integrity_text}
-use Rattle.cacache_base.specs.declared.store.handles.TempData.{TempData}
+use Rattle.cacache_core.specs.Texts.{text_of as integrity_text}
+use Rattle.cacache_base.specs.declared.store.plain.PlainTemp.{PlainTemp}
 use Rattle.cacache_base.specs.declared.store.step.Step.TheVariants.{MakeDirs, CreateTemp, Write, Persist, Append, ReadAll, Exists}
-use Rattle.cacache_base.specs.Seen.{Asked, Told}
+use Rattle.cacache_base.specs.Seen.{PlainStep, PlainAnswer}
 use Rattle.cacache_entry.specs.Entry.{Entry, line_of}
 use Rattle.cacache_entry.specs.Fits.{cause_of}
 use Rattle.cacache_entry.specs.Bucket.{entries_of}
@@ -39,9 +39,9 @@ pub data State : Type 0 where
   -- a commit, with the bytes that are still to write, and its temporary file once it has one
   making_temps : Commit → List ℕ → State
   creating : Commit → List ℕ → State
-  writing : Commit → TempData → List ℕ → State
-  making_contents : Commit → TempData → State
-  persisting : Commit → TempData → State
+  writing : Commit → PlainTemp → List ℕ → State
+  making_contents : Commit → PlainTemp → State
+  persisting : Commit → PlainTemp → State
   -- the persist failed so: is the content there all the same?
   confirming : Commit → Fault → State
   -- an entry on its way into its bucket
@@ -68,7 +68,7 @@ unfoldable pub found_in : List ℕ → List ℕ → Option Found
 found_in key bytes = latest key (entries_of bytes)
 
 -- the one step that a call wants
-abbrev pub wants : State → Option Asked
+abbrev pub wants : State → Option PlainStep
 wants (making_temps c rest) = Some (MakeDirs (temp_folder c.cache))
 wants (creating c rest) = Some (CreateTemp (temp_path c.cache c.number))
 wants (writing c file rest) = Some (Write file rest)
@@ -113,12 +113,12 @@ go_on (Ok x) next = next x
 go_on (Err refusal) next = ends_with (error_of refusal)
 
 -- what is left of the bytes is written next, if there is any
-abbrev pub write_rest : Commit → TempData → List ℕ → State
+abbrev pub write_rest : Commit → PlainTemp → List ℕ → State
 write_rest c file [] = making_contents c file
 write_rest c file (b ∷ bs) = writing c file (b ∷ bs)
 
 -- a write that took none of the bytes ends the call
-abbrev pub after_write : Commit → List ℕ → Written TempData → State
+abbrev pub after_write : Commit → List ℕ → Written PlainTemp → State
 after_write c rest w = cond (w.count == 0) (ends_with (IoError faults.WriteZero [])) (write_rest c w.file (drop w.count rest))
 
 -- an entry that can't be written is refused before any step
@@ -166,7 +166,7 @@ abbrev pub checked : Content → List ℕ → State
 checked r bytes = cond (meets r.integrity bytes) (over (Read bytes)) (ends_with (IntegrityError (Check r.integrity (actual r.integrity bytes))))
 
 -- the call after the answer to the step that it wanted
-abbrev pub after : State → Told → State
+abbrev pub after : State → PlainAnswer → State
 after (making_temps c rest) t = go_on (done_in t) (λ _. creating c rest)
 after (creating c rest) t = go_on (temp_in t) (λ file. write_rest c file rest)
 after (writing c file rest) t = go_on (written_in t) (after_write c rest)

@@ -1,10 +1,10 @@
 -- Whether bytes meet an integrity, as a test.
 use Rattle.std.specs.Prelude.{◌&&◌, ◌==◌, ℕ, List, [], ◌∷◌, Bool, false, bytes_eq}
 use Rattle.std.specs.List.{list_any}
-use Rattle.cacache_integrity.specs.declared.integrity.algorithm.Algorithm.{Algorithm}
-use Rattle.cacache_integrity.specs.declared.integrity.digest.Hash.{Hash}
-use Rattle.cacache_integrity.specs.Digests.{digest}
-use Rattle.cacache_integrity.specs.Integrity.{rank}
+use Rattle.cacache_core.specs.declared.integrity.algorithm.Algorithm.{Algorithm}
+use Rattle.cacache_core.specs.declared.integrity.digest.Hash.{Hash}
+use Rattle.cacache_core.specs.Digests.{digest}
+use Rattle.cacache_core.specs.Integrity.{rank}
 
 -- the hash has this algorithm and this digest
 abbrev pub is_hash : Algorithm → List ℕ → Hash → Bool

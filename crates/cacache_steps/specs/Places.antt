@@ -2,9 +2,9 @@
 use Rattle.std.specs.Prelude.{ℕ, List, [], ◌∷◌, ◌++◌, Option, None, Some, codes}
 use Rattle.std.specs.Int.{to_be_bytes, w64}
 use Rattle.hex.specs.Hex.{encode_lower}
-use Rattle.cacache_integrity.specs.declared.integrity.digest.Hash.{Hash}
-use Rattle.cacache_integrity.specs.Integrity.{address}
-use Rattle.cacache_integrity.specs.Paths.{joined, content_names, bucket_names, folder_names}
+use Rattle.cacache_core.specs.declared.integrity.digest.Hash.{Hash}
+use Rattle.cacache_core.specs.Integrity.{address}
+use Rattle.cacache_core.specs.Paths.{joined, content_names, bucket_names, folder_names}
 
 -- the names of a temporary file's path: its number in 16 hex digits
 abbrev pub temp_names : ℕ → List (List ℕ)

@@ -1,8 +1,8 @@
 -- What every reply of a call keeps, whatever its store answered.
 use Rattle.std.specs.Prelude.{◌≡◌, ◌⊎◌, List}
-use Rattle.cacache_integrity.specs.declared.errors.Error.TheVariants.{OutOfMemory}
-use Rattle.cacache_integrity.specs.declared.integrity.digest.Hash.{Hash}
-use Rattle.cacache_integrity.specs.Integrity.{Meets}
+use Rattle.cacache_core.specs.declared.errors.Error.TheVariants.{OutOfMemory}
+use Rattle.cacache_core.specs.declared.integrity.digest.Hash.{Hash}
+use Rattle.cacache_core.specs.Integrity.{Meets}
 use Rattle.cacache_steps.specs.declared.jobs.reply.Reply.{Reply}
 use Rattle.cacache_steps.specs.declared.jobs.reply.Reply.TheVariants.{Stored, Read, Refused}
 use Rattle.cacache_steps.specs.Calls.{State, making_temps, creating, writing, making_contents, persisting, confirming, making_bucket, appending, reading_bucket, reading_content, over}

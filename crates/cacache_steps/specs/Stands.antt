@@ -1,10 +1,10 @@
 -- Which state a job stands in.
 use Rattle.std.specs.Prelude.{◌≡◌, ◌⊎◌, ℕ, List, [], Option, None, Some, Bool, true, false, length}
-use Rattle.cacache_integrity.specs.declared.errors.Error.TheVariants.{OutOfMemory}
-use Rattle.cacache_base.specs.declared.store.handles.OpenData.{OpenData}
-use Rattle.cacache_base.specs.declared.store.handles.TempData.{TempData}
+use Rattle.cacache_core.specs.declared.errors.Error.TheVariants.{OutOfMemory}
+use Rattle.cacache_base.specs.declared.store.plain.PlainFile.{PlainFile}
+use Rattle.cacache_base.specs.declared.store.plain.PlainTemp.{PlainTemp}
 use Rattle.cacache_base.specs.declared.store.step.Step.TheVariants.{Write, Persist}
-use Rattle.cacache_base.specs.Seen.{Asked, Told, asked}
+use Rattle.cacache_base.specs.Seen.{PlainStep, PlainAnswer, plain_step}
 use Rattle.cacache_entry.specs.Fits.{IsEntry}
 use Rattle.cacache_steps.specs.declared.jobs.reply.Reply.TheVariants.{Refused, Read}
 use Rattle.cacache_steps.specs.declared.jobs.stage.Stage.{Stage}
@@ -19,13 +19,13 @@ use Rattle.cacache_steps.specs.Places.{content_path, bucket_path}
 use Rattle.cacache_steps.specs.Runs.{plain_reply, effort}
 
 -- the temporary file that a step carries
-abbrev pub file_in : Asked → TempData
+abbrev pub file_in : PlainStep → PlainTemp
 file_in (Write file bytes) = file
 file_in (Persist file path) = file
 file_in step = record { path = []; bytes = None }
 
 -- the state of a call at this stage, with the step that it wants
-abbrev pub state_of : {T : Type 0} → (T → TempData) → Stage T → Asked → State
+abbrev pub state_of : {T : Type 0} → (T → PlainTemp) → Stage T → PlainStep → State
 state_of temp (stages.MakingTemps c rest) step = making_temps c rest
 state_of temp (stages.Creating c rest) step = creating c rest
 state_of temp (stages.Writing c rest) step = writing c (file_in step) rest
@@ -45,20 +45,20 @@ Keeps (stages.Appending i size) = IsEntry (entry_of i) × (inserted_cause i ≡ 
 Keeps stage = Unit {0}
 
 -- the call is at this stage, its step being this one
-pub record IsAt {T : Type 0} (temp : T → TempData) (stage : Stage T) (step : Asked) (s : State) : Type 0 where
+pub record IsAt {T : Type 0} (temp : T → PlainTemp) (stage : Stage T) (step : PlainStep) (s : State) : Type 0 where
   pub state : s ≡ state_of temp stage step
   pub wanted : wants s ≡ Some step
   pub kept : Keeps stage
 
 -- the call is in this state, and no step is out
-abbrev pub PhaseAt : {F T : Type 0} → (F → OpenData) → (T → TempData) → Phase F T → State → Type 0
-PhaseAt file temp (phases.Ready stage step) s = IsAt temp stage (asked file temp step) s
+abbrev pub PhaseAt : {F T : Type 0} → (F → PlainFile) → (T → PlainTemp) → Phase F T → State → Type 0
+PhaseAt file temp (phases.Ready stage step) s = IsAt temp stage (plain_step file temp step) s
 PhaseAt file temp (phases.Out stage) s = ⊥
 PhaseAt file temp (phases.Finished reply) s = s ≡ over (plain_reply reply)
 PhaseAt file temp phases.Told s = ⊥
 
 -- the call is in this state, and this step is out
-abbrev pub OutAt : {F T : Type 0} → (T → TempData) → Phase F T → State → Asked → Type 0
+abbrev pub OutAt : {F T : Type 0} → (T → PlainTemp) → Phase F T → State → PlainStep → Type 0
 OutAt temp (phases.Ready stage step) s a = ⊥
 OutAt temp (phases.Out stage) s a = IsAt temp stage a s
 OutAt temp (phases.Finished reply) s a = ⊥
@@ -85,11 +85,11 @@ is_step (next.Over reply) = false
 -- ---- of a job
 
 -- the job stands in this state, and no step is out
-abbrev pub Stands : {F T : Type 0} → (F → OpenData) → (T → TempData) → Job F T → State → Type 0
+abbrev pub Stands : {F T : Type 0} → (F → PlainFile) → (T → PlainTemp) → Job F T → State → Type 0
 Stands file temp job s = PhaseAt file temp job.phase s
 
 -- the job stands in this state, and this step is out
-abbrev pub HasOut : {F T : Type 0} → (T → TempData) → Job F T → State → Asked → Type 0
+abbrev pub HasOut : {F T : Type 0} → (T → PlainTemp) → Job F T → State → PlainStep → Type 0
 HasOut temp job s a = OutAt temp job.phase s a
 
 -- a step is out
@@ -101,17 +101,17 @@ abbrev pub can_go_on : {F T : Type 0} → Job F T → Bool
 can_go_on job = is_ready job.phase
 
 -- what a job hands out in this state, and how it stands then
-abbrev pub HandsOut : {F T : Type 0} → (F → OpenData) → (T → TempData) → Next F T → Job F T → State → Type 0
-HandsOut file temp (next.Step step) job s = HasOut temp job s (asked file temp step)
+abbrev pub HandsOut : {F T : Type 0} → (F → PlainFile) → (T → PlainTemp) → Next F T → Job F T → State → Type 0
+HandsOut file temp (next.Step step) job s = HasOut temp job s (plain_step file temp step)
 HandsOut file temp (next.Over reply) job s = s ≡ over (plain_reply reply)
 
 -- the job goes on to this state, unless memory was refused
-abbrev pub GoesTo : {F T : Type 0} → (F → OpenData) → (T → TempData) → Job F T → State → Type 0
+abbrev pub GoesTo : {F T : Type 0} → (F → PlainFile) → (T → PlainTemp) → Job F T → State → Type 0
 GoesTo file temp job s = Stands file temp job s ⊎ IsOutOfMemory job.phase
 
 -- a bound on the steps that are still to come
-abbrev pub phase_effort : {F T : Type 0} → (F → OpenData) → (T → TempData) → Phase F T → ℕ
-phase_effort file temp (phases.Ready stage step) = effort (state_of temp stage (asked file temp step))
+abbrev pub phase_effort : {F T : Type 0} → (F → PlainFile) → (T → PlainTemp) → Phase F T → ℕ
+phase_effort file temp (phases.Ready stage step) = effort (state_of temp stage (plain_step file temp step))
 phase_effort file temp (phases.Out stage) = 0
 phase_effort file temp (phases.Finished reply) = 0
 phase_effort file temp phases.Told = 0

@@ -1,10 +1,10 @@
 -- What the bytes that a call by key reads are verified against.
 use Rattle.std.specs.Prelude.{◌≡◌, List, [], ◌∷◌, Option, Some, None, Result, Ok, Err, ℕ}
-use Rattle.cacache_integrity.specs.declared.errors.Fault.TheVariants as faults
-use Rattle.cacache_integrity.specs.Integrity.{Meets}
+use Rattle.cacache_core.specs.declared.errors.Fault.TheVariants as faults
+use Rattle.cacache_core.specs.Integrity.{Meets}
 use Rattle.cacache_base.specs.declared.store.log.LogItem.{LogItem}
 use Rattle.cacache_base.specs.declared.store.step.Step.TheVariants.{ReadAll}
-use Rattle.cacache_base.specs.Seen.{Asked, Told}
+use Rattle.cacache_base.specs.Seen.{PlainStep, PlainAnswer}
 use Rattle.cacache_entry.specs.Latest.{Found}
 use Rattle.cacache_steps.specs.declared.jobs.answers.Refusal.{Refusal}
 use Rattle.cacache_steps.specs.declared.jobs.answers.Refusal.TheVariants as refusals
@@ -24,7 +24,7 @@ looked_up key (Err (refusals.Fault faults.NotFound)) = found_in key []
 looked_up key (Err refusal) = None
 
 -- the first step read the bucket, and the bytes meet the integrity that the lookup gives from its answer
-abbrev pub AreFound : List ℕ → List ℕ → List (Asked × Told) → List ℕ → Type 0
+abbrev pub AreFound : List ℕ → List ℕ → List (PlainStep × PlainAnswer) → List ℕ → Type 0
 AreFound cache key [] bytes = ⊥
 AreFound cache key (first ∷ more) bytes =
     (first.0 ≡ ReadAll (bucket_path cache key))
@@ -32,7 +32,7 @@ AreFound cache key (first ∷ more) bytes =
 
 -- the log gained a run whose own read of the bucket gives the integrity that the bytes meet
 abbrev pub ReadsFound : List ℕ → List ℕ → List ℕ → Option (List LogItem) → Option (List LogItem) → Type 0
-ReadsFound cache key bytes old new = (items : List (Asked × Told)) × Gains old new items × AreFound cache key items bytes
+ReadsFound cache key bytes old new = (items : List (PlainStep × PlainAnswer)) × Gains old new items × AreFound cache key items bytes
 
 -- so does a call by key that answers bytes
 abbrev pub FindsBytes : List ℕ → Command → Reply → Option (List LogItem) → Option (List LogItem) → Type 0

@@ -4,5 +4,3 @@
 pub mod content;
 pub mod index;
 pub mod jobs;
-
-pub use cacache_base::{bytes, env, errors, integrity, store, text};

@@ -1,10 +1,11 @@
 //! What a store answers.
-ghost use Rattle.std.specs.Prelude.{◌≡◌};
+ghost use Rattle.std.specs.Prelude.{◌≡◌, IfOk};
 
-use crate::bytes::Bytes;
-use crate::errors::Fault;
 use crate::store::step::Step;
-use crate::text::Text;
+use cacache_core::bytes::Bytes;
+use cacache_core::errors::Fault;
+use cacache_core::text::Text;
+use std::alloc::{AllocError, Global};
 use std::marker::Model;
 
 /// What stands in a folder under a name.
@@ -43,6 +44,20 @@ impl Listing {
         ensures { result ≡ names.items }
     {
         Listing { names }
+    }
+
+    /// A copy of the listing.
+    pub fn copy(&self, alloc: Global) -> Result<Listing, AllocError>
+        ensures { IfOk result (λ listing. listing ≡ self.now) }
+    {
+        let mut names: Vec<Name> = Vec::with_capacity(alloc, self.names.len())?;
+        for name in &self.names {
+            names.push(Name {
+                name: name.name.clone()?,
+                kind: name.kind,
+            })?;
+        }
+        Ok(Listing { names })
     }
 
     /// The names as a slice.

@@ -1,15 +1,15 @@
 //! What a store's log holds.
-use crate::bytes::Bytes;
 use crate::store::answer::Answer;
-use crate::store::handles::{OpenData, TempData};
+use crate::store::plain::{PlainFile, PlainTemp};
 use crate::store::step::Step;
-use crate::text::Text;
+use cacache_core::bytes::Bytes;
+use cacache_core::text::Text;
 
 /// One item of a store's log.
 #[derive(Debug, Drop)]
 pub enum LogItem {
     /// A step, and what was answered.
-    Made(Step<OpenData, TempData>, Answer<OpenData, TempData>),
+    Made(Step<PlainFile, PlainTemp>, Answer<PlainFile, PlainTemp>),
     /// Somebody else put a file with these bytes at the path.
     Foreign(Text, Bytes),
     /// Somebody else made the folders of the path.

@@ -1,6 +1,6 @@
 //! What a store can be asked to do.
-use crate::bytes::Bytes;
-use crate::text::Text;
+use cacache_core::bytes::Bytes;
+use cacache_core::text::Text;
 
 /// One step on a store, with all that it needs, over any kinds of open files `F` and temporary files `T`.
 #[derive(Debug, Drop)]

@@ -5,16 +5,16 @@ ghost use Rattle.cacache_base.specs.declared.store.step.Step.TheVariants.{Write,
 ghost use Rattle.cacache_base.specs.declared.store.answer.Answer.TheVariants.{Done, Temp, Took, Failed};
 ghost use Rattle.cacache_disk.specs.Apply.{taken, readable, grown, given, is_there};
 
-use crate::errors::Fault;
 use crate::find::Found;
 use crate::path::Path;
-use crate::text::Text;
-use cacache_base::bytes::Bytes;
-use cacache_base::store::{Answer, OpenData, TempData};
+use cacache_base::store::{Answer, PlainFile, PlainTemp};
+use cacache_core::bytes::Bytes;
+use cacache_core::errors::Fault;
+use cacache_core::text::Text;
 use std::alloc::{AllocError, Global};
 
 /// An answer and a copy of it.
-pub(crate) type Twice = (Answer<OpenData, TempData>, Answer<OpenData, TempData>);
+pub(crate) type Twice = (Answer<PlainFile, PlainTemp>, Answer<PlainFile, PlainTemp>);
 
 pub(crate) fn failed_twice(fault: Fault) -> Twice
     ensures { result ≡ (Failed fault, Failed fault) }
@@ -35,10 +35,10 @@ pub(crate) fn took_twice(count: usize) -> Twice
 }
 
 /// A temporary file at the path that holds these bytes.
-pub(crate) fn temp_of(path: &Text, bytes: Bytes) -> Result<TempData, AllocError>
+pub(crate) fn temp_of(path: &Text, bytes: Bytes) -> Result<PlainTemp, AllocError>
     ensures { IfOk result (λ temp. temp ≡ record { path = path.now; bytes = Some bytes }) }
 {
-    Ok(TempData {
+    Ok(PlainTemp {
         path: path.clone()?,
         bytes: Some(bytes),
     })
@@ -88,7 +88,7 @@ pub(crate) fn joined(
 /// A temporary file that took some of the bytes.
 pub(crate) fn written(
     alloc: Global,
-    temp: &TempData,
+    temp: &PlainTemp,
     bytes: &Bytes,
     most: Option<usize>,
 ) -> Result<Twice, AllocError>
@@ -107,18 +107,18 @@ pub(crate) fn written(
 }
 
 /// What an open file has left behind the first `count` of these bytes.
-fn rest_of(bytes: &Bytes, count: usize) -> Result<OpenData, AllocError>
+fn rest_of(bytes: &Bytes, count: usize) -> Result<PlainFile, AllocError>
     requires { count ≤ length bytes.now }
     ensures { IfOk result (λ r. r ≡ record { left = length bytes.now - count; bytes = Some (drop count bytes.now) }) }
 {
-    Ok(OpenData {
+    Ok(PlainFile {
         left: bytes.len() - count,
         bytes: Some(bytes.share()?.rest(count)),
     })
 }
 
 /// Some bytes of an open file.
-pub(crate) fn read(file: &OpenData, size: usize, most: Option<usize>) -> Result<Twice, AllocError>
+pub(crate) fn read(file: &PlainFile, size: usize, most: Option<usize>) -> Result<Twice, AllocError>
     ensures ok { IfOk result (λ r. r.0 ≡ given file.now (readable most size) file.now.bytes) }
     ensures copy { IfOk result (λ r. r.1 ≡ r.0) }
     ensures fits { IfOk result (λ r. Fits (Read file.now size) r.0) }

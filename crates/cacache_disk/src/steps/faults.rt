@@ -4,15 +4,15 @@ ghost use Rattle.cacache_base.specs.declared.store.step.Step.TheVariants.{Persis
 ghost use Rattle.cacache_disk.specs.Apply.{plain, fault_of};
 
 use crate::disk::Disk;
-use crate::errors::Fault;
 use crate::find::Found;
 use crate::steps::answers;
-use crate::text::Text;
-use cacache_base::store::{Answer, OpenData, Step, TempData};
+use cacache_base::store::{Answer, PlainFile, PlainTemp, Step};
+use cacache_core::errors::Fault;
+use cacache_core::text::Text;
 use std::alloc::AllocError;
 
 /// The fault of an answer, if it has one.
-fn fault_of(answer: &Answer<OpenData, TempData>) -> Option<Fault>
+fn fault_of(answer: &Answer<PlainFile, PlainTemp>) -> Option<Fault>
     ensures { result ≡ fault_of answer.now }
 {
     match answer {
@@ -22,7 +22,7 @@ fn fault_of(answer: &Answer<OpenData, TempData>) -> Option<Fault>
 }
 
 impl Disk {
-    fn persist_fault(&self, temp: &TempData, path: &Text) -> Result<Option<Fault>, AllocError>
+    fn persist_fault(&self, temp: &PlainTemp, path: &Text) -> Result<Option<Fault>, AllocError>
         ensures { IfOk result (λ fault. fault ≡ fault_of (plain self.now (Persist temp.now path.now) None).0) }
     {
         if temp.bytes.is_none() {
@@ -74,7 +74,10 @@ impl Disk {
     }
 
     /// Why the step would fail, if it would.
-    pub(crate) fn fault(&self, step: &Step<OpenData, TempData>) -> Result<Option<Fault>, AllocError>
+    pub(crate) fn fault(
+        &self,
+        step: &Step<PlainFile, PlainTemp>,
+    ) -> Result<Option<Fault>, AllocError>
         ensures { IfOk result (λ fault. fault ≡ fault_of (plain self.now step.now None).0) }
     {
         match step {

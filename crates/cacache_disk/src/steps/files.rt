@@ -7,34 +7,16 @@ ghost use Rattle.cacache_disk.specs.Tree.{look, put, bytes_of};
 ghost use Rattle.cacache_disk.specs.Apply.{plain};
 
 use crate::disk::Disk;
-use crate::errors::Fault;
 use crate::node::Node;
 use crate::path::Path;
-use crate::steps::answers::{
-    Twice, done_twice, failed_twice, joined, taken, there_twice, took_twice,
-};
-use crate::text::Text;
-use cacache_base::bytes::Bytes;
-use cacache_base::store::{Answer, OpenData};
+use crate::steps::answers::{Twice, done_twice, failed_twice, taken, there_twice, took_twice};
+use cacache_base::store::{Answer, PlainFile};
+use cacache_core::bytes::Bytes;
+use cacache_core::errors::Fault;
+use cacache_core::text::Text;
 use std::alloc::AllocError;
 
 impl Disk {
-    /// The first `count` bytes put behind what the file at the path holds.
-    fn lengthen(&mut self, names: Path, bytes: &Bytes, count: usize) -> Result<(), AllocError>
-        requires { count ≤ length bytes.now }
-        ensures ok { OnOk result (self.new ≡ put self.old names (File (bytes_of (look self.old names) ++ take count bytes.now))) }
-        ensures err { OnErr result (self.new ≡ self.old) }
-    {
-        let alloc = self.alloc();
-        let all = match self.node(&names) {
-            Some(Node::File(old)) => joined(alloc, old, bytes, count)?,
-            Some(Node::Folder) => bytes.share()?.front(count),
-            Some(Node::Link(_)) => bytes.share()?.front(count),
-            None => bytes.share()?.front(count),
-        };
-        self.put(names, Node::File(all))
-    }
-
     pub(crate) fn append(
         &mut self,
         path: &Text,
@@ -51,7 +33,7 @@ impl Disk {
             Err(fault) => return Ok(failed_twice(fault)),
         };
         let count = taken(most, bytes);
-        self.lengthen(names, bytes, count)?;
+        self.lengthen(names, bytes.share()?.front(count))?;
         Ok(took_twice(count))
     }
 
@@ -77,11 +59,11 @@ impl Disk {
             Err(fault) => return Ok(failed_twice(fault)),
         };
         let left = bytes.len();
-        let answer = OpenData {
+        let answer = PlainFile {
             left,
             bytes: Some(bytes.share()?),
         };
-        let copy = OpenData {
+        let copy = PlainFile {
             left,
             bytes: Some(bytes),
         };

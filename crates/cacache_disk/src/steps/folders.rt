@@ -7,8 +7,8 @@ ghost use Rattle.cacache_disk.specs.Apply.{plain, making};
 use crate::disk::Disk;
 use crate::path::Path;
 use crate::steps::answers::{Twice, done_twice, failed_twice};
-use crate::text::Text;
 use cacache_base::store::Answer;
+use cacache_core::text::Text;
 use std::alloc::AllocError;
 
 /// How many folders may be made of those that a path names.
@@ -51,7 +51,7 @@ impl Disk {
             Err(fault) => return Ok(failed_twice(fault)),
         };
         let answer = self.listing(&names)?;
-        let copy = self.listing(&names)?;
+        let copy = answer.copy(self.alloc())?;
         Ok((Answer::Names(answer), Answer::Names(copy)))
     }
 

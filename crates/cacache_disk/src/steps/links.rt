@@ -5,10 +5,10 @@ ghost use Rattle.cacache_base.specs.declared.store.step.Step.TheVariants.{Symlin
 ghost use Rattle.cacache_disk.specs.Apply.{plain};
 
 use crate::disk::Disk;
-use crate::errors::Fault;
 use crate::node::Node;
 use crate::steps::answers::{Twice, done_twice, failed_twice, taken, took_twice};
-use crate::text::Text;
+use cacache_core::errors::Fault;
+use cacache_core::text::Text;
 use std::alloc::AllocError;
 
 impl Disk {

@@ -4,15 +4,15 @@ ghost use Rattle.cacache_disk.specs.declared.node.Node.TheVariants.{File};
 ghost use Rattle.cacache_disk.specs.Tree.{put};
 ghost use Rattle.cacache_disk.specs.Found.{file_at};
 ghost use Rattle.cacache_disk.specs.Apply.{planted, make_some, above_last};
-ghost use Rattle.cacache_integrity.specs.declared.errors.Fault.TheVariants.{IsADirectory};
+ghost use Rattle.cacache_core.specs.declared.errors.Fault.TheVariants.{IsADirectory};
 
 use crate::disk::Disk;
-use crate::errors::Fault;
 use crate::find::where_no_folder;
 use crate::node::Node;
 use crate::path::Path;
-use crate::text::Text;
-use cacache_base::bytes::Bytes;
+use cacache_core::bytes::Bytes;
+use cacache_core::errors::Fault;
+use cacache_core::text::Text;
 use std::alloc::{AllocError, Global};
 
 /// The names of a path's folder.

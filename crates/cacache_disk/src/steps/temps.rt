@@ -7,13 +7,13 @@ ghost use Rattle.cacache_disk.specs.Tree.{put, cut};
 ghost use Rattle.cacache_disk.specs.Apply.{plain};
 
 use crate::disk::Disk;
-use crate::errors::Fault;
 use crate::node::Node;
 use crate::path::Path;
 use crate::steps::answers::{Twice, done_twice, failed_twice, temp_of};
-use crate::text::Text;
-use cacache_base::bytes::Bytes;
-use cacache_base::store::{Answer, TempData};
+use cacache_base::store::{Answer, PlainTemp};
+use cacache_core::bytes::Bytes;
+use cacache_core::errors::Fault;
+use cacache_core::text::Text;
 use std::alloc::AllocError;
 
 impl Disk {
@@ -48,7 +48,7 @@ impl Disk {
         Ok(())
     }
 
-    pub(crate) fn persist(&mut self, temp: &TempData, path: &Text) -> Result<Twice, AllocError>
+    pub(crate) fn persist(&mut self, temp: &PlainTemp, path: &Text) -> Result<Twice, AllocError>
         ensures ok { IfOk result (λ r. plain self.old (Persist temp.now path.now) None ≡ (r.0, self.new)) }
         ensures copy { IfOk result (λ r. r.1 ≡ r.0) }
         ensures fits { IfOk result (λ r. Fits (Persist temp.now path.now) r.0) }

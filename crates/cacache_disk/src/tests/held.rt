@@ -1,13 +1,13 @@
 //! What one step on a disk hands on to the next: the handle that the last answer with one gave.
 use crate::tests::shown::shown_answer;
-use cacache_base::store::{Answer, OpenData, TempData};
+use cacache_base::store::{Answer, PlainFile, PlainTemp};
 use std::alloc::{AllocError, Global};
 
 /// An open file or a temporary file.
 #[derive(Drop)]
 pub(crate) enum Handle {
-    File(OpenData),
-    Temp(TempData),
+    File(PlainFile),
+    Temp(PlainTemp),
 }
 
 /// What is told of a step.
@@ -18,7 +18,7 @@ pub(crate) trait Told: Drop {
     fn handle(self) -> Option<Handle>;
 }
 
-impl Told for Answer<OpenData, TempData> {
+impl Told for Answer<PlainFile, PlainTemp> {
     fn shown(&self, alloc: Global) -> Result<String, AllocError> {
         shown_answer(alloc, self)
     }

@@ -2,8 +2,8 @@
 use crate::disk::Disk;
 use crate::node::Node;
 use crate::path::Path;
-use cacache_base::bytes::Bytes;
-use cacache_base::store::{Answer, Listing, OpenData, TempData};
+use cacache_base::store::{Answer, Listing, PlainFile, PlainTemp};
+use cacache_core::bytes::Bytes;
 use std::alloc::{AllocError, Global};
 
 /// Bytes as a word: `-` where there are none.
@@ -65,14 +65,14 @@ pub(crate) fn shown_tree(alloc: Global, disk: &Disk) -> Result<String, AllocErro
 }
 
 /// An open file as `left=bytes`.
-fn shown_file(alloc: Global, file: &OpenData) -> Result<String, AllocError> {
+fn shown_file(alloc: Global, file: &PlainFile) -> Result<String, AllocError> {
     let left = file.left;
     let bytes = known(&file.bytes);
     format!(in alloc; "{left}={bytes}")
 }
 
 /// A temporary file as `path=bytes`.
-fn shown_temp(alloc: Global, temp: &TempData) -> Result<String, AllocError> {
+fn shown_temp(alloc: Global, temp: &PlainTemp) -> Result<String, AllocError> {
     let path = temp.path.as_str();
     let bytes = known(&temp.bytes);
     format!(in alloc; "{path}={bytes}")
@@ -93,7 +93,7 @@ fn shown_names(alloc: Global, listing: &Listing) -> Result<String, AllocError> {
 /// An answer in the words of the table of steps.
 pub(crate) fn shown_answer(
     alloc: Global,
-    answer: &Answer<OpenData, TempData>,
+    answer: &Answer<PlainFile, PlainTemp>,
 ) -> Result<String, AllocError> {
     match answer {
         Answer::Done => String::from_str(alloc, "Done"),

@@ -1,14 +1,14 @@
 //! Words as disks, steps and lucks: `a/` is a folder, `f=x` a file, `l->f` a link, `-` stands for nothing and `?` for bytes that
 //! aren't known.
 use crate::disk::Disk;
-use crate::errors::Fault;
 use crate::luck::Luck;
 use crate::node::Node;
 use crate::path::Path;
 use crate::tests::held::Handle;
-use crate::text::Text;
-use cacache_base::bytes::Bytes;
-use cacache_base::store::{OpenData, Step, TempData};
+use cacache_base::store::{PlainFile, PlainTemp, Step};
+use cacache_core::bytes::Bytes;
+use cacache_core::errors::Fault;
+use cacache_core::text::Text;
 use std::alloc::{AllocError, Global};
 
 /// The text of a word.
@@ -36,28 +36,28 @@ fn number_of(word: &str) -> usize {
 }
 
 /// The open file `left=bytes`, or the one that is held.
-fn file_of(alloc: Global, held: &mut Option<Handle>, word: &str) -> Result<OpenData, AllocError> {
+fn file_of(alloc: Global, held: &mut Option<Handle>, word: &str) -> Result<PlainFile, AllocError> {
     if word == "held" {
         if let Some(Handle::File(file)) = held.take() {
             return Ok(file);
         }
     }
     let (left, bytes) = word.split_once('=').unwrap_or((word, ""));
-    Ok(OpenData {
+    Ok(PlainFile {
         left: number_of(left),
         bytes: known_of(alloc, bytes)?,
     })
 }
 
 /// The temporary file `path=bytes`, or the one that is held.
-fn temp_of(alloc: Global, held: &mut Option<Handle>, word: &str) -> Result<TempData, AllocError> {
+fn temp_of(alloc: Global, held: &mut Option<Handle>, word: &str) -> Result<PlainTemp, AllocError> {
     if word == "held" {
         if let Some(Handle::Temp(temp)) = held.take() {
             return Ok(temp);
         }
     }
     let (path, bytes) = word.split_once('=').unwrap_or((word, ""));
-    Ok(TempData {
+    Ok(PlainTemp {
         path: text_of(alloc, path)?,
         bytes: known_of(alloc, bytes)?,
     })
@@ -95,7 +95,7 @@ fn step_on(
     kind: &str,
     first: &str,
     second: &str,
-) -> Result<Step<OpenData, TempData>, AllocError> {
+) -> Result<Step<PlainFile, PlainTemp>, AllocError> {
     Ok(match kind {
         "Write" => Step::Write(temp_of(alloc, held, first)?, bytes_of(alloc, second)?),
         "Persist" => Step::Persist(temp_of(alloc, held, first)?, text_of(alloc, second)?),
@@ -113,7 +113,7 @@ pub(crate) fn step_of(
     alloc: Global,
     held: &mut Option<Handle>,
     text: &str,
-) -> Result<Step<OpenData, TempData>, AllocError> {
+) -> Result<Step<PlainFile, PlainTemp>, AllocError> {
     let mut words = text.split(' ');
     let kind = words.next().unwrap_or("");
     let first = words.next().unwrap_or("");

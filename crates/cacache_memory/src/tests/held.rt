@@ -1,20 +1,20 @@
 //! Steps on a store as texts. The word `held` is the handle that the last answer with one gave.
-use crate::{MemFile, MemStore, MemTemp};
-use cacache_base::bytes::Bytes;
-use cacache_base::store::{Answer, Step, Store};
-use cacache_base::text::Text;
+use crate::MemStore;
+use cacache_base::store::{Answer, PlainFile, PlainTemp, Step, Store};
+use cacache_core::bytes::Bytes;
+use cacache_core::text::Text;
 use std::alloc::{AllocError, Global};
 use std::test::Fail;
 
 /// An open file or a temporary file.
 #[derive(Drop)]
 pub(crate) enum Handle {
-    File(MemFile),
-    Temp(MemTemp),
+    File(PlainFile),
+    Temp(PlainTemp),
 }
 
 /// The handle that an answer gives.
-fn handle_in(answer: Answer<MemFile, MemTemp>) -> Option<Handle> {
+fn handle_in(answer: Answer<PlainFile, PlainTemp>) -> Option<Handle> {
     match answer {
         Answer::File(file) => Some(Handle::File(file)),
         Answer::Temp(temp) => Some(Handle::Temp(temp)),
@@ -24,7 +24,7 @@ fn handle_in(answer: Answer<MemFile, MemTemp>) -> Option<Handle> {
 }
 
 /// The open file that is held.
-pub(crate) fn file_in(held: Option<Handle>) -> Result<MemFile, Fail> {
+pub(crate) fn file_in(held: Option<Handle>) -> Result<PlainFile, Fail> {
     match held {
         Some(Handle::File(file)) => Ok(file),
         _ => Err("no open file")?,
@@ -32,7 +32,7 @@ pub(crate) fn file_in(held: Option<Handle>) -> Result<MemFile, Fail> {
 }
 
 /// The temporary file that is held.
-pub(crate) fn temp_in(held: Option<Handle>) -> Result<MemTemp, Fail> {
+pub(crate) fn temp_in(held: Option<Handle>) -> Result<PlainTemp, Fail> {
     match held {
         Some(Handle::Temp(temp)) => Ok(temp),
         _ => Err("no temporary file")?,
@@ -54,7 +54,7 @@ fn step_on(
     kind: &str,
     first: &str,
     second: &str,
-) -> Result<Step<MemFile, MemTemp>, Fail> {
+) -> Result<Step<PlainFile, PlainTemp>, Fail> {
     Ok(match kind {
         "MakeDirs" => Step::MakeDirs(text_of(alloc, first)?),
         "CreateTemp" => Step::CreateTemp(text_of(alloc, first)?),
@@ -72,7 +72,7 @@ fn step_of(
     alloc: Global,
     held: &mut Option<Handle>,
     text: &str,
-) -> Result<Step<MemFile, MemTemp>, Fail> {
+) -> Result<Step<PlainFile, PlainTemp>, Fail> {
     let mut words = text.split(' ');
     let kind = words.next().unwrap_or("");
     let first = words.next().unwrap_or("");

@@ -1,7 +1,8 @@
 //! What a store logs of its steps, and what its handles do between them.
+use crate::MemStore;
 use crate::tests::held::{Handle, ask, file_in, temp_in};
 use crate::tests::shown::{holds, tells};
-use crate::{MemFile, MemStore, MemTemp};
+use cacache_base::store::{PlainFile, PlainTemp};
 use std::alloc::Global;
 use std::io;
 use std::io::{Read, Write};
@@ -48,14 +49,14 @@ fn the_log_tells_a_put_and_a_get(rt: HostRuntime) -> Result<(), Fail> {
 }
 
 /// Writes `hello world` in two parts.
-fn filled(temp: &mut MemTemp) -> io::Result<()> {
+fn filled(temp: &mut PlainTemp) -> io::Result<()> {
     temp.write_all(b"hello ")?;
     temp.write_all(b"world")?;
     temp.flush()
 }
 
 /// Sees that reads of eight bytes give these parts.
-fn gives(rt: &impl Abort, file: &mut MemFile, parts: &[&[u8]]) -> Result<(), Fail> {
+fn gives(rt: &impl Abort, file: &mut PlainFile, parts: &[&[u8]]) -> Result<(), Fail> {
     let mut buf = [0u8; 8];
     for wanted in parts {
         let count = file.read(&mut buf)?;
@@ -65,7 +66,7 @@ fn gives(rt: &impl Abort, file: &mut MemFile, parts: &[&[u8]]) -> Result<(), Fai
 }
 
 /// A temporary file that was written through its handle.
-fn written(alloc: Global, store: &mut MemStore) -> Result<MemTemp, Fail> {
+fn written(alloc: Global, store: &mut MemStore) -> Result<PlainTemp, Fail> {
     let mut held = None;
     ask(alloc, store, &mut held, &["CreateTemp t"])?;
     let mut temp = temp_in(held)?;
@@ -74,7 +75,7 @@ fn written(alloc: Global, store: &mut MemStore) -> Result<MemTemp, Fail> {
 }
 
 /// That file, moved to the path `file` and opened there.
-fn opened(alloc: Global, store: &mut MemStore) -> Result<MemFile, Fail> {
+fn opened(alloc: Global, store: &mut MemStore) -> Result<PlainFile, Fail> {
     let mut held = Some(Handle::Temp(written(alloc, store)?));
     ask(alloc, store, &mut held, &["Persist held file", "Open file"])?;
     file_in(held)

@@ -2,7 +2,7 @@
 use crate::MemStore;
 use crate::tests::held::ask;
 use crate::tests::shown::{holds, tells};
-use cacache_base::errors::Error;
+use cacache_core::errors::Error;
 use std::alloc::{AllocError, Global};
 use std::process::Abort;
 use std::test::Fail;

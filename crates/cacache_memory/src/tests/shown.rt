@@ -1,6 +1,6 @@
 //! What a store tells, as texts.
 use crate::MemStore;
-use cacache_base::store::{Answer, LogItem, OpenData, Step, TempData};
+use cacache_base::store::{Answer, LogItem, PlainFile, PlainTemp, Step};
 use std::alloc::{AllocError, Global};
 use std::process::Abort;
 use std::test::Fail;
@@ -10,7 +10,7 @@ pub(crate) fn utf8(bytes: &[u8]) -> &str {
 }
 
 /// A step of the kinds that putting and getting do.
-fn step_text(alloc: Global, step: &Step<OpenData, TempData>) -> Result<String, AllocError> {
+fn step_text(alloc: Global, step: &Step<PlainFile, PlainTemp>) -> Result<String, AllocError> {
     match step {
         Step::MakeDirs(path) => format!(in alloc; "MakeDirs {path}"),
         Step::CreateTemp(path) => format!(in alloc; "CreateTemp {path}"),
@@ -27,7 +27,7 @@ fn step_text(alloc: Global, step: &Step<OpenData, TempData>) -> Result<String, A
     }
 }
 
-fn answer_text(alloc: Global, answer: &Answer<OpenData, TempData>) -> Result<String, AllocError> {
+fn answer_text(alloc: Global, answer: &Answer<PlainFile, PlainTemp>) -> Result<String, AllocError> {
     match answer {
         Answer::Done => format!(in alloc; "Done"),
         Answer::Temp(temp) => format!(in alloc; "Temp {}", temp.path),

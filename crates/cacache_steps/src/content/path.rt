@@ -2,9 +2,9 @@
 ghost use Rattle.std.specs.Prelude.{◌≡◌, IfOk};
 ghost use Rattle.cacache_steps.specs.Places.{content_path as path_of, content_folder as folder_of};
 
-use crate::integrity::Integrity;
-use crate::text::Text;
-use cacache_integrity::paths::{self, Place};
+use cacache_core::integrity::Integrity;
+use cacache_core::paths::{self, Place};
+use cacache_core::text::Text;
 use std::alloc::{AllocError, Global};
 
 /// The path of an integrity's content below a cache: `content-v2`, the algorithm of the content address, and

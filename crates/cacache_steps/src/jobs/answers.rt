@@ -1,12 +1,12 @@
 //! What an answer says to a step of one kind.
 ghost use Rattle.std.specs.Prelude.{◌≡◌, Result, Ok, Err};
-ghost use Rattle.cacache_base.specs.Seen.{told};
+ghost use Rattle.cacache_base.specs.Seen.{plain_answer};
 ghost use Rattle.cacache_steps.specs.Answers.{refusal_in, done_in, temp_in, written_in, taken_in, bytes_in, there_in};
 ghost use Rattle.cacache_steps.specs.Seen.{with_file, written_as};
 
-use crate::bytes::Bytes;
-use crate::errors::Fault;
-use crate::store::{Answer, OpenedFile, TempFile};
+use cacache_base::store::{Answer, FileHandle, TempHandle};
+use cacache_core::bytes::Bytes;
+use cacache_core::errors::Fault;
 
 /// Why a step was refused.
 #[derive(Clone, Copy, Debug, PartialEq, Eq)]
@@ -22,8 +22,8 @@ pub struct Written<T> {
     pub count: usize,
 }
 
-fn refusal_of<F: OpenedFile, T: TempFile>(answer: Answer<F, T>) -> Refusal
-    ensures { result ≡ refusal_in (told F.seen T.seen answer) }
+fn refusal_of<F: FileHandle, T: TempHandle>(answer: Answer<F, T>) -> Refusal
+    ensures { result ≡ refusal_in (plain_answer F.seen T.seen answer) }
 {
     match answer {
         Answer::Failed(fault) => Refusal::Fault(fault),
@@ -32,8 +32,8 @@ fn refusal_of<F: OpenedFile, T: TempFile>(answer: Answer<F, T>) -> Refusal
     }
 }
 
-pub(crate) fn done_of<F: OpenedFile, T: TempFile>(answer: Answer<F, T>) -> Result<(), Refusal>
-    ensures { result ≡ done_in (told F.seen T.seen answer) }
+pub(crate) fn done_of<F: FileHandle, T: TempHandle>(answer: Answer<F, T>) -> Result<(), Refusal>
+    ensures { result ≡ done_in (plain_answer F.seen T.seen answer) }
 {
     match answer {
         Answer::Done => Ok(()),
@@ -41,8 +41,8 @@ pub(crate) fn done_of<F: OpenedFile, T: TempFile>(answer: Answer<F, T>) -> Resul
     }
 }
 
-pub(crate) fn temp_of<F: OpenedFile, T: TempFile>(answer: Answer<F, T>) -> Result<T, Refusal>
-    ensures { with_file T.seen result ≡ temp_in (told F.seen T.seen answer) }
+pub(crate) fn temp_of<F: FileHandle, T: TempHandle>(answer: Answer<F, T>) -> Result<T, Refusal>
+    ensures { with_file T.seen result ≡ temp_in (plain_answer F.seen T.seen answer) }
 {
     match answer {
         Answer::Temp(file) => Ok(file),
@@ -50,10 +50,10 @@ pub(crate) fn temp_of<F: OpenedFile, T: TempFile>(answer: Answer<F, T>) -> Resul
     }
 }
 
-pub(crate) fn written_of<F: OpenedFile, T: TempFile>(
+pub(crate) fn written_of<F: FileHandle, T: TempHandle>(
     answer: Answer<F, T>,
 ) -> Result<Written<T>, Refusal>
-    ensures { with_file (written_as T.seen) result ≡ written_in (told F.seen T.seen answer) }
+    ensures { with_file (written_as T.seen) result ≡ written_in (plain_answer F.seen T.seen answer) }
 {
     match answer {
         Answer::Wrote(file, count) => Ok(Written { file, count }),
@@ -61,8 +61,8 @@ pub(crate) fn written_of<F: OpenedFile, T: TempFile>(
     }
 }
 
-pub(crate) fn taken_of<F: OpenedFile, T: TempFile>(answer: Answer<F, T>) -> Result<usize, Refusal>
-    ensures { result ≡ taken_in (told F.seen T.seen answer) }
+pub(crate) fn taken_of<F: FileHandle, T: TempHandle>(answer: Answer<F, T>) -> Result<usize, Refusal>
+    ensures { result ≡ taken_in (plain_answer F.seen T.seen answer) }
 {
     match answer {
         Answer::Took(count) => Ok(count),
@@ -70,8 +70,8 @@ pub(crate) fn taken_of<F: OpenedFile, T: TempFile>(answer: Answer<F, T>) -> Resu
     }
 }
 
-pub(crate) fn bytes_of<F: OpenedFile, T: TempFile>(answer: Answer<F, T>) -> Result<Bytes, Refusal>
-    ensures { result ≡ bytes_in (told F.seen T.seen answer) }
+pub(crate) fn bytes_of<F: FileHandle, T: TempHandle>(answer: Answer<F, T>) -> Result<Bytes, Refusal>
+    ensures { result ≡ bytes_in (plain_answer F.seen T.seen answer) }
 {
     match answer {
         Answer::Bytes(bytes) => Ok(bytes),
@@ -79,8 +79,8 @@ pub(crate) fn bytes_of<F: OpenedFile, T: TempFile>(answer: Answer<F, T>) -> Resu
     }
 }
 
-pub(crate) fn there_of<F: OpenedFile, T: TempFile>(answer: Answer<F, T>) -> Result<bool, Refusal>
-    ensures { result ≡ there_in (told F.seen T.seen answer) }
+pub(crate) fn there_of<F: FileHandle, T: TempHandle>(answer: Answer<F, T>) -> Result<bool, Refusal>
+    ensures { result ≡ there_in (plain_answer F.seen T.seen answer) }
 {
     match answer {
         Answer::There(there) => Ok(there),

@@ -1,7 +1,7 @@
 //! One call as plain data.
-use crate::bytes::Bytes;
-use crate::integrity::Integrity;
-use crate::text::Text;
+use cacache_core::bytes::Bytes;
+use cacache_core::integrity::Integrity;
+use cacache_core::text::Text;
 
 /// Bytes to store, and the key that they are to be found by, if any.
 #[derive(Debug, Drop)]

@@ -1,13 +1,11 @@
 //! How a commit goes on after each of its steps.
 ghost use Rattle.std.specs.Prelude.{◌≡◌, IfOk, IsTrue, drop};
-ghost use Rattle.cacache_base.specs.Seen.{Asked, told};
+ghost use Rattle.cacache_base.specs.Seen.{PlainStep, plain_answer};
 ghost use Rattle.cacache_steps.specs.Calls.{making_temps, creating, writing, making_contents, persisting, confirming, after, committed, write_rest, ends_with, error_of};
 ghost use Rattle.cacache_steps.specs.Stands.{PhaseAt, Keeps, file_in, is_ready};
 ghost use Rattle.cacache_steps.specs.declared.jobs.stage.Stage.TheVariants.{Writing, MakingContents, Persisting};
 
-use crate::bytes::Bytes;
 use crate::content::path::{content_path, content_place};
-use crate::errors::Fault;
 use crate::jobs::answers::{Refusal, done_of, temp_of, there_of, written_of};
 use crate::jobs::insertion::inserting;
 use crate::jobs::messages;
@@ -15,19 +13,21 @@ use crate::jobs::phase::{Phase, refused};
 use crate::jobs::places::{temp_folder, temp_path};
 use crate::jobs::reply::Reply;
 use crate::jobs::stage::{Commit, Insertion, Stage};
-use crate::store::{Answer, OpenedFile, Step, TempFile};
-use crate::text::Text;
-use cacache_integrity::paths::Place;
+use cacache_base::store::{Answer, FileHandle, Step, TempHandle};
+use cacache_core::bytes::Bytes;
+use cacache_core::errors::Fault;
+use cacache_core::paths::Place;
+use cacache_core::text::Text;
 use std::alloc::{AllocError, Global};
 
-pub(crate) fn after_making_temps<F: OpenedFile, T: TempFile>(
+pub(crate) fn after_making_temps<F: FileHandle, T: TempHandle>(
     alloc: Global,
     commit: Commit,
     rest: Bytes,
     answer: Answer<F, T>,
 ) -> Result<Phase<F, T>, AllocError>
     ensures ready { IfOk result (λ phase. IsTrue (is_ready phase)) }
-    ensures goes_on { IfOk result (λ phase. PhaseAt F.seen T.seen phase (after (making_temps commit rest) (told F.seen T.seen answer))) }
+    ensures goes_on { IfOk result (λ phase. PhaseAt F.seen T.seen phase (after (making_temps commit rest) (plain_answer F.seen T.seen answer))) }
 {
     match done_of(answer) {
         Ok(()) => {
@@ -51,7 +51,7 @@ fn left_after(bytes: Bytes, count: usize) -> Bytes
 }
 
 /// Writes what is left of the bytes, or goes on to the content's folder.
-fn write_rest<F: OpenedFile, T: TempFile>(
+fn write_rest<F: FileHandle, T: TempHandle>(
     alloc: Global,
     commit: Commit,
     file: T,
@@ -75,14 +75,14 @@ fn write_rest<F: OpenedFile, T: TempFile>(
     Ok(Phase::Ready(Stage::Writing(commit, rest), Step::Write(file, shared)))
 }
 
-pub(crate) fn after_creating<F: OpenedFile, T: TempFile>(
+pub(crate) fn after_creating<F: FileHandle, T: TempHandle>(
     alloc: Global,
     commit: Commit,
     rest: Bytes,
     answer: Answer<F, T>,
 ) -> Result<Phase<F, T>, AllocError>
     ensures ready { IfOk result (λ phase. IsTrue (is_ready phase)) }
-    ensures goes_on { IfOk result (λ phase. PhaseAt F.seen T.seen phase (after (creating commit rest) (told F.seen T.seen answer))) }
+    ensures goes_on { IfOk result (λ phase. PhaseAt F.seen T.seen phase (after (creating commit rest) (plain_answer F.seen T.seen answer))) }
 {
     match temp_of(answer) {
         Ok(file) => write_rest(alloc, commit, file, rest),
@@ -93,14 +93,14 @@ pub(crate) fn after_creating<F: OpenedFile, T: TempFile>(
     }
 }
 
-pub(crate) fn after_writing<F: OpenedFile, T: TempFile>(
+pub(crate) fn after_writing<F: FileHandle, T: TempHandle>(
     alloc: Global,
     commit: Commit,
     rest: Bytes,
     answer: Answer<F, T>,
 ) -> Result<Phase<F, T>, AllocError>
     ensures ready { IfOk result (λ phase. IsTrue (is_ready phase)) }
-    ensures goes_on { IfOk result (λ phase. (step : Asked) → Keeps {T = T} (Writing commit rest) → PhaseAt F.seen T.seen phase (after (writing commit (file_in step) rest) (told F.seen T.seen answer))) }
+    ensures goes_on { IfOk result (λ phase. (step : PlainStep) → Keeps {T = T} (Writing commit rest) → PhaseAt F.seen T.seen phase (after (writing commit (file_in step) rest) (plain_answer F.seen T.seen answer))) }
 {
     match written_of(answer) {
         Ok(written) => {
@@ -115,7 +115,7 @@ pub(crate) fn after_writing<F: OpenedFile, T: TempFile>(
     }
 }
 
-pub(crate) fn after_making_contents<F: OpenedFile, T: TempFile>(
+pub(crate) fn after_making_contents<F: FileHandle, T: TempHandle>(
     alloc: Global,
     commit: Commit,
     file: T,
@@ -123,7 +123,7 @@ pub(crate) fn after_making_contents<F: OpenedFile, T: TempFile>(
     answer: Answer<F, T>,
 ) -> Result<Phase<F, T>, AllocError>
     ensures ready { IfOk result (λ phase. IsTrue (is_ready phase)) }
-    ensures goes_on { IfOk result (λ phase. Keeps (MakingContents commit file path) → PhaseAt F.seen T.seen phase (after (making_contents commit (T.seen file)) (told F.seen T.seen answer))) }
+    ensures goes_on { IfOk result (λ phase. Keeps (MakingContents commit file path) → PhaseAt F.seen T.seen phase (after (making_contents commit (T.seen file)) (plain_answer F.seen T.seen answer))) }
 {
     match done_of(answer) {
         Ok(()) => Ok(Phase::Ready(Stage::Persisting(commit), Step::Persist(file, path))),
@@ -135,7 +135,7 @@ pub(crate) fn after_making_contents<F: OpenedFile, T: TempFile>(
 }
 
 /// The content is there: a commit with a key inserts its entry, one without is over.
-fn committed<F: OpenedFile, T: TempFile>(
+fn committed<F: FileHandle, T: TempHandle>(
     alloc: Global,
     commit: Commit,
 ) -> Result<Phase<F, T>, AllocError>
@@ -166,7 +166,7 @@ fn committed<F: OpenedFile, T: TempFile>(
 }
 
 /// The end of a commit whose persist failed and whose content isn't there.
-fn not_persisted<F: OpenedFile, T: TempFile>(
+fn not_persisted<F: FileHandle, T: TempHandle>(
     alloc: Global,
     commit: &Commit,
     refusal: Refusal,
@@ -178,13 +178,13 @@ fn not_persisted<F: OpenedFile, T: TempFile>(
     Ok(refused(refusal, messages::persisting(alloc, &path)?))
 }
 
-pub(crate) fn after_persisting<F: OpenedFile, T: TempFile>(
+pub(crate) fn after_persisting<F: FileHandle, T: TempHandle>(
     alloc: Global,
     commit: Commit,
     answer: Answer<F, T>,
 ) -> Result<Phase<F, T>, AllocError>
     ensures ready { IfOk result (λ phase. IsTrue (is_ready phase)) }
-    ensures goes_on { IfOk result (λ phase. (step : Asked) → Keeps {T = T} (Persisting commit) → PhaseAt F.seen T.seen phase (after (persisting commit (file_in step)) (told F.seen T.seen answer))) }
+    ensures goes_on { IfOk result (λ phase. (step : PlainStep) → Keeps {T = T} (Persisting commit) → PhaseAt F.seen T.seen phase (after (persisting commit (file_in step)) (plain_answer F.seen T.seen answer))) }
 {
     match done_of(answer) {
         Ok(()) => committed(alloc, commit),
@@ -196,14 +196,14 @@ pub(crate) fn after_persisting<F: OpenedFile, T: TempFile>(
     }
 }
 
-pub(crate) fn after_confirming<F: OpenedFile, T: TempFile>(
+pub(crate) fn after_confirming<F: FileHandle, T: TempHandle>(
     alloc: Global,
     commit: Commit,
     fault: Fault,
     answer: Answer<F, T>,
 ) -> Result<Phase<F, T>, AllocError>
     ensures ready { IfOk result (λ phase. IsTrue (is_ready phase)) }
-    ensures goes_on { IfOk result (λ phase. PhaseAt F.seen T.seen phase (after (confirming commit fault) (told F.seen T.seen answer))) }
+    ensures goes_on { IfOk result (λ phase. PhaseAt F.seen T.seen phase (after (confirming commit fault) (plain_answer F.seen T.seen answer))) }
 {
     match there_of(answer) {
         Ok(true) => committed(alloc, commit),

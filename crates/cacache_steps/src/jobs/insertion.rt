@@ -1,13 +1,11 @@
 //! How an entry goes into its bucket.
 ghost use Rattle.std.specs.Prelude.{◌≡◌, IfOk, IsTrue};
-ghost use Rattle.cacache_base.specs.Seen.{told};
+ghost use Rattle.cacache_base.specs.Seen.{plain_answer};
 ghost use Rattle.cacache_entry.specs.View.{entry_view};
 ghost use Rattle.cacache_steps.specs.Calls.{making_bucket, appending, after, unless_refused, entry_of, inserted_cause};
 ghost use Rattle.cacache_steps.specs.Stands.{PhaseAt, is_ready, Keeps};
 ghost use Rattle.cacache_steps.specs.declared.jobs.stage.Stage.TheVariants.{MakingBucket, Appending};
 
-use crate::bytes::Bytes;
-use crate::errors::{Error, Fault};
 use crate::index::{SerializableMetadata, line};
 use crate::jobs::answers::{Refusal, done_of, taken_of};
 use crate::jobs::messages;
@@ -15,9 +13,11 @@ use crate::jobs::phase::{Phase, refused};
 use crate::jobs::places::{bucket_path, bucket_place};
 use crate::jobs::reply::Reply;
 use crate::jobs::stage::{Insertion, Stage};
-use crate::store::{Answer, OpenedFile, Step, TempFile};
-use crate::text::Text;
-use cacache_integrity::paths::Place;
+use cacache_base::store::{Answer, FileHandle, Step, TempHandle};
+use cacache_core::bytes::Bytes;
+use cacache_core::errors::{Error, Fault};
+use cacache_core::paths::Place;
+use cacache_core::text::Text;
 use serde_json::Value;
 use std::alloc::{AllocError, Global};
 
@@ -37,7 +37,7 @@ fn entry_of(alloc: Global, insertion: &Insertion) -> Result<SerializableMetadata
 
 /// Tests the entry, and goes on to its bucket's folder.
 #[tactic(auto, unfolding(crate::specs::Calls::inserted_line, crate::specs::Calls::inserted_cause))]
-pub(crate) fn inserting<F: OpenedFile, T: TempFile>(
+pub(crate) fn inserting<F: FileHandle, T: TempHandle>(
     alloc: Global,
     insertion: Insertion,
 ) -> Result<Phase<F, T>, AllocError>
@@ -65,7 +65,7 @@ pub(crate) fn inserting<F: OpenedFile, T: TempFile>(
     }
 }
 
-pub(crate) fn after_making_bucket<F: OpenedFile, T: TempFile>(
+pub(crate) fn after_making_bucket<F: FileHandle, T: TempHandle>(
     alloc: Global,
     insertion: Insertion,
     line: Bytes,
@@ -73,7 +73,7 @@ pub(crate) fn after_making_bucket<F: OpenedFile, T: TempFile>(
     answer: Answer<F, T>,
 ) -> Result<Phase<F, T>, AllocError>
     ensures ready { IfOk result (λ phase. IsTrue (is_ready phase)) }
-    ensures goes_on { IfOk result (λ phase. Keeps {T = T} (MakingBucket insertion line path) → PhaseAt F.seen T.seen phase (after (making_bucket insertion) (told F.seen T.seen answer))) }
+    ensures goes_on { IfOk result (λ phase. Keeps {T = T} (MakingBucket insertion line path) → PhaseAt F.seen T.seen phase (after (making_bucket insertion) (plain_answer F.seen T.seen answer))) }
 {
     match done_of(answer) {
         Ok(()) => {
@@ -87,14 +87,14 @@ pub(crate) fn after_making_bucket<F: OpenedFile, T: TempFile>(
     }
 }
 
-pub(crate) fn after_appending<F: OpenedFile, T: TempFile>(
+pub(crate) fn after_appending<F: FileHandle, T: TempHandle>(
     alloc: Global,
     insertion: Insertion,
     size: usize,
     answer: Answer<F, T>,
 ) -> Result<Phase<F, T>, AllocError>
     ensures ready { IfOk result (λ phase. IsTrue (is_ready phase)) }
-    ensures goes_on { IfOk result (λ phase. Keeps {T = T} (Appending insertion size) → PhaseAt F.seen T.seen phase (after (appending insertion) (told F.seen T.seen answer))) }
+    ensures goes_on { IfOk result (λ phase. Keeps {T = T} (Appending insertion size) → PhaseAt F.seen T.seen phase (after (appending insertion) (plain_answer F.seen T.seen answer))) }
 {
     let refusal = match taken_of(answer) {
         Ok(count) => {

@@ -1,20 +1,20 @@
 //! One call, which asks for its steps.
 ghost use Rattle.std.specs.Prelude.{◌≡◌, ℕ, List, IfOk, IsTrue, Some};
-ghost use Rattle.cacache_base.specs.Seen.{Asked, asked, told};
+ghost use Rattle.cacache_base.specs.Seen.{PlainStep, plain_step, plain_answer};
 ghost use Rattle.cacache_steps.specs.declared.jobs.reply.Reply.TheVariants.{Read};
 ghost use Rattle.cacache_steps.specs.Calls.{State, opening, after, over};
 ghost use Rattle.cacache_steps.specs.Stands.{PhaseAt, Stands, HasOut, GoesTo, HandsOut, IsAt, is_ready, is_step, has_out, can_go_on};
 
 use crate::content::path::content_path;
-use crate::errors::Error;
-use crate::integrity::Integrity;
 use crate::jobs::command::{Command, Put};
 use crate::jobs::phase::Phase;
 use crate::jobs::places::{bucket_path, temp_folder};
 use crate::jobs::reply::Reply;
 use crate::jobs::stage::{Commit, Content, Lookup, Stage};
-use crate::store::{Answer, OpenedFile, Step, TempFile};
-use crate::text::Text;
+use cacache_base::store::{Answer, FileHandle, Step, TempHandle};
+use cacache_core::errors::Error;
+use cacache_core::integrity::Integrity;
+use cacache_core::text::Text;
 use std::alloc::{AllocError, Global};
 use std::mem::replace;
 
@@ -43,7 +43,7 @@ impl<F: Drop, T: Drop> Drop for Job<F, T> {
 }
 
 /// The first phase of a commit.
-fn open_put<F: OpenedFile, T: TempFile>(
+fn open_put<F: FileHandle, T: TempHandle>(
     alloc: Global,
     cache: &str,
     put: Put,
@@ -69,7 +69,7 @@ fn open_put<F: OpenedFile, T: TempFile>(
 }
 
 /// The first phase of a call.
-fn open<F: OpenedFile, T: TempFile>(
+fn open<F: FileHandle, T: TempHandle>(
     alloc: Global,
     cache: &str,
     command: Command,
@@ -97,7 +97,7 @@ fn open<F: OpenedFile, T: TempFile>(
     }
 }
 
-impl<F: OpenedFile, T: TempFile> Job<F, T> {
+impl<F: FileHandle, T: TempHandle> Job<F, T> {
     /// A call on a cache that has asked for nothing yet. A put's temporary file has this number; relative link
     /// targets start from the base folder. Where memory is refused, the call is over with `OutOfMemory`.
     pub fn new(alloc: Global, cache: &str, _base: &str, command: Command, number: u64) -> Job<F, T>
@@ -132,7 +132,7 @@ impl<F: OpenedFile, T: TempFile> Job<F, T> {
     pub fn take(&mut self, answer: Answer<F, T>)
         requires { IsTrue (has_out self.old) }
         ensures ready { IsTrue (can_go_on self.new) }
-        ensures goes_on { (s : State) (step : Asked) → HasOut T.seen self.old s step → GoesTo F.seen T.seen self.new (after s (told F.seen T.seen answer)) }
+        ensures goes_on { (s : State) (step : PlainStep) → HasOut T.seen self.old s step → GoesTo F.seen T.seen self.new (after s (plain_answer F.seen T.seen answer)) }
     {
         match replace(&mut self.phase, Phase::Told) {
             Phase::Out(stage) => {
@@ -149,7 +149,7 @@ impl<F: OpenedFile, T: TempFile> Job<F, T> {
     pub fn back(&mut self, step: Step<F, T>)
         requires { IsTrue (has_out self.old) }
         ensures ready { IsTrue (can_go_on self.new) }
-        ensures stands { (s : State) → HasOut T.seen self.old s (asked F.seen T.seen step) → Stands F.seen T.seen self.new s }
+        ensures stands { (s : State) → HasOut T.seen self.old s (plain_step F.seen T.seen step) → Stands F.seen T.seen self.new s }
     {
         match replace(&mut self.phase, Phase::Told) {
             Phase::Out(stage) => self.phase = Phase::Ready(stage, step),

@@ -1,6 +1,6 @@
 //! What a call says where a step failed. No contract speaks of these texts.
 use crate::jobs::stage::{Commit, Insertion};
-use crate::text::Text;
+use cacache_core::text::Text;
 use std::alloc::{AllocError, Global};
 
 pub(crate) fn making_temps(alloc: Global, folder: &Text) -> Result<Text, AllocError> {

@@ -3,12 +3,12 @@ ghost use Rattle.std.specs.Prelude.{IsTrue};
 ghost use Rattle.cacache_steps.specs.Calls.{ends_with, error_of};
 ghost use Rattle.cacache_steps.specs.Stands.{PhaseAt, is_ready};
 
-use crate::errors::Error;
 use crate::jobs::answers::Refusal;
 use crate::jobs::reply::Reply;
 use crate::jobs::stage::Stage;
-use crate::store::{OpenedFile, Step, TempFile};
-use crate::text::Text;
+use cacache_base::store::{FileHandle, Step, TempHandle};
+use cacache_core::errors::Error;
+use cacache_core::text::Text;
 
 /// Where a job is.
 #[derive(Drop)]
@@ -24,7 +24,7 @@ pub enum Phase<F, T> {
 }
 
 /// The end of a call whose step was refused.
-pub(crate) fn refused<F: OpenedFile, T: TempFile>(refusal: Refusal, message: Text) -> Phase<F, T>
+pub(crate) fn refused<F: FileHandle, T: TempHandle>(refusal: Refusal, message: Text) -> Phase<F, T>
     ensures ready { IsTrue (is_ready result) }
     ensures ends { PhaseAt F.seen T.seen result (ends_with (error_of refusal)) }
 {

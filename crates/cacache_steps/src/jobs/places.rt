@@ -2,8 +2,8 @@
 ghost use Rattle.std.specs.Prelude.{◌≡◌, IfOk};
 ghost use Rattle.cacache_steps.specs.Places.{temp_path as temp_path_of, temp_folder as temp_folder_of, bucket_path as bucket_path_of, bucket_folder as bucket_folder_of};
 
-use crate::text::Text;
-use cacache_integrity::paths::{self, Place};
+use cacache_core::paths::{self, Place};
+use cacache_core::text::Text;
 use std::alloc::{AllocError, Global};
 
 /// The folder of temporary files.

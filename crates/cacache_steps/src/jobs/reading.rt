@@ -1,25 +1,25 @@
 //! How lookups and reads go on.
 ghost use Rattle.std.specs.Prelude.{◌≡◌, IfOk, IsTrue};
-ghost use Rattle.cacache_base.specs.Seen.{told};
+ghost use Rattle.cacache_base.specs.Seen.{plain_answer};
 ghost use Rattle.cacache_steps.specs.Calls.{reading_bucket, reading_content, after, read_found, found_in, checked};
 ghost use Rattle.cacache_steps.specs.Stands.{PhaseAt, is_ready};
 
-use crate::bytes::Bytes;
 use crate::content::path::content_path;
-use crate::errors::{Error, Fault};
 use crate::jobs::answers::{Refusal, bytes_of};
 use crate::jobs::messages;
 use crate::jobs::phase::{Phase, refused};
 use crate::jobs::places::bucket_path;
 use crate::jobs::reply::Reply;
 use crate::jobs::stage::{Content, Lookup, Stage};
-use crate::store::{Answer, OpenedFile, Step, TempFile};
+use cacache_base::store::{Answer, FileHandle, Step, TempHandle};
+use cacache_core::bytes::Bytes;
+use cacache_core::errors::{Error, Fault};
 use cacache_entry::latest;
 use std::alloc::{AllocError, Global};
 
 /// Reads the content that a bucket's bytes name for the key.
 #[tactic(auto, unfolding(crate::specs::Calls::found_in))]
-fn found<F: OpenedFile, T: TempFile>(
+fn found<F: FileHandle, T: TempHandle>(
     alloc: Global,
     lookup: Lookup,
     bucket: &[u8],
@@ -42,13 +42,13 @@ fn found<F: OpenedFile, T: TempFile>(
     }
 }
 
-pub(crate) fn after_reading_bucket<F: OpenedFile, T: TempFile>(
+pub(crate) fn after_reading_bucket<F: FileHandle, T: TempHandle>(
     alloc: Global,
     lookup: Lookup,
     answer: Answer<F, T>,
 ) -> Result<Phase<F, T>, AllocError>
     ensures ready { IfOk result (λ phase. IsTrue (is_ready phase)) }
-    ensures goes_on { IfOk result (λ phase. PhaseAt F.seen T.seen phase (after (reading_bucket lookup) (told F.seen T.seen answer))) }
+    ensures goes_on { IfOk result (λ phase. PhaseAt F.seen T.seen phase (after (reading_bucket lookup) (plain_answer F.seen T.seen answer))) }
 {
     match bytes_of(answer) {
         Ok(bucket) => found(alloc, lookup, bucket.as_slice()),
@@ -61,7 +61,7 @@ pub(crate) fn after_reading_bucket<F: OpenedFile, T: TempFile>(
 }
 
 /// The bytes, where they meet the integrity.
-fn checked<F: OpenedFile, T: TempFile>(
+fn checked<F: FileHandle, T: TempHandle>(
     alloc: Global,
     content: Content,
     bytes: Bytes,
@@ -78,13 +78,13 @@ fn checked<F: OpenedFile, T: TempFile>(
     }
 }
 
-pub(crate) fn after_reading_content<F: OpenedFile, T: TempFile>(
+pub(crate) fn after_reading_content<F: FileHandle, T: TempHandle>(
     alloc: Global,
     content: Content,
     answer: Answer<F, T>,
 ) -> Result<Phase<F, T>, AllocError>
     ensures ready { IfOk result (λ phase. IsTrue (is_ready phase)) }
-    ensures goes_on { IfOk result (λ phase. PhaseAt F.seen T.seen phase (after (reading_content content) (told F.seen T.seen answer))) }
+    ensures goes_on { IfOk result (λ phase. PhaseAt F.seen T.seen phase (after (reading_content content) (plain_answer F.seen T.seen answer))) }
 {
     match bytes_of(answer) {
         Ok(bytes) => checked(alloc, content, bytes),

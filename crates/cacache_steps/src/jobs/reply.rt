@@ -1,7 +1,7 @@
 //! What a call answers.
-use crate::bytes::Bytes;
-use crate::errors::Error;
-use crate::integrity::Integrity;
+use cacache_core::bytes::Bytes;
+use cacache_core::errors::Error;
+use cacache_core::integrity::Integrity;
 
 /// What a call answers.
 #[derive(Debug, Drop)]

@@ -3,7 +3,7 @@ ghost use Rattle.std.specs.Prelude.{◌≡◌};
 ghost use Rattle.cacache_steps.specs.Calls.{State, opening};
 ghost use Rattle.cacache_steps.specs.Promises.{Promises};
 ghost use Rattle.cacache_steps.specs.declared.jobs.reply.Reply.TheVariants.{Refused};
-ghost use Rattle.cacache_integrity.specs.declared.errors.Error.TheVariants.{OutOfMemory};
+ghost use Rattle.cacache_core.specs.declared.errors.Error.TheVariants.{OutOfMemory};
 ghost use Rattle.cacache_steps.specs.Runs.{Ran, plain_reply};
 ghost use Rattle.cacache_steps.specs.Stands.{Stands};
 ghost use Rattle.cacache_steps.specs.Verified.{FindsBytes};
@@ -11,7 +11,7 @@ ghost use Rattle.cacache_steps.specs.Verified.{FindsBytes};
 use crate::jobs::command::Command;
 use crate::jobs::job::{Job, Next};
 use crate::jobs::reply::Reply;
-use crate::store::Store;
+use cacache_base::store::Store;
 use std::alloc::Global;
 
 /// Does the steps of a call until it is over. The reply is that of a run of the call, and where the store

@@ -1,16 +1,16 @@
 //! How far a call is.
 ghost use Rattle.std.specs.Prelude.{IfOk, IsTrue};
-ghost use Rattle.cacache_base.specs.Seen.{Asked, told};
+ghost use Rattle.cacache_base.specs.Seen.{PlainStep, plain_answer};
 ghost use Rattle.cacache_steps.specs.Calls.{after};
 ghost use Rattle.cacache_steps.specs.Stands.{PhaseAt, Keeps, state_of, is_ready};
 
-use crate::bytes::Bytes;
-use crate::errors::Fault;
-use crate::integrity::Integrity;
 use crate::jobs::phase::Phase;
 use crate::jobs::{commit, insertion, reading};
-use crate::store::{Answer, OpenedFile, TempFile};
-use crate::text::Text;
+use cacache_base::store::{Answer, FileHandle, TempHandle};
+use cacache_core::bytes::Bytes;
+use cacache_core::errors::Fault;
+use cacache_core::integrity::Integrity;
+use cacache_core::text::Text;
 use std::alloc::{AllocError, Global};
 
 /// A commit on its way: where to, under which number and key, and what its bytes are known by.
@@ -97,15 +97,15 @@ impl<T: Drop> Drop for Stage<T> {
     }
 }
 
-impl<T: TempFile> Stage<T> {
+impl<T: TempHandle> Stage<T> {
     /// The phase after the answer to the stage's step.
-    pub(crate) fn resume<F: OpenedFile>(
+    pub(crate) fn resume<F: FileHandle>(
         self,
         alloc: Global,
         answer: Answer<F, T>,
     ) -> Result<Phase<F, T>, AllocError>
         ensures ready { IfOk result (λ phase. IsTrue (is_ready phase)) }
-        ensures goes_on { IfOk result (λ phase. (step : Asked) → Keeps self → PhaseAt F.seen T.seen phase (after (state_of T.seen self step) (told F.seen T.seen answer))) }
+        ensures goes_on { IfOk result (λ phase. (step : PlainStep) → Keeps self → PhaseAt F.seen T.seen phase (after (state_of T.seen self step) (plain_answer F.seen T.seen answer))) }
     {
         match self {
             Stage::MakingTemps(commit, rest) => {

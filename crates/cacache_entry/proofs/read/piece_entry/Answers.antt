@@ -1,7 +1,7 @@
 use Rattle.std.proofs.Common.{◌≡◌, ◌+◌, [], ◌∷◌, subst, drop, take, sym, ap, ◌∙◌, arith}
 use Rattle.std.specs.Prelude.{MatchOption, IfOk, option_map}
 use Rattle.std.proofs.lemmas.Str.{lead_after_ascii}
-use Rattle.cacache_integrity.specs.Digests.{sha256_hex}
+use Rattle.cacache_core.specs.Digests.{sha256_hex}
 use Rattle.cacache_entry.specs.Bucket.{cut, CutsAt}
 use Rattle.cacache_entry.specs.View.{entry_view}
 use Rattle.std.proofs.lemmas.Bool.{true≢false}

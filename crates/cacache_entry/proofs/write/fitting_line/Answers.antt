@@ -1,7 +1,7 @@
 use Rattle.std.proofs.Common.{rules, ◌≡◌, ◌<◌, ◌^◌, ◌∷◌, ◌++◌, Result, Ok, Err, ◌∙◌, subst, arith}
 use Rattle.std.specs.Prelude.{IfOk, IsUtf8}
 use Rattle.std.proofs.lemmas.Str.{IsUtf8-string_bytes}
-use Rattle.cacache_integrity.specs.Digests.{sha256_hex}
+use Rattle.cacache_core.specs.Digests.{sha256_hex}
 use Rattle.cacache_entry.specs.Fits.{IsEntry}
 use Rattle.cacache_entry.specs.View.{entry_view}
 use Rattle.cacache_entry.proofs.Causes.{is_early, has_no_float, flat_metadata}

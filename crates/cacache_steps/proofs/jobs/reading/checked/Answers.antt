@@ -1,6 +1,6 @@
 use Rattle.std.proofs.Common.{◌≡◌, true, false}
-use Rattle.cacache_integrity.specs.Integrity.{actual}
-use Rattle.cacache_integrity.specs.Refusals.{Tells}
+use Rattle.cacache_core.specs.Integrity.{actual}
+use Rattle.cacache_core.specs.Refusals.{Tells}
 use Rattle.cacache_steps.proofs.Meeting.{checked_met, checked_unmet}
 use Rattle.cacache_steps.proofs.jobs.reading.checked.Goals as goal
 

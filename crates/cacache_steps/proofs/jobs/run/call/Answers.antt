@@ -6,9 +6,9 @@ use Rattle.cacache_steps.proofs.Verified.{finds_bytes}
 use Rattle.cacache_steps.proofs.jobs.run.call.Goals as goal
 
 pub drive-requires : goal.drive-requires
-drive-requires g c = turn_stands g.S.File.OpenedFile.seen g.S.Temp.TempFile.seen c.new-job.result.phase _ c.new-job.ensures.opens
+drive-requires g c = turn_stands g.S.File.FileHandle.seen g.S.Temp.TempHandle.seen c.new-job.result.phase _ c.new-job.ensures.opens
 
 pub returns : goal.returns
 returns g c =
-    let run = ran_from g.S.File.OpenedFile.seen g.S.Temp.TempFile.seen c.new-job.result.phase (opening c.args.cache.now c.args.command c.args.number) (plain_reply c.drive.result) _ _ c.new-job.ensures.opens c.drive.ensures in
+    let run = ran_from g.S.File.FileHandle.seen g.S.Temp.TempHandle.seen c.new-job.result.phase (opening c.args.cache.now c.args.command c.args.number) (plain_reply c.drive.result) _ _ c.new-job.ensures.opens c.drive.ensures in
     record { ran = run; found = finds_bytes c.args.cache.now c.args.command c.args.number _ _ _ run; promised = Promises-Runs _ run.0 _ run.1; lost = (run.0, memory_lost _ run.0 _ run.1, run.2) }

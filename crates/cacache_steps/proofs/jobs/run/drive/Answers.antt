@@ -1,5 +1,5 @@
 use Rattle.std.proofs.Common.{◌≡◌}
-use Rattle.cacache_base.specs.Seen.{Asked, Told, asked, told}
+use Rattle.cacache_base.specs.Seen.{PlainStep, PlainAnswer, plain_step, plain_answer}
 use Rattle.cacache_steps.specs.Calls.{State, after}
 use Rattle.cacache_steps.specs.Runs.{plain_reply}
 use Rattle.cacache_steps.specs.Stands.{PhaseAt, OutAt}
@@ -13,21 +13,21 @@ returns-in-Over g c = λ s0 h.
 
 pub steps-smaller : goal.steps-smaller
 steps-smaller g c =
-    let file = g.S.File.OpenedFile.seen in
-    let temp = g.S.Temp.TempFile.seen in
+    let file = g.S.File.FileHandle.seen in
+    let temp = g.S.Temp.TempHandle.seen in
     let s : State = c.steps.invariant.stands.0 in
-    let a : Asked = asked file temp c.in-Step.step in
-    let t : Told = told file temp c.step-answer.result in
+    let a : PlainStep = plain_step file temp c.in-Step.step in
+    let t : PlainAnswer = plain_answer file temp c.step-answer.result in
     let out : OutAt temp c.next.new.self.phase s a = c.in-Step.ensures.hands_out s c.steps.invariant.stands.1 in
     turn_shrinks file temp c.steps.job.phase c.next.new.self.phase c.take.new.self.phase s a t c.steps.invariant.stands.1 out (c.take.ensures.goes_on s a out)
 
 pub steps-preserved : goal.steps-preserved
 steps-preserved g c =
-    let file = g.S.File.OpenedFile.seen in
-    let temp = g.S.Temp.TempFile.seen in
+    let file = g.S.File.FileHandle.seen in
+    let temp = g.S.Temp.TempHandle.seen in
     let s : State = c.steps.invariant.stands.0 in
-    let a : Asked = asked file temp c.in-Step.step in
-    let t : Told = told file temp c.step-answer.result in
+    let a : PlainStep = plain_step file temp c.in-Step.step in
+    let t : PlainAnswer = plain_answer file temp c.step-answer.result in
     let out : OutAt temp c.next.new.self.phase s a = c.in-Step.ensures.hands_out s c.steps.invariant.stands.1 in
     record {
       stands = turn_stands file temp c.take.new.self.phase (after s t) (c.take.ensures.goes_on s a out);

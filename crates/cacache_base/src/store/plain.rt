@@ -1,0 +1,103 @@
+//! Files that are no more than what is seen of them: their bytes lie in memory.
+ghost use Rattle.std.specs.Prelude.{◌≡◌, IfOk, IsOk, length};
+ghost use Rattle.std.specs.Io.{ReadsAtMost};
+ghost use Rattle.std.specs.Io.KnownBytes.{ReadConsumes, WriteAppends};
+ghost use Rattle.cacache_base.specs.Handles.{LeftFalls, GivesAll};
+
+use crate::store::handles::{FileHandle, OpenedFile, TempFile, TempHandle};
+use cacache_core::bytes::Bytes;
+use cacache_core::text::Text;
+use std::io;
+use std::io::{ErrorKind, Read, Write};
+
+/// A file that is open in memory, and what contracts see of any open file.
+#[derive(Debug, Drop)]
+pub struct PlainFile {
+    /// At least as many bytes as it will still give.
+    pub left: usize,
+    /// The bytes that it will give, where they are known.
+    pub bytes: Option<Bytes>,
+}
+
+/// A temporary file in memory, and what contracts see of any temporary file.
+#[derive(Debug, Drop)]
+pub struct PlainTemp {
+    /// Where it stands until it is moved.
+    pub path: Text,
+    /// The bytes that it took, where they are known.
+    pub bytes: Option<Bytes>,
+}
+
+impl FileHandle for PlainFile {
+    ghost seen = { λ file. file };
+}
+
+impl Read for PlainFile {
+    ghost remaining = { λ file. file.bytes };
+
+    fn read(&mut self, buf: &mut [u8]) -> io::Result<usize>
+        ensures bound { ReadsAtMost result buf.new }
+        ensures bytes { ReadConsumes self.old.bytes self.new.bytes result buf.new }
+        ensures gives_all { GivesAll self.old (length buf.old) result }
+    {
+        self.read_some(buf)
+    }
+}
+
+impl OpenedFile for PlainFile {
+    fn read_some(&mut self, buf: &mut [u8]) -> io::Result<usize>
+        ensures bound { ReadsAtMost result buf.new }
+        ensures left { LeftFalls self.old.left self.new.left result }
+        ensures bytes { ReadConsumes self.old.bytes self.new.bytes result buf.new }
+        ensures gives_all { GivesAll self.old (length buf.old) result }
+    {
+        let Some(bytes) = self.bytes.take() else {
+            return Err(io::Error::from(ErrorKind::Unsupported));
+        };
+        let count = buf.len().min(bytes.len());
+        if self.left < count {
+            self.bytes = Some(bytes);
+            return Err(io::Error::from(ErrorKind::InvalidInput));
+        }
+        buf[..count].copy_from_slice(&bytes.as_slice()[..count]);
+        self.left -= count;
+        self.bytes = Some(bytes.rest(count));
+        Ok(count)
+    }
+}
+
+impl TempHandle for PlainTemp {
+    ghost seen = { λ temp. temp };
+}
+
+impl Write for PlainTemp {
+    ghost contents = { λ temp. temp.bytes };
+
+    fn write(&mut self, buf: &[u8]) -> io::Result<usize>
+        ensures bytes { WriteAppends self.old.bytes self.new.bytes result buf.now }
+        ensures takes_all { IfOk result (λ count. count ≡ length buf.now) }
+    {
+        self.write_some(buf)
+    }
+
+    fn flush(&mut self) -> io::Result<()>
+        ensures bytes { self.new.bytes ≡ self.old.bytes }
+        ensures done { IsOk result }
+    {
+        Ok(())
+    }
+}
+
+impl TempFile for PlainTemp {
+    fn write_some(&mut self, buf: &[u8]) -> io::Result<usize>
+        ensures path { self.new.path ≡ self.old.path }
+        ensures bytes { WriteAppends self.old.bytes self.new.bytes result buf.now }
+        ensures takes_all { IfOk result (λ count. count ≡ length buf.now) }
+    {
+        let Some(bytes) = &mut self.bytes else {
+            return Err(io::Error::from(ErrorKind::Unsupported));
+        };
+        bytes.extend(buf)?;
+        Ok(buf.len())
+    }
+}

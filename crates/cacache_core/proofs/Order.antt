@@ -1,0 +1,116 @@
+-- Hashes in order: strongest algorithm first.
+use Rattle.std.proofs.Common.{inl, inr, ◌≡◌, ◌≢◌, ◌<◌, ◌+◌, ℕ, Bool, true, false, List, [], ◌∷◌, ◌++◌, length, refl, sym, ap, ap₂, ◌∙◌, append-nil, length-append, arith}
+use Rattle.std.proofs.lemmas.Bool.{eqb-true, ne_eqb, cases_Bool}
+use Rattle.std.proofs.lemmas.List.Elements.{All-append, All-filter, filter-append}
+use Rattle.std.specs.Prelude.{All}
+use Rattle.std.specs.List.{filter}
+use Rattle.cacache_core.specs.declared.integrity.algorithm.Algorithm.{Algorithm}
+use Rattle.cacache_core.specs.declared.integrity.algorithm.Algorithm.TheVariants.{Sha1, Sha256, Sha384, Sha512}
+use Rattle.cacache_core.specs.declared.integrity.digest.Hash.{Hash}
+use Rattle.cacache_core.specs.Integrity.{rank, is_of, hash_of, strongest_first, IsHash, IsIntegrity}
+
+-- a filter keeps all that its own filter kept
+filter_again : (p : Hash → Bool) (hs : List Hash) → filter p (filter p hs) ≡ filter p hs
+filter_again p [] = refl
+filter_again p (h ∷ hs) = elim (cases_Bool (p h)) [
+  | inl passes ↦ rw (passes, passes) (ap (λ (l : List Hash). h ∷ l) (filter_again p hs))
+  | inr fails ↦ rw fails (filter_again p hs)
+]
+
+-- and nothing of what a filter kept that lets through none of its own
+filter_none : (p q : Hash → Bool) → ((h : Hash) → q h ≡ true → p h ≡ false) → (hs : List Hash) → filter p (filter q hs) ≡ []
+filter_none p q apart [] = refl
+filter_none p q apart (h ∷ hs) = elim (cases_Bool (q h)) [
+  | inl passes ↦ rw (passes, apart h passes) (filter_none p q apart hs)
+  | inr fails ↦ rw fails (filter_none p q apart hs)
+]
+
+other : (a b : Algorithm) → rank b ≢ rank a → (h : Hash) → is_of b h ≡ true → is_of a h ≡ false
+other a b ne h e = ne_eqb (rank h.algorithm) (rank a) (λ same. ne (sym (eqb-true _ _ e) ∙ same))
+
+spread : (p : Hash → Bool) (w x y z : List Hash) → filter p (w ++ x ++ y ++ z) ≡ filter p w ++ filter p x ++ filter p y ++ filter p z
+spread p w x y z =
+    filter-append p (w ++ x ++ y) z
+    ∙ ap (λ (l : List Hash). l ++ filter p z) (filter-append p (w ++ x) y ∙ ap (λ (l : List Hash). l ++ filter p y) (filter-append p w x))
+
+four : (w x y z w' x' y' z' : List Hash) → w ≡ w' → x ≡ x' → y ≡ y' → z ≡ z' → w ++ x ++ y ++ z ≡ w' ++ x' ++ y' ++ z'
+four w x y z w' x' y' z' p q r s =
+    ap₂ (λ (a b : List Hash). a ++ b) (ap₂ (λ (a b : List Hash). a ++ b) (ap₂ (λ (a b : List Hash). a ++ b) p q) r) s
+
+-- what the order keeps of one algorithm
+kept : (a : Algorithm) (hs : List Hash) → filter (is_of a) (strongest_first hs) ≡ filter (is_of a) hs
+kept Sha512 hs =
+    let p = is_of Sha512 in
+    let f = filter p hs in
+    spread p f (filter (is_of Sha384) hs) (filter (is_of Sha256) hs) (filter (is_of Sha1) hs)
+    ∙ four _ _ _ _ f [] [] [] (filter_again p hs) (filter_none p (is_of Sha384) (other Sha512 Sha384 (λ e. omega arith)) hs)
+    (filter_none p (is_of Sha256) (other Sha512 Sha256 (λ e. omega arith)) hs) (filter_none p (is_of Sha1) (other Sha512 Sha1 (λ e. omega arith)) hs)
+    ∙ (append-nil ((f ++ []) ++ []) ∙ append-nil (f ++ []) ∙ append-nil f)
+kept Sha384 hs =
+    let p = is_of Sha384 in
+    let f = filter p hs in
+    spread p (filter (is_of Sha512) hs) f (filter (is_of Sha256) hs) (filter (is_of Sha1) hs)
+    ∙ four _ _ _ _ [] f [] [] (filter_none p (is_of Sha512) (other Sha384 Sha512 (λ e. omega arith)) hs) (filter_again p hs)
+    (filter_none p (is_of Sha256) (other Sha384 Sha256 (λ e. omega arith)) hs) (filter_none p (is_of Sha1) (other Sha384 Sha1 (λ e. omega arith)) hs)
+    ∙ (append-nil (f ++ []) ∙ append-nil f)
+kept Sha256 hs =
+    let p = is_of Sha256 in
+    let f = filter p hs in
+    spread p (filter (is_of Sha512) hs) (filter (is_of Sha384) hs) f (filter (is_of Sha1) hs)
+    ∙ four _ _ _ _ [] [] f [] (filter_none p (is_of Sha512) (other Sha256 Sha512 (λ e. omega arith)) hs)
+    (filter_none p (is_of Sha384) (other Sha256 Sha384 (λ e. omega arith)) hs) (filter_again p hs)
+    (filter_none p (is_of Sha1) (other Sha256 Sha1 (λ e. omega arith)) hs)
+    ∙ append-nil f
+kept Sha1 hs =
+    let p = is_of Sha1 in
+    spread p (filter (is_of Sha512) hs) (filter (is_of Sha384) hs) (filter (is_of Sha256) hs) (filter p hs)
+    ∙ four _ _ _ _ [] [] [] (filter p hs) (filter_none p (is_of Sha512) (other Sha1 Sha512 (λ e. omega arith)) hs)
+    (filter_none p (is_of Sha384) (other Sha1 Sha384 (λ e. omega arith)) hs) (filter_none p (is_of Sha256) (other Sha1 Sha256 (λ e. omega arith)) hs)
+    (filter_again p hs)
+
+-- hashes in order stay as they are
+pub in_order : (hs : List Hash) → strongest_first (strongest_first hs) ≡ strongest_first hs
+in_order hs = four _ _ _ _ _ _ _ _ (kept Sha512 hs) (kept Sha384 hs) (kept Sha256 hs) (kept Sha1 hs)
+
+lengths : (w x y z : List Hash) → length (w ++ x ++ y ++ z) ≡ length w + length x + length y + length z
+lengths w x y z = omega (arith, length-append (w ++ x ++ y) z, length-append (w ++ x) y, length-append w x)
+
+-- no hash is lost
+longer : (a : Algorithm) (d : List ℕ) (hs : List Hash) → length (strongest_first (hash_of a d ∷ hs)) ≡ length (strongest_first hs) + 1
+longer Sha512 d hs =
+    omega (
+      arith,
+      lengths (hash_of Sha512 d ∷ filter (is_of Sha512) hs) (filter (is_of Sha384) hs) (filter (is_of Sha256) hs) (filter (is_of Sha1) hs),
+      lengths (filter (is_of Sha512) hs) (filter (is_of Sha384) hs) (filter (is_of Sha256) hs) (filter (is_of Sha1) hs),
+    )
+longer Sha384 d hs =
+    omega (
+      arith,
+      lengths (filter (is_of Sha512) hs) (hash_of Sha384 d ∷ filter (is_of Sha384) hs) (filter (is_of Sha256) hs) (filter (is_of Sha1) hs),
+      lengths (filter (is_of Sha512) hs) (filter (is_of Sha384) hs) (filter (is_of Sha256) hs) (filter (is_of Sha1) hs),
+    )
+longer Sha256 d hs =
+    omega (
+      arith,
+      lengths (filter (is_of Sha512) hs) (filter (is_of Sha384) hs) (hash_of Sha256 d ∷ filter (is_of Sha256) hs) (filter (is_of Sha1) hs),
+      lengths (filter (is_of Sha512) hs) (filter (is_of Sha384) hs) (filter (is_of Sha256) hs) (filter (is_of Sha1) hs),
+    )
+longer Sha1 d hs =
+    omega (
+      arith,
+      lengths (filter (is_of Sha512) hs) (filter (is_of Sha384) hs) (filter (is_of Sha256) hs) (hash_of Sha1 d ∷ filter (is_of Sha1) hs),
+      lengths (filter (is_of Sha512) hs) (filter (is_of Sha384) hs) (filter (is_of Sha256) hs) (filter (is_of Sha1) hs),
+    )
+
+-- hashes in order are an integrity
+pub ordered_is_integrity : (hs : List Hash) → 0 < length hs → All IsHash hs → IsIntegrity (strongest_first hs)
+ordered_is_integrity [] some all = absurd (omega arith)
+ordered_is_integrity (h ∷ hs) some all = record {
+  nonempty = omega (arith, longer h.algorithm h.digest hs);
+  ordered = in_order (h ∷ hs);
+  hashes
+      = let of : (a : Algorithm) → All IsHash (filter (is_of a) (h ∷ hs)) = λ a. All-filter (is_of a) IsHash (h ∷ hs) all in
+      let f : (a : Algorithm) → List Hash = λ a. filter (is_of a) (h ∷ hs) in
+      All-append IsHash (f Sha512 ++ f Sha384 ++ f Sha256) (f Sha1)
+      (All-append IsHash (f Sha512 ++ f Sha384) (f Sha256) (All-append IsHash (f Sha512) (f Sha384) (of Sha512) (of Sha384)) (of Sha256)) (of Sha1);
+}

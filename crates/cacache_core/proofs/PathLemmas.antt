@@ -1,0 +1,83 @@
+-- Names of paths: how digits are cut, and that none is a beginning of another.
+use Rattle.std.proofs.Common.{◌≡◌, ℕ, zero, suc, ◌≤◌, List, [], ◌∷◌, Ok, length, get_or, take, drop, codes, refl, sym, ap, ◌∙◌, arith, length-take, ◌/◌, slice_index}
+use Rattle.std.proofs.lemmas.List.{take_all}
+use Rattle.std.specs.Int.{w32, to_be_bytes}
+use Rattle.base64.specs.GeneralPurpose.{IsBytes}
+use Rattle.sha1.specs.Sha1.{sha1, digest_bytes, hash_after, padded_message}
+use Rattle.cacache_core.proofs.Decoded.{bytes_append}
+use Rattle.cacache_core.specs.declared.integrity.digest.Hash.{Hash}
+use Rattle.cacache_core.specs.Paths.{content_names, bucket_names, Begins, AreApart}
+use Rattle.hex.specs.Hex.{encode_with, encode_lower, decode_of}
+use Rattle.hex.proofs.HexLemmas.{decode_of-encode_lower}
+
+-- the digits of the first byte
+pub digits_first : (d : List ℕ) → 2 ≤ length d → take 2 (encode_lower d) ≡ encode_lower (take 1 d)
+unfolding encode_with
+digits_first [] h = absurd (omega arith)
+digits_first (a ∷ d) h = refl
+
+-- the digits of the second byte
+pub digits_second : (d : List ℕ) → 2 ≤ length d → take 2 (drop 2 (encode_lower d)) ≡ encode_lower (take 1 (drop 1 d))
+unfolding encode_with
+digits_second [] h = absurd (omega arith)
+digits_second (a ∷ []) h = absurd (omega arith)
+digits_second (a ∷ b ∷ d) h = refl
+
+-- the digits of the rest
+pub digits_rest : (d : List ℕ) → 2 ≤ length d → drop 4 (encode_lower d) ≡ encode_lower (drop 2 d)
+unfolding encode_with
+digits_rest [] h = absurd (omega arith)
+digits_rest (a ∷ []) h = absurd (omega arith)
+digits_rest (a ∷ b ∷ d) h = refl
+
+-- ---- equal digits are of equal bytes
+
+pub same_bytes : (a b : List ℕ) → IsBytes a → IsBytes b → encode_lower a ≡ encode_lower b → a ≡ b
+same_bytes a b p q e =
+    let same : Ok a ≡ Ok b = sym (decode_of-encode_lower a p) ∙ ap decode_of e ∙ decode_of-encode_lower b q in cc
+
+-- ---- the digest of a key is bytes
+
+word_bytes : (n : ℕ) → IsBytes (to_be_bytes w32 n)
+word_bytes n zero = omega arith
+word_bytes n (suc zero) = omega arith
+word_bytes n (suc (suc zero)) = omega arith
+word_bytes n (suc (suc (suc zero))) = omega arith
+word_bytes n (suc (suc (suc (suc i)))) = omega arith
+
+words_bytes : (h : List ℕ) (n : ℕ) → IsBytes (digest_bytes h n)
+unfolding digest_bytes
+words_bytes h zero i = omega arith
+words_bytes h (suc n) i =
+    bytes_append (digest_bytes h n) (to_be_bytes w32 (slice_index h n)) (words_bytes h n) (word_bytes (slice_index h n)) i
+
+pub sha1_bytes : (m : List ℕ) → IsBytes (sha1 m)
+unfolding sha1
+sha1_bytes m = words_bytes (hash_after (padded_message m) (length (padded_message m) / 64)) 5
+
+-- ---- none is a beginning of another
+
+shorter : (xs ys : List (List ℕ)) (n : ℕ) → length xs ≡ length ys → take n xs ≡ ys → xs ≡ ys
+shorter xs ys n len e =
+    let same : length (take n xs) ≡ length ys = ap length e in sym (take_all n xs (omega (arith, length-take n xs))) ∙ e
+
+pub no_content_begins : (h g : Hash) → Begins (content_names h) (content_names g) → content_names h ≡ content_names g
+no_content_begins h g b = sym (shorter (content_names g) (content_names h) b.count refl b.same)
+
+pub no_bucket_begins : (k l : List ℕ) → Begins (bucket_names k) (bucket_names l) → bucket_names k ≡ bucket_names l
+no_bucket_begins k l b = sym (shorter (bucket_names l) (bucket_names k) b.count refl b.same)
+
+first_kept : (n : ℕ) (x y : List ℕ) (xs ys : List (List ℕ)) → take n (x ∷ xs) ≡ y ∷ ys → x ≡ y
+first_kept zero x y xs ys e = absurd cc
+first_kept (suc n) x y xs ys e = ap (λ (ns : List (List ℕ)). get_or ns 0 []) e
+
+no_bucket_first : (h : Hash) (k : List ℕ) → ¬ Begins (bucket_names k) (content_names h)
+no_bucket_first h k b =
+    let f : codes "content-v2" ≡ codes "index-v5" = first_kept b.count _ _ _ _ b.same in let l : length (codes "content-v2") ≡ length (codes "index-v5") = ap (λ (t : List ℕ). length t) f in omega arith
+
+no_content_first : (h : Hash) (k : List ℕ) → ¬ Begins (content_names h) (bucket_names k)
+no_content_first h k b =
+    let f : codes "index-v5" ≡ codes "content-v2" = first_kept b.count _ _ _ _ b.same in let l : length (codes "index-v5") ≡ length (codes "content-v2") = ap (λ (t : List ℕ). length t) f in omega arith
+
+pub are_apart : (h : Hash) (k : List ℕ) → AreApart (content_names h) (bucket_names k)
+are_apart h k = (no_content_first h k, no_bucket_first h k)

@@ -1,0 +1,154 @@
+-- A text reads as an integrity exactly where it is one of that integrity.
+use Rattle.std.proofs.Common.{◌≡◌, ◌≤◌, ◌<◌, ℕ, zero, suc, Bool, true, false, cond, List, [], ◌∷◌, ◌++◌, length, drop, nat_eq, nat_lt, codes, Result, Ok, Err, refl, sym, ap, ap₂, subst, ◌∙◌, inl, inr, arith, ◌⊎◌}
+use Rattle.std.proofs.lemmas.Bool.{cases_Bool, ltb-false}
+use Rattle.std.proofs.lemmas.Bool.Decides.{Decides-eqb}
+use Rattle.std.proofs.lemmas.List.Elements.{All-nil, All-cons, All-head, All-tail, All-filter, All-same}
+use Rattle.std.proofs.lemmas.List.Splits.{slice_split-cons_yes, slice_split-cons_no}
+use Rattle.std.proofs.lemmas.Slice.Eq.{starts_is}
+use Rattle.std.specs.Prelude.{All}
+use Rattle.std.specs.List.{starts_with, slice_split, onto_first}
+use Rattle.base64.specs.declared.decode.DecodeError.{DecodeError}
+use Rattle.base64.specs.Engines.{standard}
+use Rattle.base64.specs.GeneralPurpose.{decode_of, IsBytes}
+use Rattle.base64.proofs.EngineFacts.{decode_of_strict}
+use Rattle.cacache_core.specs.declared.errors.Error.{Error}
+use Rattle.cacache_core.specs.declared.errors.Error.TheVariants.{EntryNotFound, SizeMismatch, IoError, SerdeError, IntegrityError, OutOfMemory}
+use Rattle.cacache_core.specs.declared.errors.IntegrityFault.{IntegrityFault}
+use Rattle.cacache_core.specs.declared.errors.IntegrityFault.TheVariants.{ShortDigest}
+use Rattle.cacache_core.specs.declared.integrity.algorithm.Algorithm.{Algorithm}
+use Rattle.cacache_core.specs.declared.integrity.algorithm.Algorithm.TheVariants.{Sha1, Sha256, Sha384, Sha512}
+use Rattle.cacache_core.specs.declared.integrity.digest.Hash.{Hash}
+use Rattle.cacache_core.specs.Integrity.{IsHash, hash_of}
+use Rattle.cacache_core.specs.Refusals.{IsReadFailure}
+use Rattle.cacache_core.specs.Texts.{name_of, hash_text, is_blank, is_some_text, words, long_hash, decoded_hash, hash_behind, read_word, first_and, read_words, kept_hashes, read_integrity, AreHashes, IsIntegrityText}
+use Rattle.cacache_core.proofs.Decoded.{bytes_drop, decoded_is_bytes}
+use Rattle.cacache_core.proofs.Printed.{read_word-hash_text}
+use Rattle.cacache_core.proofs.ReadLemmas.{read_some}
+
+-- ---- what is in the relation reads so
+
+are_read : (ws : List (List ℕ)) (hs : List Hash) → AreHashes ws hs → read_words ws ≡ Ok hs
+are_read [] [] are = refl
+are_read [] (h ∷ hs) are = absurd are
+are_read (w ∷ ws) [] are = absurd are
+are_read (w ∷ ws) (h ∷ hs) are =
+    ap₂ first_and (ap read_word are.0 ∙ read_word-hash_text h are.1) (are_read ws hs are.2)
+
+pub text_reads : (t : List ℕ) (i : List Hash) → IsIntegrityText t i → read_integrity t ≡ Ok i
+text_reads t i is =
+    read_some t is.written (are_read (words t) is.written is.spelled) is.nonempty ∙ ap (λ (l : List Hash). Ok l) (sym is.ordered)
+
+-- ---- what reads so is in the relation: a word
+
+choose : {A : Type 0} (b : Bool) (x y z : A) → cond b x y ≡ z → ((b ≡ true) × (x ≡ z)) ⊎ ((b ≡ false) × (y ≡ z))
+choose true x y z e = inl (refl, e)
+choose false x y z e = inr (refl, e)
+
+begins : (w p : List ℕ) → starts_with nat_eq w p ≡ true → w ≡ p ++ drop (length p) w
+begins w p = (starts_is Decides-eqb w p (starts_with nat_eq w p) refl).0
+
+-- the word's hash is long, and the word its text
+abbrev IsTextOf : List ℕ → Hash → Type 0
+IsTextOf w h = (w ≡ hash_text h) × IsHash h
+
+inner_hash : (r : Result Hash IntegrityFault) (h g : Hash) → r ≡ Ok h → r ≡ Ok g → h ≡ g
+inner_hash r h g p q = cc
+
+decoded_text : (a : Algorithm) (w s d : List ℕ) (h : Hash) → IsBytes s → w ≡ name_of a ++ 45 ∷ s → decode_of standard s ≡ Ok d → long_hash a d ≡ Ok h → IsTextOf w h
+decoded_text a w s d h bytes cut decoded long = elim (choose (nat_lt (length d) 3) (Err ShortDigest) (Ok (hash_of a d)) (Ok h) long) [
+  | inl p ↦ absurd (cc (p.1))
+  | inr p ↦
+      let same : hash_of a d ≡ h = inner_hash _ (hash_of a d) h refl p.1 in
+      let text : w ≡ hash_text (hash_of a d) = cut ∙ ap (λ (t : List ℕ). name_of a ++ 45 ∷ t) (decode_of_strict standard s d (refl, refl) bytes decoded) in
+      let long_enough : 3 ≤ length d = ltb-false (length d) 3 p.0 in
+      (text ∙ ap hash_text same, subst IsHash same (record { bytes = decoded_is_bytes s d bytes decoded; long_enough = long_enough }))
+]
+
+behind : (a : Algorithm) (n : ℕ) (w : List ℕ) (h : Hash) → IsBytes w → w ≡ name_of a ++ 45 ∷ drop n w → hash_behind a n w ≡ Ok h → IsTextOf w h
+behind a n w h bytes cut e =
+    elim (decode_of standard (drop n w)) as (λ (r : Result (List ℕ) DecodeError). decode_of standard (drop n w) ≡ r → decoded_hash a r ≡ Ok h → IsTextOf w h) [
+      | Ok d ↦ λ p q. decoded_text a w (drop n w) d h (bytes_drop n w bytes) cut p q
+      | Err x ↦ λ p q. absurd cc
+    ] refl e
+
+word_is_text : (w : List ℕ) (h : Hash) → IsBytes w → read_word w ≡ Ok h → IsTextOf w h
+word_is_text w h bytes e = elim (choose (starts_with nat_eq w (codes "sha1-")) _ _ (Ok h) e) [
+  | inl p ↦ behind Sha1 5 w h bytes (begins w (codes "sha1-") p.0) p.1
+  | inr p ↦ elim (choose (starts_with nat_eq w (codes "sha256-")) _ _ (Ok h) p.1) [
+    | inl q ↦ behind Sha256 7 w h bytes (begins w (codes "sha256-") q.0) q.1
+    | inr q ↦ elim (choose (starts_with nat_eq w (codes "sha384-")) _ _ (Ok h) q.1) [
+      | inl r ↦ behind Sha384 7 w h bytes (begins w (codes "sha384-") r.0) r.1
+      | inr r ↦ elim (choose (starts_with nat_eq w (codes "sha512-")) _ _ (Ok h) r.1) [
+        | inl s ↦ behind Sha512 7 w h bytes (begins w (codes "sha512-") s.0) s.1
+        | inr s ↦ absurd (cc (s.1))
+      ]
+    ]
+  ]
+]
+
+-- ---- words of bytes are bytes
+
+cons_bytes : (b : ℕ) (s : List ℕ) → b < 256 → IsBytes s → IsBytes (b ∷ s)
+cons_bytes b s small bytes zero = small
+cons_bytes b s small bytes (suc i) = bytes i
+
+onto_bytes : (b : ℕ) (ps : List (List ℕ)) → b < 256 → All IsBytes ps → All IsBytes (onto_first b ps)
+onto_bytes b [] small all = All-cons IsBytes (b ∷ []) [] (cons_bytes b [] small (λ i. omega arith)) (All-nil IsBytes)
+onto_bytes b (p ∷ ps) small all = All-cons IsBytes (b ∷ p) ps (cons_bytes b p small (All-head IsBytes p ps all)) (All-tail IsBytes p ps all)
+
+split_bytes : (t : List ℕ) → IsBytes t → All IsBytes (slice_split is_blank t)
+split_bytes [] bytes = All-cons IsBytes [] [] (λ i. omega arith) (All-nil IsBytes)
+split_bytes (b ∷ t) bytes = elim (cases_Bool (is_blank b)) [
+  | inl p ↦ All-same IsBytes _ _ (slice_split-cons_yes is_blank b t p)
+      (All-cons IsBytes [] (slice_split is_blank t) (λ i. omega arith) (split_bytes t (λ k. bytes (suc k))))
+  | inr p ↦ All-same IsBytes _ _ (slice_split-cons_no is_blank b t p)
+      (onto_bytes b (slice_split is_blank t) (bytes 0) (split_bytes t (λ k. bytes (suc k))))
+]
+
+-- ---- and all words
+
+first_ok : (r : Result Hash IntegrityFault) (s : Result (List Hash) IntegrityFault) (l : List Hash) → first_and r s ≡ Ok l
+    → (h : Hash) × (hs : List Hash) × (r ≡ Ok h) × (s ≡ Ok hs) × (h ∷ hs ≡ l)
+first_ok (Ok h) (Ok hs) l e = (h, hs, refl, refl, cc)
+first_ok (Ok h) (Err x) l e = absurd cc
+first_ok (Err x) s l e = absurd cc
+
+are_hashes : (ws : List (List ℕ)) (hs : List Hash) → All IsBytes ws → read_words ws ≡ Ok hs → AreHashes ws hs
+are_hashes [] [] bytes e = tt
+are_hashes [] (h ∷ hs) bytes e = absurd cc
+are_hashes (w ∷ ws) hs bytes e =
+    let p = first_ok (read_word w) (read_words ws) hs e in
+    let word = word_is_text w p.0 (All-head IsBytes w ws bytes) p.2 in
+    subst (λ (l : List Hash). AreHashes (w ∷ ws) l) p.4 (word.0, word.1, are_hashes ws p.1 (All-tail IsBytes w ws bytes) p.3)
+
+kept_text : (t : List ℕ) (hs i : List Hash) → IsBytes t → read_words (words t) ≡ Ok hs → kept_hashes (Ok hs) ≡ Ok i → IsIntegrityText t i
+kept_text t [] i bytes read kept = absurd cc
+kept_text t (h ∷ hs) i bytes read kept = record {
+  written = h ∷ hs;
+  spelled = are_hashes (words t) (h ∷ hs) (All-filter is_some_text IsBytes (slice_split is_blank t) (split_bytes t bytes)) read;
+  nonempty = omega arith;
+  ordered = cc;
+}
+
+pub is_text : (t : List ℕ) (i : List Hash) → IsBytes t → read_integrity t ≡ Ok i → IsIntegrityText t i
+unfolding read_integrity
+is_text t i bytes e =
+    elim (read_words (words t)) as (λ (r : Result (List Hash) IntegrityFault). read_words (words t) ≡ r → kept_hashes r ≡ Ok i → IsIntegrityText t i) [
+      | Ok hs ↦ λ p q. kept_text t hs i bytes p q
+      | Err x ↦ λ p q. absurd cc
+    ] refl e
+
+-- where a reading gives an integrity, it fails for want of memory alone
+read_well : (r : Result (List Hash) IntegrityFault) (i : List Hash) (e : Error) → r ≡ Ok i → IsReadFailure r e → e ≡ OutOfMemory
+read_well r i (EntryNotFound cache key) ok fails = absurd fails
+read_well r i (SizeMismatch a b) ok fails = absurd fails
+read_well r i (IoError fault text) ok fails = absurd fails
+read_well r i (SerdeError cause text) ok fails = absurd fails
+read_well r i (IntegrityError fault) ok fails = absurd (cc (ok, fails))
+read_well r i OutOfMemory ok fails = refl
+
+pub text_fails : (t : List ℕ) (i : List Hash) (e : Error) → IsIntegrityText t i → IsReadFailure (read_integrity t) e → e ≡ OutOfMemory
+text_fails t i e is fails = read_well (read_integrity t) i e (text_reads t i is) fails
+
+pub text_is_of_one : (t : List ℕ) (i j : List Hash) → IsIntegrityText t i → read_integrity t ≡ Ok j → j ≡ i
+text_is_of_one t i j is read = let same : Ok j ≡ Ok i = sym read ∙ text_reads t i is in cc

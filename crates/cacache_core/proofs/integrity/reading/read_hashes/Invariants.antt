@@ -1,0 +1,15 @@
+use Rattle.std.proofs.Common.{◌≡◌, length}
+use Rattle.std.specs.Prelude.{All}
+use Rattle.cacache_core.proofs.ReadLemmas.{before}
+use Rattle.cacache_core.specs.Integrity.{IsHash}
+use Rattle.cacache_core.specs.Texts.{words, read_words}
+use Rattle.cacache_core.proofs.integrity.reading.read_hashes.Given as goal
+
+abbrev pub invariant-loop-word : goal.invariant-loop-word
+invariant-loop-word l = record {
+  read : read_words (words l.fn.text) ≡ before l.hashes.items (read_words (words l.rest));
+  hashes : All IsHash l.hashes.items;
+}
+
+abbrev pub decreases-loop-word : goal.decreases-loop-word
+decreases-loop-word l = length l.rest

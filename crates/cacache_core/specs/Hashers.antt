@@ -1,0 +1,31 @@
+-- Hashers of the four algorithms: which message each was fed.
+use Rattle.std.specs.Prelude.{ℕ, List}
+use Rattle.sha1.specs.Sha1.{Holds as HoldsSha1}
+use Rattle.sha2.specs.Hashers.{Holds256, Holds384, Holds512}
+use Rattle.cacache_core.specs.declared.integrity.algorithm.Algorithm.{Algorithm}
+use Rattle.cacache_core.specs.declared.integrity.algorithm.Algorithm.TheVariants as algorithm
+use Rattle.cacache_core.specs.declared.integrity.hasher.Hasher.{Hasher}
+use Rattle.cacache_core.specs.declared.integrity.hasher.Hasher.TheVariants.{Sha1, Sha256, Sha384, Sha512}
+use Rattle.cacache_core.specs.declared.integrity.hasher.Finished.{Finished}
+use Rattle.cacache_core.specs.declared.integrity.hasher.Finished.TheVariants as finished
+
+-- the algorithm that a hasher computes
+abbrev pub algorithm_of : Hasher → Algorithm
+algorithm_of (Sha1 h) = algorithm.Sha1
+algorithm_of (Sha256 h) = algorithm.Sha256
+algorithm_of (Sha384 h) = algorithm.Sha384
+algorithm_of (Sha512 h) = algorithm.Sha512
+
+-- the hasher was fed the bytes m, however cut
+abbrev pub Holds : Hasher → List ℕ → Type 0
+Holds (Sha1 h) m = HoldsSha1 h m
+Holds (Sha256 h) m = Holds256 h m
+Holds (Sha384 h) m = Holds384 h m
+Holds (Sha512 h) m = Holds512 h m
+
+-- the bytes of a digest that is held without memory
+abbrev pub finished_bytes : Finished → List ℕ
+finished_bytes (finished.Sha1 b) = b
+finished_bytes (finished.Sha256 b) = b
+finished_bytes (finished.Sha384 b) = b
+finished_bytes (finished.Sha512 b) = b

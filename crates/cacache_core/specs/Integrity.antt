@@ -1,0 +1,66 @@
+-- What an integrity is, and which bytes meet it.
+use Rattle.std.specs.Prelude.{◌≡◌, ◌<◌, ◌≤◌, ◌++◌, ◌==◌, ℕ, List, [], ◌∷◌, Bool, Option, None, Some, length, filter, All, Contains}
+use Rattle.base64.specs.GeneralPurpose.{IsBytes}
+use Rattle.cacache_core.specs.declared.integrity.algorithm.Algorithm.{Algorithm}
+use Rattle.cacache_core.specs.declared.integrity.algorithm.Algorithm.TheVariants.{Sha1, Sha256, Sha384, Sha512}
+use Rattle.cacache_core.specs.declared.integrity.digest.Hash.{Hash}
+use Rattle.cacache_core.specs.Digests.{digest}
+
+-- a hash, by its two parts
+abbrev pub hash_of : Algorithm → List ℕ → Hash
+hash_of a d = record { algorithm = a; «digest» = d }
+
+-- the place of an algorithm, strongest first
+abbrev pub rank : Algorithm → ℕ
+rank Sha512 = 0
+rank Sha384 = 1
+rank Sha256 = 2
+rank Sha1 = 3
+
+-- the hash is of the algorithm
+abbrev pub is_of : Algorithm → Hash → Bool
+is_of a h = rank h.algorithm == rank a
+
+-- the hashes, strongest algorithm first and each algorithm's in their order
+abbrev pub strongest_first : List Hash → List Hash
+strongest_first hs = filter (is_of Sha512) hs ++ filter (is_of Sha384) hs ++ filter (is_of Sha256) hs ++ filter (is_of Sha1) hs
+
+-- a hash holds three bytes or more
+pub record IsHash (h : Hash) : Type 0 where
+  pub bytes : IsBytes h.digest
+  pub long_enough : 3 ≤ length h.digest
+
+-- one hash or more, strongest algorithm first
+pub record IsIntegrity (i : List Hash) : Type 0 where
+  pub nonempty : 0 < length i
+  pub ordered : strongest_first i ≡ i
+  pub hashes : All IsHash i
+
+-- the content address: the first hash
+abbrev pub address : List Hash → Option Hash
+address [] = None
+address (h ∷ hs) = Some h
+
+-- the bytes' digest under the strongest algorithm stands beside it
+abbrev pub Meets : List Hash → List ℕ → Type 0
+Meets [] b = ⊥
+Meets (h ∷ hs) b = Contains (h ∷ hs) (hash_of h.algorithm (digest h.algorithm b))
+
+-- the integrity of bytes under one algorithm
+abbrev pub integrity_under : Algorithm → List ℕ → List Hash
+integrity_under a b = hash_of a (digest a b) ∷ []
+
+-- the strongest algorithm: the address's
+abbrev pub strongest : List Hash → Option Algorithm
+strongest [] = None
+strongest (h ∷ hs) = Some h.algorithm
+
+-- the integrity of bytes under the strongest algorithm of another
+abbrev pub actual : List Hash → List ℕ → List Hash
+actual [] b = []
+actual (h ∷ hs) b = integrity_under h.algorithm b
+
+-- both list one digest of the algorithm
+abbrev pub ShareDigest : Algorithm → List Hash → List Hash → Type 0
+ShareDigest a i j =
+    (d : List ℕ) × Contains i (hash_of a d) × Contains j (hash_of a d)

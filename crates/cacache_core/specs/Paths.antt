@@ -1,0 +1,43 @@
+-- Where contents and buckets lie, as lists of names below the cache folder, and as path texts.
+use Rattle.std.specs.Prelude.{◌≡◌, ℕ, ◌-◌, ◌==◌, List, [], ◌∷◌, ◌++◌, cond, length, take, drop, slice_index, codes}
+use Rattle.hex.specs.Hex.{encode_lower}
+use Rattle.sha1.specs.Sha1.{sha1}
+use Rattle.cacache_core.specs.declared.integrity.digest.Hash.{Hash}
+use Rattle.cacache_core.specs.Texts.{name_of}
+
+-- digits cut as two, two and the rest
+abbrev pub cut_digits : List ℕ → List (List ℕ)
+cut_digits h = take 2 h ∷ take 2 (drop 2 h) ∷ drop 4 h ∷ []
+
+-- the names of a content's path: the folder of contents, the algorithm, the digest's hex digits
+abbrev pub content_names : Hash → List (List ℕ)
+content_names h = codes "content-v2" ∷ name_of h.algorithm ∷ cut_digits (encode_lower h.digest)
+
+-- the names of the bucket's path of a key: the folder of buckets, the hex digits of the key's SHA-1
+abbrev pub bucket_names : List ℕ → List (List ℕ)
+bucket_names key = codes "index-v5" ∷ cut_digits (encode_lower (sha1 key))
+
+-- a path and a name below it
+unfoldable pub join : List ℕ → List ℕ → List ℕ
+join path b =
+    cond (length path == 0) b (cond (slice_index path (length path - 1) == 47) (path ++ b) (path ++ 47 ∷ b))
+
+-- a path and names below it, one after another
+abbrev pub joined : List ℕ → List (List ℕ) → List ℕ
+joined path [] = path
+joined path (n ∷ ns) = joined (join path n) ns
+
+-- the names without the last: where a file's folder lies
+abbrev pub folder_names : List (List ℕ) → List (List ℕ)
+folder_names [] = []
+folder_names (n ∷ []) = []
+folder_names (n ∷ m ∷ ns) = n ∷ folder_names (m ∷ ns)
+
+-- the first names are a beginning of the second
+pub record Begins (ns ms : List (List ℕ)) : Type 0 where
+  pub count : ℕ
+  pub same : take count ms ≡ ns
+
+-- neither is a beginning of the other
+abbrev pub AreApart : List (List ℕ) → List (List ℕ) → Type 0
+AreApart ns ms = (¬ Begins ns ms) × (¬ Begins ms ns)

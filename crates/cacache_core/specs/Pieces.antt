@@ -1,0 +1,22 @@
+-- What a builder and a checker were fed.
+use Rattle.std.specs.Prelude.{◌≡◌, ℕ, List, Some}
+use Rattle.sha1.specs.Sha1.{Holds as HoldsSha1}
+use Rattle.sha2.specs.Hashers.{Holds256, Holds384, Holds512}
+use Rattle.cacache_core.specs.declared.integrity.algorithm.Algorithm.{Algorithm}
+use Rattle.cacache_core.specs.declared.integrity.digest.Hash.{Hash}
+use Rattle.cacache_core.specs.declared.integrity.builder.IntegrityOpts.{IntegrityOpts}
+use Rattle.cacache_core.specs.declared.integrity.checker.IntegrityChecker.{IntegrityChecker}
+use Rattle.cacache_core.specs.Hashers.{algorithm_of, Holds}
+use Rattle.cacache_core.specs.Integrity.{strongest}
+
+-- the algorithm that was set last
+abbrev pub chosen : IntegrityOpts → Algorithm
+chosen o = o.chosen
+
+-- the builder was fed the bytes m, however cut
+abbrev pub WasFed : IntegrityOpts → List ℕ → Type 0
+WasFed o m = Holds512 o.sha512 m × Holds384 o.sha384 m × Holds256 o.sha256 m × HoldsSha1 o.sha1 m
+
+-- the checker was fed the bytes m, however cut, against the integrity i
+abbrev pub Compares : IntegrityChecker → List Hash → List ℕ → Type 0
+Compares c i m = (c.wanted ≡ i) × (strongest i ≡ Some (algorithm_of c.hasher)) × Holds c.hasher m

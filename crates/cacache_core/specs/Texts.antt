@@ -1,0 +1,105 @@
+-- The texts of integrities: how one is printed, and what a text reads as.
+use Rattle.std.specs.Prelude.{◌≡◌, ◌<◌, ◌||◌, ◌==◌, ℕ, List, [], ◌∷◌, ◌++◌, Bool, cond, not, nat_lt, Result, Ok, Err, length, drop, filter, codes}
+use Rattle.std.specs.List.{slice_split, starts_with}
+use Rattle.std.specs.Bool.{nat_eq}
+use Rattle.base64.specs.Engines.{standard}
+use Rattle.base64.specs.GeneralPurpose.{encode_of, decode_of}
+use Rattle.base64.specs.declared.decode.DecodeError.{DecodeError}
+use Rattle.cacache_core.specs.declared.errors.IntegrityFault.{IntegrityFault}
+use Rattle.cacache_core.specs.declared.errors.IntegrityFault.TheVariants.{BadText, ShortDigest}
+use Rattle.cacache_core.specs.declared.integrity.algorithm.Algorithm.{Algorithm}
+use Rattle.cacache_core.specs.declared.integrity.algorithm.Algorithm.TheVariants.{Sha1, Sha256, Sha384, Sha512}
+use Rattle.cacache_core.specs.declared.integrity.digest.Hash.{Hash}
+use Rattle.cacache_core.specs.Integrity.{IsHash, strongest_first}
+
+-- ---- printing
+
+-- an algorithm's name
+abbrev pub name_of : Algorithm → List ℕ
+name_of Sha1 = codes "sha1"
+name_of Sha256 = codes "sha256"
+name_of Sha384 = codes "sha384"
+name_of Sha512 = codes "sha512"
+
+-- the name, a dash, and the digest in padded base64 (RFC 4648, section 4)
+abbrev pub hash_text : Hash → List ℕ
+hash_text h = name_of h.algorithm ++ 45 ∷ encode_of standard h.digest
+
+-- the hashes' texts with one space between
+abbrev pub text_of : List Hash → List ℕ
+text_of [] = []
+text_of (h ∷ []) = hash_text h
+text_of (h ∷ g ∷ hs) = hash_text h ++ 32 ∷ text_of (g ∷ hs)
+
+-- ---- reading
+
+-- a space, TAB, LF, FF or CR
+abbrev pub is_blank : ℕ → Bool
+is_blank b = b == 32 || b == 9 || b == 10 || b == 12 || b == 13
+
+-- the text has a byte
+abbrev pub is_some_text : List ℕ → Bool
+is_some_text s = not (length s == 0)
+
+-- what stands between runs of blanks
+abbrev pub words : List ℕ → List (List ℕ)
+words t = filter is_some_text (slice_split is_blank t)
+
+-- the hash of this digest, unless it is too short
+abbrev pub long_hash : Algorithm → List ℕ → Result Hash IntegrityFault
+long_hash a d = cond (nat_lt (length d) 3) (Err ShortDigest) (Ok (record { algorithm = a; digest = d }))
+
+-- the hash of what the base64 gave
+abbrev pub decoded_hash : Algorithm → Result (List ℕ) DecodeError → Result Hash IntegrityFault
+decoded_hash a (Ok d) = long_hash a d
+decoded_hash a (Err e) = Err BadText
+
+-- the hash that follows the name and the dash, n bytes
+abbrev pub hash_behind : Algorithm → ℕ → List ℕ → Result Hash IntegrityFault
+hash_behind a n word = decoded_hash a (decode_of standard (drop n word))
+
+-- what a word reads as
+abbrev pub read_word : List ℕ → Result Hash IntegrityFault
+read_word w =
+    cond (starts_with nat_eq w (codes "sha1-")) (hash_behind Sha1 5 w)
+    (cond (starts_with nat_eq w (codes "sha256-")) (hash_behind Sha256 7 w)
+    (cond (starts_with nat_eq w (codes "sha384-")) (hash_behind Sha384 7 w)
+    (cond (starts_with nat_eq w (codes "sha512-")) (hash_behind Sha512 7 w)
+    (Err BadText))))
+
+-- the first word's hash before the others': the leftmost fault decides
+abbrev pub first_and : Result Hash IntegrityFault → Result (List Hash) IntegrityFault → Result (List Hash) IntegrityFault
+first_and (Ok h) (Ok hs) = Ok (h ∷ hs)
+first_and (Ok h) (Err e) = Err e
+first_and (Err e) others = Err e
+
+-- the words' hashes, or the fault of the first word that is none
+abbrev pub read_words : List (List ℕ) → Result (List Hash) IntegrityFault
+read_words [] = Ok []
+read_words (w ∷ ws) = first_and (read_word w) (read_words ws)
+
+-- a text without a hash is refused; hashes are kept strongest first
+abbrev pub kept_hashes : Result (List Hash) IntegrityFault → Result (List Hash) IntegrityFault
+kept_hashes (Ok []) = Err BadText
+kept_hashes (Ok (h ∷ hs)) = Ok (strongest_first (h ∷ hs))
+kept_hashes (Err e) = Err e
+
+-- what a text reads as: its integrity, or the fault of the first wrong hash from the left
+unfoldable pub read_integrity : List ℕ → Result (List Hash) IntegrityFault
+read_integrity t = kept_hashes (read_words (words t))
+
+-- ---- the same as a relation
+
+-- each word is its hash's text, and the digest is long enough
+abbrev pub AreHashes : List (List ℕ) → List Hash → Type 0
+AreHashes [] [] = Unit {0}
+AreHashes [] (h ∷ hs) = ⊥
+AreHashes (w ∷ ws) [] = ⊥
+AreHashes (w ∷ ws) (h ∷ hs) = (w ≡ hash_text h) × IsHash h × AreHashes ws hs
+
+-- the text is the integrity's: its words are one hash or more, which the integrity has strongest first
+pub record IsIntegrityText (t : List ℕ) (i : List Hash) : Type 0 where
+  pub written : List Hash
+  pub spelled : AreHashes (words t) written
+  pub nonempty : 0 < length written
+  pub ordered : i ≡ strongest_first written

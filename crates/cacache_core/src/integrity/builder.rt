@@ -1,0 +1,79 @@
+//! Making an integrity of bytes that come in pieces.
+ghost use Rattle.std.specs.Prelude.{◌≡◌, ◌++◌, ℕ, List, [], IfOk, IfErr};
+ghost use Rattle.cacache_core.specs.Hashers.{algorithm_of, Holds};
+ghost use Rattle.cacache_core.specs.Integrity.{integrity_under};
+ghost use Rattle.cacache_core.specs.Pieces.{WasFed, chosen as chosen_of};
+
+use crate::errors::{Error, Result};
+use crate::integrity::algorithm::Algorithm;
+use crate::integrity::hasher::Hasher;
+use crate::integrity::whole::Integrity;
+use sha2::Digest;
+use std::alloc::Global;
+
+/// Makes the integrity of bytes that come in pieces. The algorithm that was set last counts, for
+/// the pieces before it was set too; where none was set it is SHA-256.
+#[derive(Drop)]
+pub struct IntegrityOpts {
+    chosen: Algorithm,
+    sha512: sha2::Sha512,
+    sha384: sha2::Sha384,
+    sha256: sha2::Sha256,
+    sha1: sha1::Sha1,
+}
+
+impl IntegrityOpts {
+    /// A builder under SHA-256 that was fed nothing. Takes no memory.
+    pub fn new() -> IntegrityOpts
+        ensures fed { WasFed result [] }
+        ensures algorithm { chosen_of result ≡ Algorithm.Sha256 }
+    {
+        IntegrityOpts {
+            chosen: Algorithm::Sha256,
+            sha512: sha2::Sha512::new(),
+            sha384: sha2::Sha384::new(),
+            sha256: sha2::Sha256::new(),
+            sha1: sha1::Sha1::new(),
+        }
+    }
+
+    /// The builder with this algorithm set. Takes no memory.
+    pub fn algorithm(mut self, algorithm: Algorithm) -> IntegrityOpts
+        ensures fed { (m : List ℕ) → WasFed self m → WasFed result m }
+        ensures algorithm { chosen_of result ≡ algorithm }
+    {
+        self.chosen = algorithm;
+        self
+    }
+
+    /// Feeds the builder these bytes after those that it was fed before. Takes no memory.
+    pub fn input(&mut self, data: &[u8])
+        ensures fed { (m : List ℕ) → WasFed self.old m → WasFed self.new (m ++ «data».now) }
+        ensures algorithm { chosen_of self.new ≡ chosen_of self.old }
+    {
+        self.sha512.update(data);
+        self.sha384.update(data);
+        self.sha256.update(data);
+        self.sha1.update(data);
+    }
+
+    /// The integrity of all that the builder was fed.
+    pub fn result(self, alloc: Global) -> Result<Integrity>
+        ensures ok { (m : List ℕ) → WasFed self m → IfOk result (λ i. i ≡ integrity_under (chosen_of self) m) }
+        ensures err { IfErr result (λ e. e ≡ Error.OutOfMemory) }
+    {
+        Integrity::of_hasher(alloc, self.into_hasher())
+    }
+
+    fn into_hasher(self) -> Hasher
+        ensures fed { (m : List ℕ) → WasFed self m → Holds result m }
+        ensures algorithm { algorithm_of result ≡ chosen_of self }
+    {
+        match self.chosen {
+            Algorithm::Sha512 => Hasher::Sha512(self.sha512),
+            Algorithm::Sha384 => Hasher::Sha384(self.sha384),
+            Algorithm::Sha256 => Hasher::Sha256(self.sha256),
+            Algorithm::Sha1 => Hasher::Sha1(self.sha1),
+        }
+    }
+}

@@ -1,0 +1,125 @@
+//! Digests, and hashes that name their algorithm.
+ghost use Rattle.std.specs.Prelude.{◌≡◌, ◌↔◌, Some, IsTrue};
+ghost use Rattle.std.specs.Bool.{nat_eq};
+ghost use Rattle.std.specs.Cmp;
+ghost use Rattle.std.specs.Fmt.{debug_list, decimal};
+ghost use Rattle.std.specs.Cmp.Lexicographic.{pointwise, nat_list_eq_equiv};
+ghost use Rattle.cacache_core.specs.Same.{same_hash, same_hash-equiv};
+ghost use Rattle.cacache_core.specs.Texts.{hash_text};
+
+use crate::integrity::algorithm::Algorithm;
+use base64::display::Base64Display;
+use base64::engine::general_purpose::STANDARD;
+use std::alloc::AllocError;
+use std::fmt;
+use std::marker::Model;
+
+/// The bytes of a digest.
+#[derive(Drop)]
+pub struct Digest {
+    bytes: Vec<u8>,
+}
+
+impl Model for Digest {
+    ghost use Rattle.std.specs.Prelude.{ℕ, List};
+
+    ghost Value = { List ℕ };
+
+    ghost view = { λ d. d.bytes.items };
+}
+
+impl Digest {
+    /// The digest of these bytes, which takes no memory.
+    pub fn new(bytes: Vec<u8>) -> Digest
+        ensures { result ≡ bytes.items }
+    {
+        Digest { bytes }
+    }
+
+    /// The digest's bytes.
+    pub fn as_slice(&self) -> &[u8]
+        ensures { result.now ≡ self.now }
+    {
+        self.bytes.as_slice()
+    }
+}
+
+impl Clone for Digest {
+    ghost is_clone = { λ d e. e ≡ d };
+
+    fn clone(&self) -> Result<Digest, AllocError> {
+        Ok(Digest {
+            bytes: self.bytes.clone()?,
+        })
+    }
+}
+
+impl PartialEq for Digest {
+    ghost eq = { pointwise nat_eq };
+
+    ghost laws = { Cmp.partial_equiv_from_equiv nat_list_eq_equiv };
+
+    fn eq(&self, other: &Digest) -> bool {
+        self.as_slice() == other.as_slice()
+    }
+}
+
+impl Eq for Digest {
+    ghost laws = { nat_list_eq_equiv };
+}
+
+impl fmt::Debug for Digest {
+    ghost debug_output = { debug_list (λ byte. Some (decimal byte)) };
+
+    fn fmt<W: fmt::Write>(&self, f: &mut fmt::Formatter<W>) -> fmt::Result {
+        write!(f, "{:?}", self.as_slice())
+    }
+}
+
+/// A digest and the algorithm that computed it.
+#[derive(Debug, Drop)]
+pub struct Hash {
+    pub algorithm: Algorithm,
+    pub digest: Digest,
+}
+
+impl Clone for Hash {
+    ghost is_clone = { λ h g. g ≡ h };
+
+    fn clone(&self) -> Result<Hash, AllocError> {
+        Ok(Hash {
+            algorithm: self.algorithm,
+            digest: self.digest.clone()?,
+        })
+    }
+}
+
+impl PartialEq for Hash {
+    ghost eq = { same_hash };
+
+    ghost laws = { Cmp.partial_equiv_from_equiv same_hash-equiv };
+
+    fn eq(&self, other: &Hash) -> bool
+        ensures value { result ≡ same_hash self.now other.now }
+        ensures same { IsTrue result ↔ (self.now ≡ other.now) }
+    {
+        self.algorithm == other.algorithm && self.digest == other.digest
+    }
+}
+
+impl Eq for Hash {
+    ghost laws = { same_hash-equiv };
+}
+
+impl fmt::Display for Hash {
+    ghost output = { λ h. Some (hash_text h) };
+
+    fn fmt<W: fmt::Write>(&self, f: &mut fmt::Formatter<W>) -> fmt::Result {
+        write!(
+            f,
+            "{}-{}",
+            self.algorithm,
+            Base64Display::new(self.digest.as_slice(), &STANDARD)
+        )
+    }
+}

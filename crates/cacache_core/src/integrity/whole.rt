@@ -1,0 +1,233 @@
+//! Integrities.
+ghost use Rattle.std.specs.Prelude.{◌≡◌, ◌≤◌, ◌∷◌, [], ◌↔◌, Some, Ok, IsTrue, ℕ, List, IsOk, IsSome, IfOk, IfErr, IfSome, MatchResult, Contains, length, string_bytes};
+ghost use Rattle.std.specs.Cmp;
+ghost use Rattle.base64.specs.GeneralPurpose.{IsBytes};
+ghost use Rattle.hex.specs.Hex.{encode_lower};
+ghost use Rattle.cacache_core.specs.Hashers.{finished_bytes, Holds, algorithm_of};
+ghost use Rattle.cacache_core.specs.Integrity.{IsIntegrity, IsHash, Meets, ShareDigest, hash_of, strongest, address as address_of, actual, integrity_under};
+ghost use Rattle.cacache_core.specs.Refusals.{IsCheckFailure, IsReadFailure};
+ghost use Rattle.cacache_core.specs.Same.{same_hashes, same_hashes-equiv};
+ghost use Rattle.cacache_core.specs.Texts.{text_of, read_integrity, IsIntegrityText};
+
+use crate::errors::{Error, IntegrityFault, Result};
+use crate::integrity::algorithm::Algorithm;
+use crate::integrity::digest::Hash;
+use crate::integrity::hasher::{Finished, Hasher};
+use crate::integrity::reading::{in_order, read_hashes};
+use std::alloc::{AllocError, Global};
+use std::fmt;
+use std::marker::Model;
+
+/// What bytes are known by: one or more hashes, strongest algorithm first.
+#[derive(Drop)]
+pub struct Integrity {
+    hashes: Vec<Hash>,
+}
+
+impl Model for Integrity {
+    ghost use Rattle.std.specs.Prelude.{List};
+    ghost use Rattle.cacache_core.specs.declared.integrity.digest.Hash.{Hash};
+
+    ghost Value = { List Hash };
+
+    ghost view = { λ i. i.hashes.items };
+
+    ghost use Rattle.cacache_core.specs.Integrity.{IsIntegrity};
+
+    ghost invariant = { λ i. IsIntegrity i.hashes.items };
+}
+
+impl Integrity {
+    /// The integrity of a text: one or more hashes between runs of space, TAB, LF, FF and CR. A hash
+    /// is an algorithm's name, `-`, and its digest in canonical padded base64 (RFC 4648, section 4).
+    /// A text without a hash is `BadText`; else the leftmost wrong hash decides, `BadText` for its
+    /// form and `ShortDigest` for a digest under three bytes.
+    #[tactic(auto, using(crate::proofs::ReadLemmas::read_some, crate::proofs::ReadLemmas::read_none, crate::proofs::ReadLemmas::read_failed, crate::proofs::Order::ordered_is_integrity, crate::proofs::Printed::printed))]
+    pub fn parse(alloc: Global, text: &str) -> Result<Integrity>
+        ensures ok { IfOk result (λ i. read_integrity text.now ≡ Ok i) }
+        ensures err { IfErr result (IsReadFailure (read_integrity text.now)) }
+        ensures related { IfOk result (λ i. IsIntegrityText text.now i) }
+        ensures accepted { (i : List Hash) → IsIntegrityText text.now i → MatchResult result (λ j. j ≡ i) (λ e. e ≡ Error.OutOfMemory) }
+        ensures printed { (i : List Hash) → IsIntegrity i → read_integrity (text_of i) ≡ Ok i }
+    {
+        let hashes = read_hashes(alloc, text.as_bytes())?;
+        if hashes.is_empty() {
+            return Err(Error::IntegrityError(IntegrityFault::BadText));
+        }
+        let hashes = in_order(alloc, hashes)?;
+        Ok(Integrity { hashes })
+    }
+
+    /// The integrity of these bytes under SHA-256.
+    pub fn from(alloc: Global, data: &[u8]) -> Result<Integrity>
+        ensures ok { IfOk result (λ i. i ≡ integrity_under Algorithm.Sha256 «data».now) }
+        ensures err { IfErr result (λ e. e ≡ Error.OutOfMemory) }
+    {
+        Integrity::of(alloc, Algorithm::Sha256, data)
+    }
+
+    /// The integrity of these bytes under one algorithm.
+    pub fn of(alloc: Global, algorithm: Algorithm, data: &[u8]) -> Result<Integrity>
+        ensures ok { IfOk result (λ i. i ≡ integrity_under algorithm «data».now) }
+        ensures err { IfErr result (λ e. e ≡ Error.OutOfMemory) }
+    {
+        let mut hasher = Hasher::new(algorithm);
+        hasher.update(data);
+        Integrity::of_hasher(alloc, hasher)
+    }
+
+    /// The integrity of all that a hasher was fed, under its algorithm.
+    pub fn of_hasher(alloc: Global, hasher: Hasher) -> Result<Integrity>
+        ensures ok { (m : List ℕ) → Holds hasher m → IfOk result (λ i. i ≡ integrity_under (algorithm_of hasher) m) }
+        ensures err { IfErr result (λ e. e ≡ Error.OutOfMemory) }
+    {
+        let algorithm = hasher.algorithm();
+        Ok(Integrity::of_finished(alloc, algorithm, &hasher.finalize())?)
+    }
+
+    fn of_finished(
+        alloc: Global,
+        algorithm: Algorithm,
+        finished: &Finished,
+    ) -> std::result::Result<Integrity, AllocError>
+        requires bytes { IsBytes (finished_bytes finished.now) }
+        requires long_enough { 3 ≤ length (finished_bytes finished.now) }
+        ensures { IfOk result (λ i. i ≡ hash_of algorithm (finished_bytes finished.now) ∷ []) }
+    {
+        let digest = finished.to_digest(alloc)?;
+        let hash = Hash { algorithm, digest };
+        let hashes = vec![in alloc; hash]?;
+        Ok(Integrity { hashes })
+    }
+
+    /// The content address: the first hash, one of the strongest algorithm.
+    pub fn address(&self) -> &Hash
+        ensures address { address_of self.now ≡ Some result.now }
+        ensures hash { IsHash result.now }
+        ensures integrity { IsIntegrity self.now }
+    {
+        &self.hashes[0]
+    }
+
+    /// The strongest algorithm. Takes no memory.
+    pub fn pick_algorithm(&self) -> Algorithm
+        ensures { strongest self.now ≡ Some result }
+    {
+        self.address().algorithm
+    }
+
+    /// The strongest algorithm where the bytes meet this integrity, their digest being among its
+    /// digests of that algorithm. Otherwise the error is `Check` with this integrity and that of
+    /// the bytes. The bytes are hashed once, and only the error takes memory.
+    pub fn check(&self, alloc: Global, data: &[u8]) -> Result<Algorithm>
+        ensures ok { IfOk result (λ a. Meets self.now «data».now × (strongest self.now ≡ Some a)) }
+        ensures met { Meets self.now «data».now → IsOk result }
+        ensures err { IfErr result (IsCheckFailure self.now (actual self.now «data».now)) }
+    {
+        let algorithm = self.pick_algorithm();
+        let mut hasher = Hasher::new(algorithm);
+        hasher.update(data);
+        self.settle(alloc, algorithm, &hasher.finalize())
+    }
+
+    /// Accepts a digest that is listed, and otherwise makes the error of a failed check.
+    pub(crate) fn settle(
+        &self,
+        alloc: Global,
+        algorithm: Algorithm,
+        finished: &Finished,
+    ) -> Result<Algorithm>
+        requires bytes { IsBytes (finished_bytes finished.now) }
+        requires long_enough { 3 ≤ length (finished_bytes finished.now) }
+        ensures ok { IfOk result (λ a. (a ≡ algorithm) × Contains self.now (hash_of algorithm (finished_bytes finished.now))) }
+        ensures met { Contains self.now (hash_of algorithm (finished_bytes finished.now)) → IsOk result }
+        ensures err { IfErr result (IsCheckFailure self.now (hash_of algorithm (finished_bytes finished.now) ∷ [])) }
+    {
+        if self.lists(algorithm, finished.as_slice()) {
+            return Ok(algorithm);
+        }
+        let wanted = self.clone()?;
+        let found = Integrity::of_finished(alloc, algorithm, finished)?;
+        Err(Error::IntegrityError(IntegrityFault::Check(wanted, found)))
+    }
+
+    /// The strongest algorithm of the other, where both list an equal digest of it. Takes no
+    /// memory.
+    pub fn matches(&self, other: &Integrity) -> Option<Algorithm>
+        ensures shared { IfSome result (λ a. (strongest other.now ≡ Some a) × ShareDigest a self.now other.now) }
+        ensures found { (a : Algorithm) → strongest other.now ≡ Some a → ShareDigest a self.now other.now → IsSome result }
+    {
+        let algorithm = other.pick_algorithm();
+        for hash in &other.hashes {
+            if hash.algorithm == algorithm && self.lists(algorithm, hash.digest.as_slice()) {
+                return Some(algorithm);
+            }
+        }
+        None
+    }
+
+    /// The address's algorithm and its digest in lower-case hex digits.
+    pub fn to_hex(&self, alloc: Global) -> Result<(Algorithm, String)>
+        ensures ok { IfOk result (λ p. IfSome (address_of self.now) (λ h. (p.0 ≡ h.algorithm) × (string_bytes p.1 ≡ encode_lower h.digest))) }
+        ensures err { IfErr result (λ e. e ≡ Error.OutOfMemory) }
+    {
+        let address = self.address();
+        let digits = hex::encode(alloc, address.digest.as_slice())?;
+        Ok((address.algorithm, digits))
+    }
+
+    /// Whether a digest of the algorithm stands among the hashes.
+    fn lists(&self, algorithm: Algorithm, digest: &[u8]) -> bool
+        ensures { IsTrue result ↔ Contains self.now (hash_of algorithm digest.now) }
+    {
+        self.hashes.iter().any(|hash| hash.algorithm == algorithm
+            && hash.digest.as_slice() == digest)
+    }
+}
+
+impl Clone for Integrity {
+    ghost is_clone = { λ i j. j ≡ i };
+
+    fn clone(&self) -> std::result::Result<Integrity, AllocError> {
+        Ok(Integrity {
+            hashes: self.hashes.clone()?,
+        })
+    }
+}
+
+impl fmt::Display for Integrity {
+    ghost output = { λ i. Some (text_of i) };
+
+    fn fmt<W: fmt::Write>(&self, f: &mut fmt::Formatter<W>) -> fmt::Result {
+        write!(f, "{}", self.hashes[0])?;
+        for hash in &self.hashes[1..] {
+            write!(f, " {hash}")?;
+        }
+        Ok(())
+    }
+}
+
+impl fmt::Debug for Integrity {
+    ghost debug_output = { λ i. Some (text_of i) };
+
+    fn fmt<W: fmt::Write>(&self, f: &mut fmt::Formatter<W>) -> fmt::Result {
+        write!(f, "{self}")
+    }
+}
+
+impl PartialEq for Integrity {
+    ghost eq = { same_hashes };
+
+    ghost laws = { Cmp.partial_equiv_from_equiv same_hashes-equiv };
+
+    fn eq(&self, other: &Integrity) -> bool
+        ensures value { result ≡ same_hashes self.now other.now }
+        ensures same { IsTrue result ↔ (self.now ≡ other.now) }
+    {
+        self.hashes == other.hashes
+    }
+}
+
+impl Eq for Integrity {
+    ghost laws = { same_hashes-equiv };
+}

@@ -1,0 +1,158 @@
+//! Where contents and buckets lie below a cache folder.
+ghost use Rattle.std.specs.Prelude.{◌≡◌, ◌≤◌, ◌↔◌, ◌∷◌, ℕ, List, codes, IfOk, OnOk, IfSome, length, drop, string_bytes};
+ghost use Rattle.hex.specs.Hex.{encode_lower};
+ghost use Rattle.sha1.specs.Sha1.{sha1};
+ghost use Rattle.cacache_core.specs.declared.integrity.digest.Hash.{Hash};
+ghost use Rattle.cacache_core.specs.Integrity.{IsHash, address as address_of};
+ghost use Rattle.cacache_core.specs.Paths.{join as join_of, joined, cut_digits, content_names, bucket_names, folder_names, Begins, AreApart};
+
+use crate::integrity::{Hash, Integrity};
+use crate::text::Text;
+use std::alloc::{AllocError, Global};
+
+// Room for the names behind a cache folder in the path of a SHA-256 content.
+const ROOM: usize = 96;
+
+// A copy of a path, with room for the names that follow it, so that it needn't grow name by name.
+fn roomy(alloc: Global, path: &str) -> Result<String, AllocError>
+    ensures { IfOk result (λ s. string_bytes s ≡ path.now) }
+{
+    let mut copy = String::with_capacity(alloc, path.len().saturating_add(ROOM))?;
+    copy.push_str(path)?;
+    Ok(copy)
+}
+
+/// A path and a name below it. An empty path gives the name, and a path that ends in `/` gets no
+/// further one.
+pub fn join(alloc: Global, path: &str, name: &str) -> Result<Text, AllocError>
+    ensures { IfOk result (λ t. t ≡ join_of path.now name.now) }
+{
+    let mut joined = roomy(alloc, path)?;
+    push_name(&mut joined, name)?;
+    Ok(Text::new(joined))
+}
+
+/// Where a file lies.
+#[derive(Debug, Drop)]
+pub struct Place {
+    /// The folder that holds it.
+    pub folder: Text,
+    pub path: Text,
+}
+
+/// The path of the content that has this integrity's address, below the cache folder. Equal
+/// addresses have equal paths and no others, and no content lies below another or below a bucket.
+#[tactic(auto, using(crate::proofs::PathTexts::contents_one_to_one, crate::proofs::PathLemmas::no_content_begins, crate::proofs::PathLemmas::are_apart))]
+pub fn content_path(alloc: Global, cache: &str, sri: &Integrity) -> Result<Text, AllocError>
+    ensures path { IfOk result (λ t. IfSome (address_of sri.now) (λ h. t ≡ joined cache.now (content_names h))) }
+    ensures one_to_one { (h g : Hash) → IsHash h → IsHash g → (joined cache.now (content_names h) ≡ joined cache.now (content_names g)) ↔ (h ≡ g) }
+    ensures none_begins { (h g : Hash) → Begins (content_names h) (content_names g) → content_names h ≡ content_names g }
+    ensures apart { (h : Hash) (key : List ℕ) → AreApart (content_names h) (bucket_names key) }
+{
+    let address = sri.address();
+    let mut path = folder_of_content(alloc, cache, address)?;
+    push_last_name(alloc, &mut path, address.digest.as_slice())?;
+    Ok(Text::new(path))
+}
+
+/// Where that content lies. Its digest is spelled once for both.
+pub fn content_place(alloc: Global, cache: &str, sri: &Integrity) -> Result<Place, AllocError>
+    ensures folder { IfOk result (λ p. IfSome (address_of sri.now) (λ h. p.folder ≡ joined cache.now (folder_names (content_names h)))) }
+    ensures path { IfOk result (λ p. IfSome (address_of sri.now) (λ h. p.path ≡ joined cache.now (content_names h))) }
+{
+    let address = sri.address();
+    let folder = folder_of_content(alloc, cache, address)?;
+    place_in(alloc, folder, address.digest.as_slice())
+}
+
+/// The path of the bucket of a key, below the cache folder. Keys of equal SHA-1 have equal paths and
+/// no others, and no bucket lies below another.
+#[tactic(auto, using(crate::proofs::PathTexts::buckets_one_to_one, crate::proofs::PathLemmas::no_bucket_begins))]
+pub fn bucket_path(alloc: Global, cache: &str, key: &str) -> Result<Text, AllocError>
+    ensures path { IfOk result (λ t. t ≡ joined cache.now (bucket_names key.now)) }
+    ensures one_to_one { (k l : List ℕ) → (joined cache.now (bucket_names k) ≡ joined cache.now (bucket_names l)) ↔ (sha1 k ≡ sha1 l) }
+    ensures none_begins { (k l : List ℕ) → Begins (bucket_names k) (bucket_names l) → bucket_names k ≡ bucket_names l }
+{
+    let digest = sha1::Sha1::digest(key.as_bytes());
+    let mut path = folder_of_bucket(alloc, cache, &digest)?;
+    push_last_name(alloc, &mut path, &digest)?;
+    Ok(Text::new(path))
+}
+
+/// Where that bucket lies. The key is hashed once for both.
+pub fn bucket_place(alloc: Global, cache: &str, key: &str) -> Result<Place, AllocError>
+    ensures folder { IfOk result (λ p. p.folder ≡ joined cache.now (folder_names (bucket_names key.now))) }
+    ensures path { IfOk result (λ p. p.path ≡ joined cache.now (bucket_names key.now)) }
+{
+    let digest = sha1::Sha1::digest(key.as_bytes());
+    let folder = folder_of_bucket(alloc, cache, &digest)?;
+    place_in(alloc, folder, &digest)
+}
+
+// The place below the folder of a digest's first two bytes.
+fn place_in(alloc: Global, folder: String, digest: &[u8]) -> Result<Place, AllocError>
+    requires { 2 ≤ length digest.now }
+    ensures folder { IfOk result (λ p. p.folder ≡ string_bytes folder) }
+    ensures path { IfOk result (λ p. p.path ≡ join_of (string_bytes folder) (drop 4 (encode_lower digest.now))) }
+{
+    let mut path = roomy(alloc, folder.as_str())?;
+    push_last_name(alloc, &mut path, digest)?;
+    Ok(Place {
+        folder: Text::new(folder),
+        path: Text::new(path),
+    })
+}
+
+fn folder_of_content(alloc: Global, cache: &str, address: &Hash) -> Result<String, AllocError>
+    requires { 2 ≤ length address.now.digest }
+    ensures { IfOk result (λ s. string_bytes s ≡ joined cache.now (folder_names (content_names address.now))) }
+{
+    let mut path = roomy(alloc, cache)?;
+    push_name(&mut path, "content-v2")?;
+    push_name(&mut path, address.algorithm.name())?;
+    push_first_names(alloc, &mut path, address.digest.as_slice())?;
+    Ok(path)
+}
+
+fn folder_of_bucket(alloc: Global, cache: &str, digest: &[u8]) -> Result<String, AllocError>
+    requires { 2 ≤ length digest.now }
+    ensures { IfOk result (λ s. string_bytes s ≡ joined cache.now (codes "index-v5" ∷ folder_names (cut_digits (encode_lower digest.now)))) }
+{
+    let mut path = roomy(alloc, cache)?;
+    push_name(&mut path, "index-v5")?;
+    push_first_names(alloc, &mut path, digest)?;
+    Ok(path)
+}
+
+// The names of the first byte and of the second, which are folders.
+fn push_first_names(alloc: Global, path: &mut String, digest: &[u8]) -> Result<(), AllocError>
+    requires { 2 ≤ length digest.now }
+    ensures { OnOk result (string_bytes path.new ≡ joined (string_bytes path.old) (folder_names (cut_digits (encode_lower digest.now)))) }
+{
+    push_hex(alloc, path, &digest[..1])?;
+    push_hex(alloc, path, &digest[1..2])
+}
+
+// The name of all other bytes, which is a file.
+fn push_last_name(alloc: Global, path: &mut String, digest: &[u8]) -> Result<(), AllocError>
+    requires { 2 ≤ length digest.now }
+    ensures { OnOk result (string_bytes path.new ≡ join_of (string_bytes path.old) (drop 4 (encode_lower digest.now))) }
+{
+    push_hex(alloc, path, &digest[2..])
+}
+
+fn push_hex(alloc: Global, path: &mut String, bytes: &[u8]) -> Result<(), AllocError>
+    ensures { OnOk result (string_bytes path.new ≡ join_of (string_bytes path.old) (encode_lower bytes.now)) }
+{
+    push_name(path, hex::encode(alloc, bytes)?.as_str())
+}
+
+#[tactic(auto, unfolding(crate::specs::Paths::join))]
+fn push_name(path: &mut String, name: &str) -> Result<(), AllocError>
+    ensures { OnOk result (string_bytes path.new ≡ join_of (string_bytes path.old) name.now) }
+{
+    if !path.is_empty() && !path.ends_with('/') {
+        path.push_str("/")?;
+    }
+    path.push_str(name)
+}

@@ -1,0 +1,50 @@
+//! Temporary files of real folders.
+ghost use Rattle.std.specs.Prelude.{◌≡◌, None};
+
+use cacache_base::store::{TempFile, TempHandle};
+use cacache_core::text::Text;
+use std::io;
+use std::io::Write;
+
+/// A temporary file of real folders. Letting it go closes it, and leaves the file.
+#[derive(Drop)]
+pub struct FolderTemp<F> {
+    file: F,
+    path: Text,
+}
+
+impl<F: Write + Drop> FolderTemp<F> {
+    /// The temporary file at this path.
+    pub(crate) fn new(file: F, path: Text) -> FolderTemp<F>
+        ensures { result.path ≡ path }
+    {
+        FolderTemp { file, path }
+    }
+
+    /// Where the file stands.
+    pub(crate) fn path(&self) -> &str
+        ensures { result.now ≡ self.now.path }
+    {
+        self.path.as_str()
+    }
+}
+
+impl<F: Write + Drop> Write for FolderTemp<F> {
+    fn write(&mut self, buf: &[u8]) -> io::Result<usize> {
+        self.write_some(buf)
+    }
+
+    fn flush(&mut self) -> io::Result<()> {
+        self.file.flush()
+    }
+}
+
+impl<F: Write + Drop> TempHandle for FolderTemp<F> {
+    ghost seen = { λ t. record { path = t.path; bytes = None } };
+}
+
+impl<F: Write + Drop> TempFile for FolderTemp<F> {
+    fn write_some(&mut self, buf: &[u8]) -> io::Result<usize> {
+        self.file.write(buf)
+    }
+}
