@@ -1,10 +1,25 @@
 -- Which answers fit a step, and what a log gains.
-use Rattle.std.specs.Prelude.{◌≡◌, ◌+◌, ◌^◌, ◌≤◌, ◌<◌, Bool, true, false, cond, List, [], ◌∷◌, ◌++◌, Option, length, option_map}
+use Rattle.std.specs.Prelude.{◌≡◌, ◌+◌, ◌^◌, ◌≤◌, ◌<◌, ◌==◌, ◌||◌, ℕ, Bool, true, false, if◌then◌else◌, List, [], ◌∷◌, ◌++◌, Option, All, length, option_map}
+use Rattle.std.specs.List.{list_any}
+use Rattle.cacache_core.specs.PathNames.{is_name, is_above}
 use Rattle.cacache_base.specs.declared.store.step.Step.TheVariants.{MakeDirs, CreateTemp, Write, Persist, Append, ReadAll, Open, Read, Exists, Size, Symlink, Copy, Reflink, HardLink, ReadDir, RemoveFile, RemoveDir}
 use Rattle.cacache_base.specs.declared.store.answer.Answer.TheVariants.{Done, Temp, Wrote, Took, Bytes, File, Got, There, Length, Names, Failed, NoMemory}
+use Rattle.cacache_base.specs.declared.store.answer.Name.{Name}
 use Rattle.cacache_base.specs.declared.store.log.LogItem.{LogItem}
 use Rattle.cacache_base.specs.declared.store.log.LogItem.TheVariants.{Made}
-use Rattle.cacache_base.specs.Seen.{PlainStep, PlainAnswer}
+use Rattle.cacache_base.specs.Plain.{PlainStep, PlainAnswer}
+
+-- `/` and NUL, which no name holds
+abbrev pub ends_name : ℕ → Bool
+ends_name b = b == 47 || b == 0
+
+-- a name that stands for one thing in its folder: not empty, `.` or `..`, with no `/` and no NUL
+abbrev pub IsProperName : List ℕ → Type 0
+IsProperName name = (is_name name ≡ true) × (is_above name ≡ false) × (list_any ends_name name ≡ false)
+
+-- what stands under the names of a listing stands in the folder itself
+abbrev pub AreProperNames : List Name → Type 0
+AreProperNames = All (λ entry. IsProperName entry.name)
 
 -- the answer is one of the step's kind, and its count at most what was asked
 abbrev pub Fits : PlainStep → PlainAnswer → Type 0
@@ -24,16 +39,17 @@ Fits (Symlink p q) Done = Unit {0}
 Fits (Copy p q) (Took n) = Unit {0}
 Fits (Reflink p q) Done = Unit {0}
 Fits (HardLink p q) Done = Unit {0}
-Fits (ReadDir p) (Names names) = Unit {0}
+Fits (ReadDir p) (Names names) = AreProperNames names
 Fits (RemoveFile p) Done = Unit {0}
 Fits (RemoveDir p) Done = Unit {0}
 Fits _ _ = ⊥
 
--- the step came back for want of memory
+-- memory was refused, and the step came back
 abbrev pub is_no_memory : PlainAnswer → Bool
 is_no_memory (NoMemory b) = true
 is_no_memory _ = false
 
--- where the log is told, it gains this item, and none for a step that found no memory
+-- a log that is kept gains this step and its answer, and nothing where memory was refused
 abbrev pub Logs : Option (List LogItem) → Option (List LogItem) → PlainStep → PlainAnswer → Type 0
-Logs old new a t = new ≡ cond (is_no_memory t) old (option_map (λ log. log ++ Made a t ∷ []) old)
+Logs old new a t =
+    new ≡ (if is_no_memory t then old else option_map (λ log. log ++ Made a t ∷ []) old)

@@ -1,3 +1,3 @@
 pub mod Handles
-pub mod Seen
+pub mod Plain
 pub mod Fits

@@ -1,7 +1,7 @@
 //! A store does one step at a time, whole, and answers it.
 ghost use Rattle.std.specs.Prelude.{List, Option};
 ghost use Rattle.cacache_base.specs.declared.store.log.LogItem.{LogItem};
-ghost use Rattle.cacache_base.specs.Seen.{plain_step, plain_answer};
+ghost use Rattle.cacache_base.specs.Plain.{plain_step, plain_answer};
 ghost use Rattle.cacache_base.specs.Fits.{Fits, Logs};
 
 mod answer;
@@ -15,6 +15,12 @@ pub use handles::{FileHandle, OpenedFile, TempFile, TempHandle};
 pub use log::LogItem;
 pub use plain::{PlainFile, PlainTemp};
 pub use step::Step;
+
+/// A step on files that are no more than what contracts see of them, as a log keeps it.
+pub type PlainStep = Step<PlainFile, PlainTemp>;
+
+/// The answer to such a step.
+pub type PlainAnswer = Answer<PlainFile, PlainTemp>;
 
 /// Where a cache lies: real folders, or a disk in memory.
 pub trait Store {

@@ -1,6 +1,6 @@
 //! Real folders as a store.
 ghost use Rattle.std.specs.Prelude.{◌≡◌, ◌≤◌, None, IfOk, length};
-ghost use Rattle.cacache_base.specs.Seen.{plain_step, plain_answer};
+ghost use Rattle.cacache_base.specs.Plain.{plain_step, plain_answer};
 ghost use Rattle.cacache_base.specs.Fits.{Fits};
 
 mod opened;

@@ -1,5 +1,6 @@
 //! What a store answers.
 ghost use Rattle.std.specs.Prelude.{◌≡◌, IfOk};
+ghost use Rattle.std.specs.Cmp.Lexicographic.{pointwise, lists_per};
 
 use crate::store::step::Step;
 use cacache_core::bytes::Bytes;
@@ -17,7 +18,7 @@ pub enum Kind {
 }
 
 /// A name in a folder, and what stands under it.
-#[derive(Debug, Drop)]
+#[derive(Debug, Drop, PartialEq)]
 pub struct Name {
     pub name: Text,
     pub kind: Kind,
@@ -76,8 +77,20 @@ impl Listing {
     }
 }
 
+impl PartialEq for Listing {
+    ghost use Rattle.cacache_base.specs.contracts.store.answer.NamePartialEq.TheImpl.Laws as same_name;
+
+    ghost eq = { pointwise ⟦<Name as PartialEq>⟧.eq };
+
+    ghost laws = { lists_per same_name.laws-law };
+
+    fn eq(&self, other: &Listing) -> bool {
+        self.as_slice() == other.as_slice()
+    }
+}
+
 /// The answer to a step.
-#[derive(Debug, Drop)]
+#[derive(Debug, Drop, PartialEq)]
 pub enum Answer<F, T> {
     /// The step is done.
     Done,

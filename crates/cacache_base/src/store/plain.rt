@@ -11,7 +11,7 @@ use std::io;
 use std::io::{ErrorKind, Read, Write};
 
 /// A file that is open in memory, and what contracts see of any open file.
-#[derive(Debug, Drop)]
+#[derive(Debug, Drop, PartialEq)]
 pub struct PlainFile {
     /// At least as many bytes as it will still give.
     pub left: usize,
@@ -20,7 +20,7 @@ pub struct PlainFile {
 }
 
 /// A temporary file in memory, and what contracts see of any temporary file.
-#[derive(Debug, Drop)]
+#[derive(Debug, Drop, PartialEq)]
 pub struct PlainTemp {
     /// Where it stands until it is moved.
     pub path: Text,

@@ -3,7 +3,7 @@ use cacache_core::bytes::Bytes;
 use cacache_core::text::Text;
 
 /// One step on a store, with all that it needs, over any kinds of open files `F` and temporary files `T`.
-#[derive(Debug, Drop)]
+#[derive(Debug, Drop, PartialEq)]
 pub enum Step<F, T> {
     /// Makes every missing folder of the path.
     MakeDirs(Text),

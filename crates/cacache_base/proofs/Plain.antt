@@ -2,7 +2,7 @@
 use Rattle.std.proofs.Common.{◌≡◌, refl, ap}
 use Rattle.cacache_base.specs.declared.store.step.Step.TheVariants as steps
 use Rattle.cacache_base.specs.declared.store.answer.Answer.TheVariants as answers
-use Rattle.cacache_base.specs.Seen.{PlainStep, PlainAnswer, plain_step, plain_answer}
+use Rattle.cacache_base.specs.Plain.{PlainStep, PlainAnswer, plain_step, plain_answer}
 
 pub plain_step_same : (step : PlainStep) → plain_step (λ file. file) (λ temp. temp) step ≡ step
 plain_step_same (steps.MakeDirs p) = refl
