@@ -1,4 +1,4 @@
--- Steps and answers of plain handles are seen as they are.
+-- Steps and answers with plain files are seen as they are.
 use Rattle.std.proofs.Common.{◌≡◌, refl, ap}
 use Rattle.cacache_base.specs.declared.store.step.Step.TheVariants as steps
 use Rattle.cacache_base.specs.declared.store.answer.Answer.TheVariants as answers
@@ -23,7 +23,8 @@ plain_step_same (steps.ReadDir p) = refl
 plain_step_same (steps.RemoveFile p) = refl
 plain_step_same (steps.RemoveDir p) = refl
 
-pub plain_answer_same : (answer : PlainAnswer) → plain_answer (λ file. file) (λ temp. temp) answer ≡ answer
+pub plain_answer_same : (answer : PlainAnswer)
+    → plain_answer (λ file. file) (λ temp. temp) answer ≡ answer
 plain_answer_same answers.Done = refl
 plain_answer_same (answers.Temp t) = refl
 plain_answer_same (answers.Wrote t n) = refl

@@ -15,9 +15,10 @@ ends_name b = b == 47 || b == 0
 
 -- a name that stands for one thing in its folder: not empty, `.` or `..`, with no `/` and no NUL
 abbrev pub IsProperName : List ℕ → Type 0
-IsProperName name = (is_name name ≡ true) × (is_above name ≡ false) × (list_any ends_name name ≡ false)
+IsProperName name =
+    (is_name name ≡ true) × (is_above name ≡ false) × (list_any ends_name name ≡ false)
 
--- what stands under the names of a listing stands in the folder itself
+-- a listing of proper names leads nowhere but into its own folder
 abbrev pub AreProperNames : List Name → Type 0
 AreProperNames = All (λ entry. IsProperName entry.name)
 

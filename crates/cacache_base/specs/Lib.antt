@@ -1,3 +1,4 @@
+pub mod Given
 pub mod Handles
 pub mod Plain
 pub mod Fits

@@ -1,4 +1,4 @@
--- What steps and answers are seen as: plain data.
+-- Plain steps and plain answers: what contracts see of a step and an answer.
 use Rattle.cacache_base.specs.declared.store.plain.PlainFile.{PlainFile}
 use Rattle.cacache_base.specs.declared.store.plain.PlainTemp.{PlainTemp}
 use Rattle.cacache_base.specs.declared.store.step.Step.{Step}
@@ -6,16 +6,16 @@ use Rattle.cacache_base.specs.declared.store.step.Step.TheVariants as steps
 use Rattle.cacache_base.specs.declared.store.answer.Answer.{Answer}
 use Rattle.cacache_base.specs.declared.store.answer.Answer.TheVariants as answers
 
--- a step on plain data
+-- a step on plain files
 abbrev pub PlainStep : Type 0
 PlainStep = Step PlainFile PlainTemp
 
--- an answer on plain data
+-- an answer with plain files
 abbrev pub PlainAnswer : Type 0
 PlainAnswer = Answer PlainFile PlainTemp
 
 module _ {F T : Type 0} (file : F → PlainFile) (temp : T → PlainTemp) where
-  -- the step, with what is seen of its handle in its place
+  -- the step with its file as it is seen
   abbrev pub plain_step : Step F T → PlainStep
   plain_step (steps.MakeDirs p) = steps.MakeDirs p
   plain_step (steps.CreateTemp p) = steps.CreateTemp p
@@ -35,7 +35,7 @@ module _ {F T : Type 0} (file : F → PlainFile) (temp : T → PlainTemp) where
   plain_step (steps.RemoveFile p) = steps.RemoveFile p
   plain_step (steps.RemoveDir p) = steps.RemoveDir p
 
-  -- the answer, with what is seen of its handle in its place
+  -- the answer with its file as it is seen
   abbrev pub plain_answer : Answer F T → PlainAnswer
   plain_answer answers.Done = answers.Done
   plain_answer (answers.Temp t) = answers.Temp (temp t)

@@ -1,4 +1,4 @@
-//! What a call works with: memory, a store, a clock, numbers for temporary names, and where relative paths start.
+//! What a call works with: memory, a store, a clock, numbers for temporary names and a base folder.
 ghost use Rattle.std.specs.Prelude.{◌≡◌, IfOk};
 
 mod clock;
@@ -14,18 +14,18 @@ use std::alloc::{AllocError, Global};
 pub struct Env<S, C, N> {
     /// Where memory comes from.
     pub alloc: Global,
-    /// Where the caches lie.
+    /// Where the caches are.
     pub store: S,
     /// Gives an entry its time.
     pub clock: C,
-    /// Numbers the temporary files.
+    /// Gives the temporary files their numbers.
     pub names: N,
     /// The folder that a relative target of a link starts from.
     pub base: Text,
 }
 
 impl<S: Drop, C: Drop, N: Drop> Env<S, C, N> {
-    /// An environment of these parts. It takes memory for a copy of `base` alone.
+    /// An environment of these parts. It allocates only for a copy of `base`.
     pub fn new(
         alloc: Global,
         store: S,

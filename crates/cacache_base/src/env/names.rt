@@ -1,19 +1,21 @@
 //! Numbers for temporary names.
-ghost use Rattle.std.specs.Prelude.{◌≡◌, ◌+◌, ◌%◌, ◌^◌, ℕ, List, [], ◌∷◌, ◌++◌, Option, None, option_map};
+ghost use Rattle.std.specs.Prelude.{◌≡◌, ◌+◌, ◌%◌, ◌^◌, ℕ, List, Option, None};
+ghost use Rattle.cacache_base.specs.Given.{AddsAnswer};
 
 use std::marker::Model;
 
-/// Gives numbers to name temporary files by. The calls need them to be fresh, which is for the giver to see to.
+/// Gives the numbers that temporary files are named by. The calls on caches need them to be fresh, and it is up to
+/// the source to see to that.
 pub trait Names {
-    /// Its answers so far, oldest first, where it tells them.
+    /// The answers so far, oldest first, if the source keeps them.
     ghost given: { Self → Option (List ℕ) } = { λ _. None };
 
     /// A number that no temporary file of the cache has.
     fn fresh(&mut self) -> u64
-        ensures given { given self.new ≡ option_map (λ answers. answers ++ result ∷ []) (given self.old) };
+        ensures given { AddsAnswer (given self.old) (given self.new) result };
 }
 
-/// Counts up from a number, and on from 0 after 2^64 - 1. Contracts see the number that it gives next.
+/// Counts up from a number, and goes on with 0 after 2^64 - 1. Contracts see the number that comes next.
 #[derive(Debug, Drop)]
 pub struct CountNames {
     next: u64,
@@ -28,7 +30,7 @@ impl Model for CountNames {
 }
 
 impl CountNames {
-    /// Counts from `first`, which is its first answer.
+    /// Counts from `first`, which is the first answer.
     pub fn from(first: u64) -> CountNames
         ensures { result ≡ first }
     {

@@ -9,18 +9,23 @@ use cacache_core::text::Text;
 use std::alloc::{AllocError, Global};
 use std::marker::Model;
 
-/// What stands in a folder under a name.
+/// What kind of thing a name in a folder stands for.
 #[derive(Clone, Copy, Debug, PartialEq, Eq)]
 pub enum Kind {
+    /// A file.
     File,
+    /// A folder.
     Folder,
+    /// A symbolic link, whatever it leads to.
     Link,
 }
 
-/// A name in a folder, and what stands under it.
+/// A name in a folder, and what kind of thing it stands for.
 #[derive(Debug, Drop, PartialEq)]
 pub struct Name {
+    /// The name, without the folder's path.
     pub name: Text,
+    /// What it stands for.
     pub kind: Kind,
 }
 
@@ -40,7 +45,7 @@ impl Model for Listing {
 }
 
 impl Listing {
-    /// The listing of these names, which takes no memory.
+    /// The listing of these names. It allocates nothing.
     pub fn new(names: Vec<Name>) -> Listing
         ensures { result ≡ names.items }
     {
@@ -68,7 +73,7 @@ impl Listing {
         self.names.as_slice()
     }
 
-    /// The names as a vector, which takes no memory.
+    /// The names as a vector. It allocates nothing.
     pub fn into_vec(self) -> Vec<Name>
         ensures { result.items ≡ self }
     {
@@ -96,7 +101,7 @@ pub enum Answer<F, T> {
     Done,
     /// The temporary file that was made.
     Temp(T),
-    /// The temporary file, and how many of the bytes it took.
+    /// The temporary file, and how many of the bytes were written.
     Wrote(T, usize),
     /// How many bytes were appended or copied.
     Took(usize),
@@ -104,16 +109,16 @@ pub enum Answer<F, T> {
     Bytes(Bytes),
     /// The file that was opened.
     File(F),
-    /// The open file, and the bytes that were read: none only at its end, or where none were asked for.
+    /// The open file, and the bytes that were read: none only at its end, or if none were asked for.
     Got(F, Bytes),
     /// Whether a file or folder is there.
     There(bool),
     /// How many bytes a file has.
     Length(u64),
-    /// The names in a folder.
+    /// What is in a folder.
     Names(Listing),
-    /// Why the step failed. The file that it was given is given up.
+    /// Why the step failed. A file that the step was given is dropped.
     Failed(Fault),
-    /// Memory was refused before anything changed: the step comes back.
+    /// Memory was refused and nothing changed: the step, handed back.
     NoMemory(Step<F, T>),
 }

@@ -10,33 +10,35 @@ use crate::store::plain::{PlainFile, PlainTemp};
 use std::io;
 use std::io::{Read, Write};
 
-/// A value that an open file is seen as.
+/// What contracts know of an open file.
 pub trait FileHandle: Drop {
-    /// What is seen of it.
+    /// The plain file that it is seen as.
     ghost seen: { Self → PlainFile };
 }
 
-/// A value that a temporary file is seen as.
+/// What contracts know of a temporary file.
 pub trait TempHandle: Drop {
-    /// What is seen of it.
+    /// The plain temporary file that it is seen as.
     ghost seen: { Self → PlainTemp };
 }
 
 /// An open file. `Read::read` does what `read_some` does.
 pub trait OpenedFile: FileHandle + Read {
-    /// Reads some bytes to the front of `buf`, and answers how many: none only at the end of the file, or where
-    /// `buf` is empty.
+    /// Reads some bytes into the front of `buf` and returns how many: none only at the end of the file, or if `buf`
+    /// is empty.
     fn read_some(&mut self, buf: &mut [u8]) -> io::Result<usize>
         ensures bound { ReadsAtMost result buf.new }
         ensures left { LeftFalls (Self.seen self.old).left (Self.seen self.new).left result }
-        ensures bytes { ReadConsumes (Self.seen self.old).bytes (Self.seen self.new).bytes result buf.new };
+        ensures bytes { ReadConsumes (Self.seen self.old).bytes (Self.seen self.new).bytes
+            result buf.new };
 }
 
 /// A temporary file that is being written. `Write::write` does what `write_some` does.
 pub trait TempFile: TempHandle + Write {
-    /// Puts some bytes from the front of `buf` behind what the file holds, and answers how many.
+    /// Appends some bytes from the front of `buf` to the file and returns how many.
     fn write_some(&mut self, buf: &[u8]) -> io::Result<usize>
         ensures bound { WritesAtMost result buf.now }
         ensures path { (Self.seen self.new).path ≡ (Self.seen self.old).path }
-        ensures bytes { WriteAppends (Self.seen self.old).bytes (Self.seen self.new).bytes result buf.now };
+        ensures bytes { WriteAppends (Self.seen self.old).bytes (Self.seen self.new).bytes
+            result buf.now };
 }

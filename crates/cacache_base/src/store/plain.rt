@@ -1,4 +1,4 @@
-//! Files that are no more than what is seen of them: their bytes lie in memory.
+//! Plain files: bytes in memory, and what contracts see of any file.
 ghost use Rattle.std.specs.Prelude.{◌≡◌, IfOk, IsOk, length};
 ghost use Rattle.std.specs.Io.{ReadsAtMost};
 ghost use Rattle.std.specs.Io.KnownBytes.{ReadConsumes, WriteAppends};
@@ -10,21 +10,21 @@ use cacache_core::text::Text;
 use std::io;
 use std::io::{ErrorKind, Read, Write};
 
-/// A file that is open in memory, and what contracts see of any open file.
+/// An open file in memory, and what contracts see of any open file.
 #[derive(Debug, Drop, PartialEq)]
 pub struct PlainFile {
-    /// At least as many bytes as it will still give.
+    /// At least as many bytes as are still to be read.
     pub left: usize,
-    /// The bytes that it will give, where they are known.
+    /// The bytes still to be read, if they are known.
     pub bytes: Option<Bytes>,
 }
 
 /// A temporary file in memory, and what contracts see of any temporary file.
 #[derive(Debug, Drop, PartialEq)]
 pub struct PlainTemp {
-    /// Where it stands until it is moved.
+    /// Its path until it is moved.
     pub path: Text,
-    /// The bytes that it took, where they are known.
+    /// The bytes written so far, if they are known.
     pub bytes: Option<Bytes>,
 }
 

@@ -2,38 +2,38 @@
 use cacache_core::bytes::Bytes;
 use cacache_core::text::Text;
 
-/// One step on a store, with all that it needs, over any kinds of open files `F` and temporary files `T`.
+/// One step on a store and all that it needs, with open files of type `F` and temporary files of type `T`.
 #[derive(Debug, Drop, PartialEq)]
 pub enum Step<F, T> {
     /// Makes every missing folder of the path.
     MakeDirs(Text),
-    /// Makes an empty file at the path, where nothing stands.
+    /// Makes an empty file at the path, which must be free.
     CreateTemp(Text),
-    /// Puts the bytes behind what the temporary file holds.
+    /// Appends bytes to the temporary file.
     Write(T, Bytes),
-    /// Moves the temporary file to the path, in place of a file or link there.
+    /// Moves the temporary file to the path, and replaces a file or link there.
     Persist(T, Text),
-    /// Puts the bytes behind those of the file at the path, which is made if missing, in one write.
+    /// Appends bytes to the file at the path in one write. A missing file is made first.
     Append(Text, Bytes),
     /// Reads the whole file.
     ReadAll(Text),
     /// Opens a file for reading.
     Open(Text),
-    /// Reads at most so many bytes of an open file.
+    /// Reads at most so many bytes from an open file.
     Read(F, usize),
-    /// Asks whether a file or folder stands at the path.
+    /// Asks whether there is a file or folder at the path.
     Exists(Text),
     /// Asks how many bytes the file has.
     Size(Text),
-    /// Makes a link: what it leads to, and then where it stands.
+    /// Makes a symbolic link: first its target, then its path.
     Symlink(Text, Text),
-    /// Copies the first path's file to the second path.
+    /// Copies the file at the first path to the second path.
     Copy(Text, Text),
-    /// The same with shared storage, where the second path is new.
+    /// The same with shared storage. The second path must be free.
     Reflink(Text, Text),
-    /// Gives the first path's file the second path as one more name.
+    /// Gives the file at the first path a second name. The second path must be free.
     HardLink(Text, Text),
-    /// Lists the names in a folder.
+    /// Lists what is in a folder.
     ReadDir(Text),
     /// Removes a file or a link.
     RemoveFile(Text),
