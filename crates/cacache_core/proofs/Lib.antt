@@ -1,5 +1,8 @@
 pub mod Printing
+pub mod Splits
 pub mod PathLemmas
+pub mod ProperNames
+pub mod JoinedNames
 pub mod PathTexts
 pub mod Words
 pub mod ReadLemmas

@@ -1,12 +1,13 @@
 -- Names of paths: how digits are cut, and that none is a beginning of another.
-use Rattle.std.proofs.Common.{◌≡◌, ℕ, zero, suc, ◌≤◌, List, [], ◌∷◌, Ok, length, get_or, take, drop, codes, refl, sym, ap, ◌∙◌, arith, length-take, ◌/◌, slice_index}
+use Rattle.std.proofs.Common.{◌≡◌, ◌*◌, ◌+◌, ℕ, zero, suc, ◌≤◌, List, [], ◌∷◌, Ok, length, get_or, take, drop, codes, refl, sym, ap, ◌∙◌, arith, length-take, length-append, ◌/◌, slice_index}
 use Rattle.std.proofs.lemmas.List.{take_all}
 use Rattle.std.specs.Int.{w32, to_be_bytes}
 use Rattle.base64.specs.GeneralPurpose.{IsBytes}
 use Rattle.sha1.specs.Sha1.{sha1, digest_bytes, hash_after, padded_message}
 use Rattle.cacache_core.proofs.Decoded.{bytes_append}
 use Rattle.cacache_core.specs.declared.integrity.digest.Hash.{Hash}
-use Rattle.cacache_core.specs.Paths.{content_names, bucket_names, Begins, AreApart}
+use Rattle.cacache_core.specs.PathLaws.{IsKeyDigest, KeysHaveDigests, NoneBegins, KindsAreApart}
+use Rattle.cacache_core.specs.Paths.{content_names, bucket_names_of, temp_names, Begins, AreApart}
 use Rattle.hex.specs.Hex.{encode_with, encode_lower, decode_of}
 use Rattle.hex.proofs.HexLemmas.{decode_of-encode_lower}
 
@@ -55,29 +56,45 @@ pub sha1_bytes : (m : List ℕ) → IsBytes (sha1 m)
 unfolding sha1
 sha1_bytes m = words_bytes (hash_after (padded_message m) (length (padded_message m) / 64)) 5
 
+length-digest_bytes : (h : List ℕ) (n : ℕ) → length (digest_bytes h n) ≡ n * 4
+unfolding digest_bytes
+length-digest_bytes h zero = refl
+length-digest_bytes h (suc n) = omega (arith, length-append (digest_bytes h n) (to_be_bytes w32 (slice_index h n)), length-digest_bytes h n)
+
+length-sha1 : (m : List ℕ) → length (sha1 m) ≡ 20
+unfolding sha1
+length-sha1 m = length-digest_bytes (hash_after (padded_message m) (length (padded_message m) / 64)) 5
+
+pub keys_have_digests : KeysHaveDigests
+keys_have_digests key = record { bytes = sha1_bytes key; size = length-sha1 key }
+
 -- ---- none is a beginning of another
 
 shorter : (xs ys : List (List ℕ)) (n : ℕ) → length xs ≡ length ys → take n xs ≡ ys → xs ≡ ys
 shorter xs ys n len e =
     let same : length (take n xs) ≡ length ys = ap length e in sym (take_all n xs (omega (arith, length-take n xs))) ∙ e
 
-pub no_content_begins : (h g : Hash) → Begins (content_names h) (content_names g) → content_names h ≡ content_names g
-no_content_begins h g b = sym (shorter (content_names g) (content_names h) b.count refl b.same)
-
-pub no_bucket_begins : (k l : List ℕ) → Begins (bucket_names k) (bucket_names l) → bucket_names k ≡ bucket_names l
-no_bucket_begins k l b = sym (shorter (bucket_names l) (bucket_names k) b.count refl b.same)
+pub none_begins : NoneBegins
+none_begins = record {
+  contents = λ h g b. sym (shorter (content_names g) (content_names h) b.count refl b.same);
+  buckets = λ d e b. sym (shorter (bucket_names_of e) (bucket_names_of d) b.count refl b.same);
+  temporaries = λ n m b. sym (shorter (temp_names m) (temp_names n) b.count refl b.same);
+}
 
 first_kept : (n : ℕ) (x y : List ℕ) (xs ys : List (List ℕ)) → take n (x ∷ xs) ≡ y ∷ ys → x ≡ y
 first_kept zero x y xs ys e = absurd cc
 first_kept (suc n) x y xs ys e = ap (λ (ns : List (List ℕ)). get_or ns 0 []) e
 
-no_bucket_first : (h : Hash) (k : List ℕ) → ¬ Begins (bucket_names k) (content_names h)
-no_bucket_first h k b =
-    let f : codes "content-v2" ≡ codes "index-v5" = first_kept b.count _ _ _ _ b.same in let l : length (codes "content-v2") ≡ length (codes "index-v5") = ap (λ (t : List ℕ). length t) f in omega arith
+-- names that begin differently, the first names having different lengths
+differ : (x y : List ℕ) (xs ys : List (List ℕ)) → (length x ≡ length y → ⊥) → ¬ Begins (x ∷ xs) (y ∷ ys)
+differ x y xs ys apart b = apart (sym (ap (λ (t : List ℕ). length t) (first_kept b.count y x ys xs b.same)))
 
-no_content_first : (h : Hash) (k : List ℕ) → ¬ Begins (content_names h) (bucket_names k)
-no_content_first h k b =
-    let f : codes "index-v5" ≡ codes "content-v2" = first_kept b.count _ _ _ _ b.same in let l : length (codes "index-v5") ≡ length (codes "content-v2") = ap (λ (t : List ℕ). length t) f in omega arith
+are_apart : (x y : List ℕ) (xs ys : List (List ℕ)) → (length x ≡ length y → ⊥) → AreApart (x ∷ xs) (y ∷ ys)
+are_apart x y xs ys apart = (differ x y xs ys apart, differ y x ys xs (λ e. apart (sym e)))
 
-pub are_apart : (h : Hash) (k : List ℕ) → AreApart (content_names h) (bucket_names k)
-are_apart h k = (no_content_first h k, no_bucket_first h k)
+pub kinds_are_apart : KindsAreApart
+kinds_are_apart = record {
+  contents_buckets = λ h d. are_apart (codes "content-v2") (codes "index-v5") _ _ (λ e. omega arith);
+  contents_temporaries = λ h n. are_apart (codes "content-v2") (codes "tmp") _ _ (λ e. omega arith);
+  buckets_temporaries = λ d n. are_apart (codes "index-v5") (codes "tmp") _ _ (λ e. omega arith);
+}

@@ -11,17 +11,15 @@ use Rattle.base64.specs.declared.decode.DecodeError.{DecodeError}
 use Rattle.base64.specs.Engines.{standard}
 use Rattle.base64.specs.GeneralPurpose.{decode_of, IsBytes}
 use Rattle.base64.proofs.EngineFacts.{decode_of_strict}
-use Rattle.cacache_core.specs.declared.errors.Error.{Error}
-use Rattle.cacache_core.specs.declared.errors.Error.TheVariants.{EntryNotFound, SizeMismatch, IoError, SerdeError, IntegrityError, OutOfMemory}
 use Rattle.cacache_core.specs.declared.errors.IntegrityFault.{IntegrityFault}
 use Rattle.cacache_core.specs.declared.errors.IntegrityFault.TheVariants.{ShortDigest}
 use Rattle.cacache_core.specs.declared.integrity.algorithm.Algorithm.{Algorithm}
 use Rattle.cacache_core.specs.declared.integrity.algorithm.Algorithm.TheVariants.{Sha1, Sha256, Sha384, Sha512}
 use Rattle.cacache_core.specs.declared.integrity.digest.Hash.{Hash}
-use Rattle.cacache_core.specs.Integrity.{IsHash, hash_of}
-use Rattle.cacache_core.specs.Refusals.{IsReadFailure}
+use Rattle.cacache_core.specs.Integrity.{IsHash, IsIntegrity, hash_of}
 use Rattle.cacache_core.specs.Texts.{name_of, hash_text, is_blank, is_some_text, words, long_hash, decoded_hash, hash_behind, read_word, first_and, read_words, kept_hashes, read_integrity, AreHashes, IsIntegrityText}
 use Rattle.cacache_core.proofs.Decoded.{bytes_drop, decoded_is_bytes}
+use Rattle.cacache_core.proofs.Order.{ordered_is_integrity}
 use Rattle.cacache_core.proofs.Printed.{read_word-hash_text}
 use Rattle.cacache_core.proofs.ReadLemmas.{read_some}
 
@@ -138,17 +136,15 @@ is_text t i bytes e =
       | Err x ↦ λ p q. absurd cc
     ] refl e
 
--- where a reading gives an integrity, it fails for want of memory alone
-read_well : (r : Result (List Hash) IntegrityFault) (i : List Hash) (e : Error) → r ≡ Ok i → IsReadFailure r e → e ≡ OutOfMemory
-read_well r i (EntryNotFound cache key) ok fails = absurd fails
-read_well r i (SizeMismatch a b) ok fails = absurd fails
-read_well r i (IoError fault text) ok fails = absurd fails
-read_well r i (SerdeError cause text) ok fails = absurd fails
-read_well r i (IntegrityError fault) ok fails = absurd (cc (ok, fails))
-read_well r i OutOfMemory ok fails = refl
+-- ---- the hashes of a text are an integrity
 
-pub text_fails : (t : List ℕ) (i : List Hash) (e : Error) → IsIntegrityText t i → IsReadFailure (read_integrity t) e → e ≡ OutOfMemory
-text_fails t i e is fails = read_well (read_integrity t) i e (text_reads t i is) fails
+are_long : (ws : List (List ℕ)) (hs : List Hash) → AreHashes ws hs → All IsHash hs
+are_long [] [] are = All-nil IsHash
+are_long [] (h ∷ hs) are = absurd are
+are_long (w ∷ ws) [] are = absurd are
+are_long (w ∷ ws) (h ∷ hs) are = All-cons IsHash h hs are.1 (are_long ws hs are.2)
 
-pub text_is_of_one : (t : List ℕ) (i j : List Hash) → IsIntegrityText t i → read_integrity t ≡ Ok j → j ≡ i
-text_is_of_one t i j is read = let same : Ok j ≡ Ok i = sym read ∙ text_reads t i is in cc
+pub read_is_integrity : (t : List ℕ) (i : List Hash) → IsBytes t → read_integrity t ≡ Ok i → IsIntegrity i
+read_is_integrity t i bytes e =
+    let is = is_text t i bytes e in
+    subst IsIntegrity (sym is.ordered) (ordered_is_integrity is.written is.nonempty (are_long (words t) is.written is.spelled))

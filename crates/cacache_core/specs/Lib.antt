@@ -7,3 +7,5 @@ pub mod Refusals
 pub mod Same
 pub mod Pieces
 pub mod PathNames
+pub mod PathLaws
+pub mod TextLaws

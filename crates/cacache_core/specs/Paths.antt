@@ -1,5 +1,6 @@
--- Where contents and buckets lie, as lists of names below the cache folder, and as path texts.
+-- Where contents, buckets and temporary files lie: as names below the cache folder, and as path texts.
 use Rattle.std.specs.Prelude.{◌≡◌, ℕ, ◌-◌, ◌==◌, List, [], ◌∷◌, ◌++◌, cond, length, take, drop, slice_index, codes}
+use Rattle.std.specs.Int.{to_be_bytes, w64}
 use Rattle.hex.specs.Hex.{encode_lower}
 use Rattle.sha1.specs.Sha1.{sha1}
 use Rattle.cacache_core.specs.declared.integrity.digest.Hash.{Hash}
@@ -13,9 +14,17 @@ cut_digits h = take 2 h ∷ take 2 (drop 2 h) ∷ drop 4 h ∷ []
 abbrev pub content_names : Hash → List (List ℕ)
 content_names h = codes "content-v2" ∷ name_of h.algorithm ∷ cut_digits (encode_lower h.digest)
 
--- the names of the bucket's path of a key: the folder of buckets, the hex digits of the key's SHA-1
+-- the names of a bucket's path: the folder of buckets, the hex digits of the digest of its keys
+abbrev pub bucket_names_of : List ℕ → List (List ℕ)
+bucket_names_of digest = codes "index-v5" ∷ cut_digits (encode_lower digest)
+
+-- the names of the path of a key's bucket
 abbrev pub bucket_names : List ℕ → List (List ℕ)
-bucket_names key = codes "index-v5" ∷ cut_digits (encode_lower (sha1 key))
+bucket_names key = bucket_names_of (sha1 key)
+
+-- the names of a temporary file's path: the folder of such files, its number in 16 hex digits
+abbrev pub temp_names : ℕ → List (List ℕ)
+temp_names number = codes "tmp" ∷ (codes ".tmp" ++ encode_lower (to_be_bytes w64 number)) ∷ []
 
 -- a path and a name below it
 unfoldable pub join : List ℕ → List ℕ → List ℕ

@@ -1,10 +1,11 @@
-//! The bottom layer of the cache: what a call answers where it fails, what bytes are known by, and
-//! where contents and buckets lie.
+//! The bottom layer of the cache: errors, integrities and their digests, shared bytes, and the paths
+//! of contents, buckets and temporary files.
 #![tactic(auto)]
 
 pub mod bytes;
 pub mod errors;
 pub mod integrity;
+pub mod laws;
 pub mod paths;
 #[cfg(test)]
 mod tests;

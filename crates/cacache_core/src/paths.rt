@@ -1,10 +1,9 @@
-//! Where contents and buckets lie below a cache folder.
-ghost use Rattle.std.specs.Prelude.{◌≡◌, ◌≤◌, ◌↔◌, ◌∷◌, ℕ, List, codes, IfOk, OnOk, IfSome, length, drop, string_bytes};
+//! Where contents, buckets and temporary files lie below a cache folder. What holds of all these
+//! paths is said at `laws::path_laws`.
+ghost use Rattle.std.specs.Prelude.{◌≡◌, ◌≤◌, IfOk, OnOk, IfSome, length, drop, string_bytes};
 ghost use Rattle.hex.specs.Hex.{encode_lower};
-ghost use Rattle.sha1.specs.Sha1.{sha1};
-ghost use Rattle.cacache_core.specs.declared.integrity.digest.Hash.{Hash};
-ghost use Rattle.cacache_core.specs.Integrity.{IsHash, address as address_of};
-ghost use Rattle.cacache_core.specs.Paths.{join as join_of, joined, cut_digits, content_names, bucket_names, folder_names, Begins, AreApart};
+ghost use Rattle.cacache_core.specs.Integrity.{address as address_of};
+ghost use Rattle.cacache_core.specs.Paths.{join as join_of, joined, cut_digits, content_names, bucket_names_of, bucket_names, temp_names, folder_names};
 
 use crate::integrity::{Hash, Integrity};
 use crate::text::Text;
@@ -40,14 +39,9 @@ pub struct Place {
     pub path: Text,
 }
 
-/// The path of the content that has this integrity's address, below the cache folder. Equal
-/// addresses have equal paths and no others, and no content lies below another or below a bucket.
-#[tactic(auto, using(crate::proofs::PathTexts::contents_one_to_one, crate::proofs::PathLemmas::no_content_begins, crate::proofs::PathLemmas::are_apart))]
+/// The path of the content that has this integrity's address, below the cache folder.
 pub fn content_path(alloc: Global, cache: &str, sri: &Integrity) -> Result<Text, AllocError>
-    ensures path { IfOk result (λ t. IfSome (address_of sri.now) (λ h. t ≡ joined cache.now (content_names h))) }
-    ensures one_to_one { (h g : Hash) → IsHash h → IsHash g → (joined cache.now (content_names h) ≡ joined cache.now (content_names g)) ↔ (h ≡ g) }
-    ensures none_begins { (h g : Hash) → Begins (content_names h) (content_names g) → content_names h ≡ content_names g }
-    ensures apart { (h : Hash) (key : List ℕ) → AreApart (content_names h) (bucket_names key) }
+    ensures { IfOk result (λ t. IfSome (address_of sri.now) (λ h. t ≡ joined cache.now (content_names h))) }
 {
     let address = sri.address();
     let mut path = folder_of_content(alloc, cache, address)?;
@@ -65,13 +59,9 @@ pub fn content_place(alloc: Global, cache: &str, sri: &Integrity) -> Result<Plac
     place_in(alloc, folder, address.digest.as_slice())
 }
 
-/// The path of the bucket of a key, below the cache folder. Keys of equal SHA-1 have equal paths and
-/// no others, and no bucket lies below another.
-#[tactic(auto, using(crate::proofs::PathTexts::buckets_one_to_one, crate::proofs::PathLemmas::no_bucket_begins))]
+/// The path of the bucket of a key, below the cache folder. It depends on the key's SHA-1 alone.
 pub fn bucket_path(alloc: Global, cache: &str, key: &str) -> Result<Text, AllocError>
-    ensures path { IfOk result (λ t. t ≡ joined cache.now (bucket_names key.now)) }
-    ensures one_to_one { (k l : List ℕ) → (joined cache.now (bucket_names k) ≡ joined cache.now (bucket_names l)) ↔ (sha1 k ≡ sha1 l) }
-    ensures none_begins { (k l : List ℕ) → Begins (bucket_names k) (bucket_names l) → bucket_names k ≡ bucket_names l }
+    ensures { IfOk result (λ t. t ≡ joined cache.now (bucket_names key.now)) }
 {
     let digest = sha1::Sha1::digest(key.as_bytes());
     let mut path = folder_of_bucket(alloc, cache, &digest)?;
@@ -87,6 +77,24 @@ pub fn bucket_place(alloc: Global, cache: &str, key: &str) -> Result<Place, Allo
     let digest = sha1::Sha1::digest(key.as_bytes());
     let folder = folder_of_bucket(alloc, cache, &digest)?;
     place_in(alloc, folder, &digest)
+}
+
+/// Where the temporary file of a number lies: `.tmp` and the number in 16 lower-case hex digits,
+/// below the folder `tmp`.
+pub fn temp_place(alloc: Global, cache: &str, number: u64) -> Result<Place, AllocError>
+    ensures folder { IfOk result (λ p. p.folder ≡ joined cache.now (folder_names (temp_names number))) }
+    ensures path { IfOk result (λ p. p.path ≡ joined cache.now (temp_names number)) }
+{
+    let mut folder = roomy(alloc, cache)?;
+    push_name(&mut folder, "tmp")?;
+    let mut name = String::from_str(alloc, ".tmp")?;
+    name.push_str(&hex::encode(alloc, number.to_be_bytes())?)?;
+    let mut path = roomy(alloc, folder.as_str())?;
+    push_name(&mut path, &name)?;
+    Ok(Place {
+        folder: Text::new(folder),
+        path: Text::new(path),
+    })
 }
 
 // The place below the folder of a digest's first two bytes.
@@ -116,7 +124,7 @@ fn folder_of_content(alloc: Global, cache: &str, address: &Hash) -> Result<Strin
 
 fn folder_of_bucket(alloc: Global, cache: &str, digest: &[u8]) -> Result<String, AllocError>
     requires { 2 ≤ length digest.now }
-    ensures { IfOk result (λ s. string_bytes s ≡ joined cache.now (codes "index-v5" ∷ folder_names (cut_digits (encode_lower digest.now)))) }
+    ensures { IfOk result (λ s. string_bytes s ≡ joined cache.now (folder_names (bucket_names_of digest.now))) }
 {
     let mut path = roomy(alloc, cache)?;
     push_name(&mut path, "index-v5")?;

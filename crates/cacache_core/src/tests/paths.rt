@@ -1,6 +1,6 @@
 //! Paths below a cache: the examples of the Rust crate, and digests that coreutils compute.
 use crate::integrity::Integrity;
-use crate::paths::{bucket_path, bucket_place, content_path, content_place, join};
+use crate::paths::{bucket_path, bucket_place, content_path, content_place, join, temp_place};
 use std::test::Fail;
 
 #[test]
@@ -54,5 +54,25 @@ fn paths_below_a_cache(rt: HostRuntime) -> Result<(), Fail> {
     }
     let joined = join(rt.alloc(), "c/", "tmp")?;
     assert_eq!(rt; joined.as_str(), "c/tmp");
+    Ok(())
+}
+
+#[test]
+fn temporary_files_below_a_cache(rt: HostRuntime) -> Result<(), Fail> {
+    let rows = [
+        (0, "", "tmp", "tmp/.tmp0000000000000000"),
+        (255, "c", "c/tmp", "c/tmp/.tmp00000000000000ff"),
+        (
+            u64::MAX,
+            "/var/cache/",
+            "/var/cache/tmp",
+            "/var/cache/tmp/.tmpffffffffffffffff",
+        ),
+    ];
+    for (number, cache, folder, path) in rows {
+        let place = temp_place(rt.alloc(), cache, number)?;
+        assert_eq!(rt; place.folder.as_str(), folder);
+        assert_eq!(rt; place.path.as_str(), path);
+    }
     Ok(())
 }

@@ -1,0 +1,141 @@
+-- The names of contents, buckets and temporary files are proper ones.
+use Rattle.std.proofs.Common.{◌≡◌, ◌≢◌, ◌==◌, ◌||◌, ◌*◌, ◌<◌, ◌≤◌, ◌/◌, ◌%◌, ℕ, zero, suc, Bool, true, false, cond, not, List, [], ◌∷◌, ◌++◌, length, take, drop, slice_index, codes, refl, sym, ap, ◌∙◌, arith, length-drop, length-append}
+use Rattle.std.specs.List.{list_any}
+use Rattle.std.specs.Prelude.{All}
+use Rattle.std.specs.Int.{to_be_bytes, w64, w32}
+use Rattle.std.proofs.lemmas.Bool.{ne_eqb}
+use Rattle.std.proofs.lemmas.List.{length-take-le}
+use Rattle.std.proofs.lemmas.List.Elements.{All-nil, All-cons}
+use Rattle.std.proofs.lemmas.List.Folds.{list_any_at}
+use Rattle.base64.specs.GeneralPurpose.{IsBytes}
+use Rattle.hex.specs.Hex.{encode_with, encode_lower, lower_digits}
+use Rattle.hex.proofs.HexLemmas.{length-encode_with}
+use Rattle.sha1.specs.Sha1.{sha1, digest_bytes, hash_after, padded_message}
+use Rattle.cacache_core.proofs.PathLemmas.{sha1_bytes}
+use Rattle.cacache_core.proofs.Splits.{none_of_fewer}
+use Rattle.cacache_core.specs.declared.integrity.algorithm.Algorithm.{Algorithm}
+use Rattle.cacache_core.specs.declared.integrity.algorithm.Algorithm.TheVariants.{Sha1, Sha256, Sha384, Sha512}
+use Rattle.cacache_core.specs.declared.integrity.digest.Hash.{Hash}
+use Rattle.cacache_core.specs.Integrity.{IsHash}
+use Rattle.cacache_core.specs.PathLaws.{IsKeyDigest, NamesAreProper}
+use Rattle.cacache_core.specs.PathNames.{Names, ends_name, is_name, is_above, IsProperName}
+use Rattle.cacache_core.specs.Paths.{cut_digits, content_names, bucket_names_of, temp_names}
+use Rattle.cacache_core.specs.Texts.{name_of}
+
+-- NUL, a dot or a slash
+abbrev is_special : ℕ → Bool
+is_special c = ends_name c || c == 46
+
+or_parts : (a b : Bool) → (a || b) ≡ false → (a ≡ false) × (b ≡ false)
+or_parts true b e = absurd cc
+or_parts false b e = (refl, e)
+
+no_end : (n : List ℕ) → list_any is_special n ≡ false → list_any ends_name n ≡ false
+no_end n clear = none_of_fewer ends_name is_special (λ c h. (or_parts (ends_name c) (c == 46) h).0) n clear
+
+some_length : (c : ℕ) (n : List ℕ) → (length (c ∷ n) == 0) ≡ false
+some_length c n = ne_eqb (length (c ∷ n)) 0 (λ e. absurd (omega arith))
+
+-- ---- a text without any of these is a proper name
+
+pub proper : (n : List ℕ) → 0 < length n → list_any is_special n ≡ false → IsProperName n
+proper [] some clear = absurd (omega arith)
+proper (c ∷ n) some clear =
+    let h = or_parts (is_special c) (list_any is_special n) clear in
+    let no_dot = (or_parts (ends_name c) (c == 46) h.0).1 in
+    (rw (some_length c n, no_dot) refl, rw no_dot refl, no_end (c ∷ n) clear)
+
+-- ---- hex digits
+
+not_true : (b : Bool) → (b ≡ true → ⊥) → b ≡ false
+not_true true h = absurd (h refl)
+not_true false h = refl
+
+digit_clear : (d : ℕ) → d < 16 → is_special (slice_index lower_digits d) ≡ false
+digit_clear d small =
+    not_true (is_special (slice_index lower_digits d)) (λ e. let differ : false ≡ true = list_any_at is_special lower_digits d 0 small e in cc)
+
+hex_clear : (d : List ℕ) → IsBytes d → list_any is_special (encode_lower d) ≡ false
+unfolding encode_with
+hex_clear [] bytes = refl
+hex_clear (b ∷ d) bytes =
+    rw (digit_clear (b / 16) (omega (arith, bytes 0)), digit_clear (b % 16) (omega arith), hex_clear d (λ k. bytes (suc k))) refl
+
+clear_take : (n : ℕ) (b : List ℕ) → list_any is_special b ≡ false → list_any is_special (take n b) ≡ false
+clear_take zero b h = refl
+clear_take (suc n) [] h = refl
+clear_take (suc n) (c ∷ b) h = let p = or_parts (is_special c) (list_any is_special b) h in rw (p.0, clear_take n b p.1) refl
+
+clear_drop : (n : ℕ) (b : List ℕ) → list_any is_special b ≡ false → list_any is_special (drop n b) ≡ false
+clear_drop zero b h = h
+clear_drop (suc n) [] h = refl
+clear_drop (suc n) (c ∷ b) h = clear_drop n b (or_parts (is_special c) (list_any is_special b) h).1
+
+proper_digits : (h : List ℕ) → 4 < length h → list_any is_special h ≡ false → All IsProperName (cut_digits h)
+proper_digits h long clear =
+    let first = proper (take 2 h) (omega (arith, length-take-le 2 h (omega arith))) (clear_take 2 h clear) in
+    let second = proper (take 2 (drop 2 h)) (omega (arith, length-take-le 2 (drop 2 h) (omega (arith, length-drop 2 h)), length-drop 2 h)) (clear_take 2 (drop 2 h) (clear_drop 2 h clear)) in
+    let last = proper (drop 4 h) (omega (arith, length-drop 4 h)) (clear_drop 4 h clear) in
+    All-cons IsProperName (take 2 h) (take 2 (drop 2 h) ∷ drop 4 h ∷ []) first
+    (All-cons IsProperName (take 2 (drop 2 h)) (drop 4 h ∷ []) second (All-cons IsProperName (drop 4 h) [] last (All-nil IsProperName)))
+
+hex_long : (d : List ℕ) → 3 ≤ length d → 4 < length (encode_lower d)
+hex_long d long = omega (arith, length-encode_with lower_digits d)
+
+proper_hex : (d : List ℕ) → IsBytes d → 3 ≤ length d → All IsProperName (cut_digits (encode_lower d))
+proper_hex d bytes long = proper_digits (encode_lower d) (hex_long d long) (hex_clear d bytes)
+
+-- ---- contents
+
+pub proper_content_folder : IsProperName (codes "content-v2")
+proper_content_folder = proper (codes "content-v2") (omega arith) refl
+
+proper_algorithm : (a : Algorithm) → IsProperName (name_of a)
+proper_algorithm Sha1 = proper (codes "sha1") (omega arith) refl
+proper_algorithm Sha256 = proper (codes "sha256") (omega arith) refl
+proper_algorithm Sha384 = proper (codes "sha384") (omega arith) refl
+proper_algorithm Sha512 = proper (codes "sha512") (omega arith) refl
+
+-- the names of a content below the folder of contents
+pub proper_content : (h : Hash) → IsHash h → All IsProperName (name_of h.algorithm ∷ cut_digits (encode_lower h.digest))
+proper_content h is =
+    All-cons IsProperName (name_of h.algorithm) (cut_digits (encode_lower h.digest)) (proper_algorithm h.algorithm) (proper_hex h.digest is.bytes is.long_enough)
+
+-- ---- buckets
+
+pub proper_bucket_folder : IsProperName (codes "index-v5")
+proper_bucket_folder = proper (codes "index-v5") (omega arith) refl
+
+pub proper_bucket : (d : List ℕ) → IsKeyDigest d → All IsProperName (cut_digits (encode_lower d))
+proper_bucket d is = proper_hex d is.bytes (omega (arith, is.size))
+
+-- ---- temporary files
+
+pub proper_temp_folder : IsProperName (codes "tmp")
+proper_temp_folder = proper (codes "tmp") (omega arith) refl
+
+pub be_bytes : (n : ℕ) → IsBytes (to_be_bytes w64 n)
+be_bytes n zero = omega arith
+be_bytes n (suc zero) = omega arith
+be_bytes n (suc (suc zero)) = omega arith
+be_bytes n (suc (suc (suc zero))) = omega arith
+be_bytes n (suc (suc (suc (suc zero)))) = omega arith
+be_bytes n (suc (suc (suc (suc (suc zero))))) = omega arith
+be_bytes n (suc (suc (suc (suc (suc (suc zero)))))) = omega arith
+be_bytes n (suc (suc (suc (suc (suc (suc (suc zero))))))) = omega arith
+be_bytes n (suc (suc (suc (suc (suc (suc (suc (suc i)))))))) = omega arith
+
+-- a temporary file's name begins with a dot
+proper_dotted : (b : List ℕ) → list_any is_special b ≡ false → IsProperName (codes ".tmp" ++ b)
+proper_dotted b clear = (rw (some_length 46 (codes "tmp" ++ b)) refl, refl, no_end b clear)
+
+pub proper_temp : (n : ℕ) → All IsProperName ((codes ".tmp" ++ encode_lower (to_be_bytes w64 n)) ∷ [])
+proper_temp n =
+    All-cons IsProperName (codes ".tmp" ++ encode_lower (to_be_bytes w64 n)) [] (proper_dotted (encode_lower (to_be_bytes w64 n)) (hex_clear (to_be_bytes w64 n) (be_bytes n))) (All-nil IsProperName)
+
+pub names_are_proper : NamesAreProper
+names_are_proper = record {
+  contents = λ h is. All-cons IsProperName (codes "content-v2") (name_of h.algorithm ∷ cut_digits (encode_lower h.digest)) proper_content_folder (proper_content h is);
+  buckets = λ d is. All-cons IsProperName (codes "index-v5") (cut_digits (encode_lower d)) proper_bucket_folder (proper_bucket d is);
+  temporaries = λ n. All-cons IsProperName (codes "tmp") ((codes ".tmp" ++ encode_lower (to_be_bytes w64 n)) ∷ []) proper_temp_folder (proper_temp n);
+}

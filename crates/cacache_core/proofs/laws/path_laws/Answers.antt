@@ -1,0 +1,23 @@
+use Rattle.cacache_core.proofs.JoinedNames.{joined_texts_name}
+use Rattle.cacache_core.proofs.PathLemmas.{keys_have_digests, none_begins, kinds_are_apart}
+use Rattle.cacache_core.proofs.PathTexts.{paths_differ}
+use Rattle.cacache_core.proofs.ProperNames.{names_are_proper}
+use Rattle.cacache_core.proofs.laws.path_laws.Goals as goal
+
+pub returns-clause-digests : goal.returns-clause-digests
+returns-clause-digests c = keys_have_digests
+
+pub returns-clause-differ : goal.returns-clause-differ
+returns-clause-differ c = paths_differ
+
+pub returns-clause-none_begins : goal.returns-clause-none_begins
+returns-clause-none_begins c = none_begins
+
+pub returns-clause-apart : goal.returns-clause-apart
+returns-clause-apart c = kinds_are_apart
+
+pub returns-clause-proper : goal.returns-clause-proper
+returns-clause-proper c = names_are_proper
+
+pub returns-clause-texts : goal.returns-clause-texts
+returns-clause-texts c = joined_texts_name

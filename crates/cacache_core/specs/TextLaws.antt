@@ -1,0 +1,20 @@
+-- What holds of the texts of integrities.
+use Rattle.std.specs.Prelude.{◌≡◌, ◌↔◌, ℕ, List, Ok}
+use Rattle.base64.specs.GeneralPurpose.{IsBytes}
+use Rattle.cacache_core.specs.declared.integrity.digest.Hash.{Hash}
+use Rattle.cacache_core.specs.Integrity.{IsIntegrity}
+use Rattle.cacache_core.specs.Texts.{text_of, read_integrity, IsIntegrityText}
+
+-- the printed text of an integrity reads as that integrity
+abbrev pub PrintedTextsRead : Type 0
+PrintedTextsRead = (i : List Hash) → IsIntegrity i → read_integrity (text_of i) ≡ Ok i
+
+-- a text reads as an integrity exactly where it is one of its texts
+abbrev pub IntegrityTextsRead : Type 0
+IntegrityTextsRead =
+    (t : List ℕ) (i : List Hash) → IsBytes t → (read_integrity t ≡ Ok i) ↔ IsIntegrityText t i
+
+-- what a text reads as is an integrity
+abbrev pub ReadTextsAreIntegrities : Type 0
+ReadTextsAreIntegrities =
+    (t : List ℕ) (i : List Hash) → IsBytes t → read_integrity t ≡ Ok i → IsIntegrity i

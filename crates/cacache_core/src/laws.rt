@@ -1,0 +1,24 @@
+//! What holds of paths, texts and integrities, each topic on a function that does nothing. Call it
+//! where a proof needs its laws.
+ghost use Rattle.cacache_core.specs.PathLaws.{KeysHaveDigests, PathsDiffer, NoneBegins, KindsAreApart, NamesAreProper, JoinedTextsName};
+ghost use Rattle.cacache_core.specs.TextLaws.{PrintedTextsRead, IntegrityTextsRead, ReadTextsAreIntegrities};
+
+/// Two paths of one kind (of contents, of buckets, of temporary files) are equal only where the
+/// hashes, the digests of keys or the numbers are; no path lies below another; and each path's text
+/// names what lies below the cache's folder.
+pub fn path_laws()
+    ensures digests { KeysHaveDigests }
+    ensures differ { PathsDiffer }
+    ensures none_begins { NoneBegins }
+    ensures apart { KindsAreApart }
+    ensures proper { NamesAreProper }
+    ensures texts { JoinedTextsName }
+{}
+
+/// An integrity's printed text reads as that integrity, and a text reads as an integrity exactly
+/// where its words are the texts of its hashes.
+pub fn text_laws()
+    ensures printed { PrintedTextsRead }
+    ensures read { IntegrityTextsRead }
+    ensures integrities { ReadTextsAreIntegrities }
+{}
