@@ -1,14 +1,17 @@
 -- An entry has no cause against it exactly where it fits.
-use Rattle.std.proofs.Common.{◌≡◌, ℕ, ◌^◌, ◌<◌, ◌≤◌, List, [], ◌∷◌, Bool, true, false, not, Option, Some, None, refl, ap, ◌∙◌, arith}
+use Rattle.std.proofs.Common.{◌≡◌, ℕ, ◌^◌, ◌<◌, ◌≤◌, List, [], ◌∷◌, Bool, true, false, not, Option, Some, None, refl, sym, ap, ◌∙◌, arith}
 use Rattle.std.specs.Prelude.{nat_lt, nat_le, if◌then◌else◌}
 use Rattle.std.proofs.lemmas.Bool.{leb-true, leb-false, ltb-false, le-ltb, lt-ltb, lt-leb, le-leb}
-use Rattle.serde_json.specs.Data.{depth, items_depth, object}
+use Rattle.json.proofs.Printed.Utf8.{IsUtf8-are_ascii}
+use Rattle.serde_json.specs.Data.{null, depth, items_depth, object}
 use Rattle.serde_json.specs.Read.{max_depth}
 use Rattle.serde_json.specs.Written.{has_float}
 use Rattle.cacache_core.specs.declared.errors.SerdeCause.{SerdeCause}
 use Rattle.cacache_core.specs.declared.errors.SerdeCause.TheVariants.{TimeTooLarge, NotWhole, TooDeep}
 use Rattle.cacache_entry.specs.Entry.{Entry, text_or_null, byte_items, bytes_or_null, members_of}
-use Rattle.cacache_entry.specs.Fits.{IsEntry, Fits, cause_of}
+use Rattle.cacache_entry.specs.Fits.{IsJson, IsEntry, Fits, cause_of}
+use Rattle.cacache_entry.specs.Laws.{NoCauseIsFit, FlatEntriesFit, bare_entry, BareEntriesFit}
+use Rattle.cacache_entry.proofs.ReadsBack.{has_float-IsWhole}
 
 -- the first of three causes
 abbrev first_cause : Bool → Bool → Bool → Option SerdeCause
@@ -39,7 +42,7 @@ nests e h = ltb-false _ _ (no_cause (nat_le (2 ^ 64) e.time) (has_float e.metada
 
 -- a well-formed entry that has no cause against it fits
 pub Fits-no_cause : (e : Entry) → IsEntry e → cause_of e ≡ None → Fits e
-Fits-no_cause e h none = record { time = is_early e none; size = h.size; whole = h.in_range (has_no_float e none); nests = nests e none }
+Fits-no_cause e h none = record { time = is_early e none; size = h.size; whole = h.metadata.in_range (has_no_float e none); nests = nests e none }
 
 -- ---- how deep an entry nests
 
@@ -76,3 +79,23 @@ cause_of-none e early whole flat = by (nat_le (2 ^ 64) e.time) (has_float e.meta
 -- metadata of an entry that nests no deeper than its limit
 pub flat_metadata : (e : Entry) → cause_of e ≡ None → depth e.metadata ≤ 126
 flat_metadata e h = omega (arith, nests e h)
+
+-- ---- the laws
+
+no_cause-Fits : (e : Entry) → Fits e → cause_of e ≡ None
+no_cause-Fits e f = sym (cause_of-none e f.time (has_float-IsWhole e.metadata f.whole) (omega (arith, f.nests)))
+
+pub no_cause_is_fit : NoCauseIsFit
+no_cause_is_fit e h = (λ none. Fits-no_cause e h none, λ f. no_cause-Fits e f)
+
+pub flat_entries_fit : FlatEntriesFit
+flat_entries_fit e h early whole flat = Fits-no_cause e h (sym (cause_of-none e early whole flat))
+
+IsJson-null : IsJson null
+IsJson-null = record { utf8 = IsUtf8-are_ascii _ refl; ordered = tt; in_range = λ whole. tt }
+
+pub bare_entries_fit : BareEntriesFit
+bare_entries_fit key integrity time size k i early small =
+    let e = bare_entry key integrity time size in
+    let is : IsEntry e = record { key = k; integrity = i; size = small; metadata = IsJson-null; raw_metadata = tt } in
+    (is, flat_entries_fit e is early refl (omega arith))

@@ -1,7 +1,7 @@
 pub mod Causes
 pub mod Cuts
 pub mod Digits
-pub mod Laws
+pub mod Lines
 pub mod Levels
 pub mod Lookups
 pub mod Parts
@@ -9,4 +9,5 @@ pub mod Pieces
 pub mod Plain
 pub mod ReadsBack
 pub mod Torn
+pub mod Utf8
 pub mod WellRead

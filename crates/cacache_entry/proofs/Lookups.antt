@@ -1,14 +1,16 @@
 -- The last entry that answers to a key decides a lookup.
-use Rattle.std.proofs.Common.{◌≡◌, ℕ, ◌+◌, List, [], ◌∷◌, ◌++◌, Option, None, Some, option_map, option_and_then, drop, take, fold, refl, sym, ap, ◌∙◌, append-nil}
-use Rattle.std.specs.Prelude.{unwrap_or}
+use Rattle.std.proofs.Common.{◌≡◌, ℕ, suc, ◌+◌, List, [], ◌∷◌, ◌++◌, Bool, true, false, Option, None, Some, option_map, option_and_then, drop, take, map, fold, refl, sym, ap, ◌∙◌, append-nil}
+use Rattle.std.specs.Prelude.{unwrap_or, is_some, if◌then◌else◌, reverse}
+use Rattle.std.proofs.lemmas.List.{map-append, reverse-append}
 use Rattle.std.specs.Option.{option_to_list, option_flatten}
 use Rattle.std.proofs.lemmas.List.Sums.{fold-append}
 use Rattle.memchr.specs.Find.{IsLastByte, is_byte}
-use Rattle.cacache_entry.specs.Entry.{Entry}
-use Rattle.cacache_entry.specs.Bucket.{without_cr, entry_of_piece, entries_of}
-use Rattle.cacache_entry.specs.Latest.{Found, answer_to, after_entry, latest, NoneAnswers}
-use Rattle.cacache_entry.specs.Laws.{LastAnswerDecides, NoAnswerIsNone}
-use Rattle.cacache_entry.proofs.Pieces.{found, entries-piece, entries-last}
+use Rattle.cacache_entry.specs.Entry.{Entry, piece_of}
+use Rattle.cacache_entry.specs.Bucket.{cut, without_cr, entry_of_piece, pieces_of, entries_of}
+use Rattle.cacache_entry.specs.Latest.{Found, answer_to, after_entry, latest, NoneAnswers, decides, count_to_deciding, pieces_read}
+use Rattle.cacache_entry.specs.Laws.{LastAnswerDecides, NoAnswerIsNone, LastLineIsEnough}
+use Rattle.cacache_entry.proofs.Lines.{pieces_of-line, entry_of_piece-whole}
+use Rattle.cacache_entry.proofs.Pieces.{found, cut-last, entries-piece, entries-last}
 
 -- entries that answer nothing change nothing
 after_none : (key : List ℕ) (found : Option Found) (es : List Entry) → NoneAnswers key es → fold (after_entry key) found es ≡ found
@@ -46,3 +48,34 @@ pub latest-alone : {A : Type 0} (view : A → Found) (key p : List ℕ) (answer 
     → option_map view (option_flatten answer) ≡ latest key (entries_of p)
 latest-alone view key p answer h is =
     flat view answer ∙ ap (λ a. unwrap_or a None) is ∙ sym (latest-more key [] (entry_of_piece (without_cr p))) ∙ ap (latest key) (sym (entries-piece p (found 10 p None h)))
+
+-- ---- how many pieces are read
+
+-- the pieces before the last line feed, and the one behind it
+pieces_of-last : (bs : List ℕ) (i : ℕ) → IsLastByte (is_byte 10) bs (Some i) → pieces_of bs ≡ pieces_of (take i bs) ++ without_cr (drop (i + 1) bs) ∷ []
+pieces_of-last bs i h = ap (map without_cr) (cut-last bs i h) ∙ map-append without_cr (cut 10 (take i bs)) (drop (i + 1) bs ∷ [])
+
+count_first : (key : List ℕ) (o : Option (Option Found)) (p : List ℕ) (ps : List (List ℕ)) → o ≡ option_and_then (answer_to key) (entry_of_piece p) → count_to_deciding key (p ∷ ps) ≡ (if is_some o then 1 else suc (count_to_deciding key ps))
+count_first key o p ps is = ap (λ a. if is_some a then 1 else suc (count_to_deciding key ps)) (sym is)
+
+-- a lookup reads the piece behind the last line feed and, where it doesn't decide, what is read before it
+pub pieces_read-last : (key bs p : List ℕ) (i : ℕ) (answer : Option (Option Found)) → IsLastByte (is_byte 10) bs (Some i) → p ≡ drop (i + 1) bs → answer ≡ option_and_then (answer_to key) (entry_of_piece (without_cr p))
+    → pieces_read key bs ≡ (if is_some answer then 1 else suc (pieces_read key (take i bs)))
+pieces_read-last key bs p i answer h behind is =
+    let q = without_cr (drop (i + 1) bs) in
+    ap (λ ps. count_to_deciding key (reverse ps)) (pieces_of-last bs i h) ∙ ap (count_to_deciding key) (reverse-append (pieces_of (take i bs)) (q ∷ []))
+    ∙ count_first key answer q (reverse (pieces_of (take i bs))) (is ∙ ap (λ l. option_and_then (answer_to key) (entry_of_piece (without_cr l))) behind)
+
+either_one : (b : Bool) → (if b then 1 else suc 0) ≡ 1
+either_one true = refl
+either_one false = refl
+
+-- and in a piece alone that piece
+pub pieces_read-alone : (key p : List ℕ) → IsLastByte (is_byte 10) p None → pieces_read key p ≡ 1
+pieces_read-alone key p h = ap (λ ps. count_to_deciding key (reverse (map without_cr ps))) (found 10 p None h) ∙ either_one (decides key (without_cr p))
+
+pub last_line_is_enough : LastLineIsEnough
+last_line_is_enough key x e found h f is =
+    let p = piece_of e in
+    ap (λ ps. count_to_deciding key (reverse ps)) (pieces_of-line x e h f) ∙ ap (count_to_deciding key) (reverse-append (pieces_of x) (p ∷ []))
+    ∙ count_first key (Some found) p (reverse (pieces_of x)) (sym (ap (option_and_then (answer_to key)) (entry_of_piece-whole e h f) ∙ is))

@@ -139,6 +139,12 @@ entries_split x y =
     ap (λ ps. filter_map entry_of_piece (map without_cr ps)) (cut-append 10 x y)
     ∙ ap (filter_map entry_of_piece) (map-append without_cr (cut 10 x) (cut 10 y)) ∙ filter_map-append entry_of_piece (map without_cr (cut 10 x)) (map without_cr (cut 10 y))
 
+-- the pieces before the last line feed, and what stands behind it
+pub cut-last : (bs : List ℕ) (i : ℕ) → IsLastByte (is_byte 10) bs (Some i) → cut 10 bs ≡ cut 10 (take i bs) ++ drop (i + 1) bs ∷ []
+cut-last bs i h =
+    ap (cut 10) (around 10 bs i h.0.high (eqb-true _ _ h.1)) ∙ cut-append 10 (take i bs) (drop (i + 1) bs)
+    ∙ ap (λ ps. cut 10 (take i bs) ++ ps) (cut-lacks 10 (drop (i + 1) bs) (lacks-back 10 (i + 1) bs h.0.after))
+
 -- the entries of what stands before the last line feed, and of the piece behind it
 pub entries-last : (bs : List ℕ) (i : ℕ) → IsLastByte (is_byte 10) bs (Some i) → entries_of bs ≡ entries_of (take i bs) ++ option_to_list (entry_of_piece (without_cr (drop (i + 1) bs)))
 entries-last bs i h =

@@ -175,7 +175,7 @@ is_float-IsWhole (negative z) h = refl
 is_float-IsWhole (float x) h = absurd h
 
 mutual
-  has_float-IsWhole : (d : Data) → IsWhole d → has_float d ≡ false
+  pub has_float-IsWhole : (d : Data) → IsWhole d → has_float d ≡ false
   has_float-IsWhole null h = refl
   has_float-IsWhole (boolean b) h = refl
   has_float-IsWhole (number n) h = is_float-IsWhole n h
@@ -233,7 +233,7 @@ of_members-members_of e h f =
       of_json-outline (text_or_null e.integrity) (IsWhole-text_or_null e.integrity) (IsOrdered-text_or_null e.integrity),
       number_of-decimal e.time f.time,
       number_of-decimal e.size f.size,
-      of_json-outline e.metadata f.whole h.ordered,
+      of_json-outline e.metadata f.whole h.metadata.ordered,
       of_json-outline (bytes_or_null e.raw_metadata) (IsWhole-bytes_or_null e.raw_metadata h.raw_metadata) (IsOrdered-bytes_or_null e.raw_metadata),
     ) refl
 

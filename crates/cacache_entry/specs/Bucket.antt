@@ -25,9 +25,13 @@ entry_of_parts (digest ∷ text ∷ more ∷ others) = None
 abbrev pub entry_of_piece : List ℕ → Option Entry
 entry_of_piece p = cond (is_utf8 p) (entry_of_parts (cut 9 p)) None
 
+-- the pieces of a bucket's bytes: what stands between its line feeds, each without one CR at its end
+abbrev pub pieces_of : List ℕ → List (List ℕ)
+pieces_of x = map without_cr (cut 10 x)
+
 -- the entries of a bucket's bytes, in order; every other piece is skipped alone
 abbrev pub entries_of : List ℕ → List Entry
-entries_of x = filter_map entry_of_piece (map without_cr (cut 10 x))
+entries_of x = filter_map entry_of_piece (pieces_of x)
 
 -- the first piece ends at place i
 abbrev pub CutsAt : ℕ → List ℕ → ℕ → Type 0

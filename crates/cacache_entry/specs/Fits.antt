@@ -5,10 +5,10 @@ use Rattle.std.specs.Cmp.Lexicographic.{slice_cmp}
 use Rattle.std.specs.declared.cmp.Ordering.TheVariants.{Less}
 use Rattle.serde_json.specs.Data.{Num, unsigned, negative, float, Data, null, boolean, number, string, array, object, Items, no_items, item, Members, no_members, member, depth}
 use Rattle.serde_json.specs.Read.{max_depth}
-use Rattle.serde_json.specs.Written.{has_float}
+use Rattle.serde_json.specs.Written.{has_float, compact_text}
 use Rattle.cacache_core.specs.declared.errors.SerdeCause.{SerdeCause}
 use Rattle.cacache_core.specs.declared.errors.SerdeCause.TheVariants.{TimeTooLarge, NotWhole, TooDeep}
-use Rattle.cacache_entry.specs.Entry.{Entry, members_of, text_of}
+use Rattle.cacache_entry.specs.Entry.{Entry, members_of}
 
 -- ---- what every value of the program's type keeps
 
@@ -70,12 +70,23 @@ abbrev mutual
   MembersAreWhole no_members = Unit {0}
   MembersAreWhole (member k d ms) = IsWhole d × MembersAreWhole ms
 
--- well-formed, as each value of the program's type is: texts are UTF-8, names are in order, numbers are in range
+-- where there is a text, it is UTF-8
+abbrev pub IsUtf8IfAny : Option (List ℕ) → Type 0
+IsUtf8IfAny None = Unit {0}
+IsUtf8IfAny (Some text) = IsUtf8 text
+
+-- as each JSON value of the program: its text is UTF-8, its names are in order, its numbers in range
+pub record IsJson (d : Data) : Type 0 where
+  pub utf8 : IsUtf8 (compact_text d)
+  pub ordered : IsOrdered d
+  pub in_range : has_float d ≡ false → IsWhole d
+
+-- well-formed, as each entry of the program: texts are UTF-8, metadata is JSON, numbers are in range
 pub record IsEntry (e : Entry) : Type 0 where
-  pub utf8 : IsUtf8 (text_of e)
+  pub key : IsUtf8 e.key
+  pub integrity : IsUtf8IfAny e.integrity
   pub size : e.size < 2 ^ 64
-  pub ordered : IsOrdered e.metadata
-  pub in_range : has_float e.metadata ≡ false → IsWhole e.metadata
+  pub metadata : IsJson e.metadata
   pub raw_metadata : AreBytes e.raw_metadata
 
 -- ---- what can be written

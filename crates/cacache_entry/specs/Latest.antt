@@ -1,10 +1,11 @@
 -- What a lookup of a key answers.
-use Rattle.std.specs.Prelude.{◌≡◌, ℕ, List, [], ◌∷◌, Option, Some, None, Result, Ok, Err, cond, bytes_eq, unwrap_or, fold}
+use Rattle.std.specs.Prelude.{◌≡◌, ℕ, suc, List, [], ◌∷◌, Bool, Option, Some, None, Result, Ok, Err, bytes_eq, if◌then◌else◌, is_some, option_and_then, unwrap_or, fold, reverse}
 use Rattle.serde_json.specs.Data.{Data}
 use Rattle.cacache_core.specs.declared.errors.IntegrityFault.{IntegrityFault}
 use Rattle.cacache_core.specs.declared.integrity.digest.Hash.{Hash}
 use Rattle.cacache_core.specs.Texts.{read_integrity}
 use Rattle.cacache_entry.specs.Entry.{Entry}
+use Rattle.cacache_entry.specs.Bucket.{entry_of_piece, pieces_of}
 
 -- a found entry, with the integrity that its text reads as
 pub record Found : Type 0 where
@@ -31,7 +32,7 @@ answer_of e (Some t) = answer_read e (read_integrity t)
 
 -- what an entry answers to a lookup of the key
 abbrev pub answer_to : List ℕ → Entry → Option (Option Found)
-answer_to key e = cond (bytes_eq e.key key) (answer_of e e.integrity) None
+answer_to key e = if bytes_eq e.key key then answer_of e e.integrity else None
 
 -- what is found after one more entry: its answer, or what was found before
 abbrev pub after_entry : List ℕ → Option Found → Entry → Option Found
@@ -45,3 +46,18 @@ latest key es = fold (after_entry key) None es
 abbrev pub NoneAnswers : List ℕ → List Entry → Type 0
 NoneAnswers key [] = Unit {0}
 NoneAnswers key (e ∷ es) = (answer_to key e ≡ None) × NoneAnswers key es
+
+-- ---- how much a lookup reads
+
+-- whether a piece decides: it is an entry that answers to the key
+abbrev pub decides : List ℕ → List ℕ → Bool
+decides key piece = is_some (option_and_then (answer_to key) (entry_of_piece piece))
+
+-- how many pieces there are up to the first that decides, itself counted; all where none does
+abbrev pub count_to_deciding : List ℕ → List (List ℕ) → ℕ
+count_to_deciding key [] = 0
+count_to_deciding key (p ∷ ps) = if decides key p then 1 else suc (count_to_deciding key ps)
+
+-- how many pieces a lookup reads, from the last to the first that decides
+abbrev pub pieces_read : List ℕ → List ℕ → ℕ
+pieces_read key x = count_to_deciding key (reverse (pieces_of x))

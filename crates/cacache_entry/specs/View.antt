@@ -2,7 +2,7 @@
 use Rattle.std.specs.Prelude.{◌≡◌, ℕ, List, ◌++◌, codes, Some, option_map, string_bytes}
 use Rattle.serde_json.specs.View.{view}
 use Rattle.cacache_core.specs.declared.errors.Error.{Error}
-use Rattle.cacache_core.specs.declared.errors.Error.TheVariants.{EntryNotFound, SizeMismatch, IoError, SerdeError, IntegrityError, OutOfMemory}
+use Rattle.cacache_core.specs.declared.errors.Error.TheVariants.{SerdeError, OutOfMemory}
 use Rattle.cacache_entry.specs.Entry.{Entry}
 use Rattle.cacache_entry.specs.Fits.{cause_of}
 use Rattle.cacache_entry.specs.Latest.{Found}
@@ -35,11 +35,7 @@ found_view m = record {
 abbrev pub refusal_text : List ℕ → List ℕ
 refusal_text key = codes "Failed to serialize entry with key `" ++ key ++ codes "`"
 
--- an entry is refused with the cause and the text, or for want of memory
+-- an entry is refused with the cause against it and the text, or since memory ran out
 abbrev pub IsRefusal : Entry → Error → Type 0
-IsRefusal e (EntryNotFound cache key) = ⊥
-IsRefusal e (SizeMismatch wanted found) = ⊥
-IsRefusal e (IoError fault text) = ⊥
 IsRefusal e (SerdeError cause text) = (cause_of e ≡ Some cause) × (text ≡ refusal_text e.key)
-IsRefusal e (IntegrityError fault) = ⊥
-IsRefusal e OutOfMemory = Unit {0}
+IsRefusal e error = error ≡ OutOfMemory

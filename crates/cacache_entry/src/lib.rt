@@ -1,16 +1,18 @@
 //! The entries of the index: the line that holds one, and the entries and lookups that a bucket's bytes hold.
 #![tactic(auto)]
 
+mod laws;
 mod limits;
-mod lookup;
 mod metadata;
 mod parse;
 mod read;
+mod search;
 mod write;
 
-pub use lookup::latest;
+pub use laws::{bucket_laws, entry_laws, lookup_laws};
 pub use metadata::{Metadata, SerializableMetadata};
 pub use read::entries;
+pub use search::{Lookup, latest};
 pub use write::line;
 
 #[cfg(test)]

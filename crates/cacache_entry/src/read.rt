@@ -4,7 +4,6 @@ ghost use Rattle.std.specs.Option.{option_to_list};
 ghost use Rattle.cacache_core.specs.Digests.{sha256_hex};
 ghost use Rattle.cacache_core.specs.declared.errors.Error.TheVariants.{OutOfMemory};
 ghost use Rattle.cacache_entry.specs.Bucket.{cut, CutsAt, without_cr as less_cr, entry_of_piece, entries_of};
-ghost use Rattle.cacache_entry.specs.Laws.{EntriesSplit};
 ghost use Rattle.cacache_entry.specs.View.{entry_view};
 
 use crate::metadata::SerializableMetadata;
@@ -18,17 +17,10 @@ use std::alloc::{AllocError, Global};
 ///
 /// # Errors
 ///
-/// `OutOfMemory` where memory is refused.
+/// `OutOfMemory` where memory runs out.
 pub fn entries(alloc: Global, bytes: &[u8]) -> errors::Result<Vec<SerializableMetadata>>
     ensures entries { IfOk result (λ found. map entry_view found.items ≡ entries_of bytes.now) }
     ensures refused { IfErr result (λ e. e ≡ OutOfMemory) }
-    ensures split { EntriesSplit }
-{
-    Ok(entries_in(alloc, bytes)?)
-}
-
-fn entries_in(alloc: Global, bytes: &[u8]) -> Result<Vec<SerializableMetadata>, AllocError>
-    ensures { IfOk result (λ found. map entry_view found.items ≡ entries_of bytes.now) }
 {
     let mut found = Vec::new(alloc);
     let mut rest = bytes;
@@ -40,7 +32,7 @@ fn entries_in(alloc: Global, bytes: &[u8]) -> Result<Vec<SerializableMetadata>, 
     Ok(found)
 }
 
-// Adds the entry that a piece is, if it is one.
+/// Adds the entry that a piece is, if it is one.
 fn add(found: &mut Vec<SerializableMetadata>, alloc: Global, piece: &[u8]) -> Result<(), AllocError>
     ensures { OnOk result (map entry_view found.new.items
         ≡ map entry_view found.old.items ++ option_to_list (entry_of_piece (less_cr piece.now))) }
@@ -61,7 +53,7 @@ pub(crate) fn without_cr(piece: &[u8]) -> &[u8]
     }
 }
 
-// The first place of the byte.
+/// The first place of the byte.
 fn first(bytes: &[u8], byte: u8) -> Option<usize>
     ensures { MatchOption result (cut byte bytes.now ≡ bytes.now ∷ []) (λ i. CutsAt byte bytes.now i) }
 {
@@ -91,7 +83,7 @@ pub(crate) fn piece_entry(
     read_entry(alloc, rest)
 }
 
-// Whether the digits are the lower-case hex digits of the SHA-256 of the bytes.
+/// Whether the digits are the lower-case hex digits of the SHA-256 of the bytes.
 fn is_digest_of(digits: &[u8], bytes: &[u8]) -> bool
     ensures { IsTrue result ↔ (digits.now ≡ sha256_hex bytes.now) }
 {

@@ -163,7 +163,7 @@ fn line_of(
 
 // The time of what a lookup of the key finds.
 fn found_time(alloc: Global, bytes: &[u8], key: &str) -> errors::Result<Option<u128>> {
-    Ok(latest(alloc, bytes, key)?.map(|found| found.time))
+    Ok(latest(alloc, bytes, key)?.found.map(|found| found.time))
 }
 
 #[test]
@@ -210,6 +210,41 @@ fn lookups_in_a_damaged_bucket(rt: HostRuntime) -> Result<(), Fail> {
     assert!(rt; found_time(alloc, &bytes, "hello")? == Some(4));
     assert!(rt; found_time(alloc, &bytes, "other")? == None);
     assert!(rt; found_time(alloc, &bytes, "third")? == None);
+    Ok(())
+}
+
+// The bytes of MOCK, and then these.
+fn behind_mock(alloc: Global, more: &[u8]) -> Result<Vec<u8>, AllocError> {
+    let mut bytes = Vec::new(alloc);
+    bytes.extend_from_slice(MOCK.as_bytes())?;
+    bytes.extend_from_slice(more)?;
+    Ok(bytes)
+}
+
+#[test]
+fn lookups_from_the_end(rt: HostRuntime) -> Result<(), Fail> {
+    let alloc = rt.alloc();
+    let mock = MOCK.as_bytes();
+    let torn = behind_mock(alloc, &mock[..40])?;
+    let unreadable = line_of(alloc, "hello", Some("md5-AAAA"), 1234568)?;
+    let behind_unreadable = behind_mock(alloc, &unreadable)?;
+    let tombstone = line_of(alloc, "hello", None, 1234568)?;
+    let deleted = behind_mock(alloc, &tombstone)?;
+    let ended = behind_mock(alloc, b"\r\n")?;
+    let empty: &[u8] = &[];
+    for (bytes, key, time, pieces) in [
+        (empty, "hello", None, 1),
+        (mock, "hello", Some(1234567), 1),
+        (torn.as_slice(), "hello", Some(1234567), 2),
+        (behind_unreadable.as_slice(), "hello", Some(1234567), 2),
+        (deleted.as_slice(), "hello", None, 1),
+        (ended.as_slice(), "hello", Some(1234567), 2),
+        (mock, "other", None, 2),
+    ] {
+        let lookup = latest(alloc, bytes, key)?;
+        assert_eq!(rt; lookup.pieces, pieces);
+        assert!(rt; lookup.found.map(|found| found.time) == time);
+    }
     Ok(())
 }
 

@@ -1,13 +1,12 @@
 //! The line of an entry.
-ghost use Rattle.std.specs.Prelude.{◌≡◌, ◌∷◌, ◌++◌, ◌≤◌, ◌<◌, ◌^◌, Some, None, IfOk, IfErr, OnOk, false, string_bytes, option_map};
+ghost use Rattle.std.specs.Prelude.{◌≡◌, ◌∷◌, ◌++◌, ◌≤◌, ◌<◌, ◌^◌, Some, None, IfOk, IfErr, OnOk, false, string_bytes, option_map, IsUtf8};
 ghost use Rattle.serde_json.specs.Data.{depth};
 ghost use Rattle.serde_json.specs.Read.{read, max_depth};
 ghost use Rattle.serde_json.specs.Written.{has_float, compact_text};
 ghost use Rattle.serde_json.specs.View.{view};
 ghost use Rattle.cacache_core.specs.Digests.{sha256_hex};
 ghost use Rattle.cacache_entry.specs.Entry.{line_of, text_of, text_or_null, bytes_or_null};
-ghost use Rattle.cacache_entry.specs.Fits.{AreBytes, IsEntry, cause_of as cause_of_entry};
-ghost use Rattle.cacache_entry.specs.Laws.{LinesAppend, TornTextsReadAsNothing, TornLinesAddNothing, TornLinesHurtNoOther};
+ghost use Rattle.cacache_entry.specs.Fits.{AreBytes, IsEntry, Fits, cause_of as cause_of_entry};
 ghost use Rattle.cacache_entry.specs.View.{entry_view, IsRefusal, refusal_text};
 
 use crate::limits::{is_whole, nests_within};
@@ -35,22 +34,9 @@ const METADATA_LEVELS: u64 = 126;
 /// its metadata isn't whole in 64 bits, its text would nest deeper than 127 levels. `OutOfMemory` where memory is refused.
 pub fn line(alloc: Global, entry: &SerializableMetadata) -> errors::Result<Vec<u8>>
     ensures line { IfOk result (λ bytes. bytes.items ≡ line_of (entry_view entry.now)) }
-    ensures fits { IfOk result (λ bytes. cause_of_entry (entry_view entry.now) ≡ None) }
-    ensures entry { IfOk result (λ bytes. IsEntry (entry_view entry.now)) }
-    ensures refused { IfErr result (IsRefusal (entry_view entry.now)) }
-    ensures appends { LinesAppend }
-    ensures torn_text { TornTextsReadAsNothing }
-    ensures torn { TornLinesAddNothing }
-    ensures hurts_no_other { TornLinesHurtNoOther }
-{
-    checked_line(alloc, entry)
-}
-
-// The line of an entry, if there is no cause against it.
-fn checked_line(alloc: Global, entry: &SerializableMetadata) -> errors::Result<Vec<u8>>
-    ensures line { IfOk result (λ bytes. bytes.items ≡ line_of (entry_view entry.now)) }
-    ensures fits { IfOk result (λ bytes. cause_of_entry (entry_view entry.now) ≡ None) }
-    ensures entry { IfOk result (λ bytes. IsEntry (entry_view entry.now)) }
+    ensures entry { OnOk result (IsEntry (entry_view entry.now)) }
+    ensures fits { OnOk result (Fits (entry_view entry.now)) }
+    ensures cause { OnOk result (cause_of_entry (entry_view entry.now) ≡ None) }
     ensures refused { IfErr result (IsRefusal (entry_view entry.now)) }
 {
     if let Some(cause) = cause_of(entry) {
@@ -85,7 +71,8 @@ fn refusal(alloc: Global, key: &str) -> Result<Text, AllocError>
 fn fitting_line(alloc: Global, entry: &SerializableMetadata) -> Result<Vec<u8>, AllocError>
     requires { cause_of_entry (entry_view entry.now) ≡ None }
     ensures line { IfOk result (λ bytes. bytes.items ≡ line_of (entry_view entry.now)) }
-    ensures entry { IfOk result (λ bytes. IsEntry (entry_view entry.now)) }
+    ensures entry { OnOk result (IsEntry (entry_view entry.now)) }
+    ensures fits { OnOk result (Fits (entry_view entry.now)) }
 {
     let text = text(alloc, entry, entry.time as u64, entry.size)?;
     joined(alloc, text.as_str())
@@ -115,7 +102,8 @@ fn text(
     requires size { size ≡ entry.now.size }
     requires whole { has_float (view entry.now.metadata) ≡ false }
     ensures text { IfOk result (λ s. string_bytes s ≡ text_of (entry_view entry.now)) }
-    ensures metadata { IfOk result (λ s. depth (view entry.now.metadata) ≤ max_depth
+    ensures utf8 { OnOk result (IsUtf8 (compact_text (view entry.now.metadata))) }
+    ensures metadata { OnOk result (depth (view entry.now.metadata) ≤ max_depth
         → read (compact_text (view entry.now.metadata)) ≡ Some (view entry.now.metadata)) }
     ensures bytes { IfOk result (λ s. AreBytes (entry_view entry.now).raw_metadata) }
     ensures size { IfOk result (λ s. entry.now.size < 2 ^ 64) }
@@ -138,6 +126,7 @@ fn text(
 fn put(out: &mut String, alloc: Global, name: &str, value: &Value) -> Result<(), AllocError>
     requires { has_float (view value.now) ≡ false }
     ensures ok { OnOk result (string_bytes out.new ≡ string_bytes out.old ++ (name.now ++ compact_text (view value.now))) }
+    ensures utf8 { OnOk result (IsUtf8 (compact_text (view value.now))) }
     ensures reads_back { OnOk result (depth (view value.now) ≤ max_depth
         → read (compact_text (view value.now)) ≡ Some (view value.now)) }
 {

@@ -1,8 +1,18 @@
-use Rattle.cacache_entry.proofs.Pieces.{entries_split}
+use Rattle.std.proofs.Common.{◌≤◌, ◌+◌, ◌++◌, map, length, drop, sym, ap, ◌∙◌, subst, arith, append_assoc, length-drop}
+use Rattle.std.proofs.lemmas.List.{take_rest}
+use Rattle.cacache_entry.specs.Bucket.{entries_of}
+use Rattle.cacache_entry.specs.View.{entry_view}
+use Rattle.cacache_entry.proofs.Pieces.{entries-first}
 use Rattle.cacache_entry.proofs.read.entries.Goals as goal
 
-pub returns-clause-split : goal.returns-clause-split
-returns-clause-split c = entries_split
-
-pub returns-in_err-entries_in-clause-split : goal.returns-in_err-entries_in-clause-split
-returns-in_err-entries_in-clause-split c = entries_split
+pub loop-at-preserved : goal.loop-at-preserved
+loop-at-preserved c =
+    let l = c.loop-at in
+    let rest = l.rest.now in
+    let at = c.in-Some.at in
+    let same = take_rest rest (at + 1) in
+    record {
+      within = subst (λ xs. length xs ≤ length c.args.bytes.now) (sym same) (omega (arith, length-drop (at + 1) rest, l.invariant.within));
+      value = ap (λ xs. map entry_view c.add.new.found.items ++ entries_of xs) same ∙ ap (λ es. es ++ entries_of (drop (at + 1) rest)) c.in_ok-add.ensures
+          ∙ append_assoc (map entry_view l.found.items) _ _ ∙ ap (λ es. map entry_view l.found.items ++ es) (sym (entries-first rest at c.in-Some.ensures)) ∙ l.invariant.value;
+    }

@@ -1,7 +1,7 @@
 use Rattle.std.proofs.Common.{◌≡◌, ◌++◌, ◌≤◌, map, length}
 use Rattle.cacache_entry.specs.Bucket.{entries_of}
 use Rattle.cacache_entry.specs.View.{entry_view}
-use Rattle.cacache_entry.proofs.read.entries_in.Given as goal
+use Rattle.cacache_entry.proofs.read.entries.Given as goal
 
 abbrev pub invariant-loop-at : goal.invariant-loop-at
 invariant-loop-at l = record { within : length l.rest ≤ length l.bytes; value : map entry_view l.found.items ++ entries_of l.rest ≡ entries_of l.bytes }

@@ -1,9 +1,8 @@
-//! The lookup of a key.
-ghost use Rattle.std.specs.Prelude.{◌≡◌, IfOk, IfErr, option_map, option_and_then};
+//! The lookup of a key, from the end of a bucket.
+ghost use Rattle.std.specs.Prelude.{◌≡◌, ◌<◌, ◌+◌, ◌^◌, IfOk, IfErr, option_map, option_and_then};
 ghost use Rattle.cacache_core.specs.declared.errors.Error.TheVariants.{OutOfMemory};
 ghost use Rattle.cacache_entry.specs.Bucket.{without_cr as less_cr, entry_of_piece, entries_of};
-ghost use Rattle.cacache_entry.specs.Latest.{found_of, answer_of, answer_to, latest as latest_of};
-ghost use Rattle.cacache_entry.specs.Laws.{LastAnswerDecides, NoAnswerIsNone};
+ghost use Rattle.cacache_entry.specs.Latest.{found_of, answer_of, answer_to, latest as latest_of, pieces_read};
 ghost use Rattle.cacache_entry.specs.View.{entry_view, found_view};
 
 use crate::metadata::{Metadata, SerializableMetadata};
@@ -13,43 +12,55 @@ use cacache_core::integrity::Integrity;
 use memchr::memrchr;
 use std::alloc::Global;
 
-/// What a lookup of the key finds in the bytes of a bucket: the last entry of the key that is a tombstone or whose
-/// integrity is readable. None where it is a tombstone, or where there is none.
+/// What a lookup found, and how much of the bucket it read.
+#[derive(Debug, Drop, PartialEq)]
+pub struct Lookup {
+    /// The entry; none where the key was deleted or never written.
+    pub found: Option<Metadata>,
+    /// How many pieces were decoded: from the deciding one to the last, or all where none decides.
+    pub pieces: u64,
+}
+
+/// Looks the key up in the bytes of a bucket, from their end: the last entry of the key that is a tombstone or has a
+/// readable integrity decides, and no piece before it is read. Nothing is found where that is a tombstone, or where no
+/// entry decides.
 ///
 /// # Errors
 ///
-/// `OutOfMemory` where memory is refused.
-pub fn latest(alloc: Global, bytes: &[u8], key: &str) -> errors::Result<Option<Metadata>>
-    ensures found { IfOk result (λ found. option_map found_view found ≡ latest_of key.now (entries_of bytes.now)) }
-    ensures refused { IfErr result (λ e. e ≡ OutOfMemory) }
-    ensures last_decides { LastAnswerDecides }
-    ensures no_answer { NoAnswerIsNone }
-{
-    last_answer(alloc, bytes, key)
-}
-
-// What the last piece that answers says. Pieces are read from the end, so that what older lines hold costs nothing.
-fn last_answer(alloc: Global, bytes: &[u8], key: &str) -> errors::Result<Option<Metadata>>
-    ensures found { IfOk result (λ found. option_map found_view found ≡ latest_of key.now (entries_of bytes.now)) }
+/// `OutOfMemory` where memory runs out.
+pub fn latest(alloc: Global, bytes: &[u8], key: &str) -> errors::Result<Lookup>
+    ensures found { IfOk result (λ lookup.
+        option_map found_view lookup.found ≡ latest_of key.now (entries_of bytes.now)) }
+    ensures pieces { IfOk result (λ lookup. lookup.pieces ≡ pieces_read key.now bytes.now) }
     ensures refused { IfErr result (λ e. e ≡ OutOfMemory) }
 {
+    let mut pieces = 0;
     let mut rest = bytes;
     while let Some(at) = memrchr(b'\n', rest) {
-        if let Some(answer) = piece_answer(alloc, &rest[at + 1..], key)? {
-            return Ok(answer);
+        if let Some(found) = piece_answer(alloc, &rest[at + 1..], key, &mut pieces)? {
+            return Ok(Lookup { found, pieces });
         }
         rest = &rest[..at];
     }
-    Ok(piece_answer(alloc, rest, key)?.flatten())
+    let found = piece_answer(alloc, rest, key, &mut pieces)?.flatten();
+    Ok(Lookup { found, pieces })
 }
 
-// What a piece answers to a lookup of the key: an entry or, if it is a tombstone, that there is none. None where it
-// is no entry of the key, or its integrity is unreadable.
-fn piece_answer(alloc: Global, piece: &[u8], key: &str) -> errors::Result<Option<Option<Metadata>>>
+/// What a piece answers to a lookup of the key: an entry or, if it is a tombstone, that there is none. None where it
+/// is no entry of the key, or its integrity is unreadable. Each call raises `pieces` by one.
+fn piece_answer(
+    alloc: Global,
+    piece: &[u8],
+    key: &str,
+    pieces: &mut u64,
+) -> errors::Result<Option<Option<Metadata>>>
+    requires { pieces.old + 1 < 2 ^ 64 }
     ensures answer { IfOk result (λ answer. option_map (option_map found_view) answer
         ≡ option_and_then (answer_to key.now) (entry_of_piece (less_cr piece.now))) }
+    ensures pieces { pieces.new ≡ pieces.old + 1 }
     ensures refused { IfErr result (λ e. e ≡ OutOfMemory) }
 {
+    *pieces += 1;
     match piece_entry(alloc, without_cr(piece))? {
         Some(entry) => if entry.key.as_str() == key {
             entry_answer(alloc, entry)
@@ -60,7 +71,7 @@ fn piece_answer(alloc: Global, piece: &[u8], key: &str) -> errors::Result<Option
     }
 }
 
-// What an entry of the key answers.
+/// What an entry of the key answers.
 fn entry_answer(
     alloc: Global,
     entry: SerializableMetadata,
@@ -79,7 +90,7 @@ fn entry_answer(
     }
 }
 
-// The entry with its integrity.
+/// The entry with its integrity.
 fn with_integrity(entry: SerializableMetadata, integrity: Integrity) -> Metadata
     ensures { found_view result ≡ found_of (entry_view entry) integrity }
 {

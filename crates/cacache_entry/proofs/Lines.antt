@@ -1,6 +1,6 @@
 -- What lines and their beginnings add to a bucket's bytes.
 use Rattle.std.proofs.Common.{◌≡◌, ℕ, zero, suc, ◌+◌, ◌-◌, ◌<◌, ◌≤◌, List, [], ◌∷◌, ◌++◌, Bool, true, false, cond, length, take, Option, Some, None, option_and_then, map, filter_map, bytes_eq, refl, ap, ◌∙◌, arith, append-nil, length-append, inl, inr, ◌⊎◌}
-use Rattle.std.proofs.lemmas.List.{take-append-le}
+use Rattle.std.proofs.lemmas.List.{take-append-le, map-append}
 use Rattle.std.proofs.lemmas.Bool.{cases_lt}
 use Rattle.std.proofs.lemmas.Str.{is_utf8-from_IsUtf8}
 use Rattle.std.proofs.lemmas.Slice.Eq.{bytes_eq-Decides}
@@ -12,14 +12,15 @@ use Rattle.cacache_core.specs.Digests.{sha256_hex}
 use Rattle.cacache_entry.specs.Entry.{Entry, members_of, text_of, piece_of, line_of}
 use Rattle.cacache_entry.specs.Reading.{entry_of, read_entry}
 use Rattle.cacache_entry.specs.Fits.{IsEntry, Fits}
-use Rattle.cacache_entry.specs.Bucket.{cut, without_cr, entry_of_parts, entry_of_piece, entries_of}
-use Rattle.cacache_entry.specs.Laws.{LinesAppend, TornTextsReadAsNothing, TornLinesAddNothing, TornLinesHurtNoOther}
+use Rattle.cacache_entry.specs.Bucket.{cut, without_cr, entry_of_parts, entry_of_piece, pieces_of, entries_of}
+use Rattle.cacache_entry.specs.Laws.{EmptyHoldsNothing, LinesAppend, TornTextsReadAsNothing, TornLinesAddNothing, TornLinesHurtNoOther}
 use Rattle.cacache_entry.proofs.Cuts.{lacks, lacks-append, lacks-take, cut-append, cut-lacks, without_cr-lacks}
 use Rattle.cacache_entry.proofs.Pieces.{entries_split}
 use Rattle.cacache_entry.proofs.Digits.{lacks-sha256_hex, IsUtf8-piece}
 use Rattle.cacache_entry.proofs.Plain.{lacks-plain, plain-compact_text}
 use Rattle.cacache_entry.proofs.ReadsBack.{MembersAreWhole-members_of, read_entry-text_of}
 use Rattle.cacache_entry.proofs.Torn.{read-torn}
+use Rattle.cacache_entry.proofs.Utf8.{IsUtf8-text_of}
 
 -- behind bytes and a line feed, a piece with no LF and no CR adds the entry that it is
 entries_piece : (x p : List ℕ) (o : Option Entry) → lacks 10 p ≡ true → lacks 13 p ≡ true → entry_of_piece p ≡ o → entries_of (x ++ 10 ∷ p) ≡ entries_of x ++ cons_option o []
@@ -56,9 +57,10 @@ module _ (e : Entry) (h : IsEntry e) (f : Fits e) where
       cut-append 9 (sha256_hex (text_of e)) t ∙ ap (λ ps. ps ++ cut 9 t) (cut-lacks 9 (sha256_hex (text_of e)) (lacks-sha256_hex 9 (text_of e) refl))
       ∙ ap (λ ps. sha256_hex (text_of e) ∷ ps) (cut-lacks 9 t alone)
 
-  entry_of_piece-whole : entry_of_piece (piece_of e) ≡ Some e
+  -- the piece of an entry is that entry
+  pub entry_of_piece-whole : entry_of_piece (piece_of e) ≡ Some e
   entry_of_piece-whole =
-      ap (λ b. cond b (entry_of_parts (cut 9 (piece_of e))) None) (is_utf8-from_IsUtf8 (piece_of e) (IsUtf8-piece (text_of e) (text_of e) h.utf8))
+      ap (λ b. cond b (entry_of_parts (cut 9 (piece_of e))) None) (is_utf8-from_IsUtf8 (piece_of e) (IsUtf8-piece (text_of e) (text_of e) (IsUtf8-text_of e h f.time)))
       ∙ ap entry_of_parts (two_parts (text_of e) (lacks-text_of 9 (omega arith))) ∙ ap (λ b. cond b (read_entry (text_of e)) None) ((bytes_eq-Decides (sha256_hex (text_of e)) (sha256_hex (text_of e))).1 refl)
       ∙ read_entry-text_of e h f
 
@@ -82,6 +84,16 @@ module _ (e : Entry) (h : IsEntry e) (f : Fits e) where
 -- behind any bytes, a line adds its entry
 pub lines_append : LinesAppend
 lines_append x e h f = entries_piece x (piece_of e) (Some e) (lacks-piece_of e h f 10 (omega arith) refl refl) (lacks-piece_of e h f 13 (omega arith) refl refl) (entry_of_piece-whole e h f)
+
+-- the pieces of bytes and a line behind them
+pub pieces_of-line : (x : List ℕ) (e : Entry) → IsEntry e → Fits e → pieces_of (x ++ line_of e) ≡ pieces_of x ++ piece_of e ∷ []
+pieces_of-line x e h f =
+    let p = piece_of e in
+    ap (map without_cr) (cut-append 10 x p ∙ ap (λ ps. cut 10 x ++ ps) (cut-lacks 10 p (lacks-piece_of e h f 10 (omega arith) refl refl)))
+    ∙ map-append without_cr (cut 10 x) (p ∷ []) ∙ ap (λ q. pieces_of x ++ q ∷ []) (without_cr-lacks p (lacks-piece_of e h f 13 (omega arith) refl refl))
+
+pub empty_holds_nothing : EmptyHoldsNothing
+empty_holds_nothing = ap (λ o. cons_option o []) (both_none (is_utf8 []))
 
 -- behind any bytes, a proper beginning of a line adds no entry
 pub torn_lines_add_nothing : TornLinesAddNothing
