@@ -9,8 +9,8 @@ use Rattle.cacache_disk.specs.declared.luck.Luck.{Luck}
 use Rattle.cacache_disk.specs.declared.luck.Luck.TheVariants.{Plain, Fail, Take}
 use Rattle.cacache_disk.specs.Tree.{Tree, Names}
 use Rattle.cacache_disk.specs.Apply.{apply, plain, unless, is_taking, is_parted, fails, fault_of, left_by, made_up}
-use Rattle.cacache_laws.specs.Value.{whole_value}
-use Rattle.cacache_laws.specs.Acts.{Nothing, left, act_of, change}
+use Rattle.cacache_laws.specs.Value.{wide_value}
+use Rattle.cacache_laws.specs.Acts.{Nothing, amount_left, act_of, change}
 
 -- ---- what holds of the tree before, and after as much of the step as you like, holds after it
 
@@ -42,12 +42,12 @@ module _ (P : Tree → Type 0) where
 
 -- the value after is the act of the step on the value before
 abbrev pub Acted : Option Names → Tree → PlainStep → Luck → PlainAnswer × Tree → Type 0
-Acted home t step luck outcome = whole_value home outcome.1 ≡ change home (act_of step luck outcome.0) (whole_value home t)
+Acted home t step luck outcome = wide_value home outcome.1 ≡ change home (act_of step luck outcome.0) (wide_value home t)
 
 module _ (home : Option Names) (t : Tree) (step : PlainStep) (nothing : (luck : Luck) (fault : Fault) → act_of step luck (Failed fault) ≡ Nothing) where
   -- a failed step that changes nothing
   failed : (luck : Luck) (fault : Fault) (new : Tree) → new ≡ t → Acted home t step luck (Failed fault, new)
-  failed luck fault new same = ap (whole_value home) same ∙ sym (ap (λ act. change home act (whole_value home t)) (nothing luck fault))
+  failed luck fault new same = ap (wide_value home) same ∙ sym (ap (λ act. change home act (wide_value home t)) (nothing luck fault))
 
   pub unless_acted : (luck : Luck) {A : Type 0} (r : Result A Fault) (go : A → PlainAnswer × Tree) → ((a : A) → r ≡ Ok a → Acted home t step luck (go a))
       → Acted home t step luck (unless r t go)
@@ -86,9 +86,9 @@ pub refused : (home : Option Names) (t : Tree) (step : PlainStep) (luck : Luck) 
     → act_of step luck (Failed own) ≡ Nothing
     → Acted home t step luck (apply t step luck)
 refused home t step luck own h nothing =
-    subst (Acted home t step luck) (sym (apply_refused t step luck own h)) (sym (ap (λ act. change home act (whole_value home t)) nothing))
+    subst (Acted home t step luck) (sym (apply_refused t step luck own h)) (sym (ap (λ act. change home act (wide_value home t)) nothing))
 
 -- a made-up fault tells how much was left
-pub left-made_up : (fault : Fault) (part : Option ℕ) → left (Fail fault part) (Failed (made_up fault)) ≡ part
-left-made_up NotFound part = refl
-left-made_up other part = refl
+pub amount_left-made_up : (fault : Fault) (part : Option ℕ) → amount_left (Fail fault part) (Failed (made_up fault)) ≡ part
+amount_left-made_up NotFound part = refl
+amount_left-made_up other part = refl

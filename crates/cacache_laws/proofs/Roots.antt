@@ -24,8 +24,9 @@ use Rattle.cacache_disk.specs.Apply.{plain, unless, make_some, if_missing, makin
 use Rattle.cacache_disk.proofs.Maps.{total, same_path-true}
 use Rattle.cacache_disk.proofs.Walks.{make_none}
 use Rattle.cacache_laws.specs.Value.{is_folder}
-use Rattle.cacache_laws.specs.Rooted.{StandsIn, Rooted, StepsKeepRoots}
-use Rattle.cacache_laws.proofs.Looks.{look-put, look-cut, folders-cut}
+use Rattle.cacache_laws.specs.Rooted.{StandsIn, Rooted}
+use Rattle.cacache_laws.specs.Laws.{StepsKeepRooted}
+use Rattle.cacache_laws.proofs.Puts.{look-put, look-cut, folders-cut}
 use Rattle.cacache_laws.proofs.Finding.{no_folder_at, there_at, and_then_ok, free_ok, kept_ok, replaceable_ok, removable_ok, emptied_ok}
 use Rattle.cacache_laws.proofs.Applying.{apply_tree, unless_tree}
 
@@ -303,5 +304,5 @@ module _ (t : Tree) (rooted : Rooted t) where
       let f = emptied_ok t p names found in
       cut_rooted t names rooted (not_top names f.2) (empty_bare t names f.3))
 
-pub steps_keep_roots : StepsKeepRoots
-steps_keep_roots t step luck rooted = apply_tree Rooted t step luck rooted (plain_rooted t rooted step)
+pub steps_keep_rooted : StepsKeepRooted
+steps_keep_rooted t step luck rooted = apply_tree Rooted t step luck rooted (plain_rooted t rooted step)

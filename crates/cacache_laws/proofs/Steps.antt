@@ -1,7 +1,7 @@
 -- The step theorem, one kind of step after another.
 use Rattle.std.proofs.Common.{◌≡◌, ℕ, false, List, [], ◌∷◌, ◌++◌, Option, None, Some, Ok, Err, length, take, refl, sym, ap, subst, ◌∙◌}
 use Rattle.std.proofs.lemmas.List.{take_min}
-use Rattle.std.specs.Prelude.{Result}
+use Rattle.std.specs.Prelude.{Result, IfOk}
 use Rattle.cacache_core.specs.declared.errors.Fault.{Fault}
 use Rattle.cacache_core.specs.declared.errors.Fault.TheVariants.{NotFound, IsADirectory, InvalidInput}
 use Rattle.cacache_base.specs.declared.store.plain.PlainTemp.{PlainTemp}
@@ -18,13 +18,13 @@ use Rattle.cacache_disk.specs.Found.{dirs, free, known, kept, replaceable, writa
 use Rattle.cacache_disk.specs.Apply.{apply, plain, unless, taken, made_up, making, make_some}
 use Rattle.cacache_entry.specs.Entry.{piece_of}
 use Rattle.cacache_entry.specs.Bucket.{entries_of}
-use Rattle.cacache_laws.specs.Kinds.{Kind, Content, Bucket, Temporary, Way, Elsewhere, kind, OnNames, IsFor}
-use Rattle.cacache_laws.specs.Value.{Whole, is_folder, whole_value}
-use Rattle.cacache_laws.specs.Acts.{Act, Nothing, PutBytes, PutLink, AddEntries, Drop, MakeFolders, DropFolder, put_held, on_names, when_known, when_left, left, folders_left, act_of, change}
-use Rattle.cacache_laws.specs.Proper.{Suits, Placed, Proper}
-use Rattle.cacache_laws.proofs.Looks.{folders-cut, placed_put, placed_cut, put_hidden, cut_hidden, put_content, put_bucket, cut_file, cut_folder}
+use Rattle.cacache_laws.specs.Kinds.{PathKind, Content, Bucket, Temporary, Way, Elsewhere, path_kind, IsFor}
+use Rattle.cacache_laws.specs.Value.{InFile, is_folder, wide_value}
+use Rattle.cacache_laws.specs.Acts.{Act, Nothing, PutBytes, PutLink, AddEntries, Drop, MakeFolders, DropFolder, put_blob, act_at, act_with, amount_left, folders_left, act_of, change}
+use Rattle.cacache_laws.specs.Placed.{Suits, Placed, Proper}
+use Rattle.cacache_laws.proofs.Puts.{folders-cut, placed_put, placed_cut, put_hidden, cut_hidden, put_content, put_bucket, cut_file, cut_folder}
 use Rattle.cacache_laws.proofs.Finding.{suits, Reaches, found, missing, bucket_reached, unreachable, unmakeable, of_names, free_ok, kept_ok, replaceable_ok, removable_ok, emptied_ok, linked_ok, writable_out}
-use Rattle.cacache_laws.proofs.Applying.{apply_tree, unless_tree, Acted, unless_acted, apply_acted, apply_refused, refused, left-made_up}
+use Rattle.cacache_laws.proofs.Applying.{apply_tree, unless_tree, Acted, unless_acted, apply_acted, apply_refused, refused, amount_left-made_up}
 use Rattle.cacache_laws.proofs.Making.{made, no_dirs_fault}
 use Rattle.cacache_laws.proofs.Lines.{bucket_left}
 
@@ -40,7 +40,7 @@ no_folder_in home (Some (Link target)) s = refl
 
 -- a placed tree that stands for the same
 abbrev pub Same : Option Names → Tree → Tree → Type 0
-Same home t new = Placed home new × (whole_value home new ≡ whole_value home t)
+Same home t new = Placed home new × (wide_value home new ≡ wide_value home t)
 
 module _ (home : Option Names) (t : Tree) (placed : Placed home t) where
   -- a step that never changes the tree
@@ -51,7 +51,7 @@ module _ (home : Option Names) (t : Tree) (placed : Placed home t) where
   asked_only r answer = unless_tree (Same home t) r t (λ a. (answer a, t)) (placed, refl) (λ a is. (placed, refl))
 
   -- a file or link put where the cache keeps nothing
-  put_aside : (names : Names) (node : Node) (k : Kind) → kind home names ≡ k → (Content ≡ k → ⊥) → (Bucket ≡ k → ⊥) → Suits home (Some node) k
+  put_aside : (names : Names) (node : Node) (k : PathKind) → path_kind home names ≡ k → (Content ≡ k → ⊥) → (Bucket ≡ k → ⊥) → Suits home (Some node) k
       → is_folder (Some node) ≡ false → is_folder (look t names) ≡ false
       → Same home t (put t names node)
   put_aside names node k is c b s fresh old = (
@@ -60,8 +60,8 @@ module _ (home : Option Names) (t : Tree) (placed : Placed home t) where
   )
 
   -- a path's names, and what the path is for
-  for_names : (path : List ℕ) (names : Names) (k : Kind) → IsFor home k path → names_of path ≡ Ok names → kind home names ≡ k
-  for_names path names k is e = of_names (λ n. kind home n ≡ k) path names is e
+  for_names : (path : List ℕ) (names : Names) (k : PathKind) → IsFor home k path → names_of path ≡ Ok names → path_kind home names ≡ k
+  for_names path names k is e = of_names (λ n. path_kind home n ≡ k) path names is e
 
   temp_kept : (p : List ℕ) (luck : Luck) → IsFor home Temporary p → Same home t (apply t (CreateTemp p) luck).1
   temp_kept p luck is =
@@ -71,7 +71,7 @@ module _ (home : Option Names) (t : Tree) (placed : Placed home t) where
 
   -- ---- steps that put what the cache doesn't keep
 
-  out : (names : Names) (node : Node) → kind home names ≡ Elsewhere → Suits home (Some node) Elsewhere → is_folder (Some node) ≡ false
+  out : (names : Names) (node : Node) → path_kind home names ≡ Elsewhere → Suits home (Some node) Elsewhere → is_folder (Some node) ≡ false
       → is_folder (look t names) ≡ false → Same home t (put t names node)
   out names node is s fresh old = put_aside names node Elsewhere is (λ e. cc) (λ e. cc) s fresh old
 
@@ -100,9 +100,9 @@ module _ (home : Option Names) (t : Tree) (placed : Placed home t) where
   -- ---- steps that put or cut what the cache keeps
 
   named : (path : List ℕ) (names : Names) (act : Names → Act) (new : Tree) → names_of path ≡ Ok names
-      → whole_value home new ≡ change home (act names) (whole_value home t)
-      → whole_value home new ≡ change home (on_names (names_of path) act) (whole_value home t)
-  named path names act new is e = e ∙ ap (λ r. change home (on_names r act) (whole_value home t)) (sym is)
+      → wide_value home new ≡ change home (act names) (wide_value home t)
+      → wide_value home new ≡ change home (act_at (names_of path) act) (wide_value home t)
+  named path names act new is e = e ∙ ap (λ r. change home (act_at r act) (wide_value home t)) (sym is)
 
   link_placed : (target p : List ℕ) (luck : Luck) → IsFor home Content p → IsFor home Elsewhere target
       → Placed home (apply t (Symlink target p) luck).1
@@ -145,12 +145,12 @@ module _ (home : Option Names) (t : Tree) (placed : Placed home t) where
       let g = replaceable_ok t p new found in
       placed_put home (cut t old) new (File bytes) (subst (Suits home (Some (File bytes))) (sym (for_names p new Content is g.0)) tt) (placed_cut home t old placed)))))
 
-  persisted : (old new : Names) (bytes : List ℕ) → kind home old ≡ Temporary → kind home new ≡ Content → is_folder (look t old) ≡ false
+  persisted : (old new : Names) (bytes : List ℕ) → path_kind home old ≡ Temporary → path_kind home new ≡ Content → is_folder (look t old) ≡ false
       → is_folder (look t new) ≡ false
-      → whole_value home (put (cut t old) new (File bytes)) ≡ put_held home new (Some (Whole bytes)) (whole_value home t)
+      → wide_value home (put (cut t old) new (File bytes)) ≡ put_blob home new (Some (InFile bytes)) (wide_value home t)
   persisted old new bytes k l e f =
       put_content home (cut t old) new (File bytes) l refl (folders-cut t old new e ∙ f)
-      ∙ ap (put_held home new (Some (Whole bytes))) (cut_hidden home t old (λ e. let apart : Content ≡ Temporary = e ∙ k in cc) (λ e. let apart : Bucket ≡ Temporary = e ∙ k in cc) e)
+      ∙ ap (put_blob home new (Some (InFile bytes))) (cut_hidden home t old (λ e. let apart : Content ≡ Temporary = e ∙ k in cc) (λ e. let apart : Bucket ≡ Temporary = e ∙ k in cc) e)
 
   persist_acted : (f : PlainTemp) (p : List ℕ) (luck : Luck) → IsFor home Temporary f.path → IsFor home Content p
       → Acted home t (Persist f p) luck (apply t (Persist f p) luck)
@@ -161,52 +161,52 @@ module _ (home : Option Names) (t : Tree) (placed : Placed home t) where
       unless_acted home t (Persist f p) none luck (replaceable t p) _ (λ new found.
       let g = kept_ok t f.path old there in
       let h = replaceable_ok t p new found in
-      named p new (λ n. when_known f.bytes (PutBytes n)) (put (cut t old) new (File bytes)) h.0
+      named p new (λ n. act_with f.bytes (PutBytes n)) (put (cut t old) new (File bytes)) h.0
       (persisted old new bytes (for_names f.path old Temporary from g.0) (for_names p new Content is h.0) g.1 h.1
-      ∙ ap (λ o. change home (when_known o (PutBytes new)) (whole_value home t)) (sym (known_ok f.bytes bytes known)))))))
+      ∙ ap (λ o. change home (act_with o (PutBytes new)) (wide_value home t)) (sym (known_ok f.bytes bytes known)))))))
 
   -- ---- an append to a bucket
 
-  appended : (p : List ℕ) (names : Names) (y : List ℕ) (n : ℕ) → kind home names ≡ Bucket → is_folder (look t names) ≡ false
-      → whole_value home (put t names (File (bytes_of (look t names) ++ take n (10 ∷ y)))) ≡ change home (AddEntries names (entries_of (take n (10 ∷ y)))) (whole_value home t)
+  appended : (p : List ℕ) (names : Names) (y : List ℕ) (n : ℕ) → path_kind home names ≡ Bucket → is_folder (look t names) ≡ false
+      → wide_value home (put t names (File (bytes_of (look t names) ++ take n (10 ∷ y)))) ≡ change home (AddEntries names (entries_of (take n (10 ∷ y)))) (wide_value home t)
   appended p names y n k old = put_bucket home t names _ (entries_of (take n (10 ∷ y))) k old (bucket_left (look t names) y n)
 
   -- where it reaches the bucket
-  module _ (p y : List ℕ) (names : Names) (is : names_of p ≡ Ok names) (k : kind home names ≡ Bucket) where
-    added : (luck : Luck) (answer : PlainAnswer) (n : ℕ) (new : Tree) → left luck answer ≡ Some n
+  module _ (p y : List ℕ) (names : Names) (is : names_of p ≡ Ok names) (k : path_kind home names ≡ Bucket) where
+    added : (luck : Luck) (answer : PlainAnswer) (n : ℕ) (new : Tree) → amount_left luck answer ≡ Some n
         → new ≡ put t names (File (bytes_of (look t names) ++ take n (10 ∷ y))) → Acted home t (Append p (10 ∷ y)) luck (answer, new)
     added luck answer n new l e =
-        ap (whole_value home) e ∙ appended p names y n k (no_folder_in home (look t names) (suits home t names Bucket k placed))
-        ∙ ap (λ o. change home (when_left o (λ count. AddEntries names (entries_of (take count (10 ∷ y))))) (whole_value home t)) (sym l)
-        ∙ ap (λ r. change home (on_names r (λ n. when_left (left luck answer) (λ count. AddEntries n (entries_of (take count (10 ∷ y)))))) (whole_value home t)) (sym is)
+        ap (wide_value home) e ∙ appended p names y n k (no_folder_in home (look t names) (suits home t names Bucket k placed))
+        ∙ ap (λ o. change home (act_with o (λ count. AddEntries names (entries_of (take count (10 ∷ y))))) (wide_value home t)) (sym l)
+        ∙ ap (λ r. change home (act_at r (λ n. act_with (amount_left luck answer) (λ count. AddEntries n (entries_of (take count (10 ∷ y)))))) (wide_value home t)) (sym is)
 
-    nothing_added : (luck : Luck) (answer : PlainAnswer) → left luck answer ≡ None → Acted home t (Append p (10 ∷ y)) luck (answer, t)
+    nothing_added : (luck : Luck) (answer : PlainAnswer) → amount_left luck answer ≡ None → Acted home t (Append p (10 ∷ y)) luck (answer, t)
     nothing_added luck answer l =
-        ap (λ o. change home (when_left o (λ count. AddEntries names (entries_of (take count (10 ∷ y))))) (whole_value home t)) (sym l)
-        ∙ ap (λ r. change home (on_names r (λ n. when_left (left luck answer) (λ count. AddEntries n (entries_of (take count (10 ∷ y)))))) (whole_value home t)) (sym is)
+        ap (λ o. change home (act_with o (λ count. AddEntries names (entries_of (take count (10 ∷ y))))) (wide_value home t)) (sym l)
+        ∙ ap (λ r. change home (act_at r (λ n. act_with (amount_left luck answer) (λ count. AddEntries n (entries_of (take count (10 ∷ y)))))) (wide_value home t)) (sym is)
 
     append_reached : (luck : Luck) → Reaches names (writable t p) → Acted home t (Append p (10 ∷ y)) luck (apply t (Append p (10 ∷ y)) luck)
     unfolding apply
     append_reached Plain (found w) = rw w (added Plain (Took (taken None (10 ∷ y))) (taken None (10 ∷ y)) _ refl refl)
     append_reached (Take most) (found w) = rw w (added (Take most) (Took (taken (Some most) (10 ∷ y))) (taken (Some most) (10 ∷ y)) _ refl refl)
-    append_reached (Fail fault None) (found w) = rw w (nothing_added (Fail fault None) (Failed (made_up fault)) (left-made_up fault None))
+    append_reached (Fail fault None) (found w) = rw w (nothing_added (Fail fault None) (Failed (made_up fault)) (amount_left-made_up fault None))
     append_reached (Fail fault (Some n)) (found w) =
-        rw w (added (Fail fault (Some n)) (Failed (made_up fault)) n _ (left-made_up fault (Some n))
+        rw w (added (Fail fault (Some n)) (Failed (made_up fault)) n _ (amount_left-made_up fault (Some n))
         (ap (λ b. put t names (File (bytes_of (look t names) ++ b))) (take_min n (10 ∷ y))))
     append_reached Plain (missing w) = rw w (nothing_added Plain (Failed NotFound) refl)
     append_reached (Take most) (missing w) = rw w (nothing_added (Take most) (Failed NotFound) refl)
     append_reached (Fail fault part) (missing w) = rw w (nothing_added (Fail fault part) (Failed NotFound) refl)
 
-  file_put : (names : Names) (bytes : List ℕ) → kind home names ≡ Bucket → Placed home (put t names (File bytes))
+  file_put : (names : Names) (bytes : List ℕ) → path_kind home names ≡ Bucket → Placed home (put t names (File bytes))
   file_put names bytes k = placed_put home t names (File bytes) (subst (Suits home (Some (File bytes))) (sym k) tt) placed
 
-  reached_placed : (p : List ℕ) (names : Names) (bytes : Names → List ℕ) (answer : Names → PlainAnswer) → kind home names ≡ Bucket
+  reached_placed : (p : List ℕ) (names : Names) (bytes : Names → List ℕ) (answer : Names → PlainAnswer) → path_kind home names ≡ Bucket
       → Reaches names (writable t p)
       → Placed home (unless (writable t p) t (λ n. (answer n, put t n (File (bytes n))))).1
   reached_placed p names bytes answer k (found w) = rw w (file_put names (bytes names) k)
   reached_placed p names bytes answer k (missing w) = rw w placed
 
-  append_kept : (p y : List ℕ) (luck : Luck) (r : Result Names Fault) → names_of p ≡ r → OnNames (λ n. kind home n ≡ Bucket) r
+  append_kept : (p y : List ℕ) (luck : Luck) (r : Result Names Fault) → names_of p ≡ r → IfOk r (λ n. path_kind home n ≡ Bucket)
       → Placed home (apply t (Append p (10 ∷ y)) luck).1 × Acted home t (Append p (10 ∷ y)) luck (apply t (Append p (10 ∷ y)) luck)
   append_kept p y luck (Ok names) is k = (
     apply_tree (Placed home) t (Append p (10 ∷ y)) luck placed (λ most. reached_placed p names (λ n. bytes_of (look t n) ++ take (taken most (10 ∷ y)) (10 ∷ y)) (λ n. Took (taken most (10 ∷ y))) k (bucket_reached home t p names placed is k)),
@@ -218,18 +218,18 @@ module _ (home : Option Names) (t : Tree) (placed : Placed home t) where
 
   -- ---- folders on the way
 
-  module _ (p : List ℕ) (names : Names) (is : names_of p ≡ Ok names) (k : kind home names ≡ Way) where
+  module _ (p : List ℕ) (names : Names) (is : names_of p ≡ Ok names) (k : path_kind home names ≡ Way) where
     made_dirs : (luck : Luck) (answer : PlainAnswer) (n : ℕ) → folders_left names luck answer ≡ Some n
         → Acted home t (MakeDirs p) luck (answer, make_some t [] names n)
     made_dirs luck answer n l =
         (made home t [] names n k placed).1
-        ∙ ap (λ o. change home (when_left o (MakeFolders names)) (whole_value home t)) (sym l)
-        ∙ ap (λ r. change home (on_names r (λ n. when_left (folders_left n luck answer) (MakeFolders n))) (whole_value home t)) (sym is)
+        ∙ ap (λ o. change home (act_with o (MakeFolders names)) (wide_value home t)) (sym l)
+        ∙ ap (λ r. change home (act_at r (λ n. act_with (folders_left n luck answer) (MakeFolders n))) (wide_value home t)) (sym is)
 
     no_dirs : (luck : Luck) (answer : PlainAnswer) → folders_left names luck answer ≡ None → Acted home t (MakeDirs p) luck (answer, t)
     no_dirs luck answer l =
-        ap (λ o. change home (when_left o (MakeFolders names)) (whole_value home t)) (sym l)
-        ∙ ap (λ r. change home (on_names r (λ n. when_left (folders_left n luck answer) (MakeFolders n))) (whole_value home t)) (sym is)
+        ap (λ o. change home (act_with o (MakeFolders names)) (wide_value home t)) (sym l)
+        ∙ ap (λ r. change home (act_at r (λ n. act_with (folders_left n luck answer) (MakeFolders n))) (wide_value home t)) (sym is)
 
     dirs_found : dirs t p ≡ Ok names
     unfolding dirs
@@ -239,13 +239,13 @@ module _ (home : Option Names) (t : Tree) (placed : Placed home t) where
     unfolding apply
     dirs_acted Plain w = rw w (made_dirs Plain Done (length names) refl)
     dirs_acted (Take most) w = rw w (made_dirs (Take most) Done (length names) refl)
-    dirs_acted (Fail fault None) w = rw w (no_dirs (Fail fault None) (Failed (made_up fault)) (left-made_up fault None))
-    dirs_acted (Fail fault (Some n)) w = rw w (made_dirs (Fail fault (Some n)) (Failed (made_up fault)) n (left-made_up fault (Some n)))
+    dirs_acted (Fail fault None) w = rw w (no_dirs (Fail fault None) (Failed (made_up fault)) (amount_left-made_up fault None))
+    dirs_acted (Fail fault (Some n)) w = rw w (made_dirs (Fail fault (Some n)) (Failed (made_up fault)) n (amount_left-made_up fault (Some n)))
 
     dirs_placed : (luck : Luck) → Placed home (apply t (MakeDirs p) luck).1
     dirs_placed luck = apply_tree (Placed home) t (MakeDirs p) luck placed (λ most. rw dirs_found (made home t [] names (making most names) k placed).0)
 
-  dirs_kept : (p : List ℕ) (luck : Luck) (r : Result Names Fault) → names_of p ≡ r → OnNames (λ n. kind home n ≡ Way) r
+  dirs_kept : (p : List ℕ) (luck : Luck) (r : Result Names Fault) → names_of p ≡ r → IfOk r (λ n. path_kind home n ≡ Way)
       → Placed home (apply t (MakeDirs p) luck).1 × Acted home t (MakeDirs p) luck (apply t (MakeDirs p) luck)
   dirs_kept p luck (Ok names) is k = (dirs_placed p names is k luck, dirs_acted p names is k luck (dirs_found p names is k))
   dirs_kept p luck (Err fault) is k =

@@ -1,15 +1,16 @@
 -- The trees that a cache begins in: outside files, and nothing of its own.
 use Rattle.std.specs.Prelude.{◌≡◌, ℕ, List, [], ◌∷◌, Option, Result, Ok}
 use Rattle.cacache_core.specs.declared.errors.Fault.{Fault}
-use Rattle.cacache_disk.specs.Tree.{Tree, Names, bare}
+use Rattle.cacache_core.specs.PathNames.{Names}
+use Rattle.cacache_disk.specs.Tree.{Tree}
 use Rattle.cacache_disk.specs.Found.{and_then}
 use Rattle.cacache_disk.specs.Apply.{planted}
 use Rattle.cacache_laws.specs.Kinds.{Elsewhere, IsFor}
-use Rattle.cacache_laws.specs.Value.{value, nothing_held}
-use Rattle.cacache_laws.specs.Proper.{Placed}
+use Rattle.cacache_laws.specs.Value.{value_of_tree, empty_value}
 use Rattle.cacache_laws.specs.Rooted.{Rooted}
+use Rattle.cacache_laws.specs.Placed.{Placed}
 
--- the tree with these files planted, each with its path
+-- the tree with these files put into it, each at its path
 abbrev pub with_files : Tree → List (List ℕ × List ℕ) → Result Tree Fault
 with_files t [] = Ok t
 with_files t (file ∷ files) = and_then (planted t file.0 file.1) (λ new. with_files new files)
@@ -19,11 +20,8 @@ abbrev pub LieApart : Option Names → List (List ℕ × List ℕ) → Type 0
 LieApart home [] = Unit {0}
 LieApart home (file ∷ files) = IsFor home Elsewhere file.0 × LieApart home files
 
--- outside files alone hold nothing of the cache
-pub record Opens (home : Option Names) (t : Tree) : Type 0 where
+-- a tree on which steps may begin, and in which the cache holds nothing
+pub record IsOpening (home : Option Names) (t : Tree) : Type 0 where
   pub placed : Placed home t
   pub rooted : Rooted t
-  pub nothing : value home t ≡ nothing_held
-
-abbrev pub FilesOpen : Type 0
-FilesOpen = (home : Option Names) (files : List (List ℕ × List ℕ)) (t : Tree) → LieApart home files → with_files bare files ≡ Ok t → Opens home t
+  pub nothing : value_of_tree home t ≡ empty_value

@@ -1,5 +1,6 @@
 -- Contents, buckets and temporary files have paths of their kinds.
 use Rattle.std.proofs.Common.{◌≡◌, ◌==◌, ◌||◌, ◌*◌, ◌<◌, ◌≤◌, ◌/◌, ◌%◌, ℕ, zero, suc, Bool, true, false, List, [], ◌∷◌, ◌++◌, Option, None, Some, length, take, drop, slice_index, codes, refl, sym, subst, ◌∙◌, arith, length-drop, length-append}
+use Rattle.std.specs.Prelude.{IfOk}
 use Rattle.std.specs.List.{list_any}
 use Rattle.std.specs.Int.{to_be_bytes, w64, w32}
 use Rattle.std.proofs.lemmas.Bool.{ne_eqb}
@@ -16,9 +17,9 @@ use Rattle.cacache_core.specs.Texts.{name_of}
 use Rattle.cacache_core.specs.Paths.{joined, cut_digits, content_names, bucket_names, folder_names}
 use Rattle.cacache_core.proofs.PathLemmas.{sha1_bytes}
 use Rattle.cacache_core.specs.PathNames.{Names, pieces}
-use Rattle.cacache_laws.specs.Kinds.{Kind, Content, Bucket, Temporary, Way, inner_kind, home_of, temp_names, names_below, OnNames, IsFor, kind}
-use Rattle.cacache_laws.specs.Laws.{TextsName, PathsAreFor}
-use Rattle.cacache_laws.proofs.Apart.{not_true, outer_below}
+use Rattle.cacache_laws.specs.Kinds.{PathKind, Content, Bucket, Temporary, Way, kind_below, home_of, temp_names, names_below, IsFor, path_kind}
+use Rattle.cacache_laws.specs.Paths.{TextsName, PathsAreFor, FoldersAreWays}
+use Rattle.cacache_laws.proofs.Apart.{not_true, kind-below}
 use Rattle.cacache_laws.proofs.PathNames.{IsName, AllNames, is_none, joined_named}
 
 -- NUL, a dot or a slash
@@ -158,12 +159,12 @@ folder_all (n ∷ m ∷ ns) all = (all.0, folder_all (m ∷ ns) all.1)
 
 -- ---- kinds
 
-kind_at : (home : Option Names) (k : Kind) (ns : Names) → inner_kind ns ≡ k → OnNames (λ names. kind home names ≡ k) (names_below home ns)
+kind_at : (home : Option Names) (k : PathKind) (ns : Names) → kind_below ns ≡ k → IfOk (names_below home ns) (λ names. path_kind home names ≡ k)
 kind_at None k ns is = tt
-kind_at (Some home) k ns is = outer_below home ns ∙ is
+kind_at (Some home) k ns is = kind-below home ns ∙ is
 
-is_for : (cache : List ℕ) (ns : Names) (k : Kind) → AllNames ns → is_none ns ≡ false → inner_kind ns ≡ k → IsFor (home_of cache) k (joined cache ns)
-is_for cache ns k all some is = subst (OnNames (λ names. kind (home_of cache) names ≡ k)) (sym (joined_named cache ns all some)) (kind_at (home_of cache) k ns is)
+is_for : (cache : List ℕ) (ns : Names) (k : PathKind) → AllNames ns → is_none ns ≡ false → kind_below ns ≡ k → IsFor (home_of cache) k (joined cache ns)
+is_for cache ns k all some is = subst (λ r. IfOk r (λ names. path_kind (home_of cache) names ≡ k)) (sym (joined_named cache ns all some)) (kind_at (home_of cache) k ns is)
 
 pub texts_name : (cache : List ℕ) → TextsName cache
 texts_name cache = record {
@@ -172,13 +173,20 @@ texts_name cache = record {
   temporary = λ n. joined_named cache (temp_names n) (temp_all n) refl;
 }
 
-way_for : (cache : List ℕ) (ns : Names) → AllNames ns → is_none (folder_names ns) ≡ false → inner_kind (folder_names ns) ≡ Way
+way_for : (cache : List ℕ) (ns : Names) → AllNames ns → is_none (folder_names ns) ≡ false → kind_below (folder_names ns) ≡ Way
     → IsFor (home_of cache) Way (joined cache (folder_names ns))
 way_for cache ns all some is = is_for cache (folder_names ns) Way (folder_all ns all) some is
 
 pub paths_are_for : (cache : List ℕ) → PathsAreFor cache
 paths_are_for cache = record {
-  content = λ h is. (is_for cache (content_names h) Content (content_all h is) refl refl, way_for cache (content_names h) (content_all h is) refl refl);
-  bucket = λ key. (is_for cache (bucket_names key) Bucket (bucket_all key) refl refl, way_for cache (bucket_names key) (bucket_all key) refl refl);
-  temporary = λ n. (is_for cache (temp_names n) Temporary (temp_all n) refl refl, way_for cache (temp_names n) (temp_all n) refl refl);
+  content = λ h is. is_for cache (content_names h) Content (content_all h is) refl refl;
+  bucket = λ key. is_for cache (bucket_names key) Bucket (bucket_all key) refl refl;
+  temporary = λ n. is_for cache (temp_names n) Temporary (temp_all n) refl refl;
+}
+
+pub folders_are_ways : (cache : List ℕ) → FoldersAreWays cache
+folders_are_ways cache = record {
+  content = λ h is. way_for cache (content_names h) (content_all h is) refl refl;
+  bucket = λ key. way_for cache (bucket_names key) (bucket_all key) refl refl;
+  temporary = λ n. way_for cache (temp_names n) (temp_all n) refl refl;
 }

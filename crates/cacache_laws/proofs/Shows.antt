@@ -1,11 +1,11 @@
 -- Reading steps show what the value holds.
-use Rattle.std.proofs.Common.{◌≡◌, ℕ, true, false, cond, List, [], ◌∷◌, ◌++◌, Option, None, Some, Ok, Err, refl, sym, ap, subst, ◌∙◌, append_assoc}
+use Rattle.std.proofs.Common.{◌≡◌, ℕ, true, false, cond, List, [], ◌∷◌, ◌++◌, Option, None, Some, Ok, Err, refl, sym, ap, subst, ◌∙◌, append_assoc, length}
 use Rattle.std.specs.Prelude.{Result}
 use Rattle.cacache_core.specs.declared.errors.Fault.{Fault}
 use Rattle.cacache_core.specs.declared.errors.Fault.TheVariants.{NotFound, IsADirectory, InvalidInput}
 use Rattle.cacache_core.specs.declared.integrity.digest.Hash.{Hash}
 use Rattle.cacache_core.specs.Paths.{content_names}
-use Rattle.cacache_base.specs.declared.store.step.Step.TheVariants.{ReadAll, Exists}
+use Rattle.cacache_base.specs.declared.store.step.Step.TheVariants.{ReadAll, Open, Size, Exists}
 use Rattle.cacache_base.specs.declared.store.answer.Answer.TheVariants.{Done, Temp, Wrote, Took, Bytes, File as Opened, Got, There, Length, Names as Listed, Failed, NoMemory}
 use Rattle.cacache_base.specs.Seen.{PlainStep, PlainAnswer}
 use Rattle.cacache_disk.specs.declared.luck.Luck.{Luck}
@@ -17,12 +17,13 @@ use Rattle.cacache_disk.specs.Tree.{Tree, Names, look}
 use Rattle.cacache_disk.specs.Found.{way_fault, place, followed, leads, found, file_at, bytes_in}
 use Rattle.cacache_disk.specs.Apply.{apply, plain, unless, is_there, is_taking, fails, fault_of, left_by, made_up}
 use Rattle.cacache_entry.specs.Entry.{Entry}
-use Rattle.cacache_laws.specs.Kinds.{Content, Bucket, hash_names, names_below, kind, is_used}
-use Rattle.cacache_laws.specs.Value.{held_in, listed_in, whole_value}
-use Rattle.cacache_laws.specs.Proper.{Suits, Placed}
+use Rattle.cacache_laws.specs.Kinds.{Content, Bucket, bucket_names_of, names_below, path_kind, is_used}
+use Rattle.cacache_laws.specs.Value.{blob_in, bucket_in, wide_value}
+use Rattle.cacache_laws.specs.Placed.{Suits, Placed}
 use Rattle.cacache_laws.specs.Rooted.{StandsIn, Rooted}
-use Rattle.cacache_laws.specs.Shown.{led_to, held_bytes, held_there, ShowsBucket, ShowsContent, ShowsThere, ReadsShow}
-use Rattle.cacache_laws.proofs.Apart.{outer_below}
+use Rattle.cacache_laws.specs.Shows.{link_end, blob_bytes, blob_there, ShowsBucket, ShowsContent, ShowsThere}
+use Rattle.cacache_laws.specs.Laws.{TreesShow}
+use Rattle.cacache_laws.proofs.Apart.{kind-below}
 use Rattle.cacache_laws.proofs.Finding.{OnlyMissing, way_missing, suits}
 
 -- ---- an answer under any luck
@@ -83,15 +84,15 @@ missing_at t path names (Some NotFound) e h is none = missing none (rw (is, e) r
 missing_at t path names (Some other) e h is none = absurd h
 
 leads_at : (home : Option Names) (t : Tree) (path : List ℕ) (names : Names) (here : Option Node) → look t names ≡ here → Placed home t → Rooted t
-    → is_used (kind home names) ≡ true → names_of path ≡ Ok names → Leads t path names
+    → is_used (path_kind home names) ≡ true → names_of path ≡ Ok names → Leads t path names
 unfolding place
 leads_at home t path names None e placed rooted inside is = missing_at t path names (way_fault t [] names) refl (way_missing home t [] names inside placed) is e
 leads_at home t path names (Some node) e placed rooted inside is = there node e (rw (is, way_clear t [] names node rooted e) refl)
 
 module _ (t : Tree) (path : List ℕ) (names : Names) where
   content_read : (home : Option Names) (here : Option Node) → look t names ≡ here → Suits home here Content → Leads t path names
-      → file_at t path IsADirectory ≡ held_bytes t (held_in here)
-  unfolding file_at leads followed led_to
+      → file_at t path IsADirectory ≡ blob_bytes t (blob_in here)
+  unfolding file_at leads followed link_end
   content_read home None e s (there node h w) = let differ : None ≡ Some node = sym e ∙ h in absurd cc
   content_read home None e s (free h w) = rw (w, h, h) refl
   content_read home None e s (missing h w) = rw w refl
@@ -104,8 +105,8 @@ module _ (t : Tree) (path : List ℕ) (names : Names) where
   content_read home (Some (Link target)) e s (missing h w) = let differ : Some (Link target) ≡ None = sym e ∙ h in absurd cc
 
   content_there : (home : Option Names) (here : Option Node) → look t names ≡ here → Suits home here Content → Leads t path names
-      → is_there (found t path) ≡ held_there t (held_in here)
-  unfolding found leads followed led_to
+      → is_there (found t path) ≡ blob_there t (blob_in here)
+  unfolding found leads followed link_end
   content_there home None e s (there node h w) = let differ : None ≡ Some node = sym e ∙ h in absurd cc
   content_there home None e s (free h w) = rw (w, h, h) refl
   content_there home None e s (missing h w) = rw w refl
@@ -140,16 +141,21 @@ made_up_content held NotFound = tt
 made_up_content held other = tt
 
 bucket_shown : (home : Option Names) (t : Tree) (here : Option Node) (r : Result (List ℕ) Fault) → Suits home here Bucket
-    → r ≡ bytes_in IsADirectory here → ShowsBucket (listed_in here) (unless r t (λ bytes. (Bytes bytes, t))).0
+    → r ≡ bytes_in IsADirectory here → ShowsBucket (bucket_in here) (unless r t (λ bytes. (Bytes bytes, t))).0
 bucket_shown home t None r s e = rw e refl
 bucket_shown home t (Some Folder) r s e = absurd s
 bucket_shown home t (Some (File x)) r s e = rw e refl
 bucket_shown home t (Some (Link target)) r s e = absurd s
 
-content_shown : (t : Tree) (r : Result (List ℕ) Fault) → ShowsContent r (unless r t (λ bytes. (Bytes bytes, t))).0
-content_shown t (Ok bytes) = refl
-content_shown t (Err NotFound) = refl
-content_shown t (Err other) = tt
+-- what answers a read of a content's bytes
+abbrev IsAnswerOf : (List ℕ → PlainAnswer) → Type 0
+IsAnswerOf answer = (bytes : List ℕ) → ShowsContent (Ok bytes) (answer bytes)
+
+content_shown : (t : Tree) (answer : List ℕ → PlainAnswer) (r : Result (List ℕ) Fault) → IsAnswerOf answer
+    → ShowsContent r (unless r t (λ bytes. (answer bytes, t))).0
+content_shown t answer (Ok bytes) shows = shows bytes
+content_shown t answer (Err NotFound) shows = refl
+content_shown t answer (Err other) shows = tt
 
 there_shown : (a : PlainAnswer) → ShowsThere a a
 there_shown (There b) = refl
@@ -168,42 +174,52 @@ unfolding found
 unfound t path is = rw (unnamed t path is) refl
 
 module _ (t : Tree) (path : List ℕ) (luck : Luck) where
-  shows_bucket : (home : Option Names) (hash : List ℕ) → Placed home t → Rooted t → names_of path ≡ names_below home (hash_names hash)
-      → ShowsBucket ((whole_value home t).buckets hash) (apply t (ReadAll path) luck).0
+  shows_bucket : (home : Option Names) (hash : List ℕ) → Placed home t → Rooted t → names_of path ≡ names_below home (bucket_names_of hash)
+      → ShowsBucket ((wide_value home t).buckets hash) (apply t (ReadAll path) luck).0
   shows_bucket None hash placed rooted is = apply_answer (ShowsBucket None) (made_up_bucket None) t (ReadAll path) luck (λ most. rw (unread t path is) tt)
   shows_bucket (Some home) hash placed rooted is =
-      let names = home ++ hash_names hash in
-      let k = outer_below home (hash_names hash) in
-      let s = suits (Some home) t (home ++ hash_names hash) Bucket k placed in
-      let l = leads_at (Some home) t path (home ++ hash_names hash) (look t (home ++ hash_names hash)) refl placed rooted (ap is_used k) is in
-      apply_answer (ShowsBucket (listed_in (look t (home ++ hash_names hash)))) (made_up_bucket _) t (ReadAll path) luck
-      (λ most. bucket_shown (Some home) t (look t (home ++ hash_names hash)) (file_at t path IsADirectory) s (bucket_read t path (home ++ hash_names hash) (Some home) (look t (home ++ hash_names hash)) refl s l))
+      let names = home ++ bucket_names_of hash in
+      let k = kind-below home (bucket_names_of hash) in
+      let s = suits (Some home) t (home ++ bucket_names_of hash) Bucket k placed in
+      let l = leads_at (Some home) t path (home ++ bucket_names_of hash) (look t (home ++ bucket_names_of hash)) refl placed rooted (ap is_used k) is in
+      apply_answer (ShowsBucket (bucket_in (look t (home ++ bucket_names_of hash)))) (made_up_bucket _) t (ReadAll path) luck
+      (λ most. bucket_shown (Some home) t (look t (home ++ bucket_names_of hash)) (file_at t path IsADirectory) s (bucket_read t path (home ++ bucket_names_of hash) (Some home) (look t (home ++ bucket_names_of hash)) refl s l))
 
-  shows_content : (home : Option Names) (address : Hash) → Placed home t → Rooted t → names_of path ≡ names_below home (content_names address)
-      → ShowsContent (held_bytes t ((whole_value home t).contents address)) (apply t (ReadAll path) luck).0
-  shows_content None address placed rooted is = apply_answer (ShowsContent (Err NotFound)) (made_up_content (Err NotFound)) t (ReadAll path) luck (λ most. rw (unread t path is) tt)
-  shows_content (Some home) address placed rooted is =
-      let k = outer_below home (content_names address) in
-      let s = suits (Some home) t (home ++ content_names address) Content k placed in
-      let l = leads_at (Some home) t path (home ++ content_names address) (look t (home ++ content_names address)) refl placed rooted (ap is_used k) is in
-      let read = content_read t path (home ++ content_names address) (Some home) (look t (home ++ content_names address)) refl s l in
-      apply_answer (ShowsContent (held_bytes t (held_in (look t (home ++ content_names address))))) (made_up_content _) t (ReadAll path) luck
-      (λ most. subst (λ r. ShowsContent r (unless (file_at t path IsADirectory) t (λ bytes. (Bytes bytes, t))).0) read (content_shown t (file_at t path IsADirectory)))
+  module _ (step : PlainStep) (answer : List ℕ → PlainAnswer) (answers : IsAnswerOf answer)
+      (is_step : (most : Option ℕ) → plain t step most ≡ unless (file_at t path IsADirectory) t (λ bytes. (answer bytes, t))) where
+    read_shown : (content : Result (List ℕ) Fault) → file_at t path IsADirectory ≡ content → ShowsContent content (apply t step luck).0
+    read_shown content read =
+        apply_answer (ShowsContent content) (made_up_content content) t step luck
+        (λ most. rw is_step (subst (λ r. ShowsContent r (unless (file_at t path IsADirectory) t (λ bytes. (answer bytes, t))).0) read (content_shown t answer (file_at t path IsADirectory) answers)))
+
+    shows_content : (home : Option Names) (address : Hash) → Placed home t → Rooted t → names_of path ≡ names_below home (content_names address)
+        → ShowsContent (blob_bytes t ((wide_value home t).contents address)) (apply t step luck).0
+    shows_content None address placed rooted is =
+        apply_answer (ShowsContent (Err NotFound)) (made_up_content (Err NotFound)) t step luck (λ most. rw (is_step, unread t path is) tt)
+    shows_content (Some home) address placed rooted is =
+        let k = kind-below home (content_names address) in
+        let s = suits (Some home) t (home ++ content_names address) Content k placed in
+        let l = leads_at (Some home) t path (home ++ content_names address) (look t (home ++ content_names address)) refl placed rooted (ap is_used k) is in
+        read_shown (blob_bytes t (blob_in (look t (home ++ content_names address)))) (content_read t path (home ++ content_names address) (Some home) (look t (home ++ content_names address)) refl s l)
 
   shows_there : (home : Option Names) (address : Hash) → Placed home t → Rooted t → names_of path ≡ names_below home (content_names address)
-      → ShowsThere (held_there t ((whole_value home t).contents address)) (apply t (Exists path) luck).0
+      → ShowsThere (blob_there t ((wide_value home t).contents address)) (apply t (Exists path) luck).0
   shows_there None address placed rooted is = apply_answer (ShowsThere (There false)) (λ fault. tt) t (Exists path) luck (λ most. rw (unfound t path is) tt)
   shows_there (Some home) address placed rooted is =
-      let k = outer_below home (content_names address) in
+      let k = kind-below home (content_names address) in
       let s = suits (Some home) t (home ++ content_names address) Content k placed in
       let l = leads_at (Some home) t path (home ++ content_names address) (look t (home ++ content_names address)) refl placed rooted (ap is_used k) is in
       let read = content_there t path (home ++ content_names address) (Some home) (look t (home ++ content_names address)) refl s l in
-      apply_answer (ShowsThere (held_there t (held_in (look t (home ++ content_names address))))) (λ fault. tt) t (Exists path) luck
+      apply_answer (ShowsThere (blob_there t (blob_in (look t (home ++ content_names address))))) (λ fault. tt) t (Exists path) luck
       (λ most. subst (λ r. ShowsThere r (is_there (found t path))) read (there_shown (is_there (found t path))))
 
-pub reads_show : ReadsShow
-reads_show home t placed rooted = record {
-  bucket = λ hash path luck is. shows_bucket t path luck home hash placed rooted is;
-  content = λ address path luck is. shows_content t path luck home address placed rooted is;
+pub trees_show : TreesShow
+trees_show home t placed rooted = record {
+  bucket = λ digest path luck is. shows_bucket t path luck home digest placed rooted is;
+  content = λ address path luck is. shows_content t path luck (ReadAll path) Bytes (λ bytes. refl) (λ most. refl) home address placed rooted is;
+  opened = λ address path luck is.
+      shows_content t path luck (Open path) (λ bytes. Opened (record { left = length bytes; bytes = Some bytes })) (λ bytes. (bytes, refl, refl)) (λ most. refl) home address placed rooted is;
+  size = λ address path luck is.
+      shows_content t path luck (Size path) (λ bytes. Length (length bytes)) (λ bytes. (bytes, refl, refl)) (λ most. refl) home address placed rooted is;
   there = λ address path luck is. shows_there t path luck home address placed rooted is;
 }
