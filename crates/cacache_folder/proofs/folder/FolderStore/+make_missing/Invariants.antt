@@ -1,5 +1,5 @@
 use Rattle.std.proofs.Common.{length}
-use Rattle.cacache_base.proofs.store.folder.FolderStore.+make_missing.Given as goal
+use Rattle.cacache_folder.proofs.folder.FolderStore.+make_missing.Given as goal
 
 -- the path above is shorter
 abbrev pub decreases-make_missing : goal.decreases-make_missing
