@@ -4,7 +4,7 @@ ghost use Rattle.cacache_core.specs.declared.integrity.algorithm.Algorithm.TheVa
 ghost use Rattle.cacache_core.specs.Integrity.{integrity_under};
 ghost use Rattle.cacache_steps.specs.Calls.{opening};
 ghost use Rattle.cacache_steps.specs.Runs.{Ran};
-ghost use Rattle.cacache_put.specs.Writes.{AsksOnce, keyed_put, unkeyed_put, stored_reply};
+ghost use Rattle.cacache_put.specs.Writes.{AsksOnce, RunsPut, keyed_put, unkeyed_put, stored_reply};
 
 use cacache_base::env::{Clock, Env, Names};
 use cacache_base::store::Store;
@@ -43,18 +43,20 @@ fn unkeyed(alloc: Global, data: &[u8]) -> std::result::Result<Put, AllocError>
 }
 
 /// Stores it with a temporary file of this number.
-fn stored<S: Store>(
-    store: &mut S,
-    alloc: Global,
+fn stored<S: Store, C, N>(
+    env: &mut Env<S, C, N>,
     cache: &str,
-    base: &str,
     put: Put,
     number: u64,
 ) -> Result<Integrity>
     ensures stored { IfOk result (λ i. i ≡ integrity_under Sha256 put.«data») }
-    ensures ran { Ran (opening cache.now (Command.Put put) number) (stored_reply result) (S.log store.old) (S.log store.new) }
+    ensures ran { Ran (opening cache.now (Command.Put put) number) (stored_reply result)
+        (S.log env.old.store) (S.log env.new.store) }
+    ensures clock { env.new.clock ≡ env.old.clock }
+    ensures names { env.new.names ≡ env.old.names }
+    ensures base { env.new.base ≡ env.old.base }
 {
-    match call(store, alloc, cache, base, Command::Put(put), number) {
+    match call(env, cache, Command::Put(put), number) {
         Reply::Stored(integrity) => Ok(integrity),
         Reply::Refused(error) => Err(error),
         Reply::Read(_) => unreachable!(),
@@ -74,16 +76,14 @@ pub fn write_sync<S: Store, C: Clock, N: Names>(
     data: &[u8],
 ) -> Result<Integrity>
     ensures stored { IfOk result (λ i. i ≡ integrity_under Sha256 «data».now) }
-    ensures ran { (moment number : ℕ) × AsksOnce (C.given env.old.clock) (C.given env.new.clock) moment
-        × AsksOnce (N.given env.old.names) (N.given env.new.names) number
-        × Ran (opening cache.now (Command.Put (keyed_put key.now «data».now moment)) number) (stored_reply result) (S.log env.old.store) (S.log env.new.store) }
+    ensures ran { RunsPut S.log C.given N.given env.old env.new cache.now
+        (keyed_put key.now «data».now) (stored_reply result) }
     ensures base { env.new.base ≡ env.old.base }
 {
     let moment = env.clock.now();
     let number = env.names.fresh();
     let put = keyed(env.alloc, key, Vec::from_slice(env.alloc, data)?, moment)?;
-    let base = env.base.as_str();
-    stored(&mut env.store, env.alloc, cache, base, put, number)
+    stored(env, cache, put, number)
 }
 
 /// What `write_sync` does, with bytes that are moved in, so that none is copied.
@@ -94,16 +94,14 @@ pub fn write_vec_sync<S: Store, C: Clock, N: Names>(
     data: Vec<u8>,
 ) -> Result<Integrity>
     ensures stored { IfOk result (λ i. i ≡ integrity_under Sha256 «data».items) }
-    ensures ran { (moment number : ℕ) × AsksOnce (C.given env.old.clock) (C.given env.new.clock) moment
-        × AsksOnce (N.given env.old.names) (N.given env.new.names) number
-        × Ran (opening cache.now (Command.Put (keyed_put key.now «data».items moment)) number) (stored_reply result) (S.log env.old.store) (S.log env.new.store) }
+    ensures ran { RunsPut S.log C.given N.given env.old env.new cache.now
+        (keyed_put key.now «data».items) (stored_reply result) }
     ensures base { env.new.base ≡ env.old.base }
 {
     let moment = env.clock.now();
     let number = env.names.fresh();
     let put = keyed(env.alloc, key, data, moment)?;
-    let base = env.base.as_str();
-    stored(&mut env.store, env.alloc, cache, base, put, number)
+    stored(env, cache, put, number)
 }
 
 /// Stores the bytes without a key, and answers their SHA-256 integrity.
@@ -117,12 +115,12 @@ pub fn write_hash_sync<S: Store, C: Clock, N: Names>(
 ) -> Result<Integrity>
     ensures stored { IfOk result (λ i. i ≡ integrity_under Sha256 «data».now) }
     ensures ran { (number : ℕ) × AsksOnce (N.given env.old.names) (N.given env.new.names) number
-        × Ran (opening cache.now (Command.Put (unkeyed_put «data».now)) number) (stored_reply result) (S.log env.old.store) (S.log env.new.store) }
+        × Ran (opening cache.now (Command.Put (unkeyed_put «data».now)) number)
+            (stored_reply result) (S.log env.old.store) (S.log env.new.store) }
     ensures clock { env.new.clock ≡ env.old.clock }
     ensures base { env.new.base ≡ env.old.base }
 {
     let number = env.names.fresh();
     let put = unkeyed(env.alloc, data)?;
-    let base = env.base.as_str();
-    stored(&mut env.store, env.alloc, cache, base, put, number)
+    stored(env, cache, put, number)
 }

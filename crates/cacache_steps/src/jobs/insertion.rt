@@ -1,8 +1,9 @@
 //! How an entry goes into its bucket.
-ghost use Rattle.std.specs.Prelude.{◌≡◌, IfOk, IsTrue};
+ghost use Rattle.std.specs.Prelude.{◌≡◌, None, IfOk, IfErr, OnOk, IsTrue};
 ghost use Rattle.cacache_base.specs.Seen.{plain_answer};
-ghost use Rattle.cacache_entry.specs.View.{entry_view};
-ghost use Rattle.cacache_steps.specs.Calls.{making_bucket, appending, after, unless_refused, entry_of, inserted_cause};
+ghost use Rattle.cacache_entry.specs.Fits.{IsEntry};
+ghost use Rattle.cacache_entry.specs.View.{entry_view, IsRefusal};
+ghost use Rattle.cacache_steps.specs.Calls.{making_bucket, appending, after, unless_refused, entry_of, inserted_line, inserted_cause};
 ghost use Rattle.cacache_steps.specs.Stands.{PhaseAt, is_ready, Keeps};
 ghost use Rattle.cacache_steps.specs.declared.jobs.stage.Stage.TheVariants.{MakingBucket, Appending};
 
@@ -15,7 +16,7 @@ use crate::jobs::reply::Reply;
 use crate::jobs::stage::{Insertion, Stage};
 use cacache_base::store::{Answer, FileHandle, Step, TempHandle};
 use cacache_core::bytes::Bytes;
-use cacache_core::errors::{Error, Fault};
+use cacache_core::errors::{self, Error, Fault};
 use cacache_core::paths::Place;
 use cacache_core::text::Text;
 use serde_json::Value;
@@ -35,8 +36,50 @@ fn entry_of(alloc: Global, insertion: &Insertion) -> Result<SerializableMetadata
     })
 }
 
-/// Tests the entry, and goes on to its bucket's folder.
+/// The line of the entry that is inserted.
 #[tactic(auto, unfolding(crate::specs::Calls::inserted_line, crate::specs::Calls::inserted_cause))]
+fn line_of(alloc: Global, insertion: &Insertion) -> errors::Result<Bytes>
+    ensures line { IfOk result (λ line. line ≡ inserted_line insertion.now) }
+    ensures entry { OnOk result (IsEntry (entry_of insertion.now)) }
+    ensures fits { OnOk result (inserted_cause insertion.now ≡ None) }
+    ensures refused { IfErr result (IsRefusal (entry_of insertion.now)) }
+{
+    let entry = entry_of(alloc, insertion)?;
+    let line = line(alloc, &entry)?;
+    Ok(Bytes::new(alloc, line)?)
+}
+
+/// Makes the folder of the bucket, for a line that is to be appended.
+fn make_bucket<F: FileHandle, T: TempHandle>(
+    alloc: Global,
+    insertion: Insertion,
+    line: Bytes,
+) -> Result<Phase<F, T>, AllocError>
+    ensures ready { IfOk result (λ phase. IsTrue (is_ready phase)) }
+    ensures goes_on { IfOk result (λ phase. IsEntry (entry_of insertion) → inserted_cause insertion ≡ None
+        → line ≡ inserted_line insertion → PhaseAt F.seen T.seen phase (making_bucket insertion)) }
+{
+    let place = bucket_place(alloc, insertion.cache.as_str(), insertion.key.as_str())?;
+    let Place { folder, path } = place;
+    Ok(Phase::Ready(Stage::MakingBucket(insertion, line, path), Step::MakeDirs(folder)))
+}
+
+/// The end of a call whose entry can't be written.
+#[tactic(auto, unfolding(crate::specs::Calls::inserted_cause))]
+fn unwritable<F: FileHandle, T: TempHandle>(error: Error) -> Result<Phase<F, T>, AllocError>
+    ensures ready { IfOk result (λ phase. IsTrue (is_ready phase)) }
+    ensures ends { IfOk result (λ phase. (insertion : Insertion) → IsRefusal (entry_of insertion) error
+        → PhaseAt F.seen T.seen phase (unless_refused insertion (inserted_cause insertion))) }
+{
+    match error {
+        Error::SerdeError(cause, message) => {
+            Ok(Phase::Finished(Reply::Refused(Error::SerdeError(cause, message))))
+        }
+        _ => Err(AllocError),
+    }
+}
+
+/// Tests the entry, and goes on to its bucket's folder.
 pub(crate) fn inserting<F: FileHandle, T: TempHandle>(
     alloc: Global,
     insertion: Insertion,
@@ -44,24 +87,9 @@ pub(crate) fn inserting<F: FileHandle, T: TempHandle>(
     ensures ready { IfOk result (λ phase. IsTrue (is_ready phase)) }
     ensures goes_on { IfOk result (λ phase. PhaseAt F.seen T.seen phase (unless_refused insertion (inserted_cause insertion))) }
 {
-    let entry = entry_of(alloc, &insertion)?;
-    match line(alloc, &entry) {
-        Ok(line) => {
-            let line = Bytes::new(alloc, line)?;
-            let Place { folder, path } = bucket_place(
-                alloc,
-                insertion.cache.as_str(),
-                insertion.key.as_str(),
-            )?;
-            Ok(Phase::Ready(
-                Stage::MakingBucket(insertion, line, path),
-                Step::MakeDirs(folder),
-            ))
-        }
-        Err(Error::SerdeError(cause, message)) => {
-            Ok(Phase::Finished(Reply::Refused(Error::SerdeError(cause, message))))
-        }
-        Err(_) => Err(AllocError),
+    match line_of(alloc, &insertion) {
+        Ok(line) => make_bucket(alloc, insertion, line),
+        Err(error) => unwritable(error),
     }
 }
 

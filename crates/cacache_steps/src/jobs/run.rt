@@ -11,8 +11,8 @@ ghost use Rattle.cacache_steps.specs.Verified.{FindsBytes};
 use crate::jobs::command::Command;
 use crate::jobs::job::{Job, Next};
 use crate::jobs::reply::Reply;
+use cacache_base::env::Env;
 use cacache_base::store::Store;
-use std::alloc::Global;
 
 /// Does the steps of a call until it is over. The reply is that of a run of the call, and where the store
 /// tells its log, that run is what the log gained.
@@ -33,24 +33,28 @@ pub fn drive<S: Store>(store: &mut S, job: Job<S::File, S::Temp>) -> Reply
 }
 
 /// Makes a call on a cache from its beginning to its end. The reply is that of a run of the call, and where
-/// the store tells its log, that run is what the log gained; over every store it keeps what the call
+/// the store keeps its log, that run is what the log gained; over every store the reply keeps what the call
 /// promises, so that bytes that were read meet their integrity, which for a call by key is what the lookup
-/// gives from the bucket as the call read it.
-pub fn call<S: Store>(
-    store: &mut S,
-    alloc: Global,
+/// gives from the bucket as the call read it. The clock, the numbers and the base folder stay as they were.
+pub fn call<S: Store, C, N>(
+    env: &mut Env<S, C, N>,
     cache: &str,
-    base: &str,
     command: Command,
     number: u64,
 ) -> Reply
-    ensures ran { Ran (opening cache.now command number) (plain_reply result) (S.log store.old) (S.log store.new) }
-    ensures found { FindsBytes cache.now command (plain_reply result) (S.log store.old) (S.log store.new) }
+    ensures ran { Ran (opening cache.now command number) (plain_reply result)
+        (S.log env.old.store) (S.log env.new.store) }
+    ensures found { FindsBytes cache.now command (plain_reply result)
+        (S.log env.old.store) (S.log env.new.store) }
     ensures promised { Promises (opening cache.now command number) (plain_reply result) }
 
     // A caller that finds no memory for the reply answers as if the run had found none.
-    ensures lost { Ran (opening cache.now command number) (Refused OutOfMemory) (S.log store.old) (S.log store.new) }
+    ensures lost { Ran (opening cache.now command number) (Refused OutOfMemory)
+        (S.log env.old.store) (S.log env.new.store) }
+    ensures clock { env.new.clock ≡ env.old.clock }
+    ensures names { env.new.names ≡ env.old.names }
+    ensures base { env.new.base ≡ env.old.base }
 {
-    let job = Job::new(alloc, cache, base, command, number);
-    drive(store, job)
+    let job = Job::new(env.alloc, cache, env.base.as_str(), command, number);
+    drive(&mut env.store, job)
 }
