@@ -137,6 +137,22 @@ impl Bytes {
         Bytes::new(alloc, all)
     }
 
+    /// The shared vector of these bytes: the one inside where the window is all of it, and else a copy with one owner.
+    pub fn into_shared(self) -> Result<Arc<Vec<u8>, Global>, AllocError>
+        ensures { IfOk result (λ shared. (arc_value shared).items ≡ self) }
+    {
+        if self.from > 0 || self.to < self.shared.len() {
+            let alloc = *self.shared.allocator();
+            return Ok(Arc::new(alloc, Vec::from_slice(alloc, self.as_slice())?)?);
+        }
+        let Bytes {
+            shared,
+            from: _,
+            to: _,
+        } = self;
+        Ok(shared)
+    }
+
     /// The bytes as a vector: the one inside, moved, where nobody else owns it and the window is all of it, and else
     /// a copy.
     pub fn into_vec(self, alloc: Global) -> Result<Vec<u8>, AllocError>
