@@ -1,43 +1,59 @@
 -- The single cases.
-use Rattle.std.proofs.Common.{◌≡◌, ◌≢◌, ◌≤◌, ◌<◌, ℕ, false, cond, List, [], ◌++◌, Option, None, Some, Ok, length, take, refl, ap, ◌∙◌, arith, append-nil}
+use Rattle.std.proofs.Common.{◌≡◌, ◌≢◌, ◌≤◌, ◌<◌, ℕ, false, cond, List, [], ◌∷◌, ◌++◌, Option, None, Some, Ok, length, take, refl, ap, ◌∙◌, arith, append-nil}
 use Rattle.std.proofs.lemmas.List.{append_cancel_left}
 use Rattle.cacache_core.specs.declared.integrity.digest.Hash.{Hash}
 use Rattle.cacache_core.specs.Integrity.{IsHash}
 use Rattle.cacache_core.specs.Paths.{joined, content_names}
 use Rattle.cacache_core.proofs.PathTexts.{contents_one_to_one}
 use Rattle.cacache_core.specs.PathNames.{Names, names_of}
-use Rattle.cacache_disk.specs.Tree.{same_path}
+use Rattle.cacache_disk.specs.Tree.{Tree, same_path}
+use Rattle.cacache_core.specs.declared.errors.Fault.TheVariants.{NotFound, IsADirectory, Device}
+use Rattle.cacache_disk.specs.Found.{bytes_in}
 use Rattle.cacache_disk.proofs.Maps.{same_path-true}
+use Rattle.cacache_base.specs.declared.store.answer.Answer.TheVariants.{Took, Failed}
+use Rattle.cacache_base.specs.Seen.{PlainAnswer}
 use Rattle.cacache_disk.specs.declared.luck.Luck.{Luck}
+use Rattle.cacache_disk.specs.declared.luck.Luck.TheVariants.{Fail}
 use Rattle.cacache_entry.specs.Entry.{Entry, line_of}
 use Rattle.cacache_entry.specs.Fits.{IsEntry, Fits}
 use Rattle.cacache_entry.specs.Bucket.{entries_of}
 use Rattle.cacache_laws.specs.Kinds.{bucket_names_of}
-use Rattle.cacache_laws.specs.Value.{Value}
-use Rattle.cacache_laws.specs.Acts.{list_of, PutBytes, act_with, change}
-use Rattle.cacache_laws.specs.Cases.{AppendCases, FileCases, FolderCases, KindCases, row_folder}
+use Rattle.cacache_laws.specs.Value.{Value, blob_in, bucket_in}
+use Rattle.cacache_laws.specs.Acts.{list_of, amount_left, PutBytes, act_with, change}
+use Rattle.cacache_laws.specs.Cases.{bucket_after, AppendCases, ContentCases, RemovedBucketsGo, FolderCases, KindCases, TreeCases, LinkCases, row_folder}
 use Rattle.cacache_laws.proofs.Apart.{not_true}
-use Rattle.cacache_laws.proofs.Lines.{whole_line, torn_line}
+use Rattle.cacache_laws.proofs.Lines.{entries_none, whole_line, torn_line, append_act, nothing_left_is_nothing}
 use Rattle.cacache_laws.proofs.Roots.{same_self}
 
 here : {A : Type 0} (p : Names) (x y : A) → cond (same_path p p) x y ≡ x
 here p x y = ap (λ b. cond b x y) (same_self p)
 
-pub append_cases : (home : Names) (v : Value) (p hash : List ℕ) (e : Entry) → IsEntry e → Fits e → names_of p ≡ Ok (home ++ bucket_names_of hash)
-    → AppendCases home v p hash e
-append_cases home v p hash e h f is =
-    let path = home ++ bucket_names_of hash in
-    let added = λ (n : ℕ). here path (Some (list_of (v.buckets hash) ++ entries_of (take n (line_of e)))) (v.buckets hash) in
-    let whole = λ (n : ℕ) (l : length (line_of e) ≤ n). ap (λ es. Some (list_of (v.buckets hash) ++ es)) (whole_line e n h f l) in
-    let torn = λ (n : ℕ) (l : n < length (line_of e)). ap (λ es. Some (list_of (v.buckets hash) ++ es)) (torn_line e n h f l) ∙ ap Some (append-nil (list_of (v.buckets hash))) in
+-- the bucket after an append that left so much
+bucket_with : (home : Names) (v : Value) (path digest : List ℕ) (e : Entry) (luck : Luck) (answer : PlainAnswer) (n : ℕ) (new : List Entry)
+    → names_of path ≡ Ok (home ++ bucket_names_of digest) → amount_left luck answer ≡ Some n → entries_of (take n (line_of e)) ≡ new
+    → bucket_after home v path digest e luck answer ≡ Some (list_of (v.buckets digest) ++ new)
+bucket_with home v path digest e luck answer n new is left adds =
+    ap (λ act. (change (Some home) act v).buckets digest) (append_act path (home ++ bucket_names_of digest) (line_of e) luck answer n is left)
+    ∙ here (home ++ bucket_names_of digest) (Some (list_of (v.buckets digest) ++ entries_of (take n (line_of e)))) (v.buckets digest)
+    ∙ ap (λ es. Some (list_of (v.buckets digest) ++ es)) adds
+
+pub append_cases : (home : Names) (v : Value) (path digest : List ℕ) (e : Entry) → IsEntry e → Fits e
+    → names_of path ≡ Ok (home ++ bucket_names_of digest) → AppendCases home v path digest e
+append_cases home v path digest e formed fits is =
+    let whole = λ (luck : Luck) (answer : PlainAnswer) (n : ℕ) (left : amount_left luck answer ≡ Some n) (long : length (line_of e) ≤ n).
+        bucket_with home v path digest e luck answer n (e ∷ []) is left (whole_line e n formed fits long) in
+    let torn = λ (luck : Luck) (answer : PlainAnswer) (n : ℕ) (left : amount_left luck answer ≡ Some n) (short : n < length (line_of e)).
+        bucket_with home v path digest e luck answer n [] is left (torn_line e n formed fits short) ∙ ap Some (append-nil (list_of (v.buckets digest))) in
+    let nothing = λ (luck : Luck) (answer : PlainAnswer) (left : amount_left luck answer ≡ None).
+        ap (λ act. change (Some home) act v) (nothing_left_is_nothing path (line_of e) luck answer left) in
     record {
-      whole = λ luck. rw is (added (length (line_of e)) ∙ whole (length (line_of e)) (omega arith));
-      torn = λ luck n l. rw is (added n ∙ torn n l);
-      failed_whole = λ n l. rw is (added n ∙ whole n l);
-      failed_torn = λ n l. rw is (added n ∙ torn n l);
-      created_only = rw is (added 0 ∙ torn 0 (omega arith));
-      failed = rw is refl;
-      no_folder = λ luck. rw is refl;
+      whole = λ luck. whole luck (Took (length (line_of e))) (length (line_of e)) refl (omega arith);
+      torn = λ luck n short. torn luck (Took n) n refl short;
+      failed_whole = λ n long. whole (Fail Device (Some n)) (Failed Device) n refl long;
+      failed_torn = λ n short. torn (Fail Device (Some n)) (Failed Device) n refl short;
+      created_only = torn (Fail Device (Some 0)) (Failed Device) 0 refl (omega arith);
+      failed = nothing (Fail Device None) (Failed Device) refl;
+      no_folder = λ luck. nothing luck (Failed NotFound) refl;
     }
 
 -- two addresses have two paths
@@ -52,22 +68,42 @@ unput : (o : Option (List ℕ)) (home : Names) (v : Value) (a b : Hash) → same
 unput None home v a b e = refl
 unput (Some bytes) home v a b e = rw e refl
 
-pub file_cases : (home : Names) (v : Value) → FileCases home v
-file_cases home v = record {
-  replaced = λ p a luck from bytes is. rw is (here (home ++ content_names a) _ _);
-  others_keep = λ p a b luck file ha hb differ is. rw is (unput file.bytes home v a b (apart home a b ha hb differ));
-  failed = λ p luck file. refl;
-  linked = λ target p a luck is. rw is (here (home ++ content_names a) _ _);
-  content_removed = λ p a luck is. rw is (here (home ++ content_names a) _ _);
-  bucket_removed = λ p hash luck is. rw is (here (home ++ bucket_names_of hash) _ _);
+pub content_cases : (home : Names) (v : Value) (path : List ℕ) (a : Hash) → names_of path ≡ Ok (home ++ content_names a)
+    → ContentCases home v path a
+content_cases home v path a is = record {
+  replaced = λ luck from bytes. rw is (here (home ++ content_names a) _ _);
+  others_keep = λ luck file b ha hb differ. rw is (unput file.bytes home v a b (apart home a b ha hb differ));
+  failed = λ luck file. refl;
+  linked = λ luck target. rw is (here (home ++ content_names a) _ _);
+  removed = λ luck. rw is (here (home ++ content_names a) _ _);
+}
+
+pub removed_buckets_go : RemovedBucketsGo
+removed_buckets_go home v path digest luck is = rw is (here (home ++ bucket_names_of digest) _ _)
+
+pub tree_cases : (home : Names) (t : Tree) → TreeCases home t
+tree_cases home t = record {
+  file = λ a bytes is. ap blob_in is;
+  link = λ a target is. ap blob_in is;
+  no_content = λ a is. ap blob_in is;
+  bucket = λ digest bytes is. ap bucket_in is;
+  empty_bucket = λ digest is. ap bucket_in is ∙ ap Some entries_none;
+  no_bucket = λ digest is. ap bucket_in is;
+}
+
+pub link_cases : (t : Tree) (target : List ℕ) → LinkCases t target
+link_cases t target = record {
+  to_file = λ end bytes is file. rw is (ap (bytes_in IsADirectory) file);
+  to_nothing = λ is. rw is refl;
+  to_folder = λ end is folder. rw is (ap (bytes_in IsADirectory) folder);
 }
 
 pub folder_cases : (p : List ℕ) (luck : Luck) → names_of p ≡ Ok row_folder → FolderCases p luck
 folder_cases p luck is = record {
-  made_first = rw is refl;
-  made_second = rw is refl;
-  left_first = rw is refl;
-  left_no_second = rw is refl;
+  first = rw is refl;
+  second = rw is refl;
+  only_first = rw is refl;
+  no_second = rw is refl;
   removed = λ v. rw is refl;
 }
 

@@ -23,7 +23,7 @@ pub data Act : Type 0 where
   PutBytes : Names → List ℕ → Act
   -- puts a link as the content there
   PutLink : Names → List ℕ → Act
-  -- puts entries behind those of the bucket there, which exists from then on, also where no entry comes
+  -- puts entries behind those of the bucket there; the bucket exists then, also where no entry comes
   AddEntries : Names → List Entry → Act
   -- removes the content or the bucket there
   Drop : Names → Act
@@ -55,8 +55,8 @@ part_of Plain = None
 part_of (Take most) = None
 part_of (Fail fault part) = part
 
--- how many bytes or folders a step left, where it changed anything: what it took, or what a made-up failure
--- left. That something is missing is never made up, so then nothing was left
+-- how many bytes or folders a step left, if any: what it took, or what a made-up failure left. That
+-- something is missing is never made up, so then nothing was left
 abbrev pub amount_left : Luck → PlainAnswer → Option ℕ
 amount_left luck (Took count) = Some count
 amount_left luck (Failed NotFound) = None
@@ -88,7 +88,9 @@ act_of step luck answer = Nothing
 -- the value with this content at a path
 abbrev pub put_blob : Option Names → Names → Option Blob → Value → Value
 put_blob home path blob v = record v {
-  contents = λ address. if is_path_of home (content_names address) path then blob else v.contents address;
+  contents = λ address.
+      if is_path_of home (content_names address) path then blob
+      else v.contents address;
 }
 
 -- the entries of a bucket, none where it doesn't exist
@@ -106,8 +108,12 @@ add_entries home path new v = record v {
 -- the value with no content and no bucket at a path
 abbrev pub drop_file : Option Names → Names → Value → Value
 drop_file home path v = record v {
-  contents = λ address. if is_path_of home (content_names address) path then None else v.contents address;
-  buckets = λ digest. if is_path_of home (bucket_names_of digest) path then None else v.buckets digest;
+  contents = λ address.
+      if is_path_of home (content_names address) path then None
+      else v.contents address;
+  buckets = λ digest.
+      if is_path_of home (bucket_names_of digest) path then None
+      else v.buckets digest;
 }
 
 -- the folders, with one more or one less
@@ -120,7 +126,8 @@ make_folders folders above [] count = folders
 make_folders folders above (name ∷ rest) count =
     if folders (above ++ name ∷ []) then make_folders folders (above ++ name ∷ []) rest count
     else if count == 0 then folders
-    else make_folders (set_folder true (above ++ name ∷ []) folders) (above ++ name ∷ []) rest (count - 1)
+    else make_folders
+    (set_folder true (above ++ name ∷ []) folders) (above ++ name ∷ []) rest (count - 1)
 
 -- the value with these folders
 abbrev pub with_folders : (Names → Bool) → Value → Value

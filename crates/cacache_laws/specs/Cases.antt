@@ -1,6 +1,6 @@
--- Single cases: what one step does to a value, and what single paths are for.
-use Rattle.std.specs.Prelude.{◌≡◌, ◌≢◌, ◌≤◌, ◌<◌, ℕ, List, [], ◌∷◌, ◌++◌, Some, None, Ok, true, false, codes, length}
-use Rattle.cacache_core.specs.declared.errors.Fault.TheVariants.{Device, NotFound}
+-- Single cases, which show that the definitions say what they should.
+use Rattle.std.specs.Prelude.{◌≡◌, ◌≢◌, ◌≤◌, ◌<◌, ℕ, List, [], ◌∷◌, ◌++◌, Option, Some, None, Ok, Err, true, false, codes, length}
+use Rattle.cacache_core.specs.declared.errors.Fault.TheVariants.{Device, NotFound, IsADirectory}
 use Rattle.cacache_core.specs.declared.integrity.digest.Hash.{Hash}
 use Rattle.cacache_core.specs.Integrity.{IsHash}
 use Rattle.cacache_core.specs.PathNames.{Names, names_of}
@@ -10,76 +10,34 @@ use Rattle.cacache_base.specs.declared.store.step.Step.TheVariants.{MakeDirs, Pe
 use Rattle.cacache_base.specs.declared.store.answer.Answer.TheVariants.{Done, Took, Failed}
 use Rattle.cacache_base.specs.Seen.{PlainStep, PlainAnswer}
 use Rattle.cacache_disk.specs.declared.luck.Luck.{Luck}
-use Rattle.cacache_disk.specs.declared.luck.Luck.TheVariants.{Plain, Fail}
+use Rattle.cacache_disk.specs.declared.luck.Luck.TheVariants.{Fail}
+use Rattle.cacache_disk.specs.declared.node.Node.TheVariants.{Folder, File, Link}
+use Rattle.cacache_disk.specs.Tree.{Tree, look}
 use Rattle.cacache_entry.specs.Entry.{Entry, line_of}
-use Rattle.cacache_entry.specs.Fits.{IsEntry, Fits}
+use Rattle.cacache_entry.specs.Bucket.{entries_of}
 use Rattle.cacache_laws.specs.Kinds.{Content, Bucket, Temporary, Way, Stray, Elsewhere, bucket_names_of, path_kind}
-use Rattle.cacache_laws.specs.Value.{Value, InFile, AtLink, empty_value}
+use Rattle.cacache_laws.specs.Value.{Value, InFile, AtLink, empty_value, value_of_tree}
 use Rattle.cacache_laws.specs.Acts.{act_of, change, list_of}
-
--- the value after a step, of a cache in the folder `home`
-abbrev pub value_after : Names → Value → PlainStep → Luck → PlainAnswer → Value
-value_after home v step luck answer = change (Some home) (act_of step luck answer) v
-
--- ---- appends of an entry's line to a bucket
-
-pub record AppendCases (home : Names) (v : Value) (p digest : List ℕ) (e : Entry) : Type 0 where
-  -- all of it was taken: the entry stands behind the others
-  pub whole : (luck : Luck)
-      → (value_after home v (Append p (line_of e)) luck (Took (length (line_of e)))).buckets digest
-      ≡ Some (list_of (v.buckets digest) ++ e ∷ [])
-  -- less was taken: the bucket exists, and no entry comes
-  pub torn : (luck : Luck) (n : ℕ) → n < length (line_of e)
-      → (value_after home v (Append p (line_of e)) luck (Took n)).buckets digest ≡ Some (list_of (v.buckets digest))
-  -- a failure that left all of it: the entry comes all the same
-  pub failed_whole : (n : ℕ) → length (line_of e) ≤ n
-      → (value_after home v (Append p (line_of e)) (Fail Device (Some n)) (Failed Device)).buckets digest
-      ≡ Some (list_of (v.buckets digest) ++ e ∷ [])
-  -- a failure that left less
-  pub failed_torn : (n : ℕ) → n < length (line_of e)
-      → (value_after home v (Append p (line_of e)) (Fail Device (Some n)) (Failed Device)).buckets digest
-      ≡ Some (list_of (v.buckets digest))
-  -- a failure that only made the file
-  pub created_only : (value_after home v (Append p (line_of e)) (Fail Device (Some 0)) (Failed Device)).buckets digest
-      ≡ Some (list_of (v.buckets digest))
-  -- a failure that left nothing
-  pub failed : value_after home v (Append p (line_of e)) (Fail Device None) (Failed Device) ≡ v
-  -- the bucket's folder is missing
-  pub no_folder : (luck : Luck) → value_after home v (Append p (line_of e)) luck (Failed NotFound) ≡ v
-
--- ---- files and links at the path of an address or a bucket
-
-pub record FileCases (home : Names) (v : Value) : Type 0 where
-  -- a temporary file moved there is the content, in place of another
-  pub replaced : (p : List ℕ) (a : Hash) (luck : Luck) (from bytes : List ℕ) → names_of p ≡ Ok (home ++ content_names a)
-      → (value_after home v (Persist (record { path = from; bytes = Some bytes }) p) luck Done).contents a
-      ≡ Some (InFile bytes)
-  -- every other address keeps its content
-  pub others_keep : (p : List ℕ) (a b : Hash) (luck : Luck) (file : PlainTemp) → IsHash a → IsHash b → b ≢ a
-      → names_of p ≡ Ok (home ++ content_names a)
-      → (value_after home v (Persist file p) luck Done).contents b ≡ v.contents b
-  -- a move that failed does nothing
-  pub failed : (p : List ℕ) (luck : Luck) (file : PlainTemp) → value_after home v (Persist file p) luck (Failed Device) ≡ v
-  -- a link made there is the content
-  pub linked : (target p : List ℕ) (a : Hash) (luck : Luck) → names_of p ≡ Ok (home ++ content_names a)
-      → (value_after home v (Symlink target p) luck Done).contents a ≡ Some (AtLink target)
-  -- a content that is removed is gone
-  pub content_removed : (p : List ℕ) (a : Hash) (luck : Luck) → names_of p ≡ Ok (home ++ content_names a)
-      → (value_after home v (RemoveFile p) luck Done).contents a ≡ None
-  -- so is a bucket
-  pub bucket_removed : (p digest : List ℕ) (luck : Luck) → names_of p ≡ Ok (home ++ bucket_names_of digest)
-      → (value_after home v (RemoveFile p) luck Done).buckets digest ≡ None
+use Rattle.cacache_laws.specs.Shows.{link_end, blob_bytes}
 
 -- ---- what paths are for, of a cache in the folder `/c`
 
--- the names of a cache's folder in the rows below
+-- the names of the cache's folder in these rows
 abbrev pub row_home : Names
 row_home = codes "c" ∷ []
 
+-- the names of two folders in it
+abbrev pub row_folder : Names
+row_folder = codes "c" ∷ codes "tmp" ∷ []
+
+-- `content-v2/sha256/ba/78/16bf`, shortened, is a content, and so on
 pub record KindCases : Type 0 where
-  pub content : path_kind (Some row_home) (codes "c" ∷ codes "content-v2" ∷ codes "sha256" ∷ codes "ba" ∷ codes "78" ∷ codes "16bf" ∷ []) ≡ Content
-  pub bucket : path_kind (Some row_home) (codes "c" ∷ codes "index-v5" ∷ codes "c8" ∷ codes "fd" ∷ codes "19d9" ∷ []) ≡ Bucket
-  pub temporary : path_kind (Some row_home) (codes "c" ∷ codes "tmp" ∷ codes ".tmp0000000000000007" ∷ []) ≡ Temporary
+  pub content : path_kind (Some row_home)
+      (codes "c" ∷ codes "content-v2" ∷ codes "sha256" ∷ codes "ba" ∷ codes "78" ∷ codes "16bf" ∷ [])
+      ≡ Content
+  pub bucket : path_kind (Some row_home)
+      (codes "c" ∷ codes "index-v5" ∷ codes "c8" ∷ codes "fd" ∷ codes "19d9" ∷ []) ≡ Bucket
+  pub temporary : path_kind (Some row_home) (codes "c" ∷ codes "tmp" ∷ codes ".tmp07" ∷ []) ≡ Temporary
   pub top : path_kind (Some row_home) [] ≡ Way
   pub home : path_kind (Some row_home) (codes "c" ∷ []) ≡ Way
   pub folder : path_kind (Some row_home) (codes "c" ∷ codes "index-v5" ∷ codes "c8" ∷ []) ≡ Way
@@ -88,18 +46,104 @@ pub record KindCases : Type 0 where
   pub apart : path_kind (Some row_home) (codes "d" ∷ codes "tmp" ∷ []) ≡ Elsewhere
   pub no_home : path_kind None (codes "c" ∷ []) ≡ Elsewhere
 
--- ---- folders, of a cache that holds nothing yet
+-- ---- what a tree holds
 
--- the names of a folder in the rows below
-abbrev pub row_folder : Names
-row_folder = codes "c" ∷ codes "tmp" ∷ []
+-- a file or link at a content's path, and a file, an empty file or nothing at a bucket's
+pub record TreeCases (home : Names) (t : Tree) : Type 0 where
+  pub file : (a : Hash) (bytes : List ℕ) → look t (home ++ content_names a) ≡ Some (File bytes)
+      → (value_of_tree (Some home) t).contents a ≡ Some (InFile bytes)
+  pub link : (a : Hash) (target : List ℕ) → look t (home ++ content_names a) ≡ Some (Link target)
+      → (value_of_tree (Some home) t).contents a ≡ Some (AtLink target)
+  pub no_content : (a : Hash) → look t (home ++ content_names a) ≡ None
+      → (value_of_tree (Some home) t).contents a ≡ None
+  pub bucket : (digest bytes : List ℕ) → look t (home ++ bucket_names_of digest) ≡ Some (File bytes)
+      → (value_of_tree (Some home) t).buckets digest ≡ Some (entries_of bytes)
+  pub empty_bucket : (digest : List ℕ) → look t (home ++ bucket_names_of digest) ≡ Some (File [])
+      → (value_of_tree (Some home) t).buckets digest ≡ Some []
+  pub no_bucket : (digest : List ℕ) → look t (home ++ bucket_names_of digest) ≡ None
+      → (value_of_tree (Some home) t).buckets digest ≡ None
 
-pub record FolderCases (p : List ℕ) (luck : Luck) : Type 0 where
-  -- both folders of the path are made
-  pub made_first : (value_after row_home empty_value (MakeDirs p) luck Done).folders row_home ≡ true
-  pub made_second : (value_after row_home empty_value (MakeDirs p) luck Done).folders row_folder ≡ true
+-- a link to a file shows its bytes, one to nothing that there are none, one to a folder that it is one
+pub record LinkCases (t : Tree) (target : List ℕ) : Type 0 where
+  pub to_file : (end : Names) (bytes : List ℕ) → link_end t target ≡ Ok end → look t end ≡ Some (File bytes)
+      → blob_bytes t (Some (AtLink target)) ≡ Ok bytes
+  pub to_nothing : link_end t target ≡ Err NotFound → blob_bytes t (Some (AtLink target)) ≡ Err NotFound
+  pub to_folder : (end : Names) → link_end t target ≡ Ok end → look t end ≡ Some Folder
+      → blob_bytes t (Some (AtLink target)) ≡ Err IsADirectory
+
+-- ---- what a step does
+
+-- the value after a step, of a cache in the folder `home`
+abbrev pub value_after : Names → Value → PlainStep → Luck → PlainAnswer → Value
+value_after home v step luck answer = change (Some home) (act_of step luck answer) v
+
+-- the bucket of a SHA-1 after an append of an entry's line at its path
+abbrev pub bucket_after : Names → Value → List ℕ → List ℕ → Entry → Luck → PlainAnswer → Option (List Entry)
+bucket_after home v path digest e luck answer =
+    (value_after home v (Append path (line_of e)) luck answer).buckets digest
+
+-- appends of an entry's line to the bucket of a SHA-1
+pub record AppendCases (home : Names) (v : Value) (path digest : List ℕ) (e : Entry) : Type 0 where
+  -- all of it was taken: the entry stands behind the others
+  pub whole : (luck : Luck) → bucket_after home v path digest e luck (Took (length (line_of e)))
+      ≡ Some (list_of (v.buckets digest) ++ e ∷ [])
+  -- less was taken: the bucket exists, and no entry comes
+  pub torn : (luck : Luck) (n : ℕ) → n < length (line_of e)
+      → bucket_after home v path digest e luck (Took n) ≡ Some (list_of (v.buckets digest))
+  -- a failure that left all of it: the entry comes all the same
+  pub failed_whole : (n : ℕ) → length (line_of e) ≤ n
+      → bucket_after home v path digest e (Fail Device (Some n)) (Failed Device)
+      ≡ Some (list_of (v.buckets digest) ++ e ∷ [])
+  -- a failure that left less
+  pub failed_torn : (n : ℕ) → n < length (line_of e)
+      → bucket_after home v path digest e (Fail Device (Some n)) (Failed Device)
+      ≡ Some (list_of (v.buckets digest))
+  -- a failure that only made the file
+  pub created_only : bucket_after home v path digest e (Fail Device (Some 0)) (Failed Device)
+      ≡ Some (list_of (v.buckets digest))
+  -- a failure that left nothing
+  pub failed : value_after home v (Append path (line_of e)) (Fail Device None) (Failed Device) ≡ v
+  -- the bucket's folder is missing
+  pub no_folder : (luck : Luck)
+      → value_after home v (Append path (line_of e)) luck (Failed NotFound) ≡ v
+
+-- files and links at the path of an address
+pub record ContentCases (home : Names) (v : Value) (path : List ℕ) (a : Hash) : Type 0 where
+  -- a temporary file that is moved there is the content, in place of another
+  pub replaced : (luck : Luck) (from bytes : List ℕ)
+      → (value_after home v (Persist (record { path = from; bytes = Some bytes }) path) luck Done).contents a
+      ≡ Some (InFile bytes)
+  -- every other address keeps its content
+  pub others_keep : (luck : Luck) (file : PlainTemp) (b : Hash) → IsHash a → IsHash b → b ≢ a
+      → (value_after home v (Persist file path) luck Done).contents b ≡ v.contents b
+  -- a move that failed does nothing
+  pub failed : (luck : Luck) (file : PlainTemp)
+      → value_after home v (Persist file path) luck (Failed Device) ≡ v
+  -- a link that is made there is the content
+  pub linked : (luck : Luck) (target : List ℕ)
+      → (value_after home v (Symlink target path) luck Done).contents a ≡ Some (AtLink target)
+  -- a content that is removed is gone
+  pub removed : (luck : Luck) → (value_after home v (RemoveFile path) luck Done).contents a ≡ None
+
+-- a bucket that is removed is gone
+abbrev pub RemovedBucketsGo : Type 0
+RemovedBucketsGo =
+    (home : Names) (v : Value) (path digest : List ℕ) (luck : Luck)
+    → names_of path ≡ Ok (home ++ bucket_names_of digest)
+    → (value_after home v (RemoveFile path) luck Done).buckets digest ≡ None
+
+-- the two folders of a path, of a cache that holds nothing yet
+pub record FolderCases (path : List ℕ) (luck : Luck) : Type 0 where
+  -- both are made
+  pub first : (value_after row_home empty_value (MakeDirs path) luck Done).folders row_home ≡ true
+  pub second : (value_after row_home empty_value (MakeDirs path) luck Done).folders row_folder ≡ true
   -- a failure that left one of them
-  pub left_first : (value_after row_home empty_value (MakeDirs p) (Fail Device (Some 1)) (Failed Device)).folders row_home ≡ true
-  pub left_no_second : (value_after row_home empty_value (MakeDirs p) (Fail Device (Some 1)) (Failed Device)).folders row_folder ≡ false
-  -- a folder that is removed
-  pub removed : (v : Value) → (value_after row_home v (RemoveDir p) luck Done).folders row_folder ≡ false
+  pub only_first :
+      (value_after row_home empty_value (MakeDirs path) (Fail Device (Some 1)) (Failed Device)).folders
+      row_home ≡ true
+  pub no_second :
+      (value_after row_home empty_value (MakeDirs path) (Fail Device (Some 1)) (Failed Device)).folders
+      row_folder ≡ false
+  -- one that is removed is gone
+  pub removed : (v : Value)
+      → (value_after row_home v (RemoveDir path) luck Done).folders row_folder ≡ false

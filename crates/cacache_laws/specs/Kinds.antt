@@ -17,7 +17,7 @@ bucket_names_of digest = codes "index-v5" ∷ cut_digits (encode_lower digest)
 abbrev pub temp_names : ℕ → Names
 temp_names number = codes "tmp" ∷ (codes ".tmp" ++ encode_lower (to_be_bytes w64 number)) ∷ []
 
--- the names of the cache's folder: the top folder's for an empty text, none for a text with a NUL or a name `..`
+-- the names of the cache's folder: an empty text is the top folder, one with a NUL or a name `..` is none
 unfoldable pub home_of : List ℕ → Option Names
 home_of cache = if is_bad cache then None else Some (filter is_name (pieces cache))
 
@@ -27,6 +27,10 @@ home_of cache = if is_bad cache then None else Some (filter is_name (pieces cach
 abbrev pub names_below : Option Names → Names → Result Names Fault
 names_below None names = Err InvalidInput
 names_below (Some home) names = Ok (home ++ names)
+
+-- a path's text names what lies at these names below the cache's folder
+abbrev pub NamesBelow : Option Names → Names → List ℕ → Type 0
+NamesBelow home names path = names_of path ≡ names_below home names
 
 -- the node at these names below the cache's folder
 abbrev pub node_below : Option Names → Tree → Names → Option Node
@@ -75,7 +79,8 @@ kind_below (area ∷ rest) =
 abbrev pub kind_beside : Names → Names → PathKind
 kind_beside [] path = kind_below path
 kind_beside (name ∷ home) [] = Way
-kind_beside (name ∷ home) (first ∷ rest) = if bytes_eq name first then kind_beside home rest else Elsewhere
+kind_beside (name ∷ home) (first ∷ rest) =
+    if bytes_eq name first then kind_beside home rest else Elsewhere
 
 -- what a path is for; where the cache's text names no folder, each path is apart from it
 abbrev pub path_kind : Option Names → Names → PathKind

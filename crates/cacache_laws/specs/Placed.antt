@@ -34,7 +34,7 @@ pub record IsLine (bytes : List ℕ) : Type 0 where
   pub fits : Fits entry
   pub same : bytes ≡ line_of entry
 
--- a step that a call of the cache may make: it puts each thing where it belongs, and exports lie apart
+-- a step that a call of the cache may make: it puts things where they belong, and exports elsewhere
 abbrev pub Proper : Option Names → PlainStep → Type 0
 Proper home (MakeDirs p) = IsFor home Way p
 Proper home (CreateTemp p) = IsFor home Temporary p

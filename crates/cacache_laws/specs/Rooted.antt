@@ -12,4 +12,5 @@ StandsIn upper child = IfSome child (λ node. upper ≡ Some Folder)
 -- the top folder is there, and each node stands in a folder
 pub record Rooted (t : Tree) : Type 0 where
   pub top : look t [] ≡ Some Folder
-  pub folders : (above : Names) (name : List ℕ) → StandsIn (look t above) (look t (above ++ name ∷ []))
+  pub folders : (above : Names) (name : List ℕ)
+      → StandsIn (look t above) (look t (above ++ name ∷ []))

@@ -1,4 +1,4 @@
-use Rattle.cacache_laws.proofs.Lines.{whole_lines_add, torn_lines_add_none}
+use Rattle.cacache_laws.proofs.Lines.{whole_lines_add, torn_lines_add_none, nothing_left_is_nothing}
 use Rattle.cacache_laws.proofs.laws.append_laws.Goals as goal
 
 pub returns-clause-whole : goal.returns-clause-whole
@@ -6,3 +6,6 @@ returns-clause-whole c = whole_lines_add
 
 pub returns-clause-torn : goal.returns-clause-torn
 returns-clause-torn c = torn_lines_add_none
+
+pub returns-clause-nothing : goal.returns-clause-nothing
+returns-clause-nothing c = nothing_left_is_nothing
