@@ -9,3 +9,4 @@ pub mod Pieces
 pub mod PathNames
 pub mod PathLaws
 pub mod TextLaws
+pub mod Contexts

@@ -1,10 +1,15 @@
-//! What a call answers where it fails.
+//! Why calls fail.
 ghost use Rattle.std.specs.Prelude.{◌≡◌};
+ghost use Rattle.cacache_core.specs.Contexts.{fault_of};
 ghost use Rattle.cacache_core.specs.declared.errors.Error.TheVariants.{OutOfMemory, IntegrityError};
+
+mod context;
 
 use crate::integrity::Integrity;
 use crate::text::Text;
+pub use context::{IoErrorExt, io_error};
 use std::alloc::{AllocError, AllocFailed};
+use std::io::ErrorKind;
 use thiserror::Error as ErrorTexts;
 
 /// Why a step of a store failed.
@@ -38,6 +43,25 @@ pub enum Fault {
     TooDeep,
     /// Any other failure of the device or the system.
     Device,
+}
+
+impl From<ErrorKind> for Fault {
+    ghost from_gives = { λ kind fault. fault ≡ fault_of kind };
+
+    fn from(kind: ErrorKind) -> Fault {
+        match kind {
+            ErrorKind::NotFound => Fault::NotFound,
+            ErrorKind::AlreadyExists => Fault::AlreadyExists,
+            ErrorKind::NotADirectory => Fault::NotADirectory,
+            ErrorKind::IsADirectory => Fault::IsADirectory,
+            ErrorKind::DirectoryNotEmpty => Fault::NotEmpty,
+            ErrorKind::Unsupported => Fault::Unsupported,
+            ErrorKind::InvalidInput => Fault::InvalidInput,
+            ErrorKind::WriteZero => Fault::WriteZero,
+            ErrorKind::FilesystemLoop => Fault::TooDeep,
+            _ => Fault::Device,
+        }
+    }
 }
 
 /// Why an entry can't be written.
@@ -88,7 +112,7 @@ pub enum Error {
     OutOfMemory,
 }
 
-/// What most calls answer.
+/// What most calls return.
 pub type Result<T> = std::result::Result<T, Error>;
 
 impl From<AllocError> for Error {

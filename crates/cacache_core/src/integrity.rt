@@ -1,14 +1,13 @@
-//! What bytes are known by: algorithms, digests and integrities.
+//! What bytes are known by: integrities, and the algorithms that compute their digests.
 mod algorithm;
 mod builder;
 mod checker;
-mod digest;
-pub mod hasher;
+pub(crate) mod digest;
+pub(crate) mod hasher;
 mod reading;
 mod whole;
 
 pub use algorithm::Algorithm;
 pub use builder::IntegrityOpts;
 pub use checker::IntegrityChecker;
-pub use digest::{Digest, Hash};
 pub use whole::Integrity;

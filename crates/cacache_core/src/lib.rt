@@ -3,7 +3,9 @@
 #![tactic(auto)]
 
 pub mod bytes;
+pub mod digest;
 pub mod errors;
+pub mod hasher;
 pub mod integrity;
 pub mod laws;
 pub mod paths;

@@ -5,7 +5,8 @@ ghost use Rattle.hex.specs.Hex.{encode_lower};
 ghost use Rattle.cacache_core.specs.Integrity.{address as address_of};
 ghost use Rattle.cacache_core.specs.Paths.{join as join_of, joined, cut_digits, content_names, bucket_names_of, bucket_names, temp_names, folder_names};
 
-use crate::integrity::{Hash, Integrity};
+use crate::digest::Hash;
+use crate::integrity::Integrity;
 use crate::text::Text;
 use std::alloc::{AllocError, Global};
 

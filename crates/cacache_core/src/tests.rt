@@ -5,6 +5,7 @@ use std::cmp::Ordering;
 use std::test::Fail;
 
 mod bytes;
+mod errors;
 mod paths;
 mod texts;
 
@@ -205,7 +206,7 @@ fn hello_world(rt: HostRuntime) -> Result<(), Fail> {
 
 #[test]
 fn pieces(rt: HostRuntime) -> Result<(), Fail> {
-    let mut builder = IntegrityOpts::new();
+    let mut builder = IntegrityOpts::default();
     builder.input(b"a");
     let mut builder = builder.algorithm(Algorithm::Sha512);
     builder.input(b"b");

@@ -1,5 +1,6 @@
 //! Making an integrity of bytes that come in pieces.
 ghost use Rattle.std.specs.Prelude.{◌≡◌, ◌++◌, ℕ, List, [], IfOk, IfErr};
+ghost use Rattle.cacache_core.specs.declared.integrity.algorithm.Algorithm.TheVariants.{Sha256};
 ghost use Rattle.cacache_core.specs.Hashers.{algorithm_of, Holds};
 ghost use Rattle.cacache_core.specs.Integrity.{integrity_under};
 ghost use Rattle.cacache_core.specs.Pieces.{WasFed, chosen as chosen_of};
@@ -20,6 +21,14 @@ pub struct IntegrityOpts {
     sha384: sha2::Sha384,
     sha256: sha2::Sha256,
     sha1: sha1::Sha1,
+}
+
+impl Default for IntegrityOpts {
+    ghost is_default = { λ builder. WasFed builder [] × (chosen_of builder ≡ Sha256) };
+
+    fn default() -> IntegrityOpts {
+        IntegrityOpts::new()
+    }
 }
 
 impl IntegrityOpts {

@@ -1,11 +1,14 @@
 //! Hashers that are fed in pieces.
-ghost use Rattle.std.specs.Prelude.{◌≡◌, ◌≤◌, ◌++◌, ℕ, List, [], IfOk, length};
+ghost use Rattle.std.specs.Prelude.{◌≡◌, ◌≤◌, ◌++◌, ℕ, List, [], IfOk, IfErr, length};
 ghost use Rattle.base64.specs.GeneralPurpose.{IsBytes};
 ghost use Rattle.cacache_core.specs.Digests.{digest};
 ghost use Rattle.cacache_core.specs.Hashers.{Holds, algorithm_of, finished_bytes};
+ghost use Rattle.cacache_core.specs.Integrity.{integrity_under};
 
+use crate::errors::{self, Error};
 use crate::integrity::algorithm::Algorithm;
 use crate::integrity::digest::Digest;
+use crate::integrity::whole::Integrity;
 use sha2::Digest as Sha2Digest;
 use std::alloc::{AllocError, Global};
 
@@ -78,6 +81,14 @@ impl Hasher {
             Hasher::Sha256(hasher) => Finished::Sha256(hasher.finalize()),
             Hasher::Sha1(hasher) => Finished::Sha1(hasher.finalize()),
         }
+    }
+
+    /// The integrity of all that the hasher was fed, under its algorithm.
+    pub fn result(self, alloc: Global) -> errors::Result<Integrity>
+        ensures ok { (m : List ℕ) → Holds self m → IfOk result (λ i. i ≡ integrity_under (algorithm_of self) m) }
+        ensures err { IfErr result (λ e. e ≡ Error.OutOfMemory) }
+    {
+        Integrity::of_hasher(alloc, self)
     }
 }
 

@@ -64,7 +64,7 @@ impl Integrity {
     }
 
     /// The integrity of these bytes under one algorithm.
-    pub fn of(alloc: Global, algorithm: Algorithm, data: &[u8]) -> Result<Integrity>
+    pub(crate) fn of(alloc: Global, algorithm: Algorithm, data: &[u8]) -> Result<Integrity>
         ensures ok { IfOk result (λ i. i ≡ integrity_under algorithm «data».now) }
         ensures err { IfErr result (λ e. e ≡ Error.OutOfMemory) }
     {
@@ -74,7 +74,7 @@ impl Integrity {
     }
 
     /// The integrity of all that a hasher was fed, under its algorithm.
-    pub fn of_hasher(alloc: Global, hasher: Hasher) -> Result<Integrity>
+    pub(crate) fn of_hasher(alloc: Global, hasher: Hasher) -> Result<Integrity>
         ensures ok { (m : List ℕ) → Holds hasher m → IfOk result (λ i. i ≡ integrity_under (algorithm_of hasher) m) }
         ensures err { IfErr result (λ e. e ≡ Error.OutOfMemory) }
     {
@@ -82,6 +82,7 @@ impl Integrity {
         Ok(Integrity::of_finished(alloc, algorithm, &hasher.finalize())?)
     }
 
+    /// The integrity of one digest under an algorithm.
     fn of_finished(
         alloc: Global,
         algorithm: Algorithm,

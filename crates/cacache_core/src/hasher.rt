@@ -1,0 +1,2 @@
+//! Hashers that are fed in pieces.
+pub use crate::integrity::hasher::{Finished, Hasher};
