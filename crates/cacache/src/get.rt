@@ -14,23 +14,22 @@ use cacache_core::errors::Result;
 use cacache_core::integrity::Integrity;
 use cacache_core::text::Text;
 use cacache_steps::jobs::{Command, Reply, call};
-use std::alloc::Global;
 
 /// Makes a call that reads.
-fn read<S: Store>(
-    store: &mut S,
-    alloc: Global,
-    cache: &str,
-    base: &str,
-    command: Command,
-) -> Result<Vec<u8>>
+fn read<S: Store, C, N>(env: &mut Env<S, C, N>, cache: &str, command: Command) -> Result<Vec<u8>>
     requires { IsReading command }
-    ensures ran { Ran (opening cache.now command 0) (read_reply result) (S.log store.old) (S.log store.new) }
-    ensures found { IfOk result (λ bytes. FindsBytes cache.now command (Reply.Read bytes.items) (S.log store.old) (S.log store.new)) }
-    ensures promised { IfOk result (λ bytes. Promises (opening cache.now command 0) (Reply.Read bytes.items)) }
+    ensures ran { Ran (opening cache.now command 0) (read_reply result)
+        (S.log env.old.store) (S.log env.new.store) }
+    ensures found { IfOk result (λ bytes. FindsBytes cache.now command (Reply.Read bytes.items)
+        (S.log env.old.store) (S.log env.new.store)) }
+    ensures promised { IfOk result (λ bytes.
+        Promises (opening cache.now command 0) (Reply.Read bytes.items)) }
+    ensures clock { env.new.clock ≡ env.old.clock }
+    ensures names { env.new.names ≡ env.old.names }
+    ensures base { env.new.base ≡ env.old.base }
 {
-    match call(store, alloc, cache, base, command, 0) {
-        Reply::Read(bytes) => Ok(bytes.into_vec(alloc)?),
+    match call(env, cache, command, 0) {
+        Reply::Read(bytes) => Ok(bytes.into_vec(env.alloc)?),
         Reply::Refused(error) => Err(error),
         Reply::Stored(_) => unreachable!(),
     }
@@ -46,15 +45,16 @@ pub fn read_sync<S: Store, C: Clock, N: Names>(
     cache: &str,
     key: &str,
 ) -> Result<Vec<u8>>
-    ensures verified { IfOk result (λ bytes. ReadsFound cache.now key.now bytes.items (S.log env.old.store) (S.log env.new.store)) }
-    ensures ran { Ran (opening cache.now (Get key.now) 0) (read_reply result) (S.log env.old.store) (S.log env.new.store) }
+    ensures verified { IfOk result (λ bytes. ReadsFound cache.now key.now bytes.items
+        (S.log env.old.store) (S.log env.new.store)) }
+    ensures ran { Ran (opening cache.now (Get key.now) 0) (read_reply result)
+        (S.log env.old.store) (S.log env.new.store) }
     ensures clock { env.new.clock ≡ env.old.clock }
     ensures names { env.new.names ≡ env.old.names }
     ensures base { env.new.base ≡ env.old.base }
 {
     let command = Command::Get(Text::from_str(env.alloc, key)?);
-    let base = env.base.as_str();
-    read(&mut env.store, env.alloc, cache, base, command)
+    read(env, cache, command)
 }
 
 /// The bytes of an integrity. Whatever the store gives, what is answered meets it.
@@ -67,12 +67,12 @@ pub fn read_hash_sync<S: Store, C: Clock, N: Names>(
     sri: &Integrity,
 ) -> Result<Vec<u8>>
     ensures verified { IfOk result (λ bytes. Meets sri.now bytes.items) }
-    ensures ran { Ran (opening cache.now (GetHash sri.now) 0) (read_reply result) (S.log env.old.store) (S.log env.new.store) }
+    ensures ran { Ran (opening cache.now (GetHash sri.now) 0) (read_reply result)
+        (S.log env.old.store) (S.log env.new.store) }
     ensures clock { env.new.clock ≡ env.old.clock }
     ensures names { env.new.names ≡ env.old.names }
     ensures base { env.new.base ≡ env.old.base }
 {
     let command = Command::GetHash(sri.clone()?);
-    let base = env.base.as_str();
-    read(&mut env.store, env.alloc, cache, base, command)
+    read(env, cache, command)
 }
