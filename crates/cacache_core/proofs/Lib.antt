@@ -10,3 +10,4 @@ pub mod Order
 pub mod Printed
 pub mod Decoded
 pub mod Relation
+pub mod Meeting

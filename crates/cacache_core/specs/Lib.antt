@@ -10,3 +10,5 @@ pub mod PathNames
 pub mod PathLaws
 pub mod TextLaws
 pub mod Contexts
+pub mod Meeting
+pub mod IntegrityLaws

@@ -1,5 +1,6 @@
 //! What holds of paths, texts and integrities, each topic on a function that does nothing. Call it
 //! where a proof needs its laws.
+ghost use Rattle.cacache_core.specs.IntegrityLaws.{ListsFindsHashes, MeetsFindsBytes, MatchingFindsShared, OwnIsMet};
 ghost use Rattle.cacache_core.specs.PathLaws.{KeysHaveDigests, PathsDiffer, NoneBegins, KindsAreApart, NamesAreProper, JoinedTextsName};
 ghost use Rattle.cacache_core.specs.TextLaws.{PrintedTextsRead, IntegrityTextsRead, ReadTextsAreIntegrities};
 
@@ -21,4 +22,13 @@ pub fn text_laws()
     ensures printed { PrintedTextsRead }
     ensures read { IntegrityTextsRead }
     ensures integrities { ReadTextsAreIntegrities }
+{}
+
+/// Whether bytes meet an integrity and whether two integrities match are tests that compute; each
+/// says what the relation does. Bytes meet their own integrity.
+pub fn integrity_laws()
+    ensures lists { ListsFindsHashes }
+    ensures meets { MeetsFindsBytes }
+    ensures matching { MatchingFindsShared }
+    ensures own { OwnIsMet }
 {}

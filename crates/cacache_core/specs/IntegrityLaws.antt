@@ -1,0 +1,24 @@
+-- What holds of integrities: the tests on them say what the relations do.
+use Rattle.std.specs.Prelude.{◌≡◌, ◌↔◌, ℕ, List, true, Some, Contains}
+use Rattle.cacache_core.specs.declared.integrity.algorithm.Algorithm.{Algorithm}
+use Rattle.cacache_core.specs.declared.integrity.digest.Hash.{Hash}
+use Rattle.cacache_core.specs.Integrity.{Meets, ShareDigest, strongest, integrity_under}
+use Rattle.cacache_core.specs.Meeting.{lists, meets, matching}
+
+-- the test of a list finds each of its hashes and no other
+abbrev pub ListsFindsHashes : Type 0
+ListsFindsHashes = (hashes : List Hash) (h : Hash) → (lists hashes h ≡ true) ↔ Contains hashes h
+
+-- bytes pass the test of an integrity exactly where they meet it
+abbrev pub MeetsFindsBytes : Type 0
+MeetsFindsBytes = (i : List Hash) (b : List ℕ) → (meets i b ≡ true) ↔ Meets i b
+
+-- an integrity matches another under the other's strongest algorithm, exactly where they share a digest of it
+abbrev pub MatchingFindsShared : Type 0
+MatchingFindsShared =
+    (i j : List Hash) (a : Algorithm)
+    → (matching i j ≡ Some a) ↔ ((strongest j ≡ Some a) × ShareDigest a i j)
+
+-- bytes meet their own integrity
+abbrev pub OwnIsMet : Type 0
+OwnIsMet = (a : Algorithm) (b : List ℕ) → Meets (integrity_under a b) b

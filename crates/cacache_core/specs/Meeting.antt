@@ -1,0 +1,26 @@
+-- Tests: which hashes an integrity lists, which bytes meet it, what two integrities share.
+use Rattle.std.specs.Prelude.{◌&&◌, if◌then◌else◌, ℕ, List, [], ◌∷◌, Bool, false, Option, None, Some}
+use Rattle.std.specs.List.{list_any}
+use Rattle.cacache_core.specs.declared.integrity.algorithm.Algorithm.{Algorithm}
+use Rattle.cacache_core.specs.declared.integrity.digest.Hash.{Hash}
+use Rattle.cacache_core.specs.Digests.{digest}
+use Rattle.cacache_core.specs.Integrity.{is_of, hash_of}
+use Rattle.cacache_core.specs.Same.{same_hash}
+
+-- the hash is one of these
+abbrev pub lists : List Hash → Hash → Bool
+lists hashes h = list_any (λ g. same_hash g h) hashes
+
+-- the bytes' digest under the strongest algorithm stands beside it
+unfoldable pub meets : List Hash → List ℕ → Bool
+meets [] b = false
+meets (h ∷ hs) b = lists (h ∷ hs) (hash_of h.algorithm (digest h.algorithm b))
+
+-- both list one hash of the algorithm
+abbrev pub share : Algorithm → List Hash → List Hash → Bool
+share a i j = list_any (λ h. is_of a h && lists i h) j
+
+-- the strongest algorithm of the second, where both list one hash of it
+unfoldable pub matching : List Hash → List Hash → Option Algorithm
+matching i [] = None
+matching i (h ∷ hs) = if share h.algorithm i (h ∷ hs) then Some h.algorithm else None
