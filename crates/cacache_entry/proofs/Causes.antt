@@ -2,16 +2,16 @@
 use Rattle.std.proofs.Common.{◌≡◌, ℕ, ◌^◌, ◌<◌, ◌≤◌, List, [], ◌∷◌, Bool, true, false, not, Option, Some, None, refl, sym, ap, ◌∙◌, arith}
 use Rattle.std.specs.Prelude.{nat_lt, nat_le, if◌then◌else◌}
 use Rattle.std.proofs.lemmas.Bool.{leb-true, leb-false, ltb-false, le-ltb, lt-ltb, lt-leb, le-leb}
-use Rattle.json.proofs.Printed.Utf8.{IsUtf8-are_ascii}
-use Rattle.serde_json.specs.Data.{null, depth, items_depth, object}
+use Rattle.serde_json.specs.Data.{depth, items_depth, object}
 use Rattle.serde_json.specs.Read.{max_depth}
 use Rattle.serde_json.specs.Written.{has_float}
 use Rattle.cacache_core.specs.declared.errors.SerdeCause.{SerdeCause}
 use Rattle.cacache_core.specs.declared.errors.SerdeCause.TheVariants.{TimeTooLarge, NotWhole, TooDeep}
 use Rattle.cacache_entry.specs.Entry.{Entry, text_or_null, byte_items, bytes_or_null, members_of}
-use Rattle.cacache_entry.specs.Fits.{IsJson, IsEntry, Fits, cause_of}
+use Rattle.cacache_entry.specs.Fits.{IsEntry, Fits, cause_of}
 use Rattle.cacache_entry.specs.Laws.{NoCauseIsFit, FlatEntriesFit, bare_entry, BareEntriesFit}
 use Rattle.cacache_entry.proofs.ReadsBack.{has_float-IsWhole}
+use Rattle.cacache_entry.proofs.WellRead.{IsJson-null}
 
 -- the first of three causes
 abbrev first_cause : Bool → Bool → Bool → Option SerdeCause
@@ -90,9 +90,6 @@ no_cause_is_fit e h = (λ none. Fits-no_cause e h none, λ f. no_cause-Fits e f)
 
 pub flat_entries_fit : FlatEntriesFit
 flat_entries_fit e h early whole flat = Fits-no_cause e h (sym (cause_of-none e early whole flat))
-
-IsJson-null : IsJson null
-IsJson-null = record { utf8 = IsUtf8-are_ascii _ refl; ordered = tt; in_range = λ whole. tt }
 
 pub bare_entries_fit : BareEntriesFit
 bare_entries_fit key integrity time size k i early small =

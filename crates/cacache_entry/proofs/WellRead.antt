@@ -11,8 +11,10 @@ use Rattle.json.specs.Json as json
 use Rattle.serde_json.specs.Data.{Num, unsigned, negative, float, Data, null, boolean, number, string, array, object, Items, no_items, item, Members, no_members, member, put}
 use Rattle.serde_json.specs.Find.{is_float}
 use Rattle.serde_json.specs.Read.{is_integer, float_of, number_from, number_of, of_json, of_items, of_members, read, max_depth}
-use Rattle.serde_json.specs.Written.{has_float, items_have_float, members_have_float}
-use Rattle.cacache_entry.specs.Fits.{AreAbove, IsOrdered, ItemsAreOrdered, MembersAreOrdered, IsWholeNumber, IsWhole, ItemsAreWhole, MembersAreWhole}
+use Rattle.std.specs.Prelude.{IsUtf8}
+use Rattle.json.proofs.Printed.Utf8.{IsUtf8-are_ascii}
+use Rattle.serde_json.specs.Written.{compact_text, has_float, items_have_float, members_have_float}
+use Rattle.cacache_entry.specs.Fits.{IsJson, AreAbove, IsOrdered, ItemsAreOrdered, MembersAreOrdered, IsWholeNumber, IsWhole, ItemsAreWhole, MembersAreWhole}
 
 abbrev Given : {A : Type 0} → (A → Type 0) → Option A → Type 0
 Given P None = ⊤
@@ -202,3 +204,12 @@ mutual
 -- and has its numbers in range, where none is a float
 pub IsWhole-read : (text : List ℕ) (d : Data) → read text ≡ Some d → has_float d ≡ false → IsWhole d
 IsWhole-read text d e whole = IsWhole-InRange d (subst (Given InRange) e (from_json InRange InRange-of_json (parsed text))) whole
+
+-- ---- values that read back
+
+pub IsJson-null : IsJson null
+IsJson-null = record { utf8 = IsUtf8-are_ascii _ refl; ordered = tt; in_range = λ whole. tt }
+
+-- what reads back from a UTF-8 text of its own is JSON
+pub IsJson-read : (d : Data) → IsUtf8 (compact_text d) → read (compact_text d) ≡ Some d → IsJson d
+IsJson-read d utf8 reads = record { utf8 = utf8; ordered = IsOrdered-read (compact_text d) d reads; in_range = IsWhole-read (compact_text d) d reads }

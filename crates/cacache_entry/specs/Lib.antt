@@ -1,4 +1,5 @@
 pub mod Entry
+pub mod Tokens
 pub mod Reading
 pub mod Fits
 pub mod Bucket

@@ -1,4 +1,6 @@
 //! Lines and texts with values from outside: the Rust crate's lines, and texts that a foreign writer might leave.
+mod rust_crate;
+
 use super::*;
 use cacache_core::errors::{self, Error, SerdeCause};
 use serde_json::Value;
@@ -8,11 +10,11 @@ use std::hash::{DefaultHasher, Hash, Hasher};
 use std::process::Abort;
 use std::test::Fail;
 
-// A line that the Rust crate wrote.
+/// A line that the Rust crate wrote.
 const MOCK: &str =
     "\n9cbbfe2553e7c7e1773f53f0f643fdd72008faa38da53ebcb055e5e20321ae47\t{\"key\":\"hello\",\"integrity\":\"sha1-deadbeef\",\"time\":1234567,\"size\":0,\"metadata\":null,\"raw_metadata\":null}";
 
-// How many bytes of the line stand before its text.
+/// How many bytes of the line stand before its text.
 const BEFORE_TEXT: usize = 66;
 
 fn hello(alloc: Global, time: u128, metadata: Value) -> Result<SerializableMetadata, AllocError> {
@@ -26,7 +28,7 @@ fn hello(alloc: Global, time: u128, metadata: Value) -> Result<SerializableMetad
     })
 }
 
-// How many entries two runs of bytes hold, one behind the other.
+/// How many entries two runs of bytes hold, one behind the other.
 fn count(rt: &HostRuntime, front: &[u8], back: &[u8]) -> Result<usize, Fail> {
     let mut bytes = Vec::new(rt.alloc());
     bytes.extend_from_slice(front)?;
@@ -34,7 +36,7 @@ fn count(rt: &HostRuntime, front: &[u8], back: &[u8]) -> Result<usize, Fail> {
     Ok(entries(rt.alloc(), &bytes)?.len())
 }
 
-// The times of the entries of a text's line.
+/// The times of the entries of a text's line.
 fn times(rt: &HostRuntime, text: &str) -> Result<Vec<u128>, Fail> {
     let digest = hex::encode(rt.alloc(), Sha256::digest(text.as_bytes()))?;
     let line = format!(in rt.alloc(); "\n{digest}\t{text}")?;
@@ -145,7 +147,7 @@ fn foreign_texts_that_are_none(rt: HostRuntime) -> Result<(), Fail> {
     Ok(())
 }
 
-// The line of an entry of the key.
+/// The line of an entry of the key.
 fn line_of(
     alloc: Global,
     key: &str,
@@ -161,7 +163,7 @@ fn line_of(
     line(alloc, &entry)
 }
 
-// The time of what a lookup of the key finds.
+/// The time of what a lookup of the key finds.
 fn found_time(alloc: Global, bytes: &[u8], key: &str) -> errors::Result<Option<u128>> {
     Ok(latest(alloc, bytes, key)?.found.map(|found| found.time))
 }
@@ -213,7 +215,7 @@ fn lookups_in_a_damaged_bucket(rt: HostRuntime) -> Result<(), Fail> {
     Ok(())
 }
 
-// The bytes of MOCK, and then these.
+/// The bytes of MOCK, and then these.
 fn behind_mock(alloc: Global, more: &[u8]) -> Result<Vec<u8>, AllocError> {
     let mut bytes = Vec::new(alloc);
     bytes.extend_from_slice(MOCK.as_bytes())?;
@@ -248,7 +250,7 @@ fn lookups_from_the_end(rt: HostRuntime) -> Result<(), Fail> {
     Ok(())
 }
 
-// Why the entry is refused; a refusal names the key.
+/// Why the entry is refused; a refusal names the key.
 fn refusal_of(
     rt: &impl Abort,
     alloc: Global,
@@ -266,7 +268,7 @@ fn refusal_of(
     }
 }
 
-// Empty arrays, one inside the other.
+/// Empty arrays, one inside the other.
 fn nested(alloc: Global, levels: u64) -> Result<Value, AllocError> {
     let mut value = Value::Null;
     for _level in 0..levels {
