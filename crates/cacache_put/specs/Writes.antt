@@ -4,16 +4,13 @@ use Rattle.cacache_core.specs.declared.errors.Error.{Error}
 use Rattle.cacache_core.specs.declared.integrity.digest.Hash.{Hash}
 use Rattle.cacache_base.specs.declared.env.Env.{Env}
 use Rattle.cacache_base.specs.declared.store.log.LogItem.{LogItem}
+use Rattle.cacache_base.specs.Given.{AddsAnswer}
 use Rattle.cacache_steps.specs.declared.jobs.command.Put.{Put}
 use Rattle.cacache_steps.specs.declared.jobs.command.Command.TheVariants as commands
 use Rattle.cacache_steps.specs.declared.jobs.reply.Reply.{Reply}
 use Rattle.cacache_steps.specs.declared.jobs.reply.Reply.TheVariants.{Stored, Refused}
 use Rattle.cacache_steps.specs.Calls.{opening}
 use Rattle.cacache_steps.specs.Runs.{Ran, without_message}
-
--- a clock, or a source of numbers, that keeps its answers was asked once and answered n
-abbrev pub AsksOnce : Option (List ℕ) → Option (List ℕ) → ℕ → Type 0
-AsksOnce old new n = new ≡ option_map (λ given. given ++ n ∷ []) old
 
 -- bytes that are put under a key
 abbrev pub keyed_put : List ℕ → List ℕ → ℕ → Put
@@ -28,10 +25,11 @@ abbrev pub stored_reply : Result (List Hash) Error → Reply
 stored_reply (Ok integrity) = Stored integrity
 stored_reply (Err error) = Refused (without_message error)
 
--- the clock and the source of numbers were asked once each, and the log gained a run of the put with that moment and that number, with this reply
-abbrev pub RunsPut : {S C N : Type 0} → (S → Option (List LogItem)) → (C → Option (List ℕ)) → (N → Option (List ℕ)) → Env S C N → Env S C N → List ℕ → (ℕ → Put) → Reply → Type 0
+-- the clock and the source of numbers were asked once each, and with what they gave the log gained a run of the put
+abbrev pub RunsPut : {S C N : Type 0} → (S → Option (List LogItem)) → (C → Option (List ℕ))
+    → (N → Option (List ℕ)) → Env S C N → Env S C N → List ℕ → (ℕ → Put) → Reply → Type 0
 RunsPut log moments numbers old new cache put reply =
     (moment number : ℕ)
-    × AsksOnce (moments old.clock) (moments new.clock) moment
-    × AsksOnce (numbers old.names) (numbers new.names) number
+    × AddsAnswer (moments old.clock) (moments new.clock) moment
+    × AddsAnswer (numbers old.names) (numbers new.names) number
     × Ran (opening cache (commands.Put (put moment)) number) reply (log old.store) (log new.store)

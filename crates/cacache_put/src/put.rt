@@ -4,7 +4,8 @@ ghost use Rattle.cacache_core.specs.declared.integrity.algorithm.Algorithm.TheVa
 ghost use Rattle.cacache_core.specs.Integrity.{integrity_under};
 ghost use Rattle.cacache_steps.specs.Calls.{opening};
 ghost use Rattle.cacache_steps.specs.Runs.{Ran};
-ghost use Rattle.cacache_put.specs.Writes.{AsksOnce, RunsPut, keyed_put, unkeyed_put, stored_reply};
+ghost use Rattle.cacache_base.specs.Given.{AddsAnswer};
+ghost use Rattle.cacache_put.specs.Writes.{RunsPut, keyed_put, unkeyed_put, stored_reply};
 
 use cacache_base::env::{Clock, Env, Names};
 use cacache_base::store::Store;
@@ -114,7 +115,7 @@ pub fn write_hash_sync<S: Store, C: Clock, N: Names>(
     data: &[u8],
 ) -> Result<Integrity>
     ensures stored { IfOk result (λ i. i ≡ integrity_under Sha256 «data».now) }
-    ensures ran { (number : ℕ) × AsksOnce (N.given env.old.names) (N.given env.new.names) number
+    ensures ran { (number : ℕ) × AddsAnswer (N.given env.old.names) (N.given env.new.names) number
         × Ran (opening cache.now (Command.Put (unkeyed_put «data».now)) number)
             (stored_reply result) (S.log env.old.store) (S.log env.new.store) }
     ensures clock { env.new.clock ≡ env.old.clock }

@@ -9,7 +9,7 @@ use Rattle.cacache_core.specs.declared.errors.Error.{Error}
 use Rattle.cacache_core.specs.declared.errors.Error.TheVariants.{IoError, IntegrityError}
 use Rattle.cacache_core.specs.Integrity.{actual}
 use Rattle.cacache_base.specs.declared.store.plain.PlainTemp.{PlainTemp}
-use Rattle.cacache_base.specs.Seen.{PlainStep, PlainAnswer}
+use Rattle.cacache_base.specs.Plain.{PlainStep, PlainAnswer}
 use Rattle.cacache_entry.specs.Latest.{Found}
 use Rattle.cacache_steps.specs.declared.jobs.reply.Reply.TheVariants.{Stored, Read}
 use Rattle.cacache_steps.specs.declared.jobs.stage.Commit.{Commit}

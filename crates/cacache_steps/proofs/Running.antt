@@ -7,7 +7,7 @@ use Rattle.cacache_base.specs.declared.store.plain.PlainTemp.{PlainTemp}
 use Rattle.cacache_base.specs.declared.store.log.LogItem.{LogItem}
 use Rattle.cacache_base.specs.declared.store.log.LogItem.TheVariants.{Made}
 use Rattle.cacache_base.specs.declared.store.answer.Answer.TheVariants as answers
-use Rattle.cacache_base.specs.Seen.{PlainStep, PlainAnswer, plain_step}
+use Rattle.cacache_base.specs.Plain.{PlainStep, PlainAnswer, plain_step}
 use Rattle.cacache_base.specs.Fits.{Fits, Logs, is_no_memory}
 use Rattle.cacache_steps.specs.declared.jobs.reply.Reply.{Reply}
 use Rattle.cacache_steps.specs.declared.jobs.reply.Reply.TheVariants.{Refused}

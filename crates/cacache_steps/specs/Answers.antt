@@ -3,7 +3,7 @@ use Rattle.std.specs.Prelude.{ℕ, List, Result, Ok, Err, Bool}
 use Rattle.cacache_core.specs.declared.errors.Fault.TheVariants.{Device}
 use Rattle.cacache_base.specs.declared.store.plain.PlainTemp.{PlainTemp}
 use Rattle.cacache_base.specs.declared.store.answer.Answer.TheVariants as answers
-use Rattle.cacache_base.specs.Seen.{PlainAnswer}
+use Rattle.cacache_base.specs.Plain.{PlainAnswer}
 use Rattle.cacache_steps.specs.declared.jobs.answers.Refusal.{Refusal}
 use Rattle.cacache_steps.specs.declared.jobs.answers.Refusal.TheVariants.{Fault, Memory}
 use Rattle.cacache_steps.specs.declared.jobs.answers.Written.{Written}

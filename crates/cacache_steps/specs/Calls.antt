@@ -14,7 +14,7 @@ use Rattle.cacache_steps.specs.Meeting.{meets}
 use Rattle.cacache_core.specs.Texts.{text_of as integrity_text}
 use Rattle.cacache_base.specs.declared.store.plain.PlainTemp.{PlainTemp}
 use Rattle.cacache_base.specs.declared.store.step.Step.TheVariants.{MakeDirs, CreateTemp, Write, Persist, Append, ReadAll, Exists}
-use Rattle.cacache_base.specs.Seen.{PlainStep, PlainAnswer}
+use Rattle.cacache_base.specs.Plain.{PlainStep, PlainAnswer}
 use Rattle.cacache_entry.specs.Entry.{Entry, line_of}
 use Rattle.cacache_entry.specs.Fits.{cause_of}
 use Rattle.cacache_entry.specs.Bucket.{entries_of}

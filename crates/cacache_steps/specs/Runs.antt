@@ -4,7 +4,7 @@ use Rattle.cacache_core.specs.declared.errors.Error.{Error}
 use Rattle.cacache_core.specs.declared.errors.Error.TheVariants.{EntryNotFound, SizeMismatch, IoError, SerdeError, IntegrityError, OutOfMemory}
 use Rattle.cacache_base.specs.declared.store.log.LogItem.{LogItem}
 use Rattle.cacache_base.specs.declared.store.log.LogItem.TheVariants.{Made}
-use Rattle.cacache_base.specs.Seen.{PlainStep, PlainAnswer}
+use Rattle.cacache_base.specs.Plain.{PlainStep, PlainAnswer}
 use Rattle.cacache_base.specs.Fits.{Fits}
 use Rattle.cacache_steps.specs.declared.jobs.reply.Reply.{Reply}
 use Rattle.cacache_steps.specs.declared.jobs.reply.Reply.TheVariants.{Stored, Read, Refused}

@@ -4,7 +4,7 @@ use Rattle.cacache_core.specs.declared.errors.Error.TheVariants.{OutOfMemory}
 use Rattle.cacache_base.specs.declared.store.plain.PlainFile.{PlainFile}
 use Rattle.cacache_base.specs.declared.store.plain.PlainTemp.{PlainTemp}
 use Rattle.cacache_base.specs.declared.store.step.Step.TheVariants.{Write, Persist}
-use Rattle.cacache_base.specs.Seen.{PlainStep, PlainAnswer, plain_step}
+use Rattle.cacache_base.specs.Plain.{PlainStep, PlainAnswer, plain_step}
 use Rattle.cacache_entry.specs.Fits.{IsEntry}
 use Rattle.cacache_steps.specs.declared.jobs.reply.Reply.TheVariants.{Refused, Read}
 use Rattle.cacache_steps.specs.declared.jobs.stage.Stage.{Stage}

@@ -2,5 +2,4 @@
 #![tactic(auto)]
 
 pub mod content;
-pub mod index;
 pub mod jobs;

@@ -1,6 +1,6 @@
 //! What an answer says to a step of one kind.
 ghost use Rattle.std.specs.Prelude.{◌≡◌, Result, Ok, Err};
-ghost use Rattle.cacache_base.specs.Seen.{plain_answer};
+ghost use Rattle.cacache_base.specs.Plain.{plain_answer};
 ghost use Rattle.cacache_steps.specs.Answers.{refusal_in, done_in, temp_in, written_in, taken_in, bytes_in, there_in};
 ghost use Rattle.cacache_steps.specs.Seen.{with_file, written_as};
 

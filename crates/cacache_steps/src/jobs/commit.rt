@@ -1,6 +1,6 @@
 //! How a commit goes on after each of its steps.
 ghost use Rattle.std.specs.Prelude.{◌≡◌, IfOk, IsTrue, drop};
-ghost use Rattle.cacache_base.specs.Seen.{PlainStep, plain_answer};
+ghost use Rattle.cacache_base.specs.Plain.{PlainStep, plain_answer};
 ghost use Rattle.cacache_steps.specs.Calls.{making_temps, creating, writing, making_contents, persisting, confirming, after, committed, write_rest, ends_with, error_of};
 ghost use Rattle.cacache_steps.specs.Stands.{PhaseAt, Keeps, file_in, is_ready};
 ghost use Rattle.cacache_steps.specs.declared.jobs.stage.Stage.TheVariants.{Writing, MakingContents, Persisting};

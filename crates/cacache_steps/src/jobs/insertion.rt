@@ -1,13 +1,12 @@
 //! How an entry goes into its bucket.
 ghost use Rattle.std.specs.Prelude.{◌≡◌, None, IfOk, IfErr, OnOk, IsTrue};
-ghost use Rattle.cacache_base.specs.Seen.{plain_answer};
+ghost use Rattle.cacache_base.specs.Plain.{plain_answer};
 ghost use Rattle.cacache_entry.specs.Fits.{IsEntry};
 ghost use Rattle.cacache_entry.specs.View.{entry_view, IsRefusal};
 ghost use Rattle.cacache_steps.specs.Calls.{making_bucket, appending, after, unless_refused, entry_of, inserted_line, inserted_cause};
 ghost use Rattle.cacache_steps.specs.Stands.{PhaseAt, is_ready, Keeps};
 ghost use Rattle.cacache_steps.specs.declared.jobs.stage.Stage.TheVariants.{MakingBucket, Appending};
 
-use crate::index::{SerializableMetadata, line};
 use crate::jobs::answers::{Refusal, done_of, taken_of};
 use crate::jobs::messages;
 use crate::jobs::phase::{Phase, refused};
@@ -19,6 +18,7 @@ use cacache_core::bytes::Bytes;
 use cacache_core::errors::{self, Error, Fault};
 use cacache_core::paths::Place;
 use cacache_core::text::Text;
+use cacache_entry::{SerializableMetadata, line};
 use serde_json::Value;
 use std::alloc::{AllocError, Global};
 

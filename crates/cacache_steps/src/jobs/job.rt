@@ -1,6 +1,6 @@
 //! One call, which asks for its steps.
 ghost use Rattle.std.specs.Prelude.{◌≡◌, ℕ, List, IfOk, IsTrue, Some};
-ghost use Rattle.cacache_base.specs.Seen.{PlainStep, plain_step, plain_answer};
+ghost use Rattle.cacache_base.specs.Plain.{PlainStep, plain_step, plain_answer};
 ghost use Rattle.cacache_steps.specs.declared.jobs.reply.Reply.TheVariants.{Read};
 ghost use Rattle.cacache_steps.specs.Calls.{State, opening, after, over};
 ghost use Rattle.cacache_steps.specs.Stands.{PhaseAt, Stands, HasOut, GoesTo, HandsOut, IsAt, is_ready, is_step, has_out, can_go_on};

@@ -14,16 +14,13 @@ pub(crate) fn temp_folder(alloc: Global, cache: &str) -> Result<Text, AllocError
     paths::join(alloc, cache, "tmp")
 }
 
-/// The path of the temporary file of a number, in 16 hex digits.
+/// The path of the temporary file of a number.
 #[tactic(auto, unfolding(crate::specs::Places::temp_path))]
 pub(crate) fn temp_path(alloc: Global, cache: &str, number: u64) -> Result<Text, AllocError>
     ensures { IfOk result (λ path. path ≡ temp_path_of cache.now number) }
 {
-    let folder = paths::join(alloc, cache, "tmp")?;
-    let mut name = String::from_str(alloc, ".tmp")?;
-    let digits = hex::encode(alloc, number.to_be_bytes())?;
-    name.push_str(&digits)?;
-    paths::join(alloc, folder.as_str(), &name)
+    let Place { folder: _, path } = paths::temp_place(alloc, cache, number)?;
+    Ok(path)
 }
 
 /// The bucket of a key.

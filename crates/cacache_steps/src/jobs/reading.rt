@@ -1,6 +1,6 @@
 //! How lookups and reads go on.
 ghost use Rattle.std.specs.Prelude.{◌≡◌, IfOk, IsTrue};
-ghost use Rattle.cacache_base.specs.Seen.{plain_answer};
+ghost use Rattle.cacache_base.specs.Plain.{plain_answer};
 ghost use Rattle.cacache_steps.specs.Calls.{reading_bucket, reading_content, after, read_found, found_in, checked};
 ghost use Rattle.cacache_steps.specs.Stands.{PhaseAt, is_ready};
 
@@ -28,10 +28,10 @@ fn found<F: FileHandle, T: TempHandle>(
     ensures goes_on { IfOk result (λ phase. PhaseAt F.seen T.seen phase (read_found lookup (found_in lookup.key bucket.now))) }
 {
     let Lookup { cache, key } = lookup;
-    let Ok(found) = latest(alloc, bucket, key.as_str()) else {
+    let Ok(answer) = latest(alloc, bucket, key.as_str()) else {
         return Err(AllocError);
     };
-    match found {
+    match answer.found {
         None => Ok(Phase::Finished(Reply::Refused(Error::EntryNotFound(cache, key)))),
         Some(entry) => {
             let integrity = entry.integrity;

@@ -1,6 +1,6 @@
 //! How far a call is.
 ghost use Rattle.std.specs.Prelude.{IfOk, IsTrue};
-ghost use Rattle.cacache_base.specs.Seen.{PlainStep, plain_answer};
+ghost use Rattle.cacache_base.specs.Plain.{PlainStep, plain_answer};
 ghost use Rattle.cacache_steps.specs.Calls.{after};
 ghost use Rattle.cacache_steps.specs.Stands.{PhaseAt, Keeps, state_of, is_ready};
 

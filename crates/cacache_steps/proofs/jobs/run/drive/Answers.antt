@@ -1,5 +1,5 @@
 use Rattle.std.proofs.Common.{◌≡◌}
-use Rattle.cacache_base.specs.Seen.{PlainStep, PlainAnswer, plain_step, plain_answer}
+use Rattle.cacache_base.specs.Plain.{PlainStep, PlainAnswer, plain_step, plain_answer}
 use Rattle.cacache_steps.specs.Calls.{State, after}
 use Rattle.cacache_steps.specs.Runs.{plain_reply}
 use Rattle.cacache_steps.specs.Stands.{PhaseAt, OutAt}
