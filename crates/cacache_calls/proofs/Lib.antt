@@ -1,0 +1,12 @@
+pub mod Branches
+pub mod Effort
+pub mod Memory
+pub mod Meeting
+pub mod Promises
+pub mod Replies
+pub mod Effects
+pub mod Listing
+pub mod Keys
+pub mod Causes
+pub mod Rows
+pub mod Sound

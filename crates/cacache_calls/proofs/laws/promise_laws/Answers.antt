@@ -1,0 +1,8 @@
+use Rattle.cacache_calls.proofs.Promises.{runs_keep, calls_answer}
+use Rattle.cacache_calls.proofs.laws.promise_laws.Goals as goal
+
+pub returns-clause-states : goal.returns-clause-states
+returns-clause-states c = runs_keep
+
+pub returns-clause-calls : goal.returns-clause-calls
+returns-clause-calls c = calls_answer

@@ -1,0 +1,165 @@
+-- Which states the calls at a site stand in, and which steps they may make there.
+use Rattle.std.specs.Prelude.{◌≡◌, ◌⊎◌, ◌<◌, ◌+◌, ◌^◌, ℕ, List, [], ◌∷◌, Option, None, Some, Bool, true, length}
+use Rattle.cacache_core.specs.declared.integrity.algorithm.Algorithm.{Algorithm}
+use Rattle.cacache_core.specs.declared.integrity.digest.Hash.{Hash}
+use Rattle.cacache_core.specs.Integrity.{integrity_under}
+use Rattle.cacache_core.specs.Paths.{joined}
+use Rattle.cacache_base.specs.declared.store.plain.PlainTemp.{PlainTemp}
+use Rattle.cacache_base.specs.declared.store.step.Step.TheVariants as steps
+use Rattle.cacache_base.specs.Seen.{PlainStep, PlainAnswer}
+use Rattle.cacache_base.specs.Fits.{Fits}
+use Rattle.cacache_entry.specs.Entry.{Entry, line_of}
+use Rattle.cacache_entry.specs.Fits.{IsEntry, cause_of}
+use Rattle.cacache_calls.specs.declared.command.Command.{Command}
+use Rattle.cacache_calls.specs.declared.command.Command.TheVariants as commands
+use Rattle.cacache_calls.specs.Places.{temp_path, temp_folder, content_path, content_folder, bucket_path, bucket_folder}
+use Rattle.cacache_calls.specs.State.{State, doing, creating, writing, persisting, linking, confirming, appending, looking, reading, asking, sizing, opening_file, hashing, copying, walking, over, Site, Commit, Insertion, Aim, to_report, to_read, to_export, to_remove, Target, Hashing, to_verify, to_link, Visit, enter, read_bucket, remove_file, remove_folder, Task, visit, stumble}
+use Rattle.cacache_calls.specs.Common.{errand_step}
+use Rattle.cacache_calls.specs.Inserting.{insertion, deletion, refused_cause}
+use Rattle.cacache_calls.specs.Storing.{insertion_of, commit_of}
+use Rattle.cacache_calls.specs.Linking.{commit_for, target_of}
+use Rattle.cacache_calls.specs.Table.{wants, after, opening}
+
+-- ---- what a state carries
+
+-- a commit at this site: of some bytes, with a well-formed entry
+pub record SoundCommit (site : Site) (c : Commit) : Type 0 where
+  pub here : c.cache ≡ site.cache
+  pub bytes : List ℕ
+  pub computed_of : c.computed ≡ integrity_under c.options.algorithm bytes
+  pub formed : (key : List ℕ) → c.key ≡ Some key → IsEntry (insertion_of c key).entry
+
+-- a well-formed entry that goes into a bucket at this site
+pub record SoundInsertion (site : Site) (i : Insertion) : Type 0 where
+  pub here : i.cache ≡ site.cache
+  pub formed : IsEntry i.entry
+
+-- a target whose link gets a well-formed entry, whatever is read from it
+pub record SoundTarget (site : Site) (t : Target) : Type 0 where
+  pub here : t.cache ≡ site.cache
+  pub formed :
+      (bytes : List ℕ) → length bytes < 2 ^ 64 → (key : List ℕ) → t.key ≡ Some key
+      → IsEntry (insertion_of (commit_for t bytes) key).entry
+
+-- the call's own temporary file
+abbrev pub IsTemp : Site → PlainTemp → Type 0
+IsTemp site file = file.path ≡ temp_path site.cache site.number
+
+-- the cache folder, or a path below it
+abbrev pub IsBelow : Site → List ℕ → Type 0
+IsBelow site p = (names : List (List ℕ)) × (p ≡ joined site.cache names)
+
+-- the place of a content, or its folder
+abbrev pub IsContent : Site → List ℕ → Type 0
+IsContent site p =
+    (a : Algorithm) × (bytes : List ℕ) × (p ≡ content_path site.cache (integrity_under a bytes))
+
+abbrev pub IsContentFolder : Site → List ℕ → Type 0
+IsContentFolder site p =
+    (a : Algorithm) × (bytes : List ℕ) × (p ≡ content_folder site.cache (integrity_under a bytes))
+
+abbrev pub IsBucketFolder : Site → List ℕ → Type 0
+IsBucketFolder site p = (key : List ℕ) × (p ≡ bucket_folder site.cache key)
+
+-- a folder that the cache needs
+abbrev pub IsFolder : Site → List ℕ → Type 0
+IsFolder site p = (p ≡ temp_folder site.cache) ⊎ (IsContentFolder site p ⊎ IsBucketFolder site p)
+
+-- the line of a well-formed entry that can be written, and its bucket
+abbrev pub IsLine : Site → List ℕ → List ℕ → Type 0
+IsLine site p line =
+    (e : Entry) × IsEntry e × (cause_of e ≡ None)
+    × (p ≡ bucket_path site.cache e.key) × (line ≡ line_of e)
+
+-- a content, a bucket or anything below the cache folder
+abbrev pub IsRemovable : Site → List ℕ → Type 0
+IsRemovable site p =
+    ((i : List Hash) × (p ≡ content_path site.cache i))
+    ⊎ (((key : List ℕ) × (p ≡ bucket_path site.cache key)) ⊎ IsBelow site p)
+
+abbrev pub SoundVisit : Site → Visit → Type 0
+SoundVisit site (enter p level) = IsBelow site p
+SoundVisit site (read_bucket p) = IsBelow site p
+SoundVisit site (remove_file p) = IsBelow site p
+SoundVisit site (remove_folder p) = IsBelow site p
+
+abbrev pub SoundTasks : Site → List Task → Type 0
+SoundTasks site [] = Unit {0}
+SoundTasks site (visit v ∷ todo) = SoundVisit site v × SoundTasks site todo
+SoundTasks site (stumble fault ∷ todo) = SoundTasks site todo
+
+-- exports go only where `apart` says so, and links only lead where `outside` does
+module _ (site : Site) (apart outside : List ℕ → Bool) where
+  -- a step that a call at this site may make
+  abbrev pub Allowed : PlainStep → Type 0
+  Allowed (steps.MakeDirs p) = IsFolder site p
+  Allowed (steps.CreateTemp p) = p ≡ temp_path site.cache site.number
+  Allowed (steps.Write file bytes) = IsTemp site file
+  Allowed (steps.Persist file p) = IsTemp site file × IsContent site p
+  Allowed (steps.Append p line) = IsLine site p line
+  Allowed (steps.Symlink target p) = (outside target ≡ true) × IsContent site p
+  Allowed (steps.Copy p q) = apart q ≡ true
+  Allowed (steps.Reflink p q) = apart q ≡ true
+  Allowed (steps.HardLink p q) = apart q ≡ true
+  Allowed (steps.RemoveFile p) = IsRemovable site p
+  Allowed (steps.RemoveDir p) = IsBelow site p
+  Allowed step = Unit {0}
+
+  abbrev pub SoundAim : Aim → Type 0
+  SoundAim (to_export e) = apart e.to ≡ true
+  SoundAim aim = Unit {0}
+
+  abbrev pub SoundHashing : Hashing → Type 0
+  SoundHashing (to_verify k e) = apart e.to ≡ true
+  SoundHashing (to_link t) = SoundTarget site t × (outside t.path ≡ true)
+
+  -- the state's step is allowed, and so are all that come after it
+  abbrev pub Sound : State → Type 0
+  Sound (doing errand s) = Allowed (errand_step errand) × Sound s
+  Sound (creating number c rest) = (number ≡ site.number) × SoundCommit site c
+  Sound (writing c file rest) = SoundCommit site c × IsTemp site file
+  Sound (persisting c file) = SoundCommit site c × IsTemp site file
+  Sound (linking c target) = SoundCommit site c × (outside target ≡ true)
+  Sound (confirming c fault) = SoundCommit site c
+  Sound (appending i) = SoundInsertion site i × (refused_cause i ≡ None)
+  Sound (looking l) = (l.cache ≡ site.cache) × SoundAim l.aim
+  Sound (reading k) = k.cache ≡ site.cache
+  Sound (asking k) = k.cache ≡ site.cache
+  Sound (sizing t) = SoundTarget site t × (outside t.path ≡ true)
+  Sound (opening_file h) = SoundHashing h
+  Sound (hashing h file bytes) = SoundHashing h × (file.left + length bytes < 2 ^ 64)
+  Sound (copying from to verified) = apart to ≡ true
+  Sound (walking w v todo) = SoundVisit site v × SoundTasks site todo
+  Sound (over reply) = Unit {0}
+
+  -- a command whose entry is well-formed, whose export goes apart, whose link leads outside
+  abbrev pub MayBegin : Command → Type 0
+  MayBegin (commands.Put p) =
+      (key : List ℕ) → p.key ≡ Some key → IsEntry (insertion_of (commit_of site.cache p) key).entry
+  MayBegin (commands.Link l) =
+      SoundTarget site (target_of site l) × (outside (target_of site l).path ≡ true)
+  MayBegin (commands.Insert i) = IsEntry (insertion site.cache i).entry
+  MayBegin (commands.Delete d) = IsEntry (deletion site.cache d).entry
+  MayBegin (commands.Export source e) = apart e.to ≡ true
+  MayBegin command = Unit {0}
+
+-- ---- laws
+
+-- a call that may begin begins in a sound state
+abbrev pub BeginsSound : Type 0
+BeginsSound =
+    (site : Site) (apart outside : List ℕ → Bool) (command : Command)
+    → MayBegin site apart outside command → Sound site apart outside (opening site command)
+
+-- the step of a sound state is allowed
+abbrev pub StepsAllowed : Type 0
+StepsAllowed =
+    (site : Site) (apart outside : List ℕ → Bool) (s : State) (step : PlainStep)
+    → Sound site apart outside s → wants s ≡ Some step → Allowed site apart outside step
+
+-- a sound state stays sound under any fitting answer
+abbrev pub StaysSound : Type 0
+StaysSound =
+    (site : Site) (apart outside : List ℕ → Bool) (s : State) (step : PlainStep) (answer : PlainAnswer)
+    → Sound site apart outside s → wants s ≡ Some step → Fits step answer
+    → Sound site apart outside (after s answer)
