@@ -72,6 +72,18 @@ kept Sha1 hs =
 pub in_order : (hs : List Hash) → strongest_first (strongest_first hs) ≡ strongest_first hs
 in_order hs = four _ _ _ _ _ _ _ _ (kept Sha512 hs) (kept Sha384 hs) (kept Sha256 hs) (kept Sha1 hs)
 
+one : (a : Algorithm) (d : List ℕ) → hash_of a d ∷ [] ≡ strongest_first (hash_of a d ∷ [])
+one Sha512 d = refl
+one Sha384 d = refl
+one Sha256 d = refl
+one Sha1 d = refl
+
+-- one hash is in order
+pub one_in_order : (hs : List Hash) → length hs < 2 → hs ≡ strongest_first hs
+one_in_order [] few = refl
+one_in_order (h ∷ []) few = one h.algorithm h.digest
+one_in_order (h ∷ g ∷ hs) few = absurd (omega arith)
+
 lengths : (w x y z : List Hash) → length (w ++ x ++ y ++ z) ≡ length w + length x + length y + length z
 lengths w x y z = omega (arith, length-append (w ++ x ++ y) z, length-append (w ++ x) y, length-append w x)
 

@@ -1,6 +1,6 @@
 -- Names of paths: how digits are cut, and that none is a beginning of another.
-use Rattle.std.proofs.Common.{◌≡◌, ◌*◌, ◌+◌, ℕ, zero, suc, ◌≤◌, List, [], ◌∷◌, Ok, length, get_or, take, drop, codes, refl, sym, ap, ◌∙◌, arith, length-take, length-append, ◌/◌, slice_index}
-use Rattle.std.proofs.lemmas.List.{take_all}
+use Rattle.std.proofs.Common.{◌≡◌, ◌*◌, ◌+◌, ℕ, zero, suc, ◌≤◌, List, [], ◌∷◌, Ok, length, get_or, take, drop, codes, refl, sym, ap, ◌∙◌, arith, length-take, length-append, ◌/◌, slice_index, ◌<◌, ◌++◌, ◌%◌, append_assoc, append-nil}
+use Rattle.std.proofs.lemmas.List.{take_all, drop_all, drop_more}
 use Rattle.std.specs.Int.{w32, to_be_bytes}
 use Rattle.base64.specs.GeneralPurpose.{IsBytes}
 use Rattle.sha1.specs.Sha1.{sha1, digest_bytes, hash_after, padded_message}
@@ -8,7 +8,7 @@ use Rattle.cacache_core.proofs.Decoded.{bytes_append}
 use Rattle.cacache_core.specs.declared.integrity.digest.Hash.{Hash}
 use Rattle.cacache_core.specs.PathLaws.{IsKeyDigest, KeysHaveDigests, NoneBegins, KindsAreApart}
 use Rattle.cacache_core.specs.Paths.{content_names, bucket_names_of, temp_names, Begins, AreApart}
-use Rattle.hex.specs.Hex.{encode_with, encode_lower, decode_of}
+use Rattle.hex.specs.Hex.{encode_with, encode_lower, lower_digits, decode_of}
 use Rattle.hex.proofs.HexLemmas.{decode_of-encode_lower}
 
 -- the digits of the first byte
@@ -30,6 +30,28 @@ unfolding encode_with
 digits_rest [] h = absurd (omega arith)
 digits_rest (a ∷ []) h = absurd (omega arith)
 digits_rest (a ∷ b ∷ d) h = refl
+
+-- ---- digits put behind a text, byte by byte
+
+pub digits_more : (t old new bytes : List ℕ) (k : ℕ) → k < length bytes
+    → new ≡ (t ++ slice_index lower_digits (slice_index bytes k / 16) ∷ []) ++ slice_index lower_digits (slice_index bytes k % 16) ∷ []
+    → t ++ encode_lower (drop k bytes) ≡ old ++ encode_lower bytes → new ++ encode_lower (drop (k + 1) bytes) ≡ old ++ encode_lower bytes
+unfolding encode_with
+digits_more t old new bytes k more is before =
+    let rest = encode_lower (drop (k + 1) bytes) in
+    let high = slice_index lower_digits (slice_index bytes k / 16) in
+    let low = slice_index lower_digits (slice_index bytes k % 16) in
+    ap (λ (l : List ℕ). l ++ rest) is
+    ∙ append_assoc (t ++ high ∷ []) (low ∷ []) rest
+    ∙ append_assoc t (high ∷ []) (low ∷ rest)
+    ∙ ap (λ (l : List ℕ). t ++ encode_lower l) (sym (drop_more bytes k 0 more))
+    ∙ before
+
+pub digits_done : (t old bytes : List ℕ) (k : ℕ) → length bytes ≤ k
+    → t ++ encode_lower (drop k bytes) ≡ old ++ encode_lower bytes → t ≡ old ++ encode_lower bytes
+unfolding encode_with
+digits_done t old bytes k done before =
+    sym (append-nil t) ∙ ap (λ (l : List ℕ). t ++ encode_lower l) (sym (drop_all k bytes done)) ∙ before
 
 -- ---- equal digits are of equal bytes
 

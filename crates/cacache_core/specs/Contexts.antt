@@ -20,6 +20,8 @@ fault_of kind.FilesystemLoop = TooDeep
 fault_of _ = Device
 
 -- the error is made with the text that a context returned, or is the context's own error
-abbrev pub IsContextError : {S : Type 0} → (Result S Error → Type 0) → (S → Error → Type 0) → Error → Type 0
+abbrev pub IsContextError : {S : Type 0} → (Result S Error → Type 0) → (S → Error → Type 0)
+    → Error → Type 0
 IsContextError {S} returned made e =
-    (answer : Result S Error) × returned answer × MatchResult answer (λ text. made text e) (λ own. e ≡ own)
+    (answer : Result S Error) × returned answer
+    × MatchResult answer (λ text. made text e) (λ own. e ≡ own)

@@ -1,5 +1,5 @@
 -- The names of a path.
-use Rattle.std.specs.Prelude.{◌≡◌, ℕ, Bool, true, false, ◌||◌, not, ◌==◌, cond, List, [], ◌∷◌, ◌++◌, Option, None, Some, length, filter, Result, Ok, Err}
+use Rattle.std.specs.Prelude.{◌≡◌, ℕ, Bool, true, false, ◌||◌, not, ◌==◌, if◌then◌else◌, List, [], ◌∷◌, ◌++◌, Option, None, Some, length, filter, Result, Ok, Err}
 use Rattle.std.specs.Bool.{nat_eq}
 use Rattle.std.specs.Cmp.Lexicographic.{pointwise}
 use Rattle.std.specs.List.{slice_split, list_any}
@@ -28,7 +28,10 @@ is_bad path = list_any (λ b. b == 0) path || list_any is_above (pieces path)
 
 -- the names of a path's text, or why it has none
 unfoldable pub names_of : List ℕ → Result Names Fault
-names_of path = cond (length path == 0) (Err NotFound) (cond (is_bad path) (Err InvalidInput) (Ok (filter is_name (pieces path))))
+names_of path =
+    if length path == 0 then Err NotFound
+    else if is_bad path then Err InvalidInput
+    else Ok (filter is_name (pieces path))
 
 -- `/` and NUL, which no name holds
 abbrev pub ends_name : ℕ → Bool
@@ -36,11 +39,12 @@ ends_name b = b == 47 || b == 0
 
 -- a name that stands for one thing in its folder: not empty, `.` or `..`, with no `/` and no NUL
 abbrev pub IsProperName : List ℕ → Type 0
-IsProperName name = (is_name name ≡ true) × (is_above name ≡ false) × (list_any ends_name name ≡ false)
+IsProperName name =
+    (is_name name ≡ true) × (is_above name ≡ false) × (list_any ends_name name ≡ false)
 
--- the names of a cache's folder: the empty text is the top folder, a text with a NUL or `..` has none
+-- the names of a cache's folder: an empty text is the top folder, one with a NUL or `..` has none
 unfoldable pub home_of : List ℕ → Option Names
-home_of cache = cond (is_bad cache) None (Some (filter is_name (pieces cache)))
+home_of cache = if is_bad cache then None else Some (filter is_name (pieces cache))
 
 -- the names of what lies below a cache's folder, from the top folder down
 abbrev pub names_below : Option Names → Names → Result Names Fault

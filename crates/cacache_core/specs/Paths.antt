@@ -1,5 +1,5 @@
--- Where contents, buckets and temporary files lie: as names below the cache folder, and as path texts.
-use Rattle.std.specs.Prelude.{◌≡◌, ℕ, ◌-◌, ◌==◌, List, [], ◌∷◌, ◌++◌, cond, length, take, drop, slice_index, codes}
+-- Where contents, buckets and temporary files lie: names below the cache folder, and path texts.
+use Rattle.std.specs.Prelude.{◌≡◌, ℕ, ◌-◌, ◌==◌, List, [], ◌∷◌, ◌++◌, if◌then◌else◌, length, take, drop, slice_index, codes}
 use Rattle.std.specs.Int.{to_be_bytes, w64}
 use Rattle.hex.specs.Hex.{encode_lower}
 use Rattle.sha1.specs.Sha1.{sha1}
@@ -29,7 +29,9 @@ temp_names number = codes "tmp" ∷ (codes ".tmp" ++ encode_lower (to_be_bytes w
 -- a path and a name below it
 unfoldable pub join : List ℕ → List ℕ → List ℕ
 join path b =
-    cond (length path == 0) b (cond (slice_index path (length path - 1) == 47) (path ++ b) (path ++ 47 ∷ b))
+    if length path == 0 then b
+    else if slice_index path (length path - 1) == 47 then path ++ b
+    else path ++ 47 ∷ b
 
 -- a path and names below it, one after another
 abbrev pub joined : List ℕ → List (List ℕ) → List ℕ

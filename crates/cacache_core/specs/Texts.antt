@@ -1,5 +1,5 @@
 -- The texts of integrities: how one is printed, and what a text reads as.
-use Rattle.std.specs.Prelude.{◌≡◌, ◌<◌, ◌||◌, ◌==◌, ℕ, List, [], ◌∷◌, ◌++◌, Bool, cond, not, nat_lt, Result, Ok, Err, length, drop, filter, codes}
+use Rattle.std.specs.Prelude.{◌≡◌, ◌<◌, ◌||◌, ◌==◌, ℕ, List, [], ◌∷◌, ◌++◌, Bool, if◌then◌else◌, not, nat_lt, Result, Ok, Err, length, drop, filter, codes}
 use Rattle.std.specs.List.{slice_split, starts_with}
 use Rattle.std.specs.Bool.{nat_eq}
 use Rattle.base64.specs.Engines.{standard}
@@ -10,7 +10,7 @@ use Rattle.cacache_core.specs.declared.errors.IntegrityFault.TheVariants.{BadTex
 use Rattle.cacache_core.specs.declared.integrity.algorithm.Algorithm.{Algorithm}
 use Rattle.cacache_core.specs.declared.integrity.algorithm.Algorithm.TheVariants.{Sha1, Sha256, Sha384, Sha512}
 use Rattle.cacache_core.specs.declared.integrity.digest.Hash.{Hash}
-use Rattle.cacache_core.specs.Integrity.{IsHash, strongest_first}
+use Rattle.cacache_core.specs.Integrity.{IsHash, hash_of, strongest_first}
 
 -- ---- printing
 
@@ -47,7 +47,7 @@ words t = filter is_some_text (slice_split is_blank t)
 
 -- the hash of this digest, unless it is too short
 abbrev pub long_hash : Algorithm → List ℕ → Result Hash IntegrityFault
-long_hash a d = cond (nat_lt (length d) 3) (Err ShortDigest) (Ok (record { algorithm = a; digest = d }))
+long_hash a d = if nat_lt (length d) 3 then Err ShortDigest else Ok (hash_of a d)
 
 -- the hash of what the base64 gave
 abbrev pub decoded_hash : Algorithm → Result (List ℕ) DecodeError → Result Hash IntegrityFault
@@ -61,14 +61,15 @@ hash_behind a n word = decoded_hash a (decode_of standard (drop n word))
 -- what a word reads as
 abbrev pub read_word : List ℕ → Result Hash IntegrityFault
 read_word w =
-    cond (starts_with nat_eq w (codes "sha1-")) (hash_behind Sha1 5 w)
-    (cond (starts_with nat_eq w (codes "sha256-")) (hash_behind Sha256 7 w)
-    (cond (starts_with nat_eq w (codes "sha384-")) (hash_behind Sha384 7 w)
-    (cond (starts_with nat_eq w (codes "sha512-")) (hash_behind Sha512 7 w)
-    (Err BadText))))
+    if starts_with nat_eq w (codes "sha1-") then hash_behind Sha1 5 w
+    else if starts_with nat_eq w (codes "sha256-") then hash_behind Sha256 7 w
+    else if starts_with nat_eq w (codes "sha384-") then hash_behind Sha384 7 w
+    else if starts_with nat_eq w (codes "sha512-") then hash_behind Sha512 7 w
+    else Err BadText
 
 -- the first word's hash before the others': the leftmost fault decides
-abbrev pub first_and : Result Hash IntegrityFault → Result (List Hash) IntegrityFault → Result (List Hash) IntegrityFault
+abbrev pub first_and : Result Hash IntegrityFault → Result (List Hash) IntegrityFault
+    → Result (List Hash) IntegrityFault
 first_and (Ok h) (Ok hs) = Ok (h ∷ hs)
 first_and (Ok h) (Err e) = Err e
 first_and (Err e) others = Err e
@@ -97,7 +98,7 @@ AreHashes [] (h ∷ hs) = ⊥
 AreHashes (w ∷ ws) [] = ⊥
 AreHashes (w ∷ ws) (h ∷ hs) = (w ≡ hash_text h) × IsHash h × AreHashes ws hs
 
--- the text is the integrity's: its words are one hash or more, which the integrity has strongest first
+-- the text is the integrity's: its words are one hash or more, which it has strongest first
 pub record IsIntegrityText (t : List ℕ) (i : List Hash) : Type 0 where
   pub written : List Hash
   pub spelled : AreHashes (words t) written

@@ -111,7 +111,8 @@ impl Bytes {
         &self.shared[self.from..self.to]
     }
 
-    /// Puts more bytes behind these. They grow in place where nobody else owns the vector inside, and else as a copy.
+    /// Puts more bytes behind these. They grow in place where nobody else owns the vector inside,
+    /// and else as a copy.
     pub fn extend(&mut self, more: &[u8]) -> Result<(), AllocError>
         ensures ok { OnOk result (self.new ≡ self.old ++ more.now) }
         ensures err { OnErr result (self.new ≡ self.old) }
@@ -137,7 +138,8 @@ impl Bytes {
         Bytes::new(alloc, all)
     }
 
-    /// The shared vector of these bytes: the one inside where the window is all of it, and else a copy with one owner.
+    /// The shared vector of these bytes: the one inside where the window is all of it, and else
+    /// a copy with one owner.
     pub fn into_shared(self) -> Result<Arc<Vec<u8>, Global>, AllocError>
         ensures { IfOk result (λ shared. (arc_value shared).items ≡ self) }
     {
@@ -153,8 +155,8 @@ impl Bytes {
         Ok(shared)
     }
 
-    /// The bytes as a vector: the one inside, moved, where nobody else owns it and the window is all of it, and else
-    /// a copy.
+    /// The bytes as a vector: the one inside, moved, where nobody else owns it and the window is
+    /// all of it, and else a copy.
     pub fn into_vec(self, alloc: Global) -> Result<Vec<u8>, AllocError>
         ensures { IfOk result (λ v. v.items ≡ self) }
     {

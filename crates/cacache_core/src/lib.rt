@@ -1,5 +1,5 @@
-//! The bottom layer of the cache: errors, integrities and their digests, shared bytes, and the paths
-//! of contents, buckets and temporary files.
+//! The bottom layer of the cache: errors, integrities and their digests, shared bytes, and the
+//! paths of contents, buckets and temporary files.
 #![tactic(auto)]
 
 pub mod bytes;

@@ -1,7 +1,7 @@
 //! Where contents, buckets and temporary files lie below a cache folder. What holds of all these
 //! paths is said at `laws::path_laws`.
-ghost use Rattle.std.specs.Prelude.{◌≡◌, ◌≤◌, IfOk, OnOk, IfSome, length, drop, string_bytes};
-ghost use Rattle.hex.specs.Hex.{encode_lower};
+ghost use Rattle.std.specs.Prelude.{◌≡◌, ◌≤◌, ◌<◌, ◌++◌, ◌∷◌, [], ℕ, List, IfOk, OnOk, IfSome, length, drop, slice_index, encode_utf8, string_bytes};
+ghost use Rattle.hex.specs.Hex.{encode_lower, lower_digits};
 ghost use Rattle.cacache_core.specs.Integrity.{address as address_of};
 ghost use Rattle.cacache_core.specs.Paths.{join as join_of, joined, cut_digits, content_names, bucket_names_of, bucket_names, temp_names, folder_names};
 
@@ -10,10 +10,13 @@ use crate::integrity::Integrity;
 use crate::text::Text;
 use std::alloc::{AllocError, Global};
 
-// Room for the names behind a cache folder in the path of a SHA-256 content.
+/// Room for the names behind a cache folder in the path of a SHA-256 content.
 const ROOM: usize = 96;
 
-// A copy of a path, with room for the names that follow it, so that it needn't grow name by name.
+/// The lower-case hex digits.
+const DIGITS: &[u8; 16] = b"0123456789abcdef";
+
+/// A copy of a path with room for the names that follow it, so that it needn't grow name by name.
 fn roomy(alloc: Global, path: &str) -> Result<String, AllocError>
     ensures { IfOk result (λ s. string_bytes s ≡ path.now) }
 {
@@ -42,18 +45,22 @@ pub struct Place {
 
 /// The path of the content that has this integrity's address, below the cache folder.
 pub fn content_path(alloc: Global, cache: &str, sri: &Integrity) -> Result<Text, AllocError>
-    ensures { IfOk result (λ t. IfSome (address_of sri.now) (λ h. t ≡ joined cache.now (content_names h))) }
+    ensures { IfOk result
+        (λ t. IfSome (address_of sri.now) (λ h. t ≡ joined cache.now (content_names h))) }
 {
     let address = sri.address();
     let mut path = folder_of_content(alloc, cache, address)?;
-    push_last_name(alloc, &mut path, address.digest.as_slice())?;
+    push_last_name(&mut path, address.digest.as_slice())?;
     Ok(Text::new(path))
 }
 
-/// Where that content lies. Its digest is spelled once for both.
+/// Where that content lies.
 pub fn content_place(alloc: Global, cache: &str, sri: &Integrity) -> Result<Place, AllocError>
-    ensures folder { IfOk result (λ p. IfSome (address_of sri.now) (λ h. p.folder ≡ joined cache.now (folder_names (content_names h)))) }
-    ensures path { IfOk result (λ p. IfSome (address_of sri.now) (λ h. p.path ≡ joined cache.now (content_names h))) }
+    ensures folder { IfOk result
+        (λ p. IfSome (address_of sri.now)
+        (λ h. p.folder ≡ joined cache.now (folder_names (content_names h)))) }
+    ensures path { IfOk result
+        (λ p. IfSome (address_of sri.now) (λ h. p.path ≡ joined cache.now (content_names h))) }
 {
     let address = sri.address();
     let folder = folder_of_content(alloc, cache, address)?;
@@ -66,13 +73,14 @@ pub fn bucket_path(alloc: Global, cache: &str, key: &str) -> Result<Text, AllocE
 {
     let digest = sha1::Sha1::digest(key.as_bytes());
     let mut path = folder_of_bucket(alloc, cache, &digest)?;
-    push_last_name(alloc, &mut path, &digest)?;
+    push_last_name(&mut path, &digest)?;
     Ok(Text::new(path))
 }
 
 /// Where that bucket lies. The key is hashed once for both.
 pub fn bucket_place(alloc: Global, cache: &str, key: &str) -> Result<Place, AllocError>
-    ensures folder { IfOk result (λ p. p.folder ≡ joined cache.now (folder_names (bucket_names key.now))) }
+    ensures folder { IfOk result
+        (λ p. p.folder ≡ joined cache.now (folder_names (bucket_names key.now))) }
     ensures path { IfOk result (λ p. p.path ≡ joined cache.now (bucket_names key.now)) }
 {
     let digest = sha1::Sha1::digest(key.as_bytes());
@@ -83,85 +91,128 @@ pub fn bucket_place(alloc: Global, cache: &str, key: &str) -> Result<Place, Allo
 /// Where the temporary file of a number lies: `.tmp` and the number in 16 lower-case hex digits,
 /// below the folder `tmp`.
 pub fn temp_place(alloc: Global, cache: &str, number: u64) -> Result<Place, AllocError>
-    ensures folder { IfOk result (λ p. p.folder ≡ joined cache.now (folder_names (temp_names number))) }
+    ensures folder { IfOk result
+        (λ p. p.folder ≡ joined cache.now (folder_names (temp_names number))) }
     ensures path { IfOk result (λ p. p.path ≡ joined cache.now (temp_names number)) }
 {
     let mut folder = roomy(alloc, cache)?;
     push_name(&mut folder, "tmp")?;
-    let mut name = String::from_str(alloc, ".tmp")?;
-    name.push_str(&hex::encode(alloc, number.to_be_bytes())?)?;
     let mut path = roomy(alloc, folder.as_str())?;
-    push_name(&mut path, &name)?;
+    push_slash(&mut path)?;
+    path.push_str(".tmp")?;
+    push_digits(&mut path, &number.to_be_bytes())?;
     Ok(Place {
         folder: Text::new(folder),
         path: Text::new(path),
     })
 }
 
-// The place below the folder of a digest's first two bytes.
+/// The place below the folder of a digest's first two bytes.
 fn place_in(alloc: Global, folder: String, digest: &[u8]) -> Result<Place, AllocError>
     requires { 2 ≤ length digest.now }
     ensures folder { IfOk result (λ p. p.folder ≡ string_bytes folder) }
-    ensures path { IfOk result (λ p. p.path ≡ join_of (string_bytes folder) (drop 4 (encode_lower digest.now))) }
+    ensures path { IfOk result
+        (λ p. p.path ≡ join_of (string_bytes folder) (drop 4 (encode_lower digest.now))) }
 {
     let mut path = roomy(alloc, folder.as_str())?;
-    push_last_name(alloc, &mut path, digest)?;
+    push_last_name(&mut path, digest)?;
     Ok(Place {
         folder: Text::new(folder),
         path: Text::new(path),
     })
 }
 
+/// The folder of the contents whose digests have the first two bytes of this hash.
 fn folder_of_content(alloc: Global, cache: &str, address: &Hash) -> Result<String, AllocError>
     requires { 2 ≤ length address.now.digest }
-    ensures { IfOk result (λ s. string_bytes s ≡ joined cache.now (folder_names (content_names address.now))) }
+    ensures { IfOk result
+        (λ s. string_bytes s ≡ joined cache.now (folder_names (content_names address.now))) }
 {
     let mut path = roomy(alloc, cache)?;
     push_name(&mut path, "content-v2")?;
     push_name(&mut path, address.algorithm.name())?;
-    push_first_names(alloc, &mut path, address.digest.as_slice())?;
+    push_first_names(&mut path, address.digest.as_slice())?;
     Ok(path)
 }
 
+/// The folder of the buckets whose digests have the first two bytes of this one.
 fn folder_of_bucket(alloc: Global, cache: &str, digest: &[u8]) -> Result<String, AllocError>
     requires { 2 ≤ length digest.now }
-    ensures { IfOk result (λ s. string_bytes s ≡ joined cache.now (folder_names (bucket_names_of digest.now))) }
+    ensures { IfOk result
+        (λ s. string_bytes s ≡ joined cache.now (folder_names (bucket_names_of digest.now))) }
 {
     let mut path = roomy(alloc, cache)?;
     push_name(&mut path, "index-v5")?;
-    push_first_names(alloc, &mut path, digest)?;
+    push_first_names(&mut path, digest)?;
     Ok(path)
 }
 
-// The names of the first byte and of the second, which are folders.
-fn push_first_names(alloc: Global, path: &mut String, digest: &[u8]) -> Result<(), AllocError>
+/// Puts behind a path the names of a digest's first byte and of its second, which are folders.
+fn push_first_names(path: &mut String, digest: &[u8]) -> Result<(), AllocError>
     requires { 2 ≤ length digest.now }
-    ensures { OnOk result (string_bytes path.new ≡ joined (string_bytes path.old) (folder_names (cut_digits (encode_lower digest.now)))) }
+    ensures { OnOk result
+        (string_bytes path.new ≡ joined (string_bytes path.old)
+        (folder_names (cut_digits (encode_lower digest.now)))) }
 {
-    push_hex(alloc, path, &digest[..1])?;
-    push_hex(alloc, path, &digest[1..2])
+    push_hex(path, &digest[..1])?;
+    push_hex(path, &digest[1..2])
 }
 
-// The name of all other bytes, which is a file.
-fn push_last_name(alloc: Global, path: &mut String, digest: &[u8]) -> Result<(), AllocError>
+/// Puts behind a path the name of all other bytes of a digest, which is a file.
+fn push_last_name(path: &mut String, digest: &[u8]) -> Result<(), AllocError>
     requires { 2 ≤ length digest.now }
-    ensures { OnOk result (string_bytes path.new ≡ join_of (string_bytes path.old) (drop 4 (encode_lower digest.now))) }
+    ensures { OnOk result
+        (string_bytes path.new ≡ join_of (string_bytes path.old)
+        (drop 4 (encode_lower digest.now))) }
 {
-    push_hex(alloc, path, &digest[2..])
+    push_hex(path, &digest[2..])
 }
 
-fn push_hex(alloc: Global, path: &mut String, bytes: &[u8]) -> Result<(), AllocError>
-    ensures { OnOk result (string_bytes path.new ≡ join_of (string_bytes path.old) (encode_lower bytes.now)) }
+/// Puts behind a path a name of hex digits.
+fn push_hex(path: &mut String, bytes: &[u8]) -> Result<(), AllocError>
+    ensures { OnOk result
+        (string_bytes path.new ≡ join_of (string_bytes path.old) (encode_lower bytes.now)) }
 {
-    push_name(path, hex::encode(alloc, bytes)?.as_str())
+    push_slash(path)?;
+    push_digits(path, bytes)
 }
 
-#[tactic(auto, unfolding(crate::specs::Paths::join))]
+/// Puts a name behind a path.
 fn push_name(path: &mut String, name: &str) -> Result<(), AllocError>
     ensures { OnOk result (string_bytes path.new ≡ join_of (string_bytes path.old) name.now) }
 {
-    if !path.is_empty() && !path.ends_with('/') {
-        path.push_str("/")?;
-    }
+    push_slash(path)?;
     path.push_str(name)
+}
+
+/// Puts behind a path the slash that a further name needs.
+#[tactic(auto, unfolding(crate::specs::Paths::join))]
+fn push_slash(path: &mut String) -> Result<(), AllocError>
+    ensures { OnOk result
+        ((n : List ℕ) → string_bytes path.new ++ n ≡ join_of (string_bytes path.old) n) }
+{
+    if path.is_empty() || path.ends_with('/') {
+        return Ok(());
+    }
+    path.push_str("/")
+}
+
+/// Puts behind a text the lower-case hex digits of some bytes.
+fn push_digits(text: &mut String, bytes: &[u8]) -> Result<(), AllocError>
+    ensures { OnOk result
+        (string_bytes text.new ≡ string_bytes text.old ++ encode_lower bytes.now) }
+{
+    for byte in bytes {
+        text.push(digit(byte / 16))?;
+        text.push(digit(byte % 16))?;
+    }
+    Ok(())
+}
+
+/// The lower-case hex digit of a number below 16.
+fn digit(number: u8) -> char
+    requires { number < 16 }
+    ensures { encode_utf8 result ≡ slice_index lower_digits number ∷ [] }
+{
+    char::from(DIGITS[usize::from(number)])
 }

@@ -12,7 +12,8 @@ use std::cmp::Ordering;
 use std::fmt;
 use std::marker::Model;
 
-/// A text: a path, a key or a message. Two texts are equal in a contract exactly where their bytes are.
+/// A text: a path, a key or a message. Two texts are equal in a contract exactly where their bytes
+/// are.
 #[derive(Drop)]
 pub struct Text {
     text: String,

@@ -11,13 +11,13 @@ use std::io::{self, ErrorKind};
 
 /// Turns a failure of a step or of an entry into an `Error` whose text says what failed.
 pub trait IoErrorExt<T> {
-    // The result is a success with this value.
+    /// The result is a success with this value.
     ghost holds: { Self → T → Type 0 };
 
-    // The result is a failure.
+    /// The result is a failure.
     ghost fails: { Self → Type 0 };
 
-    // The error that the failure becomes with a text.
+    /// The error that the failure becomes with a text.
     ghost becomes: { Self → List ℕ → Error → Type 0 };
 
     /// The value, or the failure as an `Error` with the text that `f` returns. An error of `f`
@@ -25,7 +25,8 @@ pub trait IoErrorExt<T> {
     fn with_context<F: FnOnce() -> Result<String>>(self, f: F) -> Result<T>
         requires { fails self → F.pre f }
         ensures { MatchResult result (holds self)
-            (λ e. fails self × IsContextError (F.post f) (λ text. becomes self (string_bytes text)) e) };
+            (λ e. fails self × IsContextError (F.post f)
+            (λ text. becomes self (string_bytes text)) e) };
 }
 
 /// `IoError` with the fault of the error's kind.

@@ -68,7 +68,8 @@ impl IntegrityOpts {
 
     /// The integrity of all that the builder was fed.
     pub fn result(self, alloc: Global) -> Result<Integrity>
-        ensures ok { (m : List ℕ) → WasFed self m → IfOk result (λ i. i ≡ integrity_under (chosen_of self) m) }
+        ensures ok { (m : List ℕ) → WasFed self m
+            → IfOk result (λ i. i ≡ integrity_under (chosen_of self) m) }
         ensures err { IfErr result (λ e. e ≡ Error.OutOfMemory) }
     {
         Integrity::of_hasher(alloc, self.into_hasher())

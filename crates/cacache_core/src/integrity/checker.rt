@@ -32,7 +32,8 @@ impl IntegrityChecker {
 
     /// Feeds the checker these bytes after those that it was fed before. Takes no memory.
     pub fn input(&mut self, data: &[u8])
-        ensures { (i : List Hash) (m : List ℕ) → Compares self.old i m → Compares self.new i (m ++ «data».now) }
+        ensures { (i : List Hash) (m : List ℕ) → Compares self.old i m
+            → Compares self.new i (m ++ «data».now) }
     {
         self.hasher.update(data);
     }
@@ -40,9 +41,11 @@ impl IntegrityChecker {
     /// What `Integrity::check` answers of all that the checker was fed. Only the error takes
     /// memory.
     pub fn result(self, alloc: Global) -> Result<Algorithm>
-        ensures ok { (i : List Hash) (m : List ℕ) → Compares self i m → IfOk result (λ a. Meets i m × (strongest i ≡ Some a)) }
+        ensures ok { (i : List Hash) (m : List ℕ) → Compares self i m
+            → IfOk result (λ a. Meets i m × (strongest i ≡ Some a)) }
         ensures met { (i : List Hash) (m : List ℕ) → Compares self i m → Meets i m → IsOk result }
-        ensures err { (i : List Hash) (m : List ℕ) → Compares self i m → IfErr result (IsCheckFailure i (actual i m)) }
+        ensures err { (i : List Hash) (m : List ℕ) → Compares self i m
+            → IfErr result (IsCheckFailure i (actual i m)) }
     {
         let IntegrityChecker { wanted, hasher } = self;
         let algorithm = hasher.algorithm();

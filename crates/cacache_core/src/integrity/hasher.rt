@@ -71,7 +71,8 @@ impl Hasher {
 
     /// The digest of all that the hasher was fed.
     pub fn finalize(self) -> Finished
-        ensures digest { (m : List ℕ) → Holds self m → finished_bytes result ≡ digest (algorithm_of self) m }
+        ensures digest { (m : List ℕ) → Holds self m
+            → finished_bytes result ≡ digest (algorithm_of self) m }
         ensures bytes { IsBytes (finished_bytes result) }
         ensures long_enough { 20 ≤ length (finished_bytes result) }
     {
@@ -85,7 +86,8 @@ impl Hasher {
 
     /// The integrity of all that the hasher was fed, under its algorithm.
     pub fn result(self, alloc: Global) -> errors::Result<Integrity>
-        ensures ok { (m : List ℕ) → Holds self m → IfOk result (λ i. i ≡ integrity_under (algorithm_of self) m) }
+        ensures ok { (m : List ℕ) → Holds self m
+            → IfOk result (λ i. i ≡ integrity_under (algorithm_of self) m) }
         ensures err { IfErr result (λ e. e ≡ Error.OutOfMemory) }
     {
         Integrity::of_hasher(alloc, self)

@@ -28,13 +28,18 @@ pub(super) fn read_hashes(alloc: Global, text: &[u8]) -> Result<Vec<Hash>>
     Ok(hashes)
 }
 
-/// The same hashes, strongest algorithm first and each algorithm's in their order.
+/// The same hashes, strongest algorithm first and each algorithm's in their order. One hash is
+/// handed back as it came.
+#[tactic(auto, using(crate::proofs::Order::one_in_order))]
 pub(super) fn in_order(
     alloc: Global,
     hashes: Vec<Hash>,
 ) -> std::result::Result<Vec<Hash>, AllocError>
     ensures { IfOk result (λ v. v.items ≡ strongest_first hashes.items) }
 {
+    if hashes.len() < 2 {
+        return Ok(hashes);
+    }
     let mut sha512 = Vec::new(alloc);
     let mut sha384 = Vec::new(alloc);
     let mut sha256 = Vec::new(alloc);
@@ -53,7 +58,7 @@ pub(super) fn in_order(
     Ok(sha512)
 }
 
-// The hash of a word.
+/// The hash of a word, or why it is none.
 fn read_hash(alloc: Global, word: &[u8]) -> Result<Hash>
     ensures ok { IfOk result (λ h. read_word word.now ≡ Ok h) }
     ensures hash { IfOk result IsHash }
@@ -77,7 +82,7 @@ fn read_hash(alloc: Global, word: &[u8]) -> Result<Hash>
     }
 }
 
-// The algorithm that a word begins with, and what stands after its name and the dash.
+/// The algorithm that a word begins with, and what stands after its name and the dash.
 fn split_name(word: &[u8]) -> Option<(Algorithm, &[u8])>
     ensures { MatchOption result (read_word word.now ≡ Err IntegrityFault.BadText)
         (λ p. read_word word.now ≡ decoded_hash p.0 (decode_of standard p.1.now)) }
@@ -97,9 +102,10 @@ fn split_name(word: &[u8]) -> Option<(Algorithm, &[u8])>
     None
 }
 
-// The first word of a text, and what stands after it.
+/// The first word of a text, and what stands after it.
 fn next_word(text: &[u8]) -> Option<(&[u8], &[u8])>
-    ensures words { MatchOption result (words_of text.now ≡ []) (λ p. words_of text.now ≡ p.0.now ∷ words_of p.1.now) }
+    ensures words { MatchOption result (words_of text.now ≡ [])
+        (λ p. words_of text.now ≡ p.0.now ∷ words_of p.1.now) }
     ensures shorter { IfSome result (λ p. length p.1.now < length text.now) }
 {
     let start = first_place(text, false);
@@ -111,7 +117,7 @@ fn next_word(text: &[u8]) -> Option<(&[u8], &[u8])>
     Some((&text[..end], &text[end..]))
 }
 
-// The place of the first blank, or of the first byte that is none; the length where there is none.
+/// The place of the first blank, or of the first byte that is none; the length where none is found.
 fn first_place(text: &[u8], blank: bool) -> usize
     ensures within { result ≤ length text.now }
     ensures before { (k : ℕ) → k < result → is_blank_of (slice_index text.now k) ≡ not blank }
@@ -125,6 +131,7 @@ fn first_place(text: &[u8], blank: bool) -> usize
     text.len()
 }
 
+/// Whether a byte stands between words: a space, TAB, LF, FF or CR.
 fn is_blank(byte: u8) -> bool
     ensures { result ≡ is_blank_of byte }
 {

@@ -38,9 +38,9 @@ impl Model for Integrity {
 }
 
 impl Integrity {
-    /// The integrity of a text: one or more hashes between runs of space, TAB, LF, FF and CR. A hash
-    /// is an algorithm's name, `-`, and its digest in canonical padded base64 (RFC 4648, section 4).
-    /// A text without a hash is `BadText`; else the leftmost wrong hash decides, `BadText` for its
+    /// The integrity of a text: one or more hashes between runs of space, TAB, LF, FF and CR. A
+    /// hash is an algorithm's name, `-`, and its digest in canonical padded base64 (RFC 4648,
+    /// section 4). A text without a hash is `BadText`; else the leftmost wrong hash decides, `BadText` for its
     /// form and `ShortDigest` for a digest under three bytes.
     #[tactic(auto, using(crate::proofs::ReadLemmas::read_some, crate::proofs::ReadLemmas::read_none, crate::proofs::ReadLemmas::read_failed, crate::proofs::Order::ordered_is_integrity))]
     pub fn parse(alloc: Global, text: &str) -> Result<Integrity>
@@ -75,7 +75,8 @@ impl Integrity {
 
     /// The integrity of all that a hasher was fed, under its algorithm.
     pub(crate) fn of_hasher(alloc: Global, hasher: Hasher) -> Result<Integrity>
-        ensures ok { (m : List ℕ) → Holds hasher m → IfOk result (λ i. i ≡ integrity_under (algorithm_of hasher) m) }
+        ensures ok { (m : List ℕ) → Holds hasher m
+            → IfOk result (λ i. i ≡ integrity_under (algorithm_of hasher) m) }
         ensures err { IfErr result (λ e. e ≡ Error.OutOfMemory) }
     {
         let algorithm = hasher.algorithm();
@@ -137,9 +138,13 @@ impl Integrity {
     ) -> Result<Algorithm>
         requires bytes { IsBytes (finished_bytes finished.now) }
         requires long_enough { 3 ≤ length (finished_bytes finished.now) }
-        ensures ok { IfOk result (λ a. (a ≡ algorithm) × Contains self.now (hash_of algorithm (finished_bytes finished.now))) }
-        ensures met { Contains self.now (hash_of algorithm (finished_bytes finished.now)) → IsOk result }
-        ensures err { IfErr result (IsCheckFailure self.now (hash_of algorithm (finished_bytes finished.now) ∷ [])) }
+        ensures ok { IfOk result
+            (λ a. (a ≡ algorithm)
+            × Contains self.now (hash_of algorithm (finished_bytes finished.now))) }
+        ensures met { Contains self.now (hash_of algorithm (finished_bytes finished.now))
+            → IsOk result }
+        ensures err { IfErr result
+            (IsCheckFailure self.now (hash_of algorithm (finished_bytes finished.now) ∷ [])) }
     {
         if self.lists(algorithm, finished.as_slice()) {
             return Ok(algorithm);
@@ -152,8 +157,10 @@ impl Integrity {
     /// The strongest algorithm of the other, where both list an equal digest of it. Takes no
     /// memory.
     pub fn matches(&self, other: &Integrity) -> Option<Algorithm>
-        ensures shared { IfSome result (λ a. (strongest other.now ≡ Some a) × ShareDigest a self.now other.now) }
-        ensures found { (a : Algorithm) → strongest other.now ≡ Some a → ShareDigest a self.now other.now → IsSome result }
+        ensures shared { IfSome result
+            (λ a. (strongest other.now ≡ Some a) × ShareDigest a self.now other.now) }
+        ensures found { (a : Algorithm) → strongest other.now ≡ Some a
+            → ShareDigest a self.now other.now → IsSome result }
     {
         let algorithm = other.pick_algorithm();
         for hash in &other.hashes {
@@ -166,7 +173,9 @@ impl Integrity {
 
     /// The address's algorithm and its digest in lower-case hex digits.
     pub fn to_hex(&self, alloc: Global) -> Result<(Algorithm, String)>
-        ensures ok { IfOk result (λ p. IfSome (address_of self.now) (λ h. (p.0 ≡ h.algorithm) × (string_bytes p.1 ≡ encode_lower h.digest))) }
+        ensures ok { IfOk result
+            (λ p. IfSome (address_of self.now)
+            (λ h. (p.0 ≡ h.algorithm) × (string_bytes p.1 ≡ encode_lower h.digest))) }
         ensures err { IfErr result (λ e. e ≡ Error.OutOfMemory) }
     {
         let address = self.address();
