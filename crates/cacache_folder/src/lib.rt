@@ -1,8 +1,10 @@
-//! Real folders as a store, and the system's clock.
+//! Real folders as a store, the system's clock, and numbers for temporary names.
 #![tactic(auto)]
 
 mod clock;
 mod folder;
+mod names;
 
 pub use clock::SystemClock;
 pub use folder::{FolderFile, FolderStore, FolderTemp};
+pub use names::ProcessNames;

@@ -1,11 +1,18 @@
 //! Open files of real folders.
-ghost use Rattle.std.specs.Prelude.{◌≡◌, ◌-◌, ◌^◌, None};
+ghost use Rattle.std.specs.Prelude.{◌≡◌, ◌+◌, ◌-◌, ◌^◌, ◌≤◌, IfOk, OnErr, length};
 
+use crate::folder::again::read_again;
 use cacache_base::store::{FileHandle, OpenedFile};
+use cacache_core::bytes::Bytes;
+use std::alloc::Global;
 use std::io;
 use std::io::{ErrorKind, Read};
+use std::sync::Arc;
 
-/// An open file of real folders. It gives at most 2^64 - 1 bytes, and fails where it has more.
+/// The most bytes that one read asks for. The buffer of a read is filled with zeros first.
+const PIECE: usize = 128 * 1024;
+
+/// An open file of real folders. It gives at most 2^64 - 1 bytes, and fails if there are more.
 #[derive(Drop)]
 pub struct FolderFile<F> {
     file: F,
@@ -22,6 +29,22 @@ impl<F: Read + Drop> FolderFile<F> {
             left: usize::MAX,
         }
     }
+
+    /// At most `max` bytes and at most `PIECE`: none only at the end of the file, or if `max` is 0. Memory is taken
+    /// before anything is read.
+    pub(crate) fn read_piece(&mut self, alloc: Global, max: usize) -> io::Result<Bytes>
+        ensures count { IfOk result (λ bytes. length bytes ≤ max) }
+        ensures left { IfOk result (λ bytes. self.new.left + length bytes ≡ self.old.left) }
+        ensures same { OnErr result (self.new.left ≡ self.old.left) }
+    {
+        let buf = vec![in alloc; 0; max.min(PIECE)]?;
+        let mut shared = Arc::new(alloc, buf)?;
+        let Some(buf) = Arc::get_mut(&mut shared) else {
+            return Err(io::Error::from(ErrorKind::OutOfMemory));
+        };
+        let count = self.read_some(buf)?;
+        Ok(Bytes::front_of(shared, count))
+    }
 }
 
 impl<F: Read + Drop> Read for FolderFile<F> {
@@ -31,7 +54,9 @@ impl<F: Read + Drop> Read for FolderFile<F> {
 }
 
 impl<F: Read + Drop> FileHandle for FolderFile<F> {
-    ghost seen = { λ f. record { left = f.left; bytes = None } };
+    ghost use Rattle.cacache_folder.specs.Handles.{seen_file};
+
+    ghost seen = { seen_file };
 }
 
 impl<F: Read + Drop> OpenedFile for FolderFile<F> {
@@ -40,7 +65,7 @@ impl<F: Read + Drop> OpenedFile for FolderFile<F> {
             return Err(io::Error::from(ErrorKind::FileTooLarge));
         }
         let room = buf.len().min(self.left);
-        let count = self.file.read(&mut buf[..room])?;
+        let count = read_again(&mut self.file, &mut buf[..room])?;
         self.left -= count;
         Ok(count)
     }

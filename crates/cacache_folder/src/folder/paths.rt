@@ -6,7 +6,7 @@ use std::io;
 use std::io::ErrorKind;
 use std::rt::Files;
 
-impl<R: Files + AllocGlobal + Drop> FolderStore<R> {
+impl<R: Files + AllocGlobal + Clone + Drop> FolderStore<R> {
     /// Makes every missing folder of the path. A folder that stands costs one question to the system.
     pub(crate) fn make_dirs(&self, path: &str) -> io::Result<()> {
         match self.rt.metadata(path) {

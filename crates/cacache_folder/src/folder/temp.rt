@@ -1,12 +1,13 @@
 //! Temporary files of real folders.
-ghost use Rattle.std.specs.Prelude.{◌≡◌, None};
+ghost use Rattle.std.specs.Prelude.{◌≡◌};
 
+use crate::folder::again::write_again;
 use cacache_base::store::{TempFile, TempHandle};
 use cacache_core::text::Text;
 use std::io;
 use std::io::Write;
 
-/// A temporary file of real folders. Letting it go closes it, and leaves the file.
+/// A temporary file of real folders. Dropping it closes the file and leaves it there.
 #[derive(Drop)]
 pub struct FolderTemp<F> {
     file: F,
@@ -21,7 +22,7 @@ impl<F: Write + Drop> FolderTemp<F> {
         FolderTemp { file, path }
     }
 
-    /// Where the file stands.
+    /// The path of the file.
     pub(crate) fn path(&self) -> &str
         ensures { result.now ≡ self.now.path }
     {
@@ -40,11 +41,13 @@ impl<F: Write + Drop> Write for FolderTemp<F> {
 }
 
 impl<F: Write + Drop> TempHandle for FolderTemp<F> {
-    ghost seen = { λ t. record { path = t.path; bytes = None } };
+    ghost use Rattle.cacache_folder.specs.Handles.{seen_temp};
+
+    ghost seen = { seen_temp };
 }
 
 impl<F: Write + Drop> TempFile for FolderTemp<F> {
     fn write_some(&mut self, buf: &[u8]) -> io::Result<usize> {
-        self.file.write(buf)
+        write_again(&mut self.file, buf)
     }
 }

@@ -1,0 +1,50 @@
+//! Answers to steps that the system refused.
+ghost use Rattle.cacache_base.specs.Plain.{plain_step, plain_answer};
+ghost use Rattle.cacache_base.specs.Fits.{Fits};
+
+use cacache_base::store::{Answer, FileHandle, Step, TempHandle};
+use cacache_core::errors::Fault;
+use std::io;
+use std::io::ErrorKind;
+
+/// The fault that stands for the system's error.
+fn fault_of(kind: ErrorKind) -> Fault {
+    match kind {
+        ErrorKind::NotFound => Fault::NotFound,
+        ErrorKind::AlreadyExists => Fault::AlreadyExists,
+        ErrorKind::NotADirectory => Fault::NotADirectory,
+        ErrorKind::IsADirectory => Fault::IsADirectory,
+        ErrorKind::DirectoryNotEmpty => Fault::NotEmpty,
+        ErrorKind::Unsupported => Fault::Unsupported,
+        ErrorKind::InvalidInput => Fault::InvalidInput,
+        ErrorKind::WriteZero => Fault::WriteZero,
+        ErrorKind::FilesystemLoop => Fault::TooDeep,
+        _ => Fault::Device,
+    }
+}
+
+/// Whether the step may change something and then fail: it makes some of the folders, the file, or a part of a copy.
+fn may_do_a_part<F, T>(step: &Step<F, T>) -> bool {
+    matches!(
+        step,
+        Step::MakeDirs(_) | Step::Append(_, _) | Step::Copy(_, _)
+    )
+}
+
+/// Drops a value. A call keeps the many ways to drop a step out of its callers' proofs.
+fn let_go<T: Drop>(_value: T) {}
+
+/// The answer to a step that failed with this error.
+pub(crate) fn refused<F: FileHandle, T: TempHandle>(
+    error: io::Error,
+    step: Step<F, T>,
+) -> Answer<F, T>
+    ensures { Fits (plain_step F.seen T.seen step) (plain_answer F.seen T.seen result) }
+{
+    let kind = error.kind();
+    if kind == ErrorKind::OutOfMemory && !may_do_a_part(&step) {
+        return Answer::NoMemory(step);
+    }
+    let_go(step);
+    Answer::Failed(fault_of(kind))
+}

@@ -1,0 +1,81 @@
+//! What is in a folder.
+ghost use Rattle.std.specs.Prelude.{◌≡◌, ◌==◌, ◌↔◌, IfOk, IfSome, IsTrue};
+ghost use Rattle.std.specs.List.{list_any};
+ghost use Rattle.cacache_base.specs.Fits.{ends_name, IsProperName, AreProperNames};
+
+use crate::folder::FolderStore;
+use cacache_base::store::{Kind, Listing, Name};
+use cacache_core::text::Text;
+use std::alloc::Global;
+use std::fs::{DirEntry, FileType};
+use std::io::ErrorKind;
+use std::rt::Files;
+use std::{fs, io};
+
+/// Whether the name has this byte.
+fn has(name: &str, byte: u8) -> bool
+    ensures { result ≡ list_any (λ b. b == byte) name.now }
+{
+    name.as_bytes().contains(&byte)
+}
+
+/// Whether the name has a `/` or a NUL.
+fn has_end(name: &str) -> bool
+    ensures { result ≡ list_any ends_name name.now }
+{
+    has(name, b'/') | has(name, 0)
+}
+
+/// Whether the name stands for one thing in its folder.
+fn is_proper(name: &str) -> bool
+    ensures { IsTrue result ↔ IsProperName name.now }
+{
+    !(name.is_empty() || name == "." || name == ".." || has_end(name))
+}
+
+/// What kind of thing the system's type of file is. All but folders and links count as files.
+fn kind_of(found: FileType) -> Kind {
+    if found.is_dir() {
+        Kind::Folder
+    } else if found.is_symlink() {
+        Kind::Link
+    } else {
+        Kind::File
+    }
+}
+
+/// The entry's name and kind; None if it was removed since the folder was read.
+fn name_of<R: Files + Clone + Drop>(
+    alloc: Global,
+    entry: &DirEntry<R, Global>,
+) -> io::Result<Option<Name>>
+    ensures { IfOk result (λ found. IfSome found (λ entry. IsProperName entry.name)) }
+{
+    let name = entry.file_name();
+    if !is_proper(name) {
+        return Err(io::Error::from(ErrorKind::InvalidFilename));
+    }
+    let kind = match entry.file_type() {
+        Ok(found) => kind_of(found),
+        Err(e) if e.kind() == ErrorKind::NotFound => return Ok(None),
+        Err(e) => return Err(e),
+    };
+    let name = Text::from_str(alloc, name)?;
+    Ok(Some(Name { name, kind }))
+}
+
+impl<R: Files + AllocGlobal + Clone + Drop> FolderStore<R> {
+    /// What is in the folder, in the system's order. It fails if a name isn't UTF-8.
+    pub(crate) fn read_dir(&self, path: &str) -> io::Result<Listing>
+        ensures { IfOk result (λ listing. AreProperNames listing) }
+    {
+        let alloc = self.rt.alloc();
+        let mut names = Vec::new(alloc);
+        for entry in fs::read_dir(&self.rt, path)? {
+            if let Some(name) = name_of(alloc, &entry?)? {
+                names.push(name)?;
+            }
+        }
+        Ok(Listing::new(names))
+    }
+}
