@@ -75,13 +75,13 @@ abbrev pub IsUtf8IfAny : Option (List ℕ) → Type 0
 IsUtf8IfAny None = Unit {0}
 IsUtf8IfAny (Some text) = IsUtf8 text
 
--- as each JSON value of the program: its text is UTF-8, its names are in order, its numbers in range
+-- as each JSON value of the program: it prints as UTF-8, names are in order, numbers in range
 pub record IsJson (d : Data) : Type 0 where
   pub utf8 : IsUtf8 (compact_text d)
   pub ordered : IsOrdered d
   pub in_range : has_float d ≡ false → IsWhole d
 
--- well-formed, as each entry of the program: texts are UTF-8, metadata is JSON, numbers are in range
+-- as each entry of the program: its texts are UTF-8, its metadata is JSON, its numbers in range
 pub record IsEntry (e : Entry) : Type 0 where
   pub key : IsUtf8 e.key
   pub integrity : IsUtf8IfAny e.integrity
@@ -91,7 +91,7 @@ pub record IsEntry (e : Entry) : Type 0 where
 
 -- ---- what can be written
 
--- time, size and the metadata's numbers are whole in 64 bits, and the text nests at most 127 levels deep
+-- its numbers are whole in 64 bits, and its text nests at most 127 levels deep
 pub record Fits (e : Entry) : Type 0 where
   pub time : e.time < 2 ^ 64
   pub size : e.size < 2 ^ 64

@@ -1,5 +1,5 @@
 -- What a lookup of a key answers.
-use Rattle.std.specs.Prelude.{◌≡◌, ℕ, suc, List, [], ◌∷◌, Bool, Option, Some, None, Result, Ok, Err, bytes_eq, if◌then◌else◌, is_some, option_and_then, unwrap_or, fold, reverse}
+use Rattle.std.specs.Prelude.{◌≡◌, ℕ, suc, List, [], ◌∷◌, Bool, Option, Some, None, Result, Ok, Err, bytes_eq, if◌then◌else◌, is_some, option_map, option_and_then, unwrap_or, fold, reverse}
 use Rattle.serde_json.specs.Data.{Data}
 use Rattle.cacache_core.specs.declared.errors.IntegrityFault.{IntegrityFault}
 use Rattle.cacache_core.specs.declared.integrity.digest.Hash.{Hash}
@@ -18,17 +18,28 @@ pub record Found : Type 0 where
 
 -- the entry with its integrity
 abbrev pub found_of : Entry → List Hash → Found
-found_of e i = record { key = e.key; integrity = i; time = e.time; size = e.size; metadata = e.metadata; raw_metadata = e.raw_metadata }
+found_of e i = record {
+  key = e.key;
+  integrity = i;
+  time = e.time;
+  size = e.size;
+  metadata = e.metadata;
+  raw_metadata = e.raw_metadata;
+}
 
--- what an entry of this integrity answers: an unreadable one answers nothing
-abbrev pub answer_read : Entry → Result (List Hash) IntegrityFault → Option (Option Found)
-answer_read e (Ok i) = Some (Some (found_of e i))
-answer_read e (Err fault) = None
+-- what a text that reads as an integrity answers; an unreadable one answers nothing
+abbrev pub answer_read : Result (List Hash) IntegrityFault → Option (Option (List Hash))
+answer_read (Ok i) = Some (Some i)
+answer_read (Err fault) = None
 
--- what an entry answers by itself: a tombstone, that there is none
+-- what an entry's integrity answers; without one it is a tombstone, which says that there is none
+abbrev pub answer_of_integrity : Option (List ℕ) → Option (Option (List Hash))
+answer_of_integrity None = Some None
+answer_of_integrity (Some text) = answer_read (read_integrity text)
+
+-- what an entry of this integrity answers
 abbrev pub answer_of : Entry → Option (List ℕ) → Option (Option Found)
-answer_of e None = Some None
-answer_of e (Some t) = answer_read e (read_integrity t)
+answer_of e o = option_map (option_map (found_of e)) (answer_of_integrity o)
 
 -- what an entry answers to a lookup of the key
 abbrev pub answer_to : List ℕ → Entry → Option (Option Found)

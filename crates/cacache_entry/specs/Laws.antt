@@ -1,4 +1,4 @@
--- Which entries can be written, what lines and their beginnings add to a bucket, and what a lookup finds.
+-- Which entries can be written, what lines add to a bucket, and what a lookup finds.
 use Rattle.std.specs.Prelude.{◌≡◌, ◌<◌, ◌≤◌, ◌^◌, ◌↔◌, ℕ, length, take, List, [], ◌∷◌, ◌++◌, Option, Some, None, false, IsUtf8}
 use Rattle.serde_json.specs.Data.{null, depth}
 use Rattle.serde_json.specs.Read.{read}
@@ -17,7 +17,8 @@ NoCauseIsFit = (e : Entry) → IsEntry e → (cause_of e ≡ None) ↔ Fits e
 -- a well-formed entry fits where its time is early and its metadata whole and flat
 abbrev pub FlatEntriesFit : Type 0
 FlatEntriesFit =
-    (e : Entry) → IsEntry e → e.time < 2 ^ 64 → has_float e.metadata ≡ false → depth e.metadata ≤ 126
+    (e : Entry) → IsEntry e → e.time < 2 ^ 64
+    → has_float e.metadata ≡ false → depth e.metadata ≤ 126
     → Fits e
 
 -- the entry of a key with no metadata
@@ -51,7 +52,8 @@ EntriesSplit = (x y : List ℕ) → entries_of (x ++ 10 ∷ y) ≡ entries_of x 
 -- behind any bytes, a line adds its entry
 abbrev pub LinesAppend : Type 0
 LinesAppend =
-    (x : List ℕ) (e : Entry) → IsEntry e → Fits e → entries_of (x ++ line_of e) ≡ entries_of x ++ e ∷ []
+    (x : List ℕ) (e : Entry) → IsEntry e → Fits e
+    → entries_of (x ++ line_of e) ≡ entries_of x ++ e ∷ []
 
 -- a proper beginning of an entry's text, the empty one too, reads as no JSON value
 abbrev pub TornTextsReadAsNothing : Type 0
@@ -68,7 +70,8 @@ TornLinesAddNothing =
 -- nor does it hurt the line that follows it
 abbrev pub TornLinesHurtNoOther : Type 0
 TornLinesHurtNoOther =
-    (x : List ℕ) (e f : Entry) (n : ℕ) → IsEntry e → Fits e → n < length (line_of e) → IsEntry f → Fits f
+    (x : List ℕ) (e f : Entry) (n : ℕ)
+    → IsEntry e → Fits e → n < length (line_of e) → IsEntry f → Fits f
     → entries_of (x ++ take n (line_of e) ++ line_of f) ≡ entries_of x ++ f ∷ []
 
 -- ---- lookups

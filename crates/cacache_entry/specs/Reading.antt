@@ -49,18 +49,25 @@ or_null (Some d) = d
 -- the entry that a value is
 abbrev pub entry_of : Data → Option Entry
 entry_of d =
-    option_and_then (λ key.
-    option_and_then (λ integrity.
     option_and_then (λ time.
     option_and_then (λ size.
-    option_and_then (λ metadata.
-    option_map (λ raw. record { key = key; integrity = integrity; time = time; size = size; metadata = metadata; raw_metadata = raw })
-    (bytes_or_none (or_null (get (codes "raw_metadata") d))))
+    option_and_then (λ key.
+    option_and_then (λ integrity.
+    option_and_then (λ raw.
+    option_map (λ metadata. record {
+      key = key;
+      integrity = integrity;
+      time = time;
+      size = size;
+      metadata = metadata;
+      raw_metadata = raw;
+    })
     (option_and_then whole_value (get (codes "metadata") d)))
-    (option_and_then whole_of (get (codes "size") d)))
-    (option_and_then whole_of (get (codes "time") d)))
+    (bytes_or_none (or_null (get (codes "raw_metadata") d))))
     (text_or_none (or_null (get (codes "integrity") d))))
-    (option_and_then as_str (get (codes "key") d))
+    (option_and_then as_str (get (codes "key") d)))
+    (option_and_then whole_of (get (codes "size") d)))
+    (option_and_then whole_of (get (codes "time") d))
 
 -- the entry that a text reads as, of any spelling
 abbrev pub read_entry : List ℕ → Option Entry

@@ -21,6 +21,7 @@ pub(crate) fn is_whole(value: &Value) -> bool
     }
 }
 
+/// Whether each number of the items is whole in 64 bits.
 #[cycle(whole)]
 fn items_are_whole(items: &Vec<Value>) -> bool
     ensures { result ≡ not (items_have_float (items_view items.now.items)) }
@@ -33,6 +34,7 @@ fn items_are_whole(items: &Vec<Value>) -> bool
     true
 }
 
+/// Whether each number of the members is whole in 64 bits.
 #[cycle(whole)]
 fn members_are_whole(members: &Map<String, Value>) -> bool
     ensures { result ≡ not (members_have_float (members_view members.now.entries)) }
@@ -60,6 +62,7 @@ pub(crate) fn nests_within(value: &Value, levels: u64) -> bool
     }
 }
 
+/// Whether the items nest at most so many levels deep.
 #[cycle(nested)]
 fn items_nest_within(items: &Vec<Value>, levels: u64) -> bool
     ensures { result ≡ nat_le (items_depth (items_view items.now.items)) levels }
@@ -72,6 +75,7 @@ fn items_nest_within(items: &Vec<Value>, levels: u64) -> bool
     true
 }
 
+/// Whether the members nest at most so many levels deep.
 #[cycle(nested)]
 fn members_nest_within(members: &Map<String, Value>, levels: u64) -> bool
     ensures { result ≡ nat_le (members_depth (members_view members.now.entries)) levels }

@@ -30,7 +30,8 @@ pub struct SerializableMetadata {
 impl PartialEq for SerializableMetadata {
     ghost eq = { on (λ e. string_bytes e.key) (pointwise nat_eq) };
 
-    ghost laws = { Cmp.partial_equiv_from_equiv (Cmp.on_equiv (λ (e : Said). string_bytes e.key) nat_list_eq_equiv) };
+    ghost laws = { Cmp.partial_equiv_from_equiv
+        (Cmp.on_equiv (λ (e : Said). string_bytes e.key) nat_list_eq_equiv) };
 
     fn eq(&self, other: &SerializableMetadata) -> bool {
         self.key.as_str() == other.key.as_str()
@@ -44,7 +45,8 @@ impl Eq for SerializableMetadata {
 impl Hash for SerializableMetadata {
     ghost hash_input = { λ e. fed.str (string_bytes e.key) };
 
-    ghost respects_eq = { (fed.on_Alike (λ (e : Said). string_bytes e.key) (fed.same_Alike fed.str bytes_decides)).fed };
+    ghost respects_eq = { (fed.on_Alike (λ (e : Said). string_bytes e.key)
+        (fed.same_Alike fed.str bytes_decides)).fed };
 
     fn hash<H: Hasher>(&self, state: &mut H) {
         self.key.as_str().hash(state);

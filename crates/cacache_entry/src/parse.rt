@@ -1,7 +1,8 @@
 //! The entry that a text reads as.
-ghost use Rattle.std.specs.Prelude.{◌≡◌, IfOk, option_map, string_bytes};
+ghost use Rattle.std.specs.Prelude.{◌≡◌, IfOk, codes, option_map, option_and_then, string_bytes};
+ghost use Rattle.serde_json.specs.Find.{get};
 ghost use Rattle.serde_json.specs.View.{view, items_view};
-ghost use Rattle.cacache_entry.specs.Reading.{or_null, text_or_none, bytes_or_none, bytes_of as bytes_of_items, entry_of as entry_of_data, read_entry as entry_of_text};
+ghost use Rattle.cacache_entry.specs.Reading.{or_null, whole_value, text_or_none, bytes_or_none, bytes_of as bytes_of_items, entry_of as entry_of_data, read_entry as entry_of_text};
 ghost use Rattle.cacache_entry.specs.View.{entry_view};
 
 use crate::limits::is_whole;
@@ -9,7 +10,7 @@ use crate::metadata::SerializableMetadata;
 use serde_json::Value;
 use std::alloc::{AllocError, Global};
 
-/// The entry that a text reads as, none where it is no JSON object of an entry's members. Memory may be refused.
+/// The entry that a text reads as, none where it is no JSON object of an entry's members.
 pub(crate) fn read_entry(
     alloc: Global,
     text: &str,
@@ -17,7 +18,7 @@ pub(crate) fn read_entry(
     ensures { IfOk result (λ o. option_map entry_view o ≡ entry_of_text text.now) }
 {
     match Value::from_str(alloc, text) {
-        Ok(value) => entry_of(alloc, value),
+        Ok(mut value) => entry_of(alloc, &mut value),
         Err(error) => if error.is_memory() {
             Err(AllocError)
         } else {
@@ -26,10 +27,17 @@ pub(crate) fn read_entry(
     }
 }
 
-// The entry that a value is. Its metadata is taken out of the value, so that it needn't be copied.
-fn entry_of(alloc: Global, mut value: Value) -> Result<Option<SerializableMetadata>, AllocError>
-    ensures { IfOk result (λ o. option_map entry_view o ≡ entry_of_data (view value)) }
+/// The entry that a value is, none where it is no object of an entry's members. Its metadata is taken out of the
+/// value, so that it needn't be copied.
+fn entry_of(alloc: Global, value: &mut Value) -> Result<Option<SerializableMetadata>, AllocError>
+    ensures { IfOk result (λ o. option_map entry_view o ≡ entry_of_data (view value.old)) }
 {
+    let Some(time) = value.get("time").and_then(Value::as_u64) else {
+        return Ok(None);
+    };
+    let Some(size) = value.get("size").and_then(Value::as_u64) else {
+        return Ok(None);
+    };
     let Some(key) = value.get("key").and_then(Value::as_str) else {
         return Ok(None);
     };
@@ -37,21 +45,12 @@ fn entry_of(alloc: Global, mut value: Value) -> Result<Option<SerializableMetada
     let Some(integrity) = text_field(alloc, value.get("integrity"))? else {
         return Ok(None);
     };
-    let Some(time) = value.get("time").and_then(Value::as_u64) else {
-        return Ok(None);
-    };
-    let Some(size) = value.get("size").and_then(Value::as_u64) else {
-        return Ok(None);
-    };
     let Some(raw_metadata) = bytes_field(alloc, value.get("raw_metadata"))? else {
         return Ok(None);
     };
-    let Some(metadata) = value.get_mut("metadata").map(Value::take) else {
+    let Some(metadata) = take_metadata(value) else {
         return Ok(None);
     };
-    if !is_whole(&metadata) {
-        return Ok(None);
-    }
     Ok(Some(SerializableMetadata {
         key,
         integrity,
@@ -62,7 +61,22 @@ fn entry_of(alloc: Global, mut value: Value) -> Result<Option<SerializableMetada
     }))
 }
 
-// The text of a member that may be absent or null, none where it is neither a text.
+/// Takes the metadata out of a value. None where it is absent, or a number of it isn't whole.
+fn take_metadata(value: &mut Value) -> Option<Value>
+    ensures { option_map view result
+        ≡ option_and_then whole_value (get (codes "metadata") (view value.old)) }
+{
+    match value.get_mut("metadata") {
+        Some(metadata) => if is_whole(metadata) {
+            Some(metadata.take())
+        } else {
+            None
+        },
+        None => None,
+    }
+}
+
+/// The text of a member that may be absent or null, none where it is neither a text.
 fn text_field(alloc: Global, value: Option<&Value>) -> Result<Option<Option<String>>, AllocError>
     ensures { IfOk result (λ o. option_map (option_map string_bytes) o
         ≡ text_or_none (or_null (option_map (λ v. view v.now) value.entry))) }
@@ -78,7 +92,7 @@ fn text_field(alloc: Global, value: Option<&Value>) -> Result<Option<Option<Stri
     }
 }
 
-// The bytes of a member that may be absent or null, none where it is no array of bytes.
+/// The bytes of a member that may be absent or null, none where it is no array of bytes.
 fn bytes_field(alloc: Global, value: Option<&Value>) -> Result<Option<Option<Vec<u8>>>, AllocError>
     ensures { IfOk result (λ o. option_map (option_map (λ v. v.items)) o
         ≡ bytes_or_none (or_null (option_map (λ v. view v.now) value.entry))) }
@@ -97,9 +111,10 @@ fn bytes_field(alloc: Global, value: Option<&Value>) -> Result<Option<Option<Vec
     }
 }
 
-// The bytes that items are, none where an item is no whole number from 0 to 255.
+/// The bytes that items are, none where an item is no whole number from 0 to 255.
 fn bytes_of(alloc: Global, items: &Vec<Value>) -> Result<Option<Vec<u8>>, AllocError>
-    ensures { IfOk result (λ o. option_map (λ v. v.items) o ≡ bytes_of_items (items_view items.now.items)) }
+    ensures { IfOk result (λ o. option_map (λ v. v.items) o
+        ≡ bytes_of_items (items_view items.now.items)) }
 {
     let mut bytes = Vec::new(alloc);
     for item in items {

@@ -55,7 +55,8 @@ pub(crate) fn without_cr(piece: &[u8]) -> &[u8]
 
 /// The first place of the byte.
 fn first(bytes: &[u8], byte: u8) -> Option<usize>
-    ensures { MatchOption result (cut byte bytes.now ≡ bytes.now ∷ []) (λ i. CutsAt byte bytes.now i) }
+    ensures { MatchOption result (cut byte bytes.now ≡ bytes.now ∷ [])
+        (λ i. CutsAt byte bytes.now i) }
 {
     memchr(byte, bytes)
 }

@@ -1,8 +1,8 @@
 //! The lookup of a key, from the end of a bucket.
-ghost use Rattle.std.specs.Prelude.{◌≡◌, ◌<◌, ◌+◌, ◌^◌, IfOk, IfErr, option_map, option_and_then};
+ghost use Rattle.std.specs.Prelude.{◌≡◌, ◌<◌, ◌+◌, ◌^◌, IfOk, IfErr, option_map, option_and_then, string_bytes};
 ghost use Rattle.cacache_core.specs.declared.errors.Error.TheVariants.{OutOfMemory};
 ghost use Rattle.cacache_entry.specs.Bucket.{without_cr as less_cr, entry_of_piece, entries_of};
-ghost use Rattle.cacache_entry.specs.Latest.{found_of, answer_of, answer_to, latest as latest_of, pieces_read};
+ghost use Rattle.cacache_entry.specs.Latest.{found_of, answer_of_integrity, answer_of, answer_to, latest as latest_of, pieces_read};
 ghost use Rattle.cacache_entry.specs.View.{entry_view, found_view};
 
 use crate::metadata::{Metadata, SerializableMetadata};
@@ -10,7 +10,7 @@ use crate::read::{piece_entry, without_cr};
 use cacache_core::errors::{self, Error};
 use cacache_core::integrity::Integrity;
 use memchr::memrchr;
-use std::alloc::Global;
+use std::alloc::{AllocError, Global};
 
 /// What a lookup found, and how much of the bucket it read.
 #[derive(Debug, Drop, PartialEq)]
@@ -53,12 +53,11 @@ fn piece_answer(
     piece: &[u8],
     key: &str,
     pieces: &mut u64,
-) -> errors::Result<Option<Option<Metadata>>>
+) -> Result<Option<Option<Metadata>>, AllocError>
     requires { pieces.old + 1 < 2 ^ 64 }
     ensures answer { IfOk result (λ answer. option_map (option_map found_view) answer
         ≡ option_and_then (answer_to key.now) (entry_of_piece (less_cr piece.now))) }
     ensures pieces { pieces.new ≡ pieces.old + 1 }
-    ensures refused { IfErr result (λ e. e ≡ OutOfMemory) }
 {
     *pieces += 1;
     match piece_entry(alloc, without_cr(piece))? {
@@ -75,18 +74,33 @@ fn piece_answer(
 fn entry_answer(
     alloc: Global,
     entry: SerializableMetadata,
-) -> errors::Result<Option<Option<Metadata>>>
-    ensures answer { IfOk result (λ answer. option_map (option_map found_view) answer
+) -> Result<Option<Option<Metadata>>, AllocError>
+    ensures { IfOk result (λ answer. option_map (option_map found_view) answer
         ≡ answer_of (entry_view entry) (entry_view entry).integrity) }
-    ensures refused { IfErr result (λ e. e ≡ OutOfMemory) }
 {
-    let Some(text) = &entry.integrity else {
-        return Ok(Some(None));
-    };
-    match Integrity::parse(alloc, text.as_str()) {
-        Ok(integrity) => Ok(Some(Some(with_integrity(entry, integrity)))),
-        Err(Error::IntegrityError(_)) => Ok(None),
-        Err(_) => Err(Error::OutOfMemory),
+    match integrity_answer(alloc, &entry.integrity)? {
+        Some(Some(integrity)) => Ok(Some(Some(with_integrity(entry, integrity)))),
+        Some(None) => Ok(Some(None)),
+        None => Ok(None),
+    }
+}
+
+/// What an entry's integrity answers: what its text reads as or, for a tombstone, that there is none. None where it is
+/// unreadable.
+fn integrity_answer(
+    alloc: Global,
+    text: &Option<String>,
+) -> Result<Option<Option<Integrity>>, AllocError>
+    ensures { IfOk result (λ answer. answer
+        ≡ answer_of_integrity (option_map string_bytes text.now)) }
+{
+    match text {
+        Some(text) => match Integrity::parse(alloc, text.as_str()) {
+            Ok(integrity) => Ok(Some(Some(integrity))),
+            Err(Error::IntegrityError(_)) => Ok(None),
+            Err(_) => Err(AllocError),
+        },
+        None => Ok(Some(None)),
     }
 }
 

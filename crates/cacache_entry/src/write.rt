@@ -32,8 +32,8 @@ const METADATA_LEVELS: u64 = 126;
 ///
 /// # Errors
 ///
-/// `SerdeError` where the entry can't be written, with the first cause of these: its time is 2^64 or more, a number of
-/// its metadata isn't whole in 64 bits, its text would nest deeper than 127 levels. `OutOfMemory` where memory is refused.
+/// `SerdeError` with the first of these causes that holds: the time is 2^64 or more, a number of the metadata isn't
+/// whole in 64 bits, the text would nest deeper than 127 levels. `OutOfMemory` where memory runs out.
 pub fn line(alloc: Global, entry: &SerializableMetadata) -> errors::Result<Vec<u8>>
     ensures line { IfOk result (λ bytes. bytes.items ≡ line_of (entry_view entry.now)) }
     ensures entry { OnOk result (IsEntry (entry_view entry.now)) }
