@@ -4,7 +4,7 @@ use Rattle.std.specs.Prelude.{Result}
 use Rattle.cacache_core.specs.declared.errors.Fault.{Fault}
 use Rattle.cacache_core.specs.declared.errors.Fault.TheVariants.{NotFound}
 use Rattle.cacache_base.specs.declared.store.answer.Answer.TheVariants.{Failed}
-use Rattle.cacache_base.specs.Seen.{PlainStep, PlainAnswer}
+use Rattle.cacache_base.specs.Plain.{PlainStep, PlainAnswer}
 use Rattle.cacache_disk.specs.declared.luck.Luck.{Luck}
 use Rattle.cacache_disk.specs.declared.luck.Luck.TheVariants.{Plain, Fail, Take}
 use Rattle.cacache_disk.specs.Tree.{Tree, Names}

@@ -3,7 +3,7 @@ use Rattle.std.proofs.Common.{◌≡◌, ◌==◌, ◌-◌, ◌+◌, ◌<◌, �
 use Rattle.std.proofs.Math.Seq.{take-append_seam}
 use Rattle.std.specs.FinMap as map
 use Rattle.cacache_core.specs.declared.errors.Fault.TheVariants.{AlreadyExists, NotADirectory}
-use Rattle.cacache_core.specs.Paths.{content_names, folder_names}
+use Rattle.cacache_core.specs.Paths.{content_names, folder_names, bucket_names_of}
 use Rattle.cacache_disk.specs.declared.node.Node.{Node}
 use Rattle.cacache_disk.specs.declared.node.Node.TheVariants.{Folder, File, Link}
 use Rattle.cacache_core.specs.PathNames.{names_of}
@@ -11,7 +11,7 @@ use Rattle.cacache_disk.specs.Tree.{Tree, Names, look, put, same_path, bare, nam
 use Rattle.cacache_disk.specs.Found.{or_fault, dirs_fault, is_in_way, where_no_folder}
 use Rattle.cacache_disk.specs.Apply.{planted, above_last, make_some, if_missing}
 use Rattle.cacache_disk.proofs.Maps.{same_path-true}
-use Rattle.cacache_laws.specs.Kinds.{PathKind, Elsewhere, path_kind, kind_beside, bucket_names_of, node_below, is_path_of, IsFor}
+use Rattle.cacache_laws.specs.Kinds.{PathKind, Elsewhere, path_kind, kind_beside, node_below, is_path_of, IsFor}
 use Rattle.cacache_laws.specs.Value.{blob_in, bucket_in, is_folder, folders_below, value_of_tree}
 use Rattle.cacache_laws.specs.Placed.{Suits, Placed}
 use Rattle.cacache_laws.specs.Rooted.{Rooted, StandsIn}

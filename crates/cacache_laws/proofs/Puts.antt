@@ -2,14 +2,14 @@
 use Rattle.std.proofs.Common.{◌≡◌, ℕ, Bool, true, false, cond, List, ◌++◌, Option, None, Some, refl, sym, ap, subst, ◌∙◌}
 use Rattle.std.specs.FinMap as map
 use Rattle.cacache_core.specs.declared.integrity.digest.Hash.{Hash}
-use Rattle.cacache_core.specs.Paths.{content_names}
+use Rattle.cacache_core.specs.Paths.{content_names, bucket_names_of}
 use Rattle.cacache_disk.specs.declared.node.Node.{Node}
 use Rattle.cacache_disk.specs.declared.node.Node.TheVariants.{Folder, File}
 use Rattle.cacache_disk.specs.Tree.{Tree, Names, look, put, cut, same_path}
 use Rattle.cacache_disk.proofs.Maps.{total, same_path-true}
 use Rattle.cacache_entry.specs.Entry.{Entry}
 use Rattle.cacache_entry.specs.Bucket.{entries_of}
-use Rattle.cacache_laws.specs.Kinds.{PathKind, Content, Bucket, Way, bucket_names_of, kind_below, path_kind, node_below, is_path_of}
+use Rattle.cacache_laws.specs.Kinds.{PathKind, Content, Bucket, Way, kind_below, path_kind, node_below, is_path_of}
 use Rattle.cacache_laws.specs.Value.{Value, blob_in, bucket_in, is_folder, wide_value}
 use Rattle.cacache_laws.specs.Acts.{put_blob, list_of, add_entries, drop_file, set_folder, with_folders}
 use Rattle.cacache_laws.specs.Placed.{Suits, Placed}

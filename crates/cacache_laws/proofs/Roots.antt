@@ -14,7 +14,7 @@ use Rattle.cacache_core.specs.declared.errors.Fault.{Fault}
 use Rattle.cacache_core.specs.declared.errors.Fault.TheVariants.{IsADirectory, InvalidInput, AlreadyExists, NotADirectory}
 use Rattle.cacache_core.specs.Paths.{folder_names}
 use Rattle.cacache_base.specs.declared.store.step.Step.TheVariants.{MakeDirs, CreateTemp, Write, Persist, Append, ReadAll, Open, Read, Size, Exists, Symlink, Copy, Reflink, HardLink, ReadDir, RemoveFile, RemoveDir}
-use Rattle.cacache_base.specs.Seen.{PlainStep, PlainAnswer}
+use Rattle.cacache_base.specs.Plain.{PlainStep, PlainAnswer}
 use Rattle.cacache_disk.specs.declared.node.Node.{Node}
 use Rattle.cacache_disk.specs.declared.node.Node.TheVariants.{Folder, File, Link}
 use Rattle.cacache_core.specs.PathNames.{names_of}

@@ -4,20 +4,20 @@ use Rattle.std.specs.Prelude.{Result}
 use Rattle.cacache_core.specs.declared.errors.Fault.{Fault}
 use Rattle.cacache_core.specs.declared.errors.Fault.TheVariants.{NotFound, IsADirectory, InvalidInput}
 use Rattle.cacache_core.specs.declared.integrity.digest.Hash.{Hash}
-use Rattle.cacache_core.specs.Paths.{content_names}
+use Rattle.cacache_core.specs.Paths.{content_names, bucket_names_of}
 use Rattle.cacache_base.specs.declared.store.step.Step.TheVariants.{ReadAll, Open, Size, Exists}
 use Rattle.cacache_base.specs.declared.store.answer.Answer.TheVariants.{Done, Temp, Wrote, Took, Bytes, File as Opened, Got, There, Length, Names as Listed, Failed, NoMemory}
-use Rattle.cacache_base.specs.Seen.{PlainStep, PlainAnswer}
+use Rattle.cacache_base.specs.Plain.{PlainStep, PlainAnswer}
 use Rattle.cacache_disk.specs.declared.luck.Luck.{Luck}
 use Rattle.cacache_disk.specs.declared.luck.Luck.TheVariants.{Plain, Fail, Take}
 use Rattle.cacache_disk.specs.declared.node.Node.{Node}
 use Rattle.cacache_disk.specs.declared.node.Node.TheVariants.{Folder, File, Link}
-use Rattle.cacache_core.specs.PathNames.{names_of}
+use Rattle.cacache_core.specs.PathNames.{names_of, names_below}
 use Rattle.cacache_disk.specs.Tree.{Tree, Names, look}
 use Rattle.cacache_disk.specs.Found.{way_fault, place, followed, leads, found, file_at, bytes_in}
 use Rattle.cacache_disk.specs.Apply.{apply, plain, unless, is_there, is_taking, fails, fault_of, left_by, made_up}
 use Rattle.cacache_entry.specs.Entry.{Entry}
-use Rattle.cacache_laws.specs.Kinds.{Content, Bucket, bucket_names_of, names_below, path_kind, is_used}
+use Rattle.cacache_laws.specs.Kinds.{Content, Bucket, path_kind, is_used}
 use Rattle.cacache_laws.specs.Value.{blob_in, bucket_in, wide_value}
 use Rattle.cacache_laws.specs.Placed.{Suits, Placed}
 use Rattle.cacache_laws.specs.Rooted.{StandsIn, Rooted}

@@ -3,26 +3,27 @@ use Rattle.std.proofs.Common.{◌≡◌, ◌≢◌, ◌≤◌, ◌<◌, ℕ, fal
 use Rattle.std.proofs.lemmas.List.{append_cancel_left}
 use Rattle.cacache_core.specs.declared.integrity.digest.Hash.{Hash}
 use Rattle.cacache_core.specs.Integrity.{IsHash}
-use Rattle.cacache_core.specs.Paths.{joined, content_names}
-use Rattle.cacache_core.proofs.PathTexts.{contents_one_to_one}
+use Rattle.cacache_core.specs.Paths.{joined, content_names, bucket_names_of}
+use Rattle.cacache_core.specs.PathLaws.{IsKeyDigest}
+use Rattle.cacache_core.proofs.PathTexts.{paths_differ}
+use Rattle.cacache_entry.proofs.Lines.{empty_holds_nothing}
 use Rattle.cacache_core.specs.PathNames.{Names, names_of}
 use Rattle.cacache_disk.specs.Tree.{Tree, same_path}
 use Rattle.cacache_core.specs.declared.errors.Fault.TheVariants.{NotFound, IsADirectory, Device}
 use Rattle.cacache_disk.specs.Found.{bytes_in}
 use Rattle.cacache_disk.proofs.Maps.{same_path-true}
 use Rattle.cacache_base.specs.declared.store.answer.Answer.TheVariants.{Took, Failed}
-use Rattle.cacache_base.specs.Seen.{PlainAnswer}
+use Rattle.cacache_base.specs.Plain.{PlainAnswer}
 use Rattle.cacache_disk.specs.declared.luck.Luck.{Luck}
 use Rattle.cacache_disk.specs.declared.luck.Luck.TheVariants.{Fail}
 use Rattle.cacache_entry.specs.Entry.{Entry, line_of}
 use Rattle.cacache_entry.specs.Fits.{IsEntry, Fits}
 use Rattle.cacache_entry.specs.Bucket.{entries_of}
-use Rattle.cacache_laws.specs.Kinds.{bucket_names_of}
 use Rattle.cacache_laws.specs.Value.{Value, blob_in, bucket_in}
-use Rattle.cacache_laws.specs.Acts.{list_of, amount_left, PutBytes, act_with, change}
-use Rattle.cacache_laws.specs.Cases.{bucket_after, AppendCases, ContentCases, RemovedBucketsGo, FolderCases, KindCases, TreeCases, LinkCases, row_folder}
+use Rattle.cacache_laws.specs.Acts.{list_of, amount_left, PutBytes, AddEntries, act_with, change}
+use Rattle.cacache_laws.specs.Cases.{bucket_after, AppendCases, ContentCases, RemovedBucketsGo, OtherBucketsKeep, FolderCases, KindCases, TreeCases, LinkCases, row_folder}
 use Rattle.cacache_laws.proofs.Apart.{not_true}
-use Rattle.cacache_laws.proofs.Lines.{entries_none, whole_line, torn_line, append_act, nothing_left_is_nothing}
+use Rattle.cacache_laws.proofs.Lines.{whole_line, torn_line, append_act, nothing_left_is_nothing}
 use Rattle.cacache_laws.proofs.Roots.{same_self}
 
 here : {A : Type 0} (p : Names) (x y : A) → cond (same_path p p) x y ≡ x
@@ -41,11 +42,11 @@ pub append_cases : (home : Names) (v : Value) (path digest : List ℕ) (e : Entr
     → names_of path ≡ Ok (home ++ bucket_names_of digest) → AppendCases home v path digest e
 append_cases home v path digest e formed fits is =
     let whole = λ (luck : Luck) (answer : PlainAnswer) (n : ℕ) (left : amount_left luck answer ≡ Some n) (long : length (line_of e) ≤ n).
-        bucket_with home v path digest e luck answer n (e ∷ []) is left (whole_line e n formed fits long) in
+    bucket_with home v path digest e luck answer n (e ∷ []) is left (whole_line e n formed fits long) in
     let torn = λ (luck : Luck) (answer : PlainAnswer) (n : ℕ) (left : amount_left luck answer ≡ Some n) (short : n < length (line_of e)).
-        bucket_with home v path digest e luck answer n [] is left (torn_line e n formed fits short) ∙ ap Some (append-nil (list_of (v.buckets digest))) in
+    bucket_with home v path digest e luck answer n [] is left (torn_line e n formed fits short) ∙ ap Some (append-nil (list_of (v.buckets digest))) in
     let nothing = λ (luck : Luck) (answer : PlainAnswer) (left : amount_left luck answer ≡ None).
-        ap (λ act. change (Some home) act v) (nothing_left_is_nothing path (line_of e) luck answer left) in
+    ap (λ act. change (Some home) act v) (nothing_left_is_nothing path (line_of e) luck answer left) in
     record {
       whole = λ luck. whole luck (Took (length (line_of e))) (length (line_of e)) refl (omega arith);
       torn = λ luck n short. torn luck (Took n) n refl short;
@@ -57,22 +58,38 @@ append_cases home v path digest e formed fits is =
     }
 
 -- two addresses have two paths
-apart : (home : Names) (a b : Hash) → IsHash a → IsHash b → b ≢ a → same_path (home ++ content_names b) (home ++ content_names a) ≡ false
-apart home a b p q differ =
+contents_apart : (home : Names) (a b : Hash) → IsHash a → IsHash b → b ≢ a → same_path (home ++ content_names b) (home ++ content_names a) ≡ false
+contents_apart home a b p q differ =
     not_true (same_path (home ++ content_names b) (home ++ content_names a)) (λ s.
     let same : content_names b ≡ content_names a = append_cancel_left home (content_names b) (content_names a) (same_path-true _ _ s) in
-    differ ((contents_one_to_one [] b a q p).0 (ap (joined []) same)))
+    differ ((paths_differ.contents [] b a q p).0 (ap (joined []) same)))
 
 unput : (o : Option (List ℕ)) (home : Names) (v : Value) (a b : Hash) → same_path (home ++ content_names b) (home ++ content_names a) ≡ false
     → (change (Some home) (act_with o (PutBytes (home ++ content_names a))) v).contents b ≡ v.contents b
 unput None home v a b e = refl
 unput (Some bytes) home v a b e = rw e refl
 
+-- so have two digests
+buckets_apart : (home : Names) (d b : List ℕ) → IsKeyDigest d → IsKeyDigest b → b ≢ d → same_path (home ++ bucket_names_of b) (home ++ bucket_names_of d) ≡ false
+buckets_apart home d b p q differ =
+    not_true (same_path (home ++ bucket_names_of b) (home ++ bucket_names_of d)) (λ s.
+    let same : bucket_names_of b ≡ bucket_names_of d = append_cancel_left home (bucket_names_of b) (bucket_names_of d) (same_path-true _ _ s) in
+    differ ((paths_differ.buckets [] b d q p).0 (ap (joined []) same)))
+
+unadd : (o : Option ℕ) (home : Names) (v : Value) (bytes d b : List ℕ) → same_path (home ++ bucket_names_of b) (home ++ bucket_names_of d) ≡ false
+    → (change (Some home) (act_with o (λ count. AddEntries (home ++ bucket_names_of d) (entries_of (take count bytes)))) v).buckets b ≡ v.buckets b
+unadd None home v bytes d b e = refl
+unadd (Some count) home v bytes d b e = rw e refl
+
+pub other_buckets_keep : OtherBucketsKeep
+other_buckets_keep home v path bytes d b luck answer p q differ is =
+    rw is (unadd (amount_left luck answer) home v bytes d b (buckets_apart home d b p q differ))
+
 pub content_cases : (home : Names) (v : Value) (path : List ℕ) (a : Hash) → names_of path ≡ Ok (home ++ content_names a)
     → ContentCases home v path a
 content_cases home v path a is = record {
   replaced = λ luck from bytes. rw is (here (home ++ content_names a) _ _);
-  others_keep = λ luck file b ha hb differ. rw is (unput file.bytes home v a b (apart home a b ha hb differ));
+  others_keep = λ luck file b ha hb differ. rw is (unput file.bytes home v a b (contents_apart home a b ha hb differ));
   failed = λ luck file. refl;
   linked = λ luck target. rw is (here (home ++ content_names a) _ _);
   removed = λ luck. rw is (here (home ++ content_names a) _ _);
@@ -87,7 +104,7 @@ tree_cases home t = record {
   link = λ a target is. ap blob_in is;
   no_content = λ a is. ap blob_in is;
   bucket = λ digest bytes is. ap bucket_in is;
-  empty_bucket = λ digest is. ap bucket_in is ∙ ap Some entries_none;
+  empty_bucket = λ digest is. ap bucket_in is ∙ ap Some empty_holds_nothing;
   no_bucket = λ digest is. ap bucket_in is;
 }
 

@@ -3,16 +3,16 @@ use Rattle.std.specs.Prelude.{ℕ, ◌-◌, ◌==◌, Bool, true, false, List, [
 use Rattle.cacache_core.specs.declared.errors.Fault.{Fault}
 use Rattle.cacache_core.specs.declared.errors.Fault.TheVariants.{NotFound}
 use Rattle.cacache_core.specs.PathNames.{Names, names_of}
-use Rattle.cacache_core.specs.Paths.{content_names}
+use Rattle.cacache_core.specs.Paths.{content_names, bucket_names_of}
 use Rattle.cacache_base.specs.declared.store.step.Step.TheVariants.{MakeDirs, Persist, Append, Symlink, RemoveFile, RemoveDir}
 use Rattle.cacache_base.specs.declared.store.answer.Answer.TheVariants.{Done, Took, Failed}
-use Rattle.cacache_base.specs.Seen.{PlainStep, PlainAnswer}
+use Rattle.cacache_base.specs.Plain.{PlainStep, PlainAnswer}
 use Rattle.cacache_disk.specs.declared.luck.Luck.{Luck}
 use Rattle.cacache_disk.specs.declared.luck.Luck.TheVariants.{Plain, Fail, Take}
 use Rattle.cacache_disk.specs.Tree.{same_path}
 use Rattle.cacache_entry.specs.Entry.{Entry}
 use Rattle.cacache_entry.specs.Bucket.{entries_of}
-use Rattle.cacache_laws.specs.Kinds.{bucket_names_of, is_path_of}
+use Rattle.cacache_laws.specs.Kinds.{is_path_of}
 use Rattle.cacache_laws.specs.Value.{Value, Blob, InFile, AtLink}
 
 -- what a step does, at the names of a path

@@ -3,19 +3,20 @@ use Rattle.std.specs.Prelude.{◌≡◌, ◌≢◌, ◌≤◌, ◌<◌, ℕ, Lis
 use Rattle.cacache_core.specs.declared.errors.Fault.TheVariants.{Device, NotFound, IsADirectory}
 use Rattle.cacache_core.specs.declared.integrity.digest.Hash.{Hash}
 use Rattle.cacache_core.specs.Integrity.{IsHash}
+use Rattle.cacache_core.specs.PathLaws.{IsKeyDigest}
 use Rattle.cacache_core.specs.PathNames.{Names, names_of}
-use Rattle.cacache_core.specs.Paths.{content_names}
+use Rattle.cacache_core.specs.Paths.{content_names, bucket_names_of}
 use Rattle.cacache_base.specs.declared.store.plain.PlainTemp.{PlainTemp}
 use Rattle.cacache_base.specs.declared.store.step.Step.TheVariants.{MakeDirs, Persist, Append, Symlink, RemoveFile, RemoveDir}
 use Rattle.cacache_base.specs.declared.store.answer.Answer.TheVariants.{Done, Took, Failed}
-use Rattle.cacache_base.specs.Seen.{PlainStep, PlainAnswer}
+use Rattle.cacache_base.specs.Plain.{PlainStep, PlainAnswer}
 use Rattle.cacache_disk.specs.declared.luck.Luck.{Luck}
 use Rattle.cacache_disk.specs.declared.luck.Luck.TheVariants.{Fail}
 use Rattle.cacache_disk.specs.declared.node.Node.TheVariants.{Folder, File, Link}
 use Rattle.cacache_disk.specs.Tree.{Tree, look}
 use Rattle.cacache_entry.specs.Entry.{Entry, line_of}
 use Rattle.cacache_entry.specs.Bucket.{entries_of}
-use Rattle.cacache_laws.specs.Kinds.{Content, Bucket, Temporary, Way, Stray, Elsewhere, bucket_names_of, path_kind}
+use Rattle.cacache_laws.specs.Kinds.{Content, Bucket, Temporary, Way, Stray, Elsewhere, path_kind}
 use Rattle.cacache_laws.specs.Value.{Value, InFile, AtLink, empty_value, value_of_tree}
 use Rattle.cacache_laws.specs.Acts.{act_of, change, list_of}
 use Rattle.cacache_laws.specs.Shows.{link_end, blob_bytes}
@@ -106,6 +107,13 @@ pub record AppendCases (home : Names) (v : Value) (path digest : List ℕ) (e : 
   -- the bucket's folder is missing
   pub no_folder : (luck : Luck)
       → value_after home v (Append path (line_of e)) luck (Failed NotFound) ≡ v
+
+-- every other bucket keeps its entries
+abbrev pub OtherBucketsKeep : Type 0
+OtherBucketsKeep =
+    (home : Names) (v : Value) (path bytes d b : List ℕ) (luck : Luck) (answer : PlainAnswer)
+    → IsKeyDigest d → IsKeyDigest b → b ≢ d → names_of path ≡ Ok (home ++ bucket_names_of d)
+    → (value_after home v (Append path bytes) luck answer).buckets b ≡ v.buckets b
 
 -- files and links at the path of an address
 pub record ContentCases (home : Names) (v : Value) (path : List ℕ) (a : Hash) : Type 0 where

@@ -1,32 +1,10 @@
 -- What each path of a tree is for, as a cache sees it.
-use Rattle.std.specs.Prelude.{◌≡◌, ℕ, zero, suc, Bool, true, false, List, [], ◌∷◌, ◌++◌, Option, None, Some, Result, Ok, Err, IfOk, filter, codes, bytes_eq, if◌then◌else◌}
-use Rattle.std.specs.Int.{to_be_bytes, w64}
-use Rattle.hex.specs.Hex.{encode_lower}
-use Rattle.cacache_core.specs.declared.errors.Fault.{Fault}
-use Rattle.cacache_core.specs.declared.errors.Fault.TheVariants.{InvalidInput}
-use Rattle.cacache_core.specs.PathNames.{Names, names_of, is_bad, is_name, pieces}
-use Rattle.cacache_core.specs.Paths.{cut_digits}
+use Rattle.std.specs.Prelude.{◌≡◌, ℕ, zero, suc, Bool, true, false, List, [], ◌∷◌, ◌++◌, Option, None, Some, IfOk, codes, bytes_eq, if◌then◌else◌}
+use Rattle.cacache_core.specs.PathNames.{Names, names_of, names_below}
 use Rattle.cacache_disk.specs.Tree.{Tree, look, same_path}
 use Rattle.cacache_disk.specs.declared.node.Node.{Node}
 
--- the names of the bucket's path of a SHA-1, below the cache's folder
-abbrev pub bucket_names_of : List ℕ → Names
-bucket_names_of digest = codes "index-v5" ∷ cut_digits (encode_lower digest)
-
--- the names of a temporary file's path: its number in sixteen hex digits
-abbrev pub temp_names : ℕ → Names
-temp_names number = codes "tmp" ∷ (codes ".tmp" ++ encode_lower (to_be_bytes w64 number)) ∷ []
-
--- the names of the cache's folder: an empty text is the top folder, one with a NUL or a name `..` is none
-unfoldable pub home_of : List ℕ → Option Names
-home_of cache = if is_bad cache then None else Some (filter is_name (pieces cache))
-
 -- ---- below the cache's folder
-
--- the path of these names below the cache's folder
-abbrev pub names_below : Option Names → Names → Result Names Fault
-names_below None names = Err InvalidInput
-names_below (Some home) names = Ok (home ++ names)
 
 -- a path's text names what lies at these names below the cache's folder
 abbrev pub NamesBelow : Option Names → Names → List ℕ → Type 0

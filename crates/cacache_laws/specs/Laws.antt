@@ -2,13 +2,14 @@
 use Rattle.std.specs.Prelude.{◌≡◌, ◌≤◌, ◌<◌, ℕ, false, List, [], ◌∷◌, ◌++◌, Option, None, Some, Ok, length}
 use Rattle.cacache_core.specs.PathNames.{Names, names_of}
 use Rattle.cacache_base.specs.declared.store.step.Step.TheVariants.{Append}
-use Rattle.cacache_base.specs.Seen.{PlainStep, PlainAnswer}
+use Rattle.cacache_base.specs.Plain.{PlainStep, PlainAnswer}
 use Rattle.cacache_disk.specs.declared.luck.Luck.{Luck}
 use Rattle.cacache_disk.specs.Tree.{Tree, bare}
 use Rattle.cacache_disk.specs.Apply.{apply}
 use Rattle.cacache_entry.specs.Entry.{Entry, line_of}
 use Rattle.cacache_entry.specs.Fits.{IsEntry, Fits}
-use Rattle.cacache_laws.specs.Kinds.{bucket_names_of, is_path_of}
+use Rattle.cacache_core.specs.Paths.{bucket_names_of}
+use Rattle.cacache_laws.specs.Kinds.{is_path_of}
 use Rattle.cacache_laws.specs.Value.{Value, wide_value, value_of_tree, cache_part}
 use Rattle.cacache_laws.specs.Acts.{Act, Nothing, Drop, AddEntries, amount_left, act_of, change, list_of}
 use Rattle.cacache_laws.specs.Rooted.{Rooted}

@@ -1,33 +1,24 @@
--- What the texts of the cache's paths name, and what these paths are for.
-use Rattle.std.specs.Prelude.{◌≡◌, ℕ, List}
+-- What the paths of contents, buckets and temporary files are for.
+use Rattle.std.specs.Prelude.{ℕ, List}
 use Rattle.cacache_core.specs.declared.integrity.digest.Hash.{Hash}
 use Rattle.cacache_core.specs.Integrity.{IsHash}
-use Rattle.cacache_core.specs.PathNames.{Names}
-use Rattle.cacache_core.specs.Paths.{joined, content_names, bucket_names, folder_names}
-use Rattle.cacache_laws.specs.Kinds.{PathKind, Content, Bucket, Temporary, Way, home_of, temp_names, NamesBelow, IsFor}
+use Rattle.cacache_core.specs.PathLaws.{IsKeyDigest}
+use Rattle.cacache_core.specs.PathNames.{Names, home_of}
+use Rattle.cacache_core.specs.Paths.{joined, content_names, bucket_names_of, temp_names, folder_names}
+use Rattle.cacache_laws.specs.Kinds.{PathKind, Content, Bucket, Temporary, Way, IsFor}
 
--- a text of the cache's folder and of names below it names what lies there
-abbrev pub IsTextOf : List ℕ → Names → Type 0
-IsTextOf cache names = NamesBelow (home_of cache) names (joined cache names)
-
--- so it is for the paths of contents, buckets and temporary files
-pub record TextsName (cache : List ℕ) : Type 0 where
-  pub content : (h : Hash) → IsHash h → IsTextOf cache (content_names h)
-  pub bucket : (key : List ℕ) → IsTextOf cache (bucket_names key)
-  pub temporary : (n : ℕ) → IsTextOf cache (temp_names n)
-
--- the text of the path of names below the cache's folder is for this
+-- the text of names below a cache's folder is for this
 abbrev pub IsTextFor : List ℕ → PathKind → Names → Type 0
 IsTextFor cache k names = IsFor (home_of cache) k (joined cache names)
 
--- each of these paths is for what it should be
+-- so are the texts of contents, buckets and temporary files
 pub record PathsAreFor (cache : List ℕ) : Type 0 where
   pub content : (h : Hash) → IsHash h → IsTextFor cache Content (content_names h)
-  pub bucket : (key : List ℕ) → IsTextFor cache Bucket (bucket_names key)
+  pub bucket : (d : List ℕ) → IsKeyDigest d → IsTextFor cache Bucket (bucket_names_of d)
   pub temporary : (n : ℕ) → IsTextFor cache Temporary (temp_names n)
 
 -- and the folder of each is on the way there
 pub record FoldersAreWays (cache : List ℕ) : Type 0 where
   pub content : (h : Hash) → IsHash h → IsTextFor cache Way (folder_names (content_names h))
-  pub bucket : (key : List ℕ) → IsTextFor cache Way (folder_names (bucket_names key))
+  pub bucket : (d : List ℕ) → IsKeyDigest d → IsTextFor cache Way (folder_names (bucket_names_of d))
   pub temporary : (n : ℕ) → IsTextFor cache Way (folder_names (temp_names n))

@@ -1,7 +1,7 @@
 -- Which trees a cache's steps lead to, and which steps its calls make.
 use Rattle.std.specs.Prelude.{◌≡◌, ℕ, List, Option, None, Some}
 use Rattle.cacache_base.specs.declared.store.step.Step.TheVariants.{MakeDirs, CreateTemp, Persist, Append, Symlink, Copy, Reflink, HardLink}
-use Rattle.cacache_base.specs.Seen.{PlainStep}
+use Rattle.cacache_base.specs.Plain.{PlainStep}
 use Rattle.cacache_core.specs.PathNames.{Names}
 use Rattle.cacache_disk.specs.declared.node.Node.{Node}
 use Rattle.cacache_disk.specs.declared.node.Node.TheVariants.{Folder, File, Link}

@@ -4,17 +4,17 @@ use Rattle.cacache_core.specs.declared.errors.Fault.{Fault}
 use Rattle.cacache_core.specs.declared.errors.Fault.TheVariants.{NotFound, IsADirectory}
 use Rattle.cacache_core.specs.declared.integrity.digest.Hash.{Hash}
 use Rattle.cacache_core.specs.PathNames.{Names}
-use Rattle.cacache_core.specs.Paths.{content_names}
+use Rattle.cacache_core.specs.Paths.{content_names, bucket_names_of}
 use Rattle.cacache_base.specs.declared.store.step.Step.TheVariants.{ReadAll, Open, Size, Exists}
 use Rattle.cacache_base.specs.declared.store.answer.Answer.TheVariants.{Bytes, File, There, Length, Failed}
-use Rattle.cacache_base.specs.Seen.{PlainStep, PlainAnswer}
+use Rattle.cacache_base.specs.Plain.{PlainStep, PlainAnswer}
 use Rattle.cacache_disk.specs.declared.luck.Luck.{Luck}
 use Rattle.cacache_disk.specs.Tree.{Tree, look}
 use Rattle.cacache_disk.specs.Found.{and_then, standing, followed, bytes_in, where_there}
 use Rattle.cacache_disk.specs.Apply.{apply, is_there}
 use Rattle.cacache_entry.specs.Entry.{Entry}
 use Rattle.cacache_entry.specs.Bucket.{entries_of}
-use Rattle.cacache_laws.specs.Kinds.{bucket_names_of, NamesBelow}
+use Rattle.cacache_laws.specs.Kinds.{NamesBelow}
 use Rattle.cacache_laws.specs.Value.{Blob, InFile, AtLink, value_of_tree}
 
 -- where the link of a content leads, through at most fifteen further links

@@ -2,13 +2,13 @@
 use Rattle.std.specs.Prelude.{ℕ, Bool, true, false, List, [], ◌∷◌, ◌++◌, Option, None, Some}
 use Rattle.cacache_core.specs.declared.integrity.digest.Hash.{Hash}
 use Rattle.cacache_core.specs.PathNames.{Names}
-use Rattle.cacache_core.specs.Paths.{content_names}
+use Rattle.cacache_core.specs.Paths.{content_names, bucket_names_of}
 use Rattle.cacache_disk.specs.declared.node.Node.{Node}
 use Rattle.cacache_disk.specs.declared.node.Node.TheVariants.{Folder, File, Link}
 use Rattle.cacache_disk.specs.Tree.{Tree, look}
 use Rattle.cacache_entry.specs.Entry.{Entry}
 use Rattle.cacache_entry.specs.Bucket.{entries_of}
-use Rattle.cacache_laws.specs.Kinds.{bucket_names_of, node_below}
+use Rattle.cacache_laws.specs.Kinds.{node_below}
 
 -- a content: these bytes, or what stands where a link leads
 pub data Blob : Type 0 where

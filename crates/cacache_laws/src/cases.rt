@@ -2,15 +2,14 @@
 ghost use Rattle.std.specs.Prelude.{◌≡◌, ◌++◌, List, ℕ, Ok};
 ghost use Rattle.cacache_core.specs.declared.integrity.digest.Hash.{Hash};
 ghost use Rattle.cacache_core.specs.PathNames.{Names, names_of};
-ghost use Rattle.cacache_core.specs.Paths.{content_names};
+ghost use Rattle.cacache_core.specs.Paths.{content_names, bucket_names_of};
 ghost use Rattle.cacache_disk.specs.declared.luck.Luck.{Luck};
 ghost use Rattle.cacache_disk.specs.Tree.{Tree};
 ghost use Rattle.cacache_entry.specs.Entry.{Entry};
 ghost use Rattle.cacache_entry.specs.Fits.{IsEntry, Fits};
-ghost use Rattle.cacache_laws.specs.Kinds.{bucket_names_of};
 ghost use Rattle.cacache_laws.specs.Value.{Value};
 ghost use Rattle.cacache_laws.specs.Cases.{KindCases, TreeCases, LinkCases, AppendCases, ContentCases};
-ghost use Rattle.cacache_laws.specs.Cases.{RemovedBucketsGo, FolderCases, row_folder};
+ghost use Rattle.cacache_laws.specs.Cases.{RemovedBucketsGo, OtherBucketsKeep, FolderCases, row_folder};
 
 /// What single paths are for.
 pub fn kind_cases()
@@ -30,9 +29,10 @@ pub fn link_cases()
 /// Appends to a bucket that took all of a line, took less, failed and left all or less of it, only
 /// made the file, or changed nothing.
 pub fn append_cases()
-    ensures { (home : Names) (v : Value) (path digest : List ℕ) (e : Entry) → IsEntry e → Fits e
+    ensures bucket { (home : Names) (v : Value) (path digest : List ℕ) (e : Entry) → IsEntry e → Fits e
         → names_of path ≡ Ok (home ++ bucket_names_of digest)
         → AppendCases home v path digest e }
+    ensures others { OtherBucketsKeep }
 {}
 
 /// Contents that are put, replaced, linked and removed, and a bucket that is removed.
