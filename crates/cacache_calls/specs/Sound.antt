@@ -1,5 +1,5 @@
 -- Which states the calls at a site stand in, and which steps they may make there.
-use Rattle.std.specs.Prelude.{◌≡◌, ◌⊎◌, ◌<◌, ◌+◌, ◌^◌, ℕ, List, [], ◌∷◌, Option, None, Some, Bool, true, length}
+use Rattle.std.specs.Prelude.{◌≡◌, ◌⊎◌, ◌<◌, ◌+◌, ◌^◌, ℕ, List, [], ◌∷◌, None, Some, Bool, true, length}
 use Rattle.cacache_core.specs.declared.integrity.algorithm.Algorithm.{Algorithm}
 use Rattle.cacache_core.specs.declared.integrity.digest.Hash.{Hash}
 use Rattle.cacache_core.specs.Integrity.{integrity_under}
@@ -13,7 +13,7 @@ use Rattle.cacache_entry.specs.Fits.{IsEntry, cause_of}
 use Rattle.cacache_calls.specs.declared.command.Command.{Command}
 use Rattle.cacache_calls.specs.declared.command.Command.TheVariants as commands
 use Rattle.cacache_calls.specs.Places.{temp_path, temp_folder, content_path, content_folder, bucket_path, bucket_folder}
-use Rattle.cacache_calls.specs.State.{State, doing, creating, writing, persisting, linking, confirming, appending, looking, reading, asking, sizing, opening_file, hashing, copying, walking, over, Site, Commit, Insertion, Aim, to_report, to_read, to_export, to_remove, Target, Hashing, to_verify, to_link, Visit, enter, read_bucket, remove_file, remove_folder, Task, visit, stumble}
+use Rattle.cacache_calls.specs.State.{State, doing, creating, writing, persisting, linking, confirming, appending, looking, reading, asking, sizing, opening_file, hashing, copying, walking, over, Site, Commit, Insertion, Aim, to_export, Target, Hashing, to_verify, to_link, Visit, enter, read_bucket, remove_file, remove_folder, Task, visit, stumble}
 use Rattle.cacache_calls.specs.Common.{errand_step}
 use Rattle.cacache_calls.specs.Inserting.{insertion, deletion, refused_cause}
 use Rattle.cacache_calls.specs.Storing.{insertion_of, commit_of}
