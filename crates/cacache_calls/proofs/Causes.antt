@@ -16,7 +16,7 @@ use Rattle.cacache_base.specs.declared.store.answer.Kind.TheVariants as kinds
 use Rattle.cacache_base.specs.declared.store.answer.Name.{Name}
 use Rattle.cacache_base.specs.declared.store.answer.Answer.TheVariants as answers
 use Rattle.cacache_base.specs.declared.store.step.Step.TheVariants as steps
-use Rattle.cacache_base.specs.Seen.{PlainStep, PlainAnswer}
+use Rattle.cacache_base.specs.Plain.{PlainStep, PlainAnswer}
 use Rattle.cacache_base.specs.Fits.{Fits}
 use Rattle.cacache_entry.specs.Latest.{Found}
 use Rattle.cacache_calls.specs.declared.answers.Refusal.{Refusal}
@@ -30,12 +30,12 @@ use Rattle.cacache_calls.specs.declared.command.How.TheVariants.{Copy, Reflink, 
 use Rattle.cacache_calls.specs.declared.reply.Reply.{Reply}
 use Rattle.cacache_calls.specs.declared.reply.Reply.TheVariants.{Stored, Read, LookedUp, Exists, Copied, Listed, Done, Refused}
 use Rattle.cacache_calls.specs.Answers.{done_in, temp_in, written_in, there_in, taken_in, bytes_in, file_in, got_in, length_in, names_in}
-use Rattle.cacache_calls.specs.Meeting.{meets}
+use Rattle.cacache_core.specs.Meeting.{meets}
 use Rattle.cacache_calls.specs.Places.{temp_path, content_path, bucket_path}
 use Rattle.cacache_calls.specs.State.{State, doing, creating, writing, persisting, linking, confirming, appending, looking, reading, asking, sizing, opening_file, hashing, copying, walking, over, Site, Commit, Insertion, Aim, to_report, to_read, to_export, to_remove, Lookup, Content, Hashing, to_verify, to_link, Errand, make_folder, remove, reflink, hard_link, Item, Visit, enter, read_bucket, remove_file, remove_folder, Task, visit, stumble, Walk}
 use Rattle.cacache_calls.specs.Common.{ends_with, fails, go_on, errand_step}
 use Rattle.cacache_calls.specs.Inserting.{insertion, deletion, unless_refused, refused_cause, bucket_line, after_append}
-use Rattle.cacache_calls.specs.Storing.{insertion_of, indexed, sized, is_among, compared, placed, write_rest, after_write, after_confirm}
+use Rattle.cacache_calls.specs.Storing.{insertion_of, indexed, sized, matches, compared, placed, write_rest, after_write, after_confirm}
 use Rattle.cacache_calls.specs.Reading.{checked, is_there, is_absent}
 use Rattle.cacache_calls.specs.Exporting.{export_from, export_content, export, counted}
 use Rattle.cacache_calls.specs.Linking.{after_size, hashed_path, hashed, after_read}
@@ -211,7 +211,7 @@ module _ (O : Fault → Type 0) (a : PlainStep) (t : PlainAnswer) (moves : Moves
 
   by_integrity : (c : Commit) (i : Option (List Hash)) → Causes (compared c i) moves r → Now
   by_integrity c None h = by_size c c.options.size h
-  by_integrity c (Some i) h = cond_leads (λ s. Causes s moves r → Now) (is_among i c.computed) (sized c c.options.size) (ends_with (IntegrityError (Check i c.computed))) (λ _. by_size c c.options.size) (λ _. over_now (Refused (IntegrityError (Check i c.computed))) tt) h
+  by_integrity c (Some i) h = cond_leads (λ s. Causes s moves r → Now) (matches i c.computed) (sized c c.options.size) (ends_with (IntegrityError (Check i c.computed))) (λ _. by_size c c.options.size) (λ _. over_now (Refused (IntegrityError (Check i c.computed))) tt) h
 
   places : (c : Commit) → Causes (placed c) moves r → Now
   places c h = by_integrity c c.options.integrity h

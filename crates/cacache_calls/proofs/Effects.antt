@@ -11,7 +11,7 @@ use Rattle.cacache_core.specs.declared.integrity.digest.Hash.{Hash}
 use Rattle.cacache_base.specs.declared.store.plain.PlainTemp.{PlainTemp}
 use Rattle.cacache_base.specs.declared.store.plain.PlainFile.{PlainFile}
 use Rattle.cacache_base.specs.declared.store.answer.Answer.TheVariants as answers
-use Rattle.cacache_base.specs.Seen.{PlainStep, PlainAnswer}
+use Rattle.cacache_base.specs.Plain.{PlainStep, PlainAnswer}
 use Rattle.cacache_calls.specs.declared.answers.Refusal.{Refusal}
 use Rattle.cacache_calls.specs.declared.answers.Refusal.TheVariants as refusals
 use Rattle.cacache_calls.specs.declared.command.Command.TheVariants as commands
@@ -26,7 +26,7 @@ use Rattle.cacache_calls.specs.Places.{content_path, bucket_path}
 use Rattle.cacache_calls.specs.State.{State, doing, creating, writing, persisting, linking, confirming, appending, sizing, opening_file, hashing, over, Site, Commit, Insertion, Target, to_link, Errand, make_folder, remove, reflink, hard_link}
 use Rattle.cacache_calls.specs.Common.{ends_with, fails, go_on, errand_step}
 use Rattle.cacache_calls.specs.Inserting.{insertion, deletion, unless_refused, refused_cause, bucket_line, after_append}
-use Rattle.cacache_calls.specs.Storing.{insertion_of, indexed, sized, is_among, compared, placed, write_rest, after_write, after_confirm, commit_of}
+use Rattle.cacache_calls.specs.Storing.{insertion_of, indexed, sized, matches, compared, placed, write_rest, after_write, after_confirm, commit_of}
 use Rattle.cacache_calls.specs.Linking.{target_of, after_size, commit_for, after_read}
 use Rattle.cacache_calls.specs.Table.{wants, after, opening}
 use Rattle.cacache_calls.specs.Runs.{Moves, Runs}
@@ -77,7 +77,7 @@ module _ (c : Commit) (effects : List Effect) (r : Reply) where
   by_integrity : (expected : Option (List Hash)) → Does (compared c expected) effects r → Indexes c c.key effects r
   by_integrity None h = by_size c.options.size h
   by_integrity (Some expected) h =
-      cond_leads (λ s. Does s effects r → Indexes c c.key effects r) (is_among expected c.computed) (sized c c.options.size) (ends_with (IntegrityError (Check expected c.computed))) (λ _. by_size c.options.size) (λ _. unindexed c.key (IntegrityError (Check expected c.computed))) h
+      cond_leads (λ s. Does s effects r → Indexes c c.key effects r) (matches expected c.computed) (sized c c.options.size) (ends_with (IntegrityError (Check expected c.computed))) (λ _. by_size c.options.size) (λ _. unindexed c.key (IntegrityError (Check expected c.computed))) h
 
   places : Does (placed c) effects r → Indexes c c.key effects r
   places h = by_integrity c.options.integrity h

@@ -16,7 +16,7 @@ use Rattle.cacache_base.specs.declared.store.answer.Kind.TheVariants as kinds
 use Rattle.cacache_base.specs.declared.store.answer.Name.{Name}
 use Rattle.cacache_base.specs.declared.store.answer.Answer.TheVariants as answers
 use Rattle.cacache_base.specs.declared.store.step.Step.TheVariants as steps
-use Rattle.cacache_base.specs.Seen.{PlainStep, PlainAnswer}
+use Rattle.cacache_base.specs.Plain.{PlainStep, PlainAnswer}
 use Rattle.cacache_base.specs.Fits.{Fits}
 use Rattle.cacache_entry.specs.Latest.{Found}
 use Rattle.cacache_calls.specs.declared.command.Export.{Export}
@@ -24,12 +24,12 @@ use Rattle.cacache_calls.specs.declared.command.How.{How}
 use Rattle.cacache_calls.specs.declared.command.How.TheVariants.{Copy, Reflink, HardLink}
 use Rattle.cacache_calls.specs.declared.reply.Reply.TheVariants.{Read, Exists, Copied, Listed, Done}
 use Rattle.cacache_calls.specs.Answers.{done_in, temp_in, written_in, there_in, taken_in, bytes_in, file_in, got_in, length_in, names_in}
-use Rattle.cacache_calls.specs.Meeting.{meets}
+use Rattle.cacache_core.specs.Meeting.{meets}
 use Rattle.cacache_calls.specs.Places.{content_path}
 use Rattle.cacache_calls.specs.State.{State, doing, creating, writing, persisting, linking, confirming, appending, looking, reading, asking, sizing, opening_file, hashing, copying, walking, over, Commit, Insertion, Aim, to_report, to_read, to_export, to_remove, Lookup, Content, Hashing, to_verify, to_link, Item, Visit, enter, read_bucket, remove_file, remove_folder, Task, visit, stumble, Walk}
 use Rattle.cacache_calls.specs.Common.{ends_with, fails}
 use Rattle.cacache_calls.specs.Inserting.{unless_refused, refused_cause, bucket_line, after_append}
-use Rattle.cacache_calls.specs.Storing.{insertion_of, indexed, sized, is_among, compared, placed, write_rest, after_write, after_confirm}
+use Rattle.cacache_calls.specs.Storing.{insertion_of, indexed, sized, matches, compared, placed, write_rest, after_write, after_confirm}
 use Rattle.cacache_calls.specs.Reading.{checked}
 use Rattle.cacache_calls.specs.Exporting.{export_from, export, counted}
 use Rattle.cacache_calls.specs.Linking.{after_size, hashed_path, hashed, after_read}
@@ -58,7 +58,7 @@ sized_below c (Some wanted) = cond_leads (Below 3) (wanted == c.count) (indexed 
 
 compared_below : (c : Commit) (expected : Option (List Hash)) → Below 3 (compared c expected)
 compared_below c None = sized_below c c.options.size
-compared_below c (Some expected) = cond_leads (Below 3) (is_among expected c.computed) (sized c c.options.size) (ends_with (IntegrityError (Check expected c.computed))) (λ _. sized_below c c.options.size) (λ _. omega arith)
+compared_below c (Some expected) = cond_leads (Below 3) (matches expected c.computed) (sized c c.options.size) (ends_with (IntegrityError (Check expected c.computed))) (λ _. sized_below c c.options.size) (λ _. omega arith)
 
 placed_below : (c : Commit) → Below 3 (placed c)
 placed_below c = compared_below c c.options.integrity

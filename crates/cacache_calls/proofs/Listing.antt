@@ -9,7 +9,7 @@ use Rattle.cacache_core.specs.Paths.{join}
 use Rattle.cacache_base.specs.declared.store.answer.Kind.{Kind}
 use Rattle.cacache_base.specs.declared.store.answer.Kind.TheVariants as kinds
 use Rattle.cacache_base.specs.declared.store.answer.Name.{Name}
-use Rattle.cacache_base.specs.Seen.{PlainStep, PlainAnswer}
+use Rattle.cacache_base.specs.Plain.{PlainStep, PlainAnswer}
 use Rattle.cacache_calls.specs.declared.answers.Refusal.{Refusal}
 use Rattle.cacache_calls.specs.declared.answers.Refusal.TheVariants as refusals
 use Rattle.cacache_calls.specs.declared.command.Command.TheVariants as commands

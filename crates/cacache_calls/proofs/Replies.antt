@@ -7,7 +7,7 @@ use Rattle.cacache_core.specs.declared.errors.Error.TheVariants.{EntryNotFound, 
 use Rattle.cacache_core.specs.declared.integrity.digest.Hash.{Hash}
 use Rattle.cacache_core.specs.Integrity.{Meets, actual}
 use Rattle.cacache_base.specs.declared.store.step.Step.TheVariants as steps
-use Rattle.cacache_base.specs.Seen.{PlainStep, PlainAnswer}
+use Rattle.cacache_base.specs.Plain.{PlainStep, PlainAnswer}
 use Rattle.cacache_entry.specs.Latest.{Found}
 use Rattle.cacache_calls.specs.declared.answers.Refusal.{Refusal}
 use Rattle.cacache_calls.specs.declared.answers.Refusal.TheVariants as refusals
@@ -15,7 +15,7 @@ use Rattle.cacache_calls.specs.declared.command.Command.TheVariants as commands
 use Rattle.cacache_calls.specs.declared.reply.Reply.{Reply}
 use Rattle.cacache_calls.specs.declared.reply.Reply.TheVariants.{Read, Refused}
 use Rattle.cacache_calls.specs.Answers.{there_in, bytes_in}
-use Rattle.cacache_calls.specs.Meeting.{meets}
+use Rattle.cacache_core.specs.Meeting.{meets}
 use Rattle.cacache_calls.specs.Places.{content_path, bucket_path}
 use Rattle.cacache_calls.specs.State.{State, looking, reading, asking, over, Site, to_report, to_read, Lookup, Content}
 use Rattle.cacache_calls.specs.Common.{ends_with, fails, go_on}
@@ -24,7 +24,7 @@ use Rattle.cacache_calls.specs.Looking.{found_in, found_for, after_bucket, no_bu
 use Rattle.cacache_calls.specs.Table.{wants, after, opening}
 use Rattle.cacache_calls.specs.Runs.{Moves, Runs}
 use Rattle.cacache_calls.specs.Replies.{bucket_shown, entries_shown, lookup, refusal_reply, find_reply, content_reply, there_reply, OneStep, ReadsBucket, ReadsContent, AsksContent, ReadsOn, ReadsByKey, Begins, MeetsFound, OrMemory}
-use Rattle.cacache_calls.proofs.Meeting.{meets-Meets}
+use Rattle.cacache_core.proofs.Meeting.{meets_finds}
 
 -- a call that is over makes no step
 pub over_run : (reply : Reply) (moves : Moves) (r : Reply) → Runs (over reply) moves r → OrMemory ((moves ≡ []) × (r ≡ reply)) r
@@ -119,7 +119,7 @@ meeting : (i : List Hash) (a : Result (List ℕ) Refusal) (bytes : List ℕ) →
 meeting i (Ok b) bytes e = by_test (meets i b) refl e
   where
     by_test : (v : Bool) → meets i b ≡ v → Read bytes ≡ cond v (Read b) (Refused (IntegrityError (Check i (actual i b)))) → Meets i bytes
-    by_test true m e = let same : bytes ≡ b = cc in rw same (meets-Meets i b m)
+    by_test true m e = let same : bytes ≡ b = cc in rw same ((meets_finds i b).0 m)
     by_test false m e = absurd cc
 meeting i (Err (refusals.Fault fault)) bytes e = absurd cc
 meeting i (Err refusals.Memory) bytes e = absurd cc

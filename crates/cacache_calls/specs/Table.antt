@@ -2,7 +2,7 @@
 use Rattle.std.specs.Prelude.{ℕ, [], Option, None, Some, true, false, codes}
 use Rattle.cacache_core.specs.Paths.{join}
 use Rattle.cacache_base.specs.declared.store.step.Step.TheVariants as steps
-use Rattle.cacache_base.specs.Seen.{PlainStep, PlainAnswer}
+use Rattle.cacache_base.specs.Plain.{PlainStep, PlainAnswer}
 use Rattle.cacache_calls.specs.declared.command.Command.{Command}
 use Rattle.cacache_calls.specs.declared.command.Command.TheVariants as commands
 use Rattle.cacache_calls.specs.declared.command.Source.TheVariants as sources
