@@ -1,7 +1,6 @@
 pub mod Branches
 pub mod Effort
 pub mod Memory
-pub mod Meeting
 pub mod Promises
 pub mod Replies
 pub mod Effects

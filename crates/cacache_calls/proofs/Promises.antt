@@ -9,51 +9,37 @@ use Rattle.cacache_core.specs.declared.errors.Error.{Error}
 use Rattle.cacache_core.specs.declared.errors.Error.TheVariants.{SizeMismatch, IoError, SerdeError, EntryNotFound, IntegrityError, OutOfMemory}
 use Rattle.cacache_core.specs.declared.integrity.digest.Hash.{Hash}
 use Rattle.cacache_core.specs.Integrity.{Meets, actual}
-use Rattle.cacache_core.specs.Paths.{join}
 use Rattle.cacache_base.specs.declared.store.plain.PlainTemp.{PlainTemp}
 use Rattle.cacache_base.specs.declared.store.plain.PlainFile.{PlainFile}
-use Rattle.cacache_base.specs.declared.store.answer.Kind.{Kind}
-use Rattle.cacache_base.specs.declared.store.answer.Kind.TheVariants as kinds
 use Rattle.cacache_base.specs.declared.store.answer.Name.{Name}
-use Rattle.cacache_base.specs.declared.store.answer.Answer.TheVariants as answers
-use Rattle.cacache_base.specs.declared.store.step.Step.TheVariants as steps
-use Rattle.cacache_base.specs.Seen.{PlainStep, PlainAnswer}
-use Rattle.cacache_base.specs.Fits.{Fits}
-use Rattle.cacache_entry.specs.Entry.{Entry}
+use Rattle.cacache_base.specs.Plain.{PlainAnswer}
 use Rattle.cacache_entry.specs.Latest.{Found}
 use Rattle.cacache_calls.specs.declared.answers.Refusal.{Refusal}
-use Rattle.cacache_calls.specs.declared.answers.Refusal.TheVariants as refusals
 use Rattle.cacache_calls.specs.declared.command.Command.{Command}
 use Rattle.cacache_calls.specs.declared.command.Command.TheVariants as commands
 use Rattle.cacache_calls.specs.declared.command.Source.TheVariants as sources
-use Rattle.cacache_calls.specs.declared.command.Put.{Put}
-use Rattle.cacache_calls.specs.declared.command.Link.{Link}
-use Rattle.cacache_calls.specs.declared.command.Insert.{Insert}
-use Rattle.cacache_calls.specs.declared.command.Delete.{Delete}
 use Rattle.cacache_calls.specs.declared.command.Export.{Export}
-use Rattle.cacache_calls.specs.declared.command.Options.{Options}
 use Rattle.cacache_calls.specs.declared.command.How.{How}
 use Rattle.cacache_calls.specs.declared.command.How.TheVariants.{Copy, Reflink, HardLink}
 use Rattle.cacache_calls.specs.declared.reply.Reply.{Reply}
 use Rattle.cacache_calls.specs.declared.reply.Reply.TheVariants.{Stored, Read, LookedUp, Exists, Copied, Listed, Done, Refused}
 use Rattle.cacache_calls.specs.Answers.{done_in, temp_in, written_in, there_in, taken_in, bytes_in, file_in, got_in, length_in, names_in}
-use Rattle.cacache_calls.specs.Meeting.{meets}
-use Rattle.cacache_calls.specs.Places.{temp_path, temp_folder, content_path, content_folder, bucket_path, bucket_folder}
-use Rattle.cacache_calls.specs.State.{State, doing, creating, writing, persisting, linking, confirming, appending, looking, reading, asking, sizing, opening_file, hashing, copying, walking, over, Site, Commit, Insertion, Aim, to_report, to_read, to_export, to_remove, Lookup, Content, Target, Hashing, to_verify, to_link, Errand, make_folder, remove, reflink, hard_link, Item, Visit, enter, read_bucket, remove_file, remove_folder, Task, visit, stumble, Walk}
-use Rattle.cacache_calls.specs.Common.{ends_with, fails, go_on, errand_step}
-use Rattle.cacache_calls.specs.Inserting.{insert, insertion, deletion, unless_refused, refused_cause, bucket_line, after_append, given_or, no_integrity}
-use Rattle.cacache_calls.specs.Storing.{insertion_of, indexed, sized, is_among, compared, placed, persist, link, write_rest, after_write, after_confirm, commit_of, store}
-use Rattle.cacache_calls.specs.Removing.{remove_content, remove_bucket, remove_found}
+use Rattle.cacache_core.specs.Meeting.{meets}
+use Rattle.cacache_calls.specs.Places.{content_path}
+use Rattle.cacache_calls.specs.State.{State, doing, creating, writing, persisting, linking, confirming, appending, looking, reading, asking, sizing, opening_file, hashing, copying, walking, over, Site, Commit, Insertion, Aim, to_report, to_read, to_export, to_remove, Lookup, Content, Target, Hashing, to_verify, to_link, Item, Visit, enter, read_bucket, remove_file, remove_folder, Task, visit, stumble, Walk}
+use Rattle.cacache_calls.specs.Common.{ends_with, fails, go_on}
+use Rattle.cacache_calls.specs.Inserting.{insertion, deletion, unless_refused, refused_cause, bucket_line, after_append}
+use Rattle.cacache_calls.specs.Storing.{insertion_of, indexed, sized, matches, compared, placed, write_rest, after_write, after_confirm}
 use Rattle.cacache_calls.specs.Reading.{checked, is_there, is_absent}
 use Rattle.cacache_calls.specs.Exporting.{export_from, export_content, export, verified, counted}
-use Rattle.cacache_calls.specs.Linking.{target_of, with_size, after_size, commit_for, hashed_path, hashed, after_read}
+use Rattle.cacache_calls.specs.Linking.{with_size, after_size, commit_for, hashed, after_read}
 use Rattle.cacache_calls.specs.Looking.{found_in, content_of, found_for, after_bucket, no_bucket}
-use Rattle.cacache_calls.specs.Walking.{most, failed, give, miss, walk_on, walk_ends, go_deeper, task_of, tasks_of, leaving, too_many, entered, unread_bucket, listed, visit_step, after_visit, items_in, once}
-use Rattle.cacache_calls.specs.Table.{piece, wants, after, opening}
-use Rattle.cacache_calls.specs.Runs.{Moves, Runs, weight, weights, effort}
+use Rattle.cacache_calls.specs.Walking.{most, failed, give, miss, walk_on, tasks_of, leaving, too_many, entered, unread_bucket, listed, after_visit, items_in}
+use Rattle.cacache_calls.specs.Table.{after, opening}
+use Rattle.cacache_calls.specs.Runs.{Moves, Runs}
 use Rattle.cacache_calls.proofs.Branches.{cond_leads, go_on_leads}
-use Rattle.cacache_calls.specs.Promises.{Only, OnlyReads, OnlyLooksUp, OnlyExists, OnlyCopies, OnlyLists, Copies, MadeOf, ReadsMeeting, answered, Suits, StoresIf, StoresSized, Stores, StoresRead, Exports, Aims, Hashes, Walks, Promises, Answers}
-use Rattle.cacache_calls.proofs.Meeting.{meets-Meets}
+use Rattle.cacache_calls.specs.Promises.{Only, OnlyReads, OnlyExists, OnlyCopies, Copies, MadeOf, ReadsMeeting, answered, Suits, StoresIf, StoresSized, Stores, StoresRead, Exports, Aims, Hashes, Walks, Promises, Answers}
+use Rattle.cacache_core.proofs.Meeting.{meets_finds}
 
 -- ---- refusals keep every promise
 
@@ -142,7 +128,7 @@ module _ (r : Reply) where
 
   -- the integrity is compared before the size, so it suits here
   abbrev IntegritySuits : Commit → Type 0
-  IntegritySuits c = (expected : List Hash) → c.options.integrity ≡ Some expected → is_among expected c.computed ≡ true
+  IntegritySuits c = (expected : List Hash) → c.options.integrity ≡ Some expected → matches expected c.computed ≡ true
 
   suited : (c : Commit) → Suits c → Promises (indexed c c.key) r → Stores c r
   suited c suits h = only_stores (answered c.computed c.options.integrity c.key) (Suits c) suits (by_key c c.key h)
@@ -157,7 +143,7 @@ module _ (r : Reply) where
   by_integrity : (c : Commit) (expected : Option (List Hash)) → c.options.integrity ≡ expected → Promises (compared c expected) r → Stores c r
   by_integrity c None e h = by_size c c.options.size refl (λ expected k. absurd cc) h
   by_integrity c (Some expected) e h =
-      cond_leads (Keeps (Stores c) (λ _. tt) r) (is_among expected c.computed) (sized c c.options.size) (ends_with (IntegrityError (Check expected c.computed)))
+      cond_leads (Keeps (Stores c) (λ _. tt) r) (matches expected c.computed) (sized c c.options.size) (ends_with (IntegrityError (Check expected c.computed)))
       (λ met. by_size c c.options.size refl (λ other k. let same : other ≡ expected = cc in rw same met))
       (λ _. ends_keeps (Stores c) (λ _. tt) r (IntegrityError (Check expected c.computed))) h
 
@@ -277,7 +263,7 @@ module _ (r : Reply) where
   hashes : (h : Hashing) (bytes : List ℕ) → Promises (hashed h bytes) r → Hashes h bytes r
   hashes (to_verify k e) bytes g =
       cond_leads (λ s. Promises s r → Exports e.how r × MadeOf k.integrity bytes r) (meets k.integrity bytes) (export_content k e (Some (length bytes))) (ends_with (IntegrityError (Check k.integrity (actual k.integrity bytes))))
-      (λ met. export_made e.how k.integrity bytes (content_path k.cache k.integrity) e.to (meets-Meets k.integrity bytes met))
+      (λ met. export_made e.how k.integrity bytes (content_path k.cache k.integrity) e.to ((meets_finds k.integrity bytes).0 met))
       (λ _. ends_keeps (λ r. Exports e.how r × MadeOf k.integrity bytes r) (λ x. (exports_refused e.how x, tt)) r (IntegrityError (Check k.integrity (actual k.integrity bytes)))) g
   hashes (to_link t) bytes g = stores_here t bytes g
 
@@ -333,7 +319,7 @@ module _ (r : Reply) where
   checks : (k : Content) (bytes : List ℕ) → Promises (checked k bytes) r → ReadsMeeting k.integrity r
   checks k bytes h =
       cond_leads (Keeps (ReadsMeeting k.integrity) (λ _. tt) r) (meets k.integrity bytes) (over (Read bytes)) (ends_with (IntegrityError (Check k.integrity (actual k.integrity bytes))))
-      (λ met. over_keeps (ReadsMeeting k.integrity) (λ _. tt) r (Read bytes) (meets-Meets k.integrity bytes met)) (λ _. ends_keeps (ReadsMeeting k.integrity) (λ _. tt) r (IntegrityError (Check k.integrity (actual k.integrity bytes)))) h
+      (λ met. over_keeps (ReadsMeeting k.integrity) (λ _. tt) r (Read bytes) ((meets_finds k.integrity bytes).0 met)) (λ _. ends_keeps (ReadsMeeting k.integrity) (λ _. tt) r (IntegrityError (Check k.integrity (actual k.integrity bytes)))) h
 
   -- ---- walks
 

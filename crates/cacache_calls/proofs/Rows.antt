@@ -1,8 +1,7 @@
 -- The rows hold by computing.
-use Rattle.std.proofs.Common.{◌≡◌, ℕ, true, nat_le, refl, ◌≤◌}
+use Rattle.std.proofs.Common.{◌≡◌, ℕ, true, nat_le, refl}
 use Rattle.std.proofs.lemmas.Bool.{le-leb}
 use Rattle.std.proofs.Math.Nat.{le_refl}
-use Rattle.cacache_calls.specs.Inserting.{bucket_line}
 use Rattle.cacache_calls.specs.Rows.{Rows}
 
 whole : (n : ℕ) → nat_le n n ≡ true

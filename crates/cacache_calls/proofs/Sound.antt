@@ -1,13 +1,12 @@
 -- Sound states make allowed steps, and stay sound.
-use Rattle.std.proofs.Common.{◌≡◌, ◌⊎◌, inl, inr, ℕ, ◌+◌, ◌-◌, ◌<◌, ◌^◌, ◌==◌, List, [], ◌∷◌, ◌++◌, Option, Some, None, Bool, true, false, cond, nat_le, nat_lt, Result, Ok, Err, refl, ap, ap₂, sym, subst, ◌∙◌, drop, take, length, length-append, codes, arith}
+use Rattle.std.proofs.Common.{◌≡◌, inl, inr, ℕ, ◌+◌, ◌-◌, ◌<◌, ◌^◌, ◌==◌, List, [], ◌∷◌, ◌++◌, Option, Some, None, Bool, true, false, cond, nat_le, nat_lt, Ok, refl, ap, ap₂, sym, subst, ◌∙◌, drop, take, length, length-append, codes, arith}
 use Rattle.cacache_core.specs.declared.errors.Fault.{Fault}
 use Rattle.cacache_core.specs.declared.errors.Fault.TheVariants as faults
 use Rattle.cacache_core.specs.declared.errors.SerdeCause.{SerdeCause}
 use Rattle.cacache_core.specs.declared.errors.IntegrityFault.TheVariants.{Check}
-use Rattle.cacache_core.specs.declared.errors.Error.{Error}
-use Rattle.cacache_core.specs.declared.errors.Error.TheVariants.{SizeMismatch, IoError, SerdeError, EntryNotFound, IntegrityError, OutOfMemory}
+use Rattle.cacache_core.specs.declared.errors.Error.TheVariants.{SizeMismatch, IntegrityError}
 use Rattle.cacache_core.specs.declared.integrity.digest.Hash.{Hash}
-use Rattle.cacache_core.specs.Integrity.{Meets, actual}
+use Rattle.cacache_core.specs.Integrity.{actual}
 use Rattle.cacache_core.specs.Paths.{join}
 use Rattle.cacache_base.specs.declared.store.plain.PlainTemp.{PlainTemp}
 use Rattle.cacache_base.specs.declared.store.plain.PlainFile.{PlainFile}
@@ -16,40 +15,32 @@ use Rattle.cacache_base.specs.declared.store.answer.Kind.TheVariants as kinds
 use Rattle.cacache_base.specs.declared.store.answer.Name.{Name}
 use Rattle.cacache_base.specs.declared.store.answer.Answer.TheVariants as answers
 use Rattle.cacache_base.specs.declared.store.step.Step.TheVariants as steps
-use Rattle.cacache_base.specs.Seen.{PlainStep, PlainAnswer}
-use Rattle.cacache_base.specs.Fits.{Fits}
-use Rattle.cacache_entry.specs.Entry.{Entry}
+use Rattle.cacache_base.specs.Plain.{PlainStep, PlainAnswer}
+use Rattle.cacache_base.specs.Fits.{Fits, AreProperNames}
+use Rattle.cacache_core.specs.PathNames.{IsProperName}
+use Rattle.std.proofs.lemmas.List.Elements.{All-append, All-nil, All-cons, All-head, All-tail}
 use Rattle.cacache_entry.specs.Latest.{Found}
-use Rattle.cacache_calls.specs.declared.answers.Refusal.{Refusal}
-use Rattle.cacache_calls.specs.declared.answers.Refusal.TheVariants as refusals
 use Rattle.cacache_calls.specs.declared.command.Command.{Command}
 use Rattle.cacache_calls.specs.declared.command.Command.TheVariants as commands
 use Rattle.cacache_calls.specs.declared.command.Source.TheVariants as sources
-use Rattle.cacache_calls.specs.declared.command.Put.{Put}
-use Rattle.cacache_calls.specs.declared.command.Link.{Link}
-use Rattle.cacache_calls.specs.declared.command.Insert.{Insert}
-use Rattle.cacache_calls.specs.declared.command.Delete.{Delete}
 use Rattle.cacache_calls.specs.declared.command.Export.{Export}
-use Rattle.cacache_calls.specs.declared.command.Options.{Options}
 use Rattle.cacache_calls.specs.declared.command.How.{How}
 use Rattle.cacache_calls.specs.declared.command.How.TheVariants.{Copy, Reflink, HardLink}
-use Rattle.cacache_calls.specs.declared.reply.Reply.{Reply}
-use Rattle.cacache_calls.specs.declared.reply.Reply.TheVariants.{Stored, Read, LookedUp, Exists, Copied, Listed, Done, Refused}
+use Rattle.cacache_calls.specs.declared.reply.Reply.TheVariants.{Read, Copied, Listed, Done}
 use Rattle.cacache_calls.specs.Answers.{done_in, temp_in, written_in, there_in, taken_in, bytes_in, file_in, got_in, length_in, names_in}
-use Rattle.cacache_calls.specs.Meeting.{meets}
-use Rattle.cacache_calls.specs.Places.{temp_path, temp_folder, content_path, content_folder, bucket_path, bucket_folder}
-use Rattle.cacache_calls.specs.State.{State, doing, creating, writing, persisting, linking, confirming, appending, looking, reading, asking, sizing, opening_file, hashing, copying, walking, over, Site, Commit, Insertion, Aim, to_report, to_read, to_export, to_remove, Lookup, Content, Target, Hashing, to_verify, to_link, Errand, make_folder, remove, reflink, hard_link, Item, Visit, enter, read_bucket, remove_file, remove_folder, Task, visit, stumble, Walk}
-use Rattle.cacache_calls.specs.Common.{ends_with, fails, go_on, errand_step}
-use Rattle.cacache_calls.specs.Inserting.{insert, insertion, deletion, unless_refused, refused_cause, bucket_line, after_append, given_or, no_integrity}
-use Rattle.cacache_calls.specs.Storing.{insertion_of, indexed, sized, is_among, compared, placed, persist, link, write_rest, after_write, after_confirm, commit_of, store}
-use Rattle.cacache_calls.specs.Removing.{remove_content, remove_bucket, remove_found}
+use Rattle.cacache_core.specs.Meeting.{meets}
+use Rattle.cacache_calls.specs.Places.{temp_path, content_path, content_folder, bucket_path, bucket_folder}
+use Rattle.cacache_calls.specs.State.{State, doing, creating, writing, persisting, linking, confirming, appending, looking, reading, asking, sizing, opening_file, hashing, copying, walking, over, Site, Commit, Insertion, Aim, to_report, to_read, to_export, to_remove, Lookup, Content, Target, Hashing, to_verify, to_link, Item, Visit, enter, read_bucket, remove_file, remove_folder, Task, visit, stumble, Walk}
+use Rattle.cacache_calls.specs.Common.{ends_with, fails}
+use Rattle.cacache_calls.specs.Inserting.{insertion, deletion, unless_refused, refused_cause, bucket_line, after_append}
+use Rattle.cacache_calls.specs.Storing.{insertion_of, indexed, sized, matches, compared, placed, write_rest, after_write, after_confirm}
+use Rattle.cacache_calls.specs.Removing.{remove_found}
 use Rattle.cacache_calls.specs.Reading.{checked, is_there, is_absent}
-use Rattle.cacache_calls.specs.Exporting.{export_from, export_content, export, verified, counted}
-use Rattle.cacache_calls.specs.Linking.{target_of, with_size, after_size, commit_for, hashed_path, hashed, after_read}
+use Rattle.cacache_calls.specs.Exporting.{export_from, export_content, export, counted}
+use Rattle.cacache_calls.specs.Linking.{after_size, commit_for, hashed_path, hashed, after_read}
 use Rattle.cacache_calls.specs.Looking.{found_in, content_of, found_for, after_bucket, no_bucket}
-use Rattle.cacache_calls.specs.Walking.{most, failed, give, miss, walk_on, walk_ends, go_deeper, task_of, tasks_of, leaving, too_many, entered, unread_bucket, listed, visit_step, after_visit, items_in, once}
+use Rattle.cacache_calls.specs.Walking.{most, failed, give, miss, walk_on, task_of, tasks_of, leaving, too_many, entered, unread_bucket, listed, visit_step, after_visit, items_in}
 use Rattle.cacache_calls.specs.Table.{piece, wants, after, opening}
-use Rattle.cacache_calls.specs.Runs.{Moves, Runs, weight, weights, effort}
 use Rattle.cacache_calls.proofs.Branches.{cond_leads, go_on_leads}
 use Rattle.cacache_core.specs.Paths.{joined}
 use Rattle.cacache_calls.specs.Sound.{SoundCommit, SoundInsertion, SoundTarget, IsTemp, IsBelow, IsContent, IsFolder, IsLine, SoundVisit, SoundTasks, Allowed, SoundAim, SoundHashing, Sound, MayBegin}
@@ -89,7 +80,7 @@ module _ (site : Site) (apart outside : List ℕ → Bool) where
 
   by_integrity : (c : Commit) (expected : Option (List Hash)) → SoundCommit site c → Is (compared c expected)
   by_integrity c None h = by_size c c.options.size h
-  by_integrity c (Some expected) h = cond_leads Is (is_among expected c.computed) (sized c c.options.size) (ends_with (IntegrityError (Check expected c.computed))) (λ _. by_size c c.options.size h) (λ _. tt)
+  by_integrity c (Some expected) h = cond_leads Is (matches expected c.computed) (sized c c.options.size) (ends_with (IntegrityError (Check expected c.computed))) (λ _. by_size c c.options.size h) (λ _. tt)
 
   places : (c : Commit) → SoundCommit site c → Is (placed c)
   places c h = by_integrity c c.options.integrity h
@@ -170,8 +161,14 @@ module _ (site : Site) (apart outside : List ℕ → Bool) where
   joined_more path [] n = refl
   joined_more path (m ∷ names) n = joined_more (join path m) names n
 
-  below_more : (p n : List ℕ) → IsBelow site p → IsBelow site (join p n)
-  below_more p n h = (h.0 ++ n ∷ [], ap (λ q. join q n) h.1 ∙ sym (joined_more site.cache h.0 n))
+  below_more : (p n : List ℕ) → IsProperName n → IsBelow site p → IsBelow site (join p n)
+  below_more p n proper h =
+      (h.0 ++ n ∷ [], All-append IsProperName h.0 (n ∷ []) h.1 (All-cons IsProperName n [] proper (All-nil IsProperName)), ap (λ q. join q n) h.2 ∙ sym (joined_more site.cache h.0 n))
+
+  -- what a fitting answer says of the names
+  named : (p : List ℕ) (t : PlainAnswer) (names : List Name) → Fits (steps.ReadDir p) t → names_in t ≡ Ok names → AreProperNames names
+  named p (answers.Names given) names fits e = let same : given ≡ names = cc in rw (← same) fits
+  named p t names fits e = absurd cc
 
   tasks_append : (a b : List Task) → SoundTasks site a → SoundTasks site b → SoundTasks site (a ++ b)
   tasks_append [] b h k = k
@@ -190,10 +187,11 @@ module _ (site : Site) (apart outside : List ℕ → Bool) where
   task_sound true level p kinds.File h = one_of (level == 0) (stumble faults.NotADirectory) (visit (remove_file p)) tt (h, tt)
   task_sound true level p kinds.Link h = (h, tt)
 
-  tasks_sound : (clears : Bool) (level : ℕ) (p : List ℕ) (names : List Name) → IsBelow site p → SoundTasks site (tasks_of clears level p names)
-  tasks_sound clears level p [] h = tt
-  tasks_sound clears level p (n ∷ ns) h =
-      tasks_append (task_of clears level (join p n.name) n.kind ∷ []) (tasks_of clears level p ns) (task_sound clears level (join p n.name) n.kind (below_more p n.name h)) (tasks_sound clears level p ns h)
+  tasks_sound : (clears : Bool) (level : ℕ) (p : List ℕ) (names : List Name) → AreProperNames names → IsBelow site p → SoundTasks site (tasks_of clears level p names)
+  tasks_sound clears level p [] all h = tt
+  tasks_sound clears level p (n ∷ ns) all h =
+      let deeper : IsBelow site (join p n.name) = below_more p n.name (All-head (λ entry. IsProperName entry.name) n ns all) h in
+      tasks_append (task_of clears level (join p n.name) n.kind ∷ []) (tasks_of clears level p ns) (task_sound clears level (join p n.name) n.kind deeper) (tasks_sound clears level p ns (All-tail (λ entry. IsProperName entry.name) n ns all) h)
 
   leaving_sound : (clears : Bool) (level : ℕ) (p : List ℕ) → IsBelow site p → SoundTasks site (leaving clears level p)
   leaving_sound clears level p h = by_both clears (level == 0)
@@ -220,22 +218,22 @@ module _ (site : Site) (apart outside : List ℕ → Bool) where
   goes_on (stumble fault ∷ todo) h w = misses w (walk_on todo) fault (goes_on todo h)
   goes_on (visit v ∷ todo) h w = h
 
-  enters : (w : Walk) (p : List ℕ) (level : ℕ) (todo : List Task) (names : List Name) → IsBelow site p → SoundTasks site todo → Is (entered w p level todo names)
-  enters w p level todo names h k =
+  enters : (w : Walk) (p : List ℕ) (level : ℕ) (todo : List Task) (names : List Name) → AreProperNames names → IsBelow site p → SoundTasks site todo → Is (entered w p level todo names)
+  enters w p level todo names proper h k =
       let first : List Task = tasks_of w.clears level p names in
       let leave : List Task = leaving w.clears level p in
-      let all : SoundTasks site (first ++ leave ++ todo) = tasks_append (first ++ leave) todo (tasks_append first leave (tasks_sound w.clears level p names h) (leaving_sound w.clears level p h)) k in
+      let all : SoundTasks site (first ++ leave ++ todo) = tasks_append (first ++ leave) todo (tasks_append first leave (tasks_sound w.clears level p names proper h) (leaving_sound w.clears level p h)) k in
       cond_leads Is (nat_le (length names) w.left) (walk_on (first ++ leave ++ todo) (record w { left = w.left - length names })) (too_many w) (λ _. goes_on (first ++ leave ++ todo) all _) (λ _. too_many_sound w)
 
   unread : (w : Walk) (todo : List Task) (fault : Fault) → SoundTasks site todo → Is (unread_bucket w todo fault)
   unread w todo faults.NotFound k = goes_on todo k w
   unread w todo fault k = misses w (walk_on todo) fault (goes_on todo k)
 
-  visits : (w : Walk) (v : Visit) (todo : List Task) (t : PlainAnswer) → SoundVisit site v → SoundTasks site todo → Is (after_visit w v todo t)
-  visits w (enter p level) todo t h k = go_on_leads Is (names_in t) (miss w (walk_on todo)) (entered w p level todo) tt (λ fault. misses w (walk_on todo) fault (goes_on todo k)) (λ names _. enters w p level todo names h k)
-  visits w (read_bucket p) todo t h k = go_on_leads Is (bytes_in t) (unread_bucket w todo) (listed w todo) tt (λ fault. unread w todo fault k) (λ bytes _. gives w (items_in bytes) (walk_on todo) (goes_on todo k))
-  visits w (remove_file p) todo t h k = go_on_leads Is (done_in t) (miss w (walk_on todo)) (λ _. walk_on todo w) tt (λ fault. misses w (walk_on todo) fault (goes_on todo k)) (λ _ _. goes_on todo k w)
-  visits w (remove_folder p) todo t h k = go_on_leads Is (done_in t) (miss w (walk_on todo)) (λ _. walk_on todo w) tt (λ fault. misses w (walk_on todo) fault (goes_on todo k)) (λ _ _. goes_on todo k w)
+  visits : (w : Walk) (v : Visit) (todo : List Task) (t : PlainAnswer) → Fits (visit_step v) t → SoundVisit site v → SoundTasks site todo → Is (after_visit w v todo t)
+  visits w (enter p level) todo t f h k = go_on_leads Is (names_in t) (miss w (walk_on todo)) (entered w p level todo) tt (λ fault. misses w (walk_on todo) fault (goes_on todo k)) (λ names e. enters w p level todo names (named p t names f e) h k)
+  visits w (read_bucket p) todo t f h k = go_on_leads Is (bytes_in t) (unread_bucket w todo) (listed w todo) tt (λ fault. unread w todo fault k) (λ bytes _. gives w (items_in bytes) (walk_on todo) (goes_on todo k))
+  visits w (remove_file p) todo t f h k = go_on_leads Is (done_in t) (miss w (walk_on todo)) (λ _. walk_on todo w) tt (λ fault. misses w (walk_on todo) fault (goes_on todo k)) (λ _ _. goes_on todo k w)
+  visits w (remove_folder p) todo t f h k = go_on_leads Is (done_in t) (miss w (walk_on todo)) (λ _. walk_on todo w) tt (λ fault. misses w (walk_on todo) fault (goes_on todo k)) (λ _ _. goes_on todo k w)
 
   -- ---- a command may begin
 
@@ -248,12 +246,12 @@ module _ (site : Site) (apart outside : List ℕ → Bool) where
   begins_sound (commands.Get key) h = (refl, tt)
   begins_sound (commands.GetHash i) h = refl
   begins_sound (commands.Exists i) h = refl
-  begins_sound commands.Ls h = ((codes "index-v5" ∷ [], refl), tt)
+  begins_sound commands.Ls h = ((codes "index-v5" ∷ [], All-cons IsProperName (codes "index-v5") [] (refl, refl, refl) (All-nil IsProperName), refl), tt)
   begins_sound (commands.Export (sources.Key key) e) h = (refl, h)
   begins_sound (commands.Export (sources.Hash i) e) h = exports (record { cache = site.cache; integrity = i }) e h
   begins_sound (commands.RemoveHash i) h = (inl (i, refl), tt)
   begins_sound (commands.RemoveFully key) h = (refl, tt)
-  begins_sound commands.Clear h = (([], refl), tt)
+  begins_sound commands.Clear h = (([], All-nil IsProperName, refl), tt)
 
   -- ---- its steps
 
@@ -310,5 +308,5 @@ module _ (site : Site) (apart outside : List ℕ → Bool) where
       go_on_leads Is (got_in t) fails (after_read x bytes) tt (λ _. tt)
       (λ got k. reads_on x bytes file.left got.0 got.1 h.0 h.1 (left_after file t got (from_some (λ a. Fits a t) _ step e f) k))
   stays_sound (copying from to count) step t h e f = go_on_leads Is (taken_in t) fails (λ n. over (Copied (counted count n))) tt (λ _. tt) (λ _ _. tt)
-  stays_sound (walking w v todo) step t h e f = visits w v todo t h.0 h.1
+  stays_sound (walking w v todo) step t h e f = visits w v todo t (from_some (λ a. Fits a t) _ step e f) h.0 h.1
   stays_sound (over reply) step t h e f = tt

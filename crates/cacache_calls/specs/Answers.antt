@@ -5,7 +5,7 @@ use Rattle.cacache_base.specs.declared.store.plain.PlainFile.{PlainFile}
 use Rattle.cacache_base.specs.declared.store.plain.PlainTemp.{PlainTemp}
 use Rattle.cacache_base.specs.declared.store.answer.Name.{Name}
 use Rattle.cacache_base.specs.declared.store.answer.Answer.TheVariants as answers
-use Rattle.cacache_base.specs.Seen.{PlainAnswer}
+use Rattle.cacache_base.specs.Plain.{PlainAnswer}
 use Rattle.cacache_calls.specs.declared.answers.Refusal.{Refusal}
 use Rattle.cacache_calls.specs.declared.answers.Refusal.TheVariants.{Fault, Memory}
 

@@ -3,7 +3,7 @@
 use Rattle.std.specs.Prelude.{◌≡◌, ◌⊎◌, ◌≤◌, ℕ, List, [], ◌∷◌, Option, None, Some, Result, Ok, Err, Bool, true, false, length}
 use Rattle.cacache_base.specs.declared.store.answer.Answer.TheVariants as answers
 use Rattle.cacache_base.specs.declared.store.step.Step.TheVariants as steps
-use Rattle.cacache_base.specs.Seen.{PlainStep, PlainAnswer}
+use Rattle.cacache_base.specs.Plain.{PlainStep, PlainAnswer}
 use Rattle.cacache_calls.specs.declared.answers.Refusal.{Refusal}
 use Rattle.cacache_calls.specs.declared.command.Command.TheVariants as commands
 use Rattle.cacache_calls.specs.declared.command.Put.{Put}

@@ -7,7 +7,7 @@ use Rattle.cacache_calls.specs.declared.command.How.{How}
 use Rattle.cacache_calls.specs.declared.command.How.TheVariants.{Copy, Reflink, HardLink}
 use Rattle.cacache_calls.specs.declared.command.Export.{Export}
 use Rattle.cacache_calls.specs.declared.reply.Reply.TheVariants.{Done}
-use Rattle.cacache_calls.specs.Meeting.{meets}
+use Rattle.cacache_core.specs.Meeting.{meets}
 use Rattle.cacache_calls.specs.Places.{content_path}
 use Rattle.cacache_calls.specs.State.{State, doing, opening_file, copying, over, Content, to_verify, reflink, hard_link}
 use Rattle.cacache_calls.specs.Common.{ends_with}

@@ -1,5 +1,5 @@
 -- How the logic stores JSON data: as a tree of numbers that gives the data back.
-use Rattle.std.specs.Prelude.{◌≡◌, ◌⊎◌, ℕ, ℤ, List, [], ◌∷◌, Bool, refl}
+use Rattle.std.specs.Prelude.{◌≡◌, ◌⊎◌, ℕ, ℤ, List, refl}
 use Rattle.std.proofs.Common.{inl, inr, ap, sym, subst}
 use Rattle.std.specs.Float.{Float}
 use Rattle.std.specs.Coded.{Coded, code_by, coded⊎, coded_ℕ, coded_ℤ, coded_bool, coded_list}

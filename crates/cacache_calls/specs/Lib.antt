@@ -1,5 +1,4 @@
 pub mod JsonCode
-pub mod Meeting
 pub mod Places
 pub mod Answers
 pub mod State

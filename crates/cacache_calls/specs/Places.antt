@@ -1,14 +1,8 @@
 -- The paths that a call's steps name, as texts.
-use Rattle.std.specs.Prelude.{ℕ, List, [], ◌∷◌, ◌++◌, Option, None, Some, codes}
-use Rattle.std.specs.Int.{to_be_bytes, w64}
-use Rattle.hex.specs.Hex.{encode_lower}
+use Rattle.std.specs.Prelude.{ℕ, List, [], Option, None, Some}
 use Rattle.cacache_core.specs.declared.integrity.digest.Hash.{Hash}
 use Rattle.cacache_core.specs.Integrity.{address}
-use Rattle.cacache_core.specs.Paths.{joined, content_names, bucket_names, folder_names}
-
--- the names of a temporary file's path: its number in 16 hex digits
-abbrev pub temp_names : ℕ → List (List ℕ)
-temp_names number = codes "tmp" ∷ (codes ".tmp" ++ encode_lower (to_be_bytes w64 number)) ∷ []
+use Rattle.cacache_core.specs.Paths.{joined, content_names, bucket_names, temp_names, folder_names}
 
 -- where a temporary file lies, and its folder
 unfoldable pub temp_path : List ℕ → ℕ → List ℕ

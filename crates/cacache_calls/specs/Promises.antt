@@ -11,7 +11,7 @@ use Rattle.cacache_calls.specs.declared.reply.Reply.{Reply}
 use Rattle.cacache_calls.specs.declared.reply.Reply.TheVariants.{Stored, Read, LookedUp, Exists, Copied, Listed, Done, Refused}
 use Rattle.cacache_calls.specs.State.{State, doing, creating, writing, persisting, linking, confirming, appending, looking, reading, asking, sizing, opening_file, hashing, copying, walking, over, Site, Commit, Aim, to_report, to_read, to_export, to_remove, Target, Hashing, to_verify, to_link}
 use Rattle.cacache_calls.specs.Inserting.{given_or, no_integrity}
-use Rattle.cacache_calls.specs.Storing.{is_among, commit_of}
+use Rattle.cacache_calls.specs.Storing.{matches, commit_of}
 use Rattle.cacache_calls.specs.Linking.{commit_for, with_size, target_of}
 use Rattle.cacache_calls.specs.Table.{opening}
 use Rattle.cacache_calls.specs.Runs.{Moves, Runs}
@@ -64,7 +64,7 @@ answered computed expected (Some key) = given_or computed expected
 -- what was said of the content holds
 pub record Suits (c : Commit) : Type 0 where
   pub integrity :
-      (expected : List Hash) → c.options.integrity ≡ Some expected → is_among expected c.computed ≡ true
+      (expected : List Hash) → c.options.integrity ≡ Some expected → matches expected c.computed ≡ true
   pub size : (wanted : ℕ) → c.options.size ≡ Some wanted → wanted ≡ c.count
 
 -- no integrity but this one, and it only where P holds

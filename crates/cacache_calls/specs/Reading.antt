@@ -5,7 +5,7 @@ use Rattle.cacache_core.specs.declared.errors.IntegrityFault.TheVariants.{Check}
 use Rattle.cacache_core.specs.declared.errors.Error.TheVariants.{IntegrityError}
 use Rattle.cacache_core.specs.Integrity.{actual}
 use Rattle.cacache_calls.specs.declared.reply.Reply.TheVariants.{Read, Exists}
-use Rattle.cacache_calls.specs.Meeting.{meets}
+use Rattle.cacache_core.specs.Meeting.{meets}
 use Rattle.cacache_calls.specs.State.{State, over, Content}
 use Rattle.cacache_calls.specs.Common.{ends_with}
 

@@ -6,7 +6,7 @@ use Rattle.cacache_core.specs.declared.errors.Error.TheVariants.{EntryNotFound, 
 use Rattle.cacache_core.specs.declared.integrity.digest.Hash.{Hash}
 use Rattle.cacache_core.specs.Integrity.{Meets, actual}
 use Rattle.cacache_base.specs.declared.store.step.Step.TheVariants as steps
-use Rattle.cacache_base.specs.Seen.{PlainStep, PlainAnswer}
+use Rattle.cacache_base.specs.Plain.{PlainStep, PlainAnswer}
 use Rattle.cacache_entry.specs.Entry.{Entry}
 use Rattle.cacache_entry.specs.Bucket.{entries_of}
 use Rattle.cacache_entry.specs.Latest.{Found, latest}
@@ -16,7 +16,7 @@ use Rattle.cacache_calls.specs.declared.command.Command.TheVariants as commands
 use Rattle.cacache_calls.specs.declared.reply.Reply.{Reply}
 use Rattle.cacache_calls.specs.declared.reply.Reply.TheVariants.{Read, LookedUp, Exists, Refused}
 use Rattle.cacache_calls.specs.Answers.{bytes_in, there_in}
-use Rattle.cacache_calls.specs.Meeting.{meets}
+use Rattle.cacache_core.specs.Meeting.{meets}
 use Rattle.cacache_calls.specs.Places.{content_path, bucket_path}
 use Rattle.cacache_calls.specs.State.{Site}
 use Rattle.cacache_calls.specs.Table.{opening}

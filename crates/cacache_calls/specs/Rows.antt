@@ -12,7 +12,7 @@ use Rattle.cacache_base.specs.declared.store.answer.Kind.{Kind}
 use Rattle.cacache_base.specs.declared.store.answer.Kind.TheVariants.{File, Folder}
 use Rattle.cacache_base.specs.declared.store.answer.Name.{Name}
 use Rattle.cacache_base.specs.declared.store.answer.Answer.TheVariants as answers
-use Rattle.cacache_base.specs.Seen.{PlainStep, PlainAnswer}
+use Rattle.cacache_base.specs.Plain.{PlainStep, PlainAnswer}
 use Rattle.cacache_entry.specs.Latest.{Found}
 use Rattle.cacache_calls.specs.declared.command.Options.{Options}
 use Rattle.cacache_calls.specs.declared.command.Put.{Put}
@@ -24,7 +24,7 @@ use Rattle.cacache_calls.specs.declared.command.Command.TheVariants as commands
 use Rattle.cacache_calls.specs.declared.command.Source.TheVariants as sources
 use Rattle.cacache_calls.specs.declared.reply.Reply.{Reply}
 use Rattle.cacache_calls.specs.declared.reply.Reply.TheVariants.{Stored, Read, Exists, Copied, Listed, Done, Refused}
-use Rattle.cacache_calls.specs.Meeting.{meets}
+use Rattle.cacache_core.specs.Meeting.{meets}
 use Rattle.cacache_calls.specs.State.{State, over, Site, Insertion}
 use Rattle.cacache_calls.specs.Inserting.{bucket_line, refused_cause}
 use Rattle.cacache_calls.specs.Storing.{insertion_of, commit_of}

@@ -1,19 +1,20 @@
 -- Which states the calls at a site stand in, and which steps they may make there.
-use Rattle.std.specs.Prelude.{◌≡◌, ◌⊎◌, ◌<◌, ◌+◌, ◌^◌, ℕ, List, [], ◌∷◌, Option, None, Some, Bool, true, length}
+use Rattle.std.specs.Prelude.{All, ◌≡◌, ◌⊎◌, ◌<◌, ◌+◌, ◌^◌, ℕ, List, [], ◌∷◌, None, Some, Bool, true, length}
 use Rattle.cacache_core.specs.declared.integrity.algorithm.Algorithm.{Algorithm}
 use Rattle.cacache_core.specs.declared.integrity.digest.Hash.{Hash}
 use Rattle.cacache_core.specs.Integrity.{integrity_under}
 use Rattle.cacache_core.specs.Paths.{joined}
+use Rattle.cacache_core.specs.PathNames.{Names, IsProperName}
 use Rattle.cacache_base.specs.declared.store.plain.PlainTemp.{PlainTemp}
 use Rattle.cacache_base.specs.declared.store.step.Step.TheVariants as steps
-use Rattle.cacache_base.specs.Seen.{PlainStep, PlainAnswer}
+use Rattle.cacache_base.specs.Plain.{PlainStep, PlainAnswer}
 use Rattle.cacache_base.specs.Fits.{Fits}
 use Rattle.cacache_entry.specs.Entry.{Entry, line_of}
 use Rattle.cacache_entry.specs.Fits.{IsEntry, cause_of}
 use Rattle.cacache_calls.specs.declared.command.Command.{Command}
 use Rattle.cacache_calls.specs.declared.command.Command.TheVariants as commands
 use Rattle.cacache_calls.specs.Places.{temp_path, temp_folder, content_path, content_folder, bucket_path, bucket_folder}
-use Rattle.cacache_calls.specs.State.{State, doing, creating, writing, persisting, linking, confirming, appending, looking, reading, asking, sizing, opening_file, hashing, copying, walking, over, Site, Commit, Insertion, Aim, to_report, to_read, to_export, to_remove, Target, Hashing, to_verify, to_link, Visit, enter, read_bucket, remove_file, remove_folder, Task, visit, stumble}
+use Rattle.cacache_calls.specs.State.{State, doing, creating, writing, persisting, linking, confirming, appending, looking, reading, asking, sizing, opening_file, hashing, copying, walking, over, Site, Commit, Insertion, Aim, to_export, Target, Hashing, to_verify, to_link, Visit, enter, read_bucket, remove_file, remove_folder, Task, visit, stumble}
 use Rattle.cacache_calls.specs.Common.{errand_step}
 use Rattle.cacache_calls.specs.Inserting.{insertion, deletion, refused_cause}
 use Rattle.cacache_calls.specs.Storing.{insertion_of, commit_of}
@@ -45,9 +46,9 @@ pub record SoundTarget (site : Site) (t : Target) : Type 0 where
 abbrev pub IsTemp : Site → PlainTemp → Type 0
 IsTemp site file = file.path ≡ temp_path site.cache site.number
 
--- the cache folder, or a path below it
+-- the cache folder, or a path of proper names below it
 abbrev pub IsBelow : Site → List ℕ → Type 0
-IsBelow site p = (names : List (List ℕ)) × (p ≡ joined site.cache names)
+IsBelow site p = (names : Names) × All IsProperName names × (p ≡ joined site.cache names)
 
 -- the place of a content, or its folder
 abbrev pub IsContent : Site → List ℕ → Type 0

@@ -1,6 +1,5 @@
 -- Commits: bytes, or a link, become a content, and with a key its entry follows.
-use Rattle.std.specs.Prelude.{ℕ, ◌==◌, List, [], ◌∷◌, Option, None, Some, Bool, false, if◌then◌else◌, length, drop}
-use Rattle.std.specs.List.{list_any}
+use Rattle.std.specs.Prelude.{ℕ, ◌==◌, List, [], ◌∷◌, Option, None, Some, Bool, is_some, if◌then◌else◌, length, drop}
 use Rattle.cacache_core.specs.declared.errors.Fault.{Fault}
 use Rattle.cacache_core.specs.declared.errors.Fault.TheVariants as faults
 use Rattle.cacache_core.specs.declared.errors.IntegrityFault.TheVariants.{Check}
@@ -11,7 +10,7 @@ use Rattle.cacache_core.specs.Texts.{text_of as integrity_text}
 use Rattle.cacache_base.specs.declared.store.plain.PlainTemp.{PlainTemp}
 use Rattle.cacache_calls.specs.declared.command.Put.{Put}
 use Rattle.cacache_calls.specs.declared.reply.Reply.TheVariants.{Stored}
-use Rattle.cacache_calls.specs.Meeting.{is_hash}
+use Rattle.cacache_core.specs.Meeting.{matching}
 use Rattle.cacache_calls.specs.Places.{temp_folder, content_folder}
 use Rattle.cacache_calls.specs.State.{State, doing, creating, writing, persisting, linking, over, Site, Commit, Insertion, make_folder}
 use Rattle.cacache_calls.specs.Common.{ends_with, fails}
@@ -40,16 +39,15 @@ sized c None = indexed c c.key
 sized c (Some wanted) =
     if wanted == c.count then indexed c c.key else ends_with (SizeMismatch wanted c.count)
 
--- one of these hashes is the computed one
-abbrev pub is_among : List Hash → List Hash → Bool
-is_among expected [] = false
-is_among expected (h ∷ hs) = list_any (is_hash h.algorithm h.digest) expected
+-- the expected integrity lists the computed hash
+abbrev pub matches : List Hash → List Hash → Bool
+matches expected computed = is_some (matching expected computed)
 
--- the computed integrity is to be among the expected ones
+-- the expected integrity is to match the computed one
 abbrev pub compared : Commit → Option (List Hash) → State
 compared c None = sized c c.options.size
 compared c (Some expected) =
-    if is_among expected c.computed then sized c c.options.size
+    if matches expected c.computed then sized c c.options.size
     else ends_with (IntegrityError (Check expected c.computed))
 
 -- the content is at its place

@@ -1,8 +1,8 @@
 -- All calls as one table: the one step that each state wants, where an answer takes it, and where each call begins.
-use Rattle.std.specs.Prelude.{ℕ, List, [], Option, None, Some, Bool, true, false, codes}
+use Rattle.std.specs.Prelude.{ℕ, [], Option, None, Some, true, false, codes}
 use Rattle.cacache_core.specs.Paths.{join}
 use Rattle.cacache_base.specs.declared.store.step.Step.TheVariants as steps
-use Rattle.cacache_base.specs.Seen.{PlainStep, PlainAnswer}
+use Rattle.cacache_base.specs.Plain.{PlainStep, PlainAnswer}
 use Rattle.cacache_calls.specs.declared.command.Command.{Command}
 use Rattle.cacache_calls.specs.declared.command.Command.TheVariants as commands
 use Rattle.cacache_calls.specs.declared.command.Source.TheVariants as sources

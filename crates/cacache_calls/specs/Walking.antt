@@ -9,7 +9,7 @@ use Rattle.cacache_base.specs.declared.store.answer.Kind.{Kind}
 use Rattle.cacache_base.specs.declared.store.answer.Kind.TheVariants as kinds
 use Rattle.cacache_base.specs.declared.store.answer.Name.{Name}
 use Rattle.cacache_base.specs.declared.store.step.Step.TheVariants as steps
-use Rattle.cacache_base.specs.Seen.{PlainStep, PlainAnswer}
+use Rattle.cacache_base.specs.Plain.{PlainStep, PlainAnswer}
 use Rattle.cacache_entry.specs.Entry.{Entry}
 use Rattle.cacache_entry.specs.Bucket.{entries_of}
 use Rattle.cacache_entry.specs.Latest.{latest}
