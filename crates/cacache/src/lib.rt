@@ -2,18 +2,23 @@
 //! or by their integrity, and verified whenever they are read.
 #![tactic(auto)]
 
+pub mod bytes;
+pub mod content;
 pub mod env;
+pub mod errors;
 pub mod get;
+pub mod index;
+pub mod integrity;
+pub mod jobs;
+pub mod put;
 pub mod store;
 #[cfg(test)]
 mod tests;
+pub mod text;
 
-pub use cacache_core::errors::{Error, Result};
-pub use cacache_core::integrity::{Algorithm, Integrity};
-pub use cacache_core::{bytes, errors, integrity, text};
-pub use cacache_put::put;
-pub use cacache_put::put::{write_hash_sync, write_sync, write_vec_sync};
-pub use cacache_steps::index::Metadata;
-pub use cacache_steps::{content, index, jobs};
+pub use errors::{Error, Result};
 pub use get::{read_hash_sync, read_sync};
+pub use index::Metadata;
+pub use integrity::{Algorithm, Integrity};
+pub use put::{write_hash_sync, write_sync, write_vec_sync};
 pub use serde_json::Value;

@@ -1,4 +1,6 @@
 //! The first path on a real folder and on a disk in memory: the same answers, and the steps that lead to them.
+mod readme;
+
 use crate::env::{Clock, CountNames, Env};
 use crate::errors::Error;
 use crate::integrity::Integrity;

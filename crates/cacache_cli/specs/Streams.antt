@@ -1,28 +1,64 @@
 -- What the program does with a store and with its streams.
-use Rattle.std.specs.Prelude.{◌≡◌, ℕ, List, [], ◌∷◌, ◌++◌, Option, IfSome}
+use Rattle.std.specs.Prelude.{◌≡◌, ◌<◌, ◌⊎◌, ℕ, List, [], ◌∷◌, ◌++◌, Option, IfSome, length, take}
 use Rattle.std.specs.Io.KnownBytes.{Appends}
-use Rattle.cacache_core.specs.declared.integrity.algorithm.Algorithm.TheVariants.{Sha256}
-use Rattle.cacache_core.specs.Integrity.{integrity_under}
-use Rattle.cacache_core.specs.Texts.{text_of}
-use Rattle.cacache_base.specs.declared.store.log.LogItem.{LogItem}
-use Rattle.cacache_steps.specs.declared.jobs.command.Command.TheVariants.{Put, Get}
-use Rattle.cacache_steps.specs.declared.jobs.reply.Reply.TheVariants.{Stored, Read}
-use Rattle.cacache_steps.specs.Calls.{opening}
-use Rattle.cacache_steps.specs.Runs.{Ran}
-use Rattle.cacache_put.specs.Writes.{keyed_put}
+use Rattle.cacache.specs.Integrities.{Sha256, integrity_under, text_of}
+use Rattle.cacache.specs.Stores.{LogItem}
+use Rattle.cacache.specs.Calls.{Env, Error, Reply, Get, Stored, Read, Refused, opening, Ran, RunsPut, keyed_put}
 
--- the log gained a run that stored the bytes under the key, and the line is their integrity's text and a line feed
-abbrev pub Stores : List ℕ → List ℕ → List ℕ → List ℕ → Option (List LogItem) → Option (List LogItem) → Type 0
-Stores cache key bytes line old new =
-    (line ≡ text_of (integrity_under Sha256 bytes) ++ 10 ∷ [])
-    × ((moment number : ℕ) × Ran (opening cache (Put (keyed_put key bytes moment)) number) (Stored (integrity_under Sha256 bytes)) old new)
+-- known bytes grow by a beginning of these, and not by all of them
+abbrev pub AppendsPart : Option (List ℕ) → Option (List ℕ) → List ℕ → Type 0
+AppendsPart old new bytes = (count : ℕ) × (count < length bytes) × Appends old new (take count bytes)
 
--- a write that went well stored all that the input had to give, and appended that line to the output
-abbrev pub WritesOut : List ℕ → List ℕ → Option (List ℕ) → Option (List LogItem) → Option (List LogItem) → Option (List ℕ) → Option (List ℕ) → Type 0
-WritesOut cache key input old new before after =
-    (bytes line : List ℕ) × IfSome input (λ given. bytes ≡ given) × Stores cache key bytes line old new × Appends before after line
+-- what a write prints: the text of the integrity, and a line feed
+abbrev pub integrity_line : List ℕ → List ℕ
+integrity_line bytes = text_of (integrity_under Sha256 bytes) ++ 10 ∷ []
 
--- a read that went well appended exactly the bytes of its run to the output
-abbrev pub ReadsOut : List ℕ → List ℕ → Option (List LogItem) → Option (List LogItem) → Option (List ℕ) → Option (List ℕ) → Type 0
-ReadsOut cache key old new before after =
+-- the bytes are all that the input had to give, where that is known
+abbrev pub AreAllOf : Option (List ℕ) → List ℕ → Type 0
+AreAllOf input bytes = IfSome input (λ given. bytes ≡ given)
+
+-- ---- of a write: its log, moments and numbers are those of the environment, before and after
+
+module _ {S C N : Type 0} (log : S → Option (List LogItem)) (moments : C → Option (List ℕ)) (numbers : N → Option (List ℕ)) where
+  -- all that the input had to give was put under the key, with this reply
+  abbrev pub PutsAll : List ℕ → List ℕ → Option (List ℕ) → Env S C N → Env S C N → List ℕ → Reply → Type 0
+  PutsAll cache key input old new bytes reply =
+      AreAllOf input bytes × RunsPut log moments numbers old new cache (keyed_put key bytes) reply
+
+  -- a write that succeeded stored all of the input, and appended the integrity's line to the output
+  abbrev pub Writes : List ℕ → List ℕ → Option (List ℕ) → Env S C N → Env S C N → Option (List ℕ) → Option (List ℕ) → Type 0
+  Writes cache key input old new before after =
+      (bytes : List ℕ)
+      × PutsAll cache key input old new bytes (Stored (integrity_under Sha256 bytes))
+      × Appends before after (integrity_line bytes)
+
+  -- a put that was refused printed nothing
+  abbrev pub PutRefused : List ℕ → List ℕ → Option (List ℕ) → Env S C N → Env S C N → Option (List ℕ) → Option (List ℕ) → Type 0
+  PutRefused cache key input old new before after =
+      (bytes : List ℕ) × (error : Error) × PutsAll cache key input old new bytes (Refused error) × (after ≡ before)
+
+  -- a put whose line wasn't printed whole stored all of the input all the same
+  abbrev pub PutUntold : List ℕ → List ℕ → Option (List ℕ) → Env S C N → Env S C N → Option (List ℕ) → Option (List ℕ) → Type 0
+  PutUntold cache key input old new before after =
+      (bytes : List ℕ)
+      × PutsAll cache key input old new bytes (Stored (integrity_under Sha256 bytes))
+      × AppendsPart before after (integrity_line bytes)
+
+  -- a write that failed did nothing, or was refused by its call, or didn't print its whole line
+  abbrev pub WriteFails : List ℕ → List ℕ → Option (List ℕ) → Env S C N → Env S C N → Option (List ℕ) → Option (List ℕ) → Type 0
+  WriteFails cache key input old new before after =
+      ((new ≡ old) × (after ≡ before))
+      ⊎ (PutRefused cache key input old new before after ⊎ PutUntold cache key input old new before after)
+
+-- ---- of a read: its logs, and the output before and after
+
+-- a read that succeeded appended exactly the bytes of its run to the output
+abbrev pub Reads : List ℕ → List ℕ → Option (List LogItem) → Option (List LogItem) → Option (List ℕ) → Option (List ℕ) → Type 0
+Reads cache key old new before after =
     (bytes : List ℕ) × Ran (opening cache (Get key) 0) (Read bytes) old new × Appends before after bytes
+
+-- a read that failed was refused by its call and printed nothing, or printed a beginning of the bytes of its run
+abbrev pub ReadFails : List ℕ → List ℕ → Option (List LogItem) → Option (List LogItem) → Option (List ℕ) → Option (List ℕ) → Type 0
+ReadFails cache key old new before after =
+    ((error : Error) × Ran (opening cache (Get key) 0) (Refused error) old new × (after ≡ before))
+    ⊎ ((bytes : List ℕ) × Ran (opening cache (Get key) 0) (Read bytes) old new × AppendsPart before after bytes)

@@ -5,29 +5,29 @@ mod program;
 #[cfg(test)]
 mod tests;
 
-use cacache::env::{Clock, CountNames, Env, SystemClock};
+use cacache::env::{Env, ProcessNames, SystemClock};
 use cacache::store::FolderStore;
-use program::{USAGE, run};
-use std::io::Write;
+use program::{run, without_words};
+use std::io::{self, Write};
 use std::process::ExitCode;
 
-/// The words behind the program's name; None where one isn't UTF-8 or can't be had.
-fn words_of(rt: &HostRuntime) -> Option<Vec<String>> {
+/// The words behind the program's name.
+fn words_of(rt: &HostRuntime) -> io::Result<Vec<String>> {
     let mut words = Vec::new(rt.alloc());
-    for word in std::env::args(rt).ok()?.skip(1) {
-        words.push(word).ok()?;
+    for word in std::env::args(rt)?.skip(1) {
+        words.push(word)?;
     }
-    Some(words)
+    Ok(words)
 }
 
 fn main(rt: HostRuntime) -> ExitCode {
-    let Some(words) = words_of(&rt) else {
-        let _ = rt.stderr().write_all(USAGE.as_bytes());
-        return ExitCode::from(2);
+    let words = match words_of(&rt) {
+        Ok(words) => words,
+        Err(error) => return ExitCode::from(without_words(&error, &mut rt.stderr())),
     };
-    let mut clock = SystemClock::new(rt);
-    let names = CountNames::from(clock.now().wrapping_mul(65536));
     let store = FolderStore::new(rt);
+    let clock = SystemClock::new(rt);
+    let names = ProcessNames::new(rt);
     let Ok(mut env) = Env::new(rt.alloc(), store, clock, names, ".") else {
         let _ = rt.stderr().write_all(b"out of memory\n");
         return ExitCode::from(1);

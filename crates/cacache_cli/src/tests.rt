@@ -1,8 +1,8 @@
 //! The program and the first calls over real folders, with values from outside.
 ghost use Rattle.std.specs.Prelude.{IsTrue};
-ghost use Rattle.cacache_steps.specs.Stands.{can_go_on, has_out};
+ghost use Rattle.cacache.specs.Calls.{can_go_on, has_out};
 
-use crate::program::{USAGE, run};
+use crate::program::{USAGE, run, without_words};
 use cacache::bytes::Bytes;
 use cacache::content::path::content_path;
 use cacache::env::{Clock, CountNames, Env};
@@ -11,6 +11,7 @@ use cacache::integrity::Integrity;
 use cacache::jobs::{Command, Job, Next, Reply};
 use cacache::store::{Answer, FolderStore, Step, Store};
 use std::fs;
+use std::io::{self, ErrorKind, Read, Write};
 use std::test::Fail;
 
 /// A clock that stands still.
@@ -35,22 +36,77 @@ fn folders(rt: HostRuntime) -> Result<Folders, Fail> {
     )?)
 }
 
-/// What a run of the program answers: its status, its output and what it told on errors.
+/// What a run of the program with these streams gives: its status, and what it printed on errors.
+fn ran_on<R: Read, W: Write>(
+    rt: &HostRuntime,
+    env: &mut Folders,
+    words: &[&str],
+    input: &mut R,
+    output: &mut W,
+) -> Result<(u8, Vec<u8>), Fail> {
+    let mut owned = Vec::new(rt.alloc());
+    for word in words {
+        owned.push(String::from_str(rt.alloc(), word)?)?;
+    }
+    let mut errors = Vec::new(rt.alloc());
+    let status = run(env, &owned, input, output, &mut errors);
+    Ok((status, errors))
+}
+
+/// What a run of the program gives: its status, its output and what it printed on errors.
 fn ran(
     rt: &HostRuntime,
     env: &mut Folders,
     words: &[&str],
     input: &[u8],
 ) -> Result<(u8, Vec<u8>, Vec<u8>), Fail> {
-    let mut owned = Vec::new(rt.alloc());
-    for word in words {
-        owned.push(String::from_str(rt.alloc(), word)?)?;
-    }
     let mut input = input;
     let mut output = Vec::new(rt.alloc());
-    let mut errors = Vec::new(rt.alloc());
-    let status = run(env, &owned, &mut input, &mut output, &mut errors);
+    let (status, errors) = ran_on(rt, env, words, &mut input, &mut output)?;
     Ok((status, output, errors))
+}
+
+/// An input that gives so many letters and then fails.
+#[derive(Drop)]
+struct TornInput {
+    letters: usize,
+}
+
+impl Read for TornInput {
+    fn read(&mut self, buf: &mut [u8]) -> io::Result<usize> {
+        let Some(byte) = buf.first_mut() else {
+            return Ok(0);
+        };
+        if self.letters == 0 {
+            return Err(io::Error::from(ErrorKind::BrokenPipe));
+        }
+        self.letters -= 1;
+        *byte = b'a';
+        Ok(1)
+    }
+}
+
+/// An output that takes so many bytes and then fails.
+#[derive(Drop)]
+struct FullOutput {
+    room: usize,
+    taken: Vec<u8>,
+}
+
+impl Write for FullOutput {
+    fn write(&mut self, buf: &[u8]) -> io::Result<usize> {
+        let count = buf.len().min(self.room);
+        if count == 0 {
+            return Err(io::Error::from(ErrorKind::StorageFull));
+        }
+        self.taken.extend_from_slice(&buf[..count])?;
+        self.room -= count;
+        Ok(count)
+    }
+
+    fn flush(&mut self) -> io::Result<()> {
+        Ok(())
+    }
 }
 
 #[test]
@@ -100,7 +156,63 @@ fn wrong_words_and_missing_keys(rt: HostRuntime) -> Result<(), Fail> {
 }
 
 #[test]
-fn damage_is_told(rt: HostRuntime) -> Result<(), Fail> {
+fn torn_input_stores_nothing(rt: HostRuntime) -> Result<(), Fail> {
+    let mut env = folders(rt)?;
+    let mut output = Vec::new(rt.alloc());
+    let mut input = TornInput { letters: 3 };
+    let words = ["write", "t", "torn"];
+    let (status, errors) = ran_on(&rt, &mut env, &words, &mut input, &mut output)?;
+    assert_eq!(rt; status, 1);
+    assert_eq!(rt; output.len(), 0);
+    assert_eq!(rt; errors.as_slice(), b"input failed\n".as_slice());
+    assert!(rt; fs::metadata(&rt, "t").is_err());
+    Ok(())
+}
+
+/// What a run that has room for three bytes of output gives, as a line.
+fn with_full_output(rt: &HostRuntime, env: &mut Folders, words: &[&str]) -> Result<String, Fail> {
+    let alloc = rt.alloc();
+    let mut input = b"hello".as_slice();
+    let mut output = FullOutput {
+        room: 3,
+        taken: Vec::new(alloc),
+    };
+    let (status, errors) = ran_on(rt, env, words, &mut input, &mut output)?;
+    let taken = output.taken;
+    Ok(format!(in alloc; "{status} {:?} {:?}", taken.as_slice(), errors.as_slice())?)
+}
+
+#[test]
+fn full_output_keeps_what_was_stored(rt: HostRuntime) -> Result<(), Fail> {
+    let mut env = folders(rt)?;
+    let failed = "[111, 117, 116, 112, 117, 116, 32, 102, 97, 105, 108, 101, 100, 10]";
+    let written = with_full_output(&rt, &mut env, &["write", "f", "hello"])?;
+    assert!(rt; written.as_str().starts_with("1 [115, 104, 97] "));
+    assert!(rt; written.as_str().ends_with(failed));
+    let read = with_full_output(&rt, &mut env, &["read", "f", "hello"])?;
+    assert!(rt; read.as_str().starts_with("1 [104, 101, 108] "));
+    assert!(rt; read.as_str().ends_with(failed));
+    let (status, output, _) = ran(&rt, &mut env, &["read", "f", "hello"], b"")?;
+    assert_eq!(rt; status, 0);
+    assert_eq!(rt; output.as_slice(), b"hello".as_slice());
+    Ok(())
+}
+
+#[test]
+fn words_that_are_missing(rt: HostRuntime) -> Result<(), Fail> {
+    for (kind, status, text) in [
+        (ErrorKind::OutOfMemory, 1, "out of memory\n"),
+        (ErrorKind::InvalidData, 2, USAGE),
+    ] {
+        let mut errors = Vec::new(rt.alloc());
+        assert_eq!(rt; without_words(&io::Error::from(kind), &mut errors), status);
+        assert_eq!(rt; errors.as_slice(), text.as_bytes());
+    }
+    Ok(())
+}
+
+#[test]
+fn damage_is_refused(rt: HostRuntime) -> Result<(), Fail> {
     let mut env = folders(rt)?;
     let (status, _, _) = ran(&rt, &mut env, &["write", "d", "hello"], b"hello")?;
     assert_eq!(rt; status, 0);

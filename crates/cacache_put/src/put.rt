@@ -117,7 +117,7 @@ pub fn write_hash_sync<S: Store, C: Clock, N: Names>(
     ensures stored { IfOk result (λ i. i ≡ integrity_under Sha256 «data».now) }
     ensures ran { (number : ℕ) × AddsAnswer (N.given env.old.names) (N.given env.new.names) number
         × Ran (opening cache.now (Command.Put (unkeyed_put «data».now)) number)
-            (stored_reply result) (S.log env.old.store) (S.log env.new.store) }
+        (stored_reply result) (S.log env.old.store) (S.log env.new.store) }
     ensures clock { env.new.clock ≡ env.old.clock }
     ensures base { env.new.base ≡ env.old.base }
 {

@@ -61,7 +61,10 @@ fn make_bucket<F: FileHandle, T: TempHandle>(
 {
     let place = bucket_place(alloc, insertion.cache.as_str(), insertion.key.as_str())?;
     let Place { folder, path } = place;
-    Ok(Phase::Ready(Stage::MakingBucket(insertion, line, path), Step::MakeDirs(folder)))
+    Ok(Phase::Ready(
+        Stage::MakingBucket(insertion, line, path),
+        Step::MakeDirs(folder),
+    ))
 }
 
 /// The end of a call whose entry can't be written.

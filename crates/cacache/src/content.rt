@@ -1,0 +1,2 @@
+//! Contents by their address.
+pub mod path;

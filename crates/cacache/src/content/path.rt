@@ -1,0 +1,2 @@
+//! Where contents lie.
+pub use cacache_steps::content::path::content_path;

@@ -1,0 +1,2 @@
+//! The index: entries, the lines that hold them, and the lookup of a key in a bucket's bytes.
+pub use cacache_entry::{Lookup, Metadata, SerializableMetadata, entries, latest, line};

@@ -1,0 +1,20 @@
+-- What one write after another puts on an output.
+use Rattle.std.proofs.Common.{◌≡◌, ℕ, ◌+◌, ◌-◌, List, [], ◌++◌, Option, length, take, drop, subst, append-nil}
+use Rattle.std.proofs.Math.Seq.{take-add}
+use Rattle.std.proofs.lemmas.List.{take_rest}
+use Rattle.std.proofs.KnownBytes.{Appends-nil, Appends-trans, Appends-kept}
+use Rattle.std.specs.Io.KnownBytes.{Appends, Keeps}
+
+-- bytes that are kept grow by none
+pub kept_appends : (a b : Option (List ℕ)) → Keeps a b → Appends a b []
+kept_appends a b k = Appends-kept a a b [] (Appends-nil a) k
+
+-- the first n bytes, and then m more of the rest
+pub appends_more : (a b c : Option (List ℕ)) (bytes : List ℕ) (n m : ℕ) → Appends a b (take n bytes) → Appends b c (take m (take (length bytes - n) (drop n bytes))) → Appends a c (take (n + m) bytes)
+appends_more a b c bytes n m p q =
+    let more : Appends b c (take m (drop n bytes)) = subst (λ l. Appends b c (take m l)) (take_rest bytes n) q in
+    rw (take-add n m bytes) (Appends-trans a b c (take n bytes) (take m (drop n bytes)) p more)
+
+-- some bytes, and then none
+pub appends_no_more : (a b c : Option (List ℕ)) (bytes : List ℕ) → Appends a b bytes → Appends b c [] → Appends a c bytes
+appends_no_more a b c bytes p q = subst (Appends a c) (append-nil bytes) (Appends-trans a b c bytes [] p q)
