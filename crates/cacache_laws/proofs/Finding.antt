@@ -82,9 +82,12 @@ pub replaceable_ok : (t : Tree) (path : List ℕ) (names : Names) → replaceabl
 unfolding replaceable
 replaceable_ok = judged where_no_folder NoFolder no_folder_at
 
-pub kept_ok : (t : Tree) (path : List ℕ) (names : Names) → kept t path ≡ Ok names → HasNoFolder t path names
+pub kept_ok : (t : Tree) (path : List ℕ) (names : Names) → kept t path ≡ Ok names → (names_of path ≡ Ok names) × NoFolder (look t names)
 unfolding kept
-kept_ok = judged where_file NoFolder file_at
+kept_ok t path names e =
+    let f = and_then_ok (names_of path) (λ names. where_file (look t names) names) names e in
+    let g = file_at (look t f.0) f.0 names f.2 in
+    (f.1 ∙ ap Ok g.1, subst (λ n. NoFolder (look t n)) g.1 g.0)
 
 pub removable_ok : (t : Tree) (path : List ℕ) (names : Names) → removable t path ≡ Ok names → HasNoFolder t path names
 unfolding removable
