@@ -12,16 +12,16 @@ use Rattle.cacache_disk.specs.Tree.{Tree, same_path}
 use Rattle.cacache_core.specs.declared.errors.Fault.TheVariants.{NotFound, IsADirectory, Device}
 use Rattle.cacache_disk.specs.Found.{bytes_in}
 use Rattle.cacache_disk.proofs.Maps.{same_path-true}
-use Rattle.cacache_base.specs.declared.store.answer.Answer.TheVariants.{Took, Failed}
+use Rattle.cacache_base.specs.declared.store.answer.Answer.TheVariants.{Done, Took, Failed}
 use Rattle.cacache_base.specs.Plain.{PlainAnswer}
 use Rattle.cacache_disk.specs.declared.luck.Luck.{Luck}
 use Rattle.cacache_disk.specs.declared.luck.Luck.TheVariants.{Fail}
 use Rattle.cacache_entry.specs.Entry.{Entry, line_of}
 use Rattle.cacache_entry.specs.Fits.{IsEntry, Fits}
 use Rattle.cacache_entry.specs.Bucket.{entries_of}
-use Rattle.cacache_laws.specs.Value.{Value, blob_in, bucket_in}
-use Rattle.cacache_laws.specs.Acts.{list_of, amount_left, PutBytes, AddEntries, act_with, change}
-use Rattle.cacache_laws.specs.Cases.{bucket_after, AppendCases, ContentCases, RemovedBucketsGo, OtherBucketsKeep, FolderCases, KindCases, TreeCases, LinkCases, row_folder}
+use Rattle.cacache_laws.specs.Value.{Value, blob_in, bucket_in, empty_value}
+use Rattle.cacache_laws.specs.Acts.{list_of, amount_left, folders_left, make_folders, PutBytes, AddEntries, MakeFolders, act_at, act_with, change}
+use Rattle.cacache_laws.specs.Cases.{bucket_after, AppendCases, ContentCases, RemovedBucketsGo, OtherBucketsKeep, FolderCases, KindCases, TreeCases, LinkCases, row_home, row_folder, folders_after}
 use Rattle.cacache_laws.proofs.Apart.{not_true}
 use Rattle.cacache_laws.proofs.Lines.{whole_line, torn_line, append_act, nothing_left_is_nothing}
 use Rattle.cacache_laws.proofs.Roots.{same_self}
@@ -88,7 +88,7 @@ other_buckets_keep home v path bytes d b luck answer p q differ is =
 pub content_cases : (home : Names) (v : Value) (path : List ℕ) (a : Hash) → names_of path ≡ Ok (home ++ content_names a)
     → ContentCases home v path a
 content_cases home v path a is = record {
-  replaced = λ luck from bytes. rw is (here (home ++ content_names a) _ _);
+  replaced = λ luck file bytes known. rw (is, known) (here (home ++ content_names a) _ _);
   others_keep = λ luck file b ha hb differ. rw is (unput file.bytes home v a b (contents_apart home a b ha hb differ));
   failed = λ luck file. refl;
   linked = λ luck target. rw is (here (home ++ content_names a) _ _);
@@ -115,12 +115,19 @@ link_cases t target = record {
   to_folder = λ end is folder. rw is (ap (bytes_in IsADirectory) folder);
 }
 
+-- the folders after a step that left so many
+folders_with : (p : List ℕ) (luck : Luck) (answer : PlainAnswer) (n : ℕ) (names : Names) → names_of p ≡ Ok row_folder
+    → folders_left row_folder luck answer ≡ Some n → folders_after p luck answer names ≡ make_folders (λ names. false) [] row_folder n names
+folders_with p luck answer n names is left =
+    ap (λ r. (change (Some row_home) (act_at r (λ names. act_with (folders_left names luck answer) (MakeFolders names))) empty_value).folders names) is
+    ∙ ap (λ o. (change (Some row_home) (act_with o (MakeFolders row_folder)) empty_value).folders names) left
+
 pub folder_cases : (p : List ℕ) (luck : Luck) → names_of p ≡ Ok row_folder → FolderCases p luck
 folder_cases p luck is = record {
-  first = rw is refl;
-  second = rw is refl;
-  only_first = rw is refl;
-  no_second = rw is refl;
+  first = folders_with p luck Done 2 row_home is refl;
+  second = folders_with p luck Done 2 row_folder is refl;
+  only_first = folders_with p (Fail Device (Some 1)) (Failed Device) 1 row_home is refl;
+  no_second = folders_with p (Fail Device (Some 1)) (Failed Device) 1 row_folder is refl;
   removed = λ v. rw is refl;
 }
 

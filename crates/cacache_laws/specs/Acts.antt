@@ -23,7 +23,7 @@ pub data Act : Type 0 where
   PutBytes : Names → List ℕ → Act
   -- puts a link as the content there
   PutLink : Names → List ℕ → Act
-  -- puts entries behind those of the bucket there; the bucket exists then, also where no entry comes
+  -- puts entries behind those of the bucket there, which then exists, also where no entry comes
   AddEntries : Names → List Entry → Act
   -- removes the content or the bucket there
   Drop : Names → Act

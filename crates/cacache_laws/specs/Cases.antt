@@ -1,5 +1,5 @@
 -- Single cases, which show that the definitions say what they should.
-use Rattle.std.specs.Prelude.{◌≡◌, ◌≢◌, ◌≤◌, ◌<◌, ℕ, List, [], ◌∷◌, ◌++◌, Option, Some, None, Ok, Err, true, false, codes, length}
+use Rattle.std.specs.Prelude.{◌≡◌, ◌≢◌, ◌≤◌, ◌<◌, ℕ, List, [], ◌∷◌, ◌++◌, Option, Some, None, Ok, Err, Bool, true, false, codes, length}
 use Rattle.cacache_core.specs.declared.errors.Fault.TheVariants.{Device, NotFound, IsADirectory}
 use Rattle.cacache_core.specs.declared.integrity.digest.Hash.{Hash}
 use Rattle.cacache_core.specs.Integrity.{IsHash}
@@ -31,18 +31,20 @@ row_home = codes "c" ∷ []
 abbrev pub row_folder : Names
 row_folder = codes "c" ∷ codes "tmp" ∷ []
 
--- `content-v2/sha256/ba/78/16bf`, shortened, is a content, and so on
+-- `/c/content-v2/sha1/a9/99/3e36` is a content, and so on
 pub record KindCases : Type 0 where
   pub content : path_kind (Some row_home)
-      (codes "c" ∷ codes "content-v2" ∷ codes "sha256" ∷ codes "ba" ∷ codes "78" ∷ codes "16bf" ∷ [])
+      (codes "c" ∷ codes "content-v2" ∷ codes "sha1" ∷ codes "a9" ∷ codes "99" ∷ codes "3e36" ∷ [])
       ≡ Content
   pub bucket : path_kind (Some row_home)
       (codes "c" ∷ codes "index-v5" ∷ codes "c8" ∷ codes "fd" ∷ codes "19d9" ∷ []) ≡ Bucket
-  pub temporary : path_kind (Some row_home) (codes "c" ∷ codes "tmp" ∷ codes ".tmp07" ∷ []) ≡ Temporary
+  pub temporary : path_kind (Some row_home) (codes "c" ∷ codes "tmp" ∷ codes ".tmp07" ∷ [])
+      ≡ Temporary
   pub top : path_kind (Some row_home) [] ≡ Way
   pub home : path_kind (Some row_home) (codes "c" ∷ []) ≡ Way
   pub folder : path_kind (Some row_home) (codes "c" ∷ codes "index-v5" ∷ codes "c8" ∷ []) ≡ Way
-  pub too_deep : path_kind (Some row_home) (codes "c" ∷ codes "tmp" ∷ codes "x" ∷ codes "y" ∷ []) ≡ Stray
+  pub too_deep : path_kind (Some row_home) (codes "c" ∷ codes "tmp" ∷ codes "x" ∷ codes "y" ∷ [])
+      ≡ Stray
   pub other_area : path_kind (Some row_home) (codes "c" ∷ codes "notes" ∷ []) ≡ Stray
   pub apart : path_kind (Some row_home) (codes "d" ∷ codes "tmp" ∷ []) ≡ Elsewhere
   pub no_home : path_kind None (codes "c" ∷ []) ≡ Elsewhere
@@ -64,11 +66,13 @@ pub record TreeCases (home : Names) (t : Tree) : Type 0 where
   pub no_bucket : (digest : List ℕ) → look t (home ++ bucket_names_of digest) ≡ None
       → (value_of_tree (Some home) t).buckets digest ≡ None
 
--- a link to a file shows its bytes, one to nothing that there are none, one to a folder that it is one
+-- what a link shows that leads to a file, to nothing or to a folder
 pub record LinkCases (t : Tree) (target : List ℕ) : Type 0 where
-  pub to_file : (end : Names) (bytes : List ℕ) → link_end t target ≡ Ok end → look t end ≡ Some (File bytes)
+  pub to_file : (end : Names) (bytes : List ℕ)
+      → link_end t target ≡ Ok end → look t end ≡ Some (File bytes)
       → blob_bytes t (Some (AtLink target)) ≡ Ok bytes
-  pub to_nothing : link_end t target ≡ Err NotFound → blob_bytes t (Some (AtLink target)) ≡ Err NotFound
+  pub to_nothing : link_end t target ≡ Err NotFound
+      → blob_bytes t (Some (AtLink target)) ≡ Err NotFound
   pub to_folder : (end : Names) → link_end t target ≡ Ok end → look t end ≡ Some Folder
       → blob_bytes t (Some (AtLink target)) ≡ Err IsADirectory
 
@@ -79,7 +83,8 @@ abbrev pub value_after : Names → Value → PlainStep → Luck → PlainAnswer 
 value_after home v step luck answer = change (Some home) (act_of step luck answer) v
 
 -- the bucket of a SHA-1 after an append of an entry's line at its path
-abbrev pub bucket_after : Names → Value → List ℕ → List ℕ → Entry → Luck → PlainAnswer → Option (List Entry)
+abbrev pub bucket_after : Names → Value → List ℕ → List ℕ → Entry → Luck → PlainAnswer
+    → Option (List Entry)
 bucket_after home v path digest e luck answer =
     (value_after home v (Append path (line_of e)) luck answer).buckets digest
 
@@ -118,9 +123,8 @@ OtherBucketsKeep =
 -- files and links at the path of an address
 pub record ContentCases (home : Names) (v : Value) (path : List ℕ) (a : Hash) : Type 0 where
   -- a temporary file that is moved there is the content, in place of another
-  pub replaced : (luck : Luck) (from bytes : List ℕ)
-      → (value_after home v (Persist (record { path = from; bytes = Some bytes }) path) luck Done).contents a
-      ≡ Some (InFile bytes)
+  pub replaced : (luck : Luck) (file : PlainTemp) (bytes : List ℕ) → file.bytes ≡ Some bytes
+      → (value_after home v (Persist file path) luck Done).contents a ≡ Some (InFile bytes)
   -- every other address keeps its content
   pub others_keep : (luck : Luck) (file : PlainTemp) (b : Hash) → IsHash a → IsHash b → b ≢ a
       → (value_after home v (Persist file path) luck Done).contents b ≡ v.contents b
@@ -140,18 +144,18 @@ RemovedBucketsGo =
     → names_of path ≡ Ok (home ++ bucket_names_of digest)
     → (value_after home v (RemoveFile path) luck Done).buckets digest ≡ None
 
--- the two folders of a path, of a cache that holds nothing yet
+-- the folders of a cache that held none, after a `MakeDirs`
+abbrev pub folders_after : List ℕ → Luck → PlainAnswer → Names → Bool
+folders_after path luck answer = (value_after row_home empty_value (MakeDirs path) luck answer).folders
+
+-- the two folders of a path
 pub record FolderCases (path : List ℕ) (luck : Luck) : Type 0 where
   -- both are made
-  pub first : (value_after row_home empty_value (MakeDirs path) luck Done).folders row_home ≡ true
-  pub second : (value_after row_home empty_value (MakeDirs path) luck Done).folders row_folder ≡ true
+  pub first : folders_after path luck Done row_home ≡ true
+  pub second : folders_after path luck Done row_folder ≡ true
   -- a failure that left one of them
-  pub only_first :
-      (value_after row_home empty_value (MakeDirs path) (Fail Device (Some 1)) (Failed Device)).folders
-      row_home ≡ true
-  pub no_second :
-      (value_after row_home empty_value (MakeDirs path) (Fail Device (Some 1)) (Failed Device)).folders
-      row_folder ≡ false
+  pub only_first : folders_after path (Fail Device (Some 1)) (Failed Device) row_home ≡ true
+  pub no_second : folders_after path (Fail Device (Some 1)) (Failed Device) row_folder ≡ false
   -- one that is removed is gone
   pub removed : (v : Value)
       → (value_after row_home v (RemoveDir path) luck Done).folders row_folder ≡ false

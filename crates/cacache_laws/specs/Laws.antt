@@ -60,7 +60,8 @@ WholeLinesAdd =
 
 -- where less was left, none
 abbrev pub TornLinesAddNone : Type 0
-TornLinesAddNone = (e : Entry) (n : ℕ) → IsEntry e → Fits e → n < length (line_of e) → LineAdds e n []
+TornLinesAddNone =
+    (e : Entry) (n : ℕ) → IsEntry e → Fits e → n < length (line_of e) → LineAdds e n []
 
 -- and an append that changed nothing has no act
 abbrev pub NothingLeftIsNothing : Type 0

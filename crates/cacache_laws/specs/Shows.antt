@@ -58,8 +58,9 @@ ShowsThere content other = Unit {0}
 
 -- ---- reading steps
 
--- a step at the path of a content answers what is so of the content that the tree's value holds there
-abbrev pub AnswersOf : Option Names → Tree → (List ℕ → PlainStep) → (Option Blob → PlainAnswer → Type 0) → Type 0
+-- a step at the path of a content answers what is so of the content that the value holds there
+abbrev pub AnswersOf : Option Names → Tree → (List ℕ → PlainStep)
+    → (Option Blob → PlainAnswer → Type 0) → Type 0
 AnswersOf home t step IsSo =
     (address : Hash) (path : List ℕ) (luck : Luck) → NamesBelow home (content_names address) path
     → IsSo ((value_of_tree home t).contents address) (apply t (step path) luck).0

@@ -15,7 +15,7 @@ pub data Blob : Type 0 where
   InFile : List ℕ → Blob
   AtLink : List ℕ → Blob
 
--- the content at each address, the entries of each SHA-1's bucket if it exists, and which paths are folders
+-- the content at each address, the entries of each SHA-1's bucket, and which paths are folders
 pub record Value : Type 0 where
   pub contents : Hash → Option Blob
   pub buckets : List ℕ → Option (List Entry)

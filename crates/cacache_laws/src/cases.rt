@@ -8,8 +8,9 @@ ghost use Rattle.cacache_disk.specs.Tree.{Tree};
 ghost use Rattle.cacache_entry.specs.Entry.{Entry};
 ghost use Rattle.cacache_entry.specs.Fits.{IsEntry, Fits};
 ghost use Rattle.cacache_laws.specs.Value.{Value};
-ghost use Rattle.cacache_laws.specs.Cases.{KindCases, TreeCases, LinkCases, AppendCases, ContentCases};
-ghost use Rattle.cacache_laws.specs.Cases.{RemovedBucketsGo, OtherBucketsKeep, FolderCases, row_folder};
+ghost use Rattle.cacache_laws.specs.Cases.{KindCases, TreeCases, LinkCases, AppendCases};
+ghost use Rattle.cacache_laws.specs.Cases.{ContentCases, RemovedBucketsGo, OtherBucketsKeep};
+ghost use Rattle.cacache_laws.specs.Cases.{FolderCases, row_folder};
 
 /// What single paths are for.
 pub fn kind_cases()
@@ -29,8 +30,8 @@ pub fn link_cases()
 /// Appends to a bucket that took all of a line, took less, failed and left all or less of it, only
 /// made the file, or changed nothing.
 pub fn append_cases()
-    ensures bucket { (home : Names) (v : Value) (path digest : List ℕ) (e : Entry) → IsEntry e → Fits e
-        → names_of path ≡ Ok (home ++ bucket_names_of digest)
+    ensures bucket { (home : Names) (v : Value) (path digest : List ℕ) (e : Entry)
+        → IsEntry e → Fits e → names_of path ≡ Ok (home ++ bucket_names_of digest)
         → AppendCases home v path digest e }
     ensures others { OtherBucketsKeep }
 {}
@@ -44,5 +45,6 @@ pub fn content_cases()
 
 /// Folders that are made, made in part and removed.
 pub fn folder_cases()
-    ensures { (path : List ℕ) (luck : Luck) → names_of path ≡ Ok row_folder → FolderCases path luck }
+    ensures { (path : List ℕ) (luck : Luck)
+        → names_of path ≡ Ok row_folder → FolderCases path luck }
 {}
