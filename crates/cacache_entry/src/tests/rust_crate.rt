@@ -178,14 +178,18 @@ fn say_the_same(one: &SerializableMetadata, other: &SerializableMetadata) -> boo
         && one.raw_metadata == other.raw_metadata
 }
 
-/// The entry's line is the row's, and that reads back as the entry.
-fn check(rt: &impl Abort, alloc: Global, row: &Row<'_>) -> Result<(), Fail> {
-    let entry = entry_of(alloc, row)?;
-    assert!(rt; line(alloc, &entry)?.as_slice() == row.line.as_bytes());
-    let found = entries(alloc, row.line.as_bytes())?;
+/// The entry's line is the expected one, and that reads back as the entry.
+fn check(
+    rt: &impl Abort,
+    alloc: Global,
+    entry: &SerializableMetadata,
+    expected: &str,
+) -> Result<(), Fail> {
+    assert!(rt; line(alloc, entry)?.as_slice() == expected.as_bytes());
+    let found = entries(alloc, expected.as_bytes())?;
     assert_eq!(rt; found.len(), 1);
     for read in &found {
-        assert!(rt; say_the_same(read, &entry));
+        assert!(rt; say_the_same(read, entry));
     }
     Ok(())
 }
@@ -193,7 +197,8 @@ fn check(rt: &impl Abort, alloc: Global, row: &Row<'_>) -> Result<(), Fail> {
 #[test]
 fn lines_of_the_rust_crate(rt: HostRuntime) -> Result<(), Fail> {
     for row in &ROWS {
-        check(&rt, rt.alloc(), row)?;
+        let entry = entry_of(rt.alloc(), row)?;
+        check(&rt, rt.alloc(), &entry, row.line)?;
     }
     Ok(())
 }
@@ -211,19 +216,18 @@ fn repeated(alloc: Global, character: char, times: usize) -> Result<String, Allo
 fn long_line_of_the_rust_crate(rt: HostRuntime) -> Result<(), Fail> {
     let alloc = rt.alloc();
     let key = format!(in alloc; "long {}", repeated(alloc, 'x', 3000)?)?;
-    let metadata = format!(in alloc; "\"{}\"", repeated(alloc, 'y', 2000)?)?;
-    let line = format!(in alloc;
-        "\n3fab6a1ca14720c9add690ec42f80fbccd56b824185ee2832f15ffad02ae3cef\t{{\"key\":\"{key}\",\"integrity\":null,\"time\":9,\"size\":18446744073709551615,\"metadata\":{metadata},\"raw_metadata\":null}}"
+    let text = repeated(alloc, 'y', 2000)?;
+    let expected = format!(in alloc;
+        "\n3fab6a1ca14720c9add690ec42f80fbccd56b824185ee2832f15ffad02ae3cef\t{{\"key\":\"{key}\",\"integrity\":null,\"time\":9,\"size\":18446744073709551615,\"metadata\":\"{text}\",\"raw_metadata\":null}}"
     )?;
-    assert_eq!(rt; line.len(), 5169);
-    let row = Row {
-        key: key.as_str(),
+    assert_eq!(rt; expected.len(), 5169);
+    let entry = SerializableMetadata {
+        key,
         integrity: None,
         time: 9,
         size: usize::MAX,
-        metadata: metadata.as_str(),
+        metadata: Value::String(text),
         raw_metadata: None,
-        line: line.as_str(),
     };
-    check(&rt, alloc, &row)
+    check(&rt, alloc, &entry, expected.as_str())
 }
