@@ -1,22 +1,12 @@
 -- Which answers fit a step, and what a log gains.
-use Rattle.std.specs.Prelude.{◌≡◌, ◌+◌, ◌^◌, ◌≤◌, ◌<◌, ◌==◌, ◌||◌, ℕ, Bool, true, false, if◌then◌else◌, List, [], ◌∷◌, ◌++◌, Option, All, length, option_map}
-use Rattle.std.specs.List.{list_any}
-use Rattle.cacache_core.specs.PathNames.{is_name, is_above}
+use Rattle.std.specs.Prelude.{◌≡◌, ◌+◌, ◌^◌, ◌≤◌, ◌<◌, ℕ, Bool, true, false, if◌then◌else◌, List, [], ◌∷◌, ◌++◌, Option, All, length, option_map}
+use Rattle.cacache_core.specs.PathNames.{IsProperName}
 use Rattle.cacache_base.specs.declared.store.step.Step.TheVariants.{MakeDirs, CreateTemp, Write, Persist, Append, ReadAll, Open, Read, Exists, Size, Symlink, Copy, Reflink, HardLink, ReadDir, RemoveFile, RemoveDir}
 use Rattle.cacache_base.specs.declared.store.answer.Answer.TheVariants.{Done, Temp, Wrote, Took, Bytes, File, Got, There, Length, Names, Failed, NoMemory}
 use Rattle.cacache_base.specs.declared.store.answer.Name.{Name}
 use Rattle.cacache_base.specs.declared.store.log.LogItem.{LogItem}
 use Rattle.cacache_base.specs.declared.store.log.LogItem.TheVariants.{Made}
 use Rattle.cacache_base.specs.Plain.{PlainStep, PlainAnswer}
-
--- `/` and NUL, which no name holds
-abbrev pub ends_name : ℕ → Bool
-ends_name b = b == 47 || b == 0
-
--- a name that stands for one thing in its folder: not empty, `.` or `..`, with no `/` and no NUL
-abbrev pub IsProperName : List ℕ → Type 0
-IsProperName name =
-    (is_name name ≡ true) × (is_above name ≡ false) × (list_any ends_name name ≡ false)
 
 -- a listing of proper names leads nowhere but into its own folder
 abbrev pub AreProperNames : List Name → Type 0

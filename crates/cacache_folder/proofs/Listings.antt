@@ -4,7 +4,8 @@ use Rattle.std.specs.List.{list_any}
 use Rattle.std.proofs.Common.{refl, sym, subst}
 use Rattle.std.proofs.lemmas.List.Elements.{All-push}
 use Rattle.cacache_base.specs.declared.store.answer.Name.{Name}
-use Rattle.cacache_base.specs.Fits.{ends_name, IsProperName, AreProperNames}
+use Rattle.cacache_core.specs.PathNames.{ends_name, IsProperName}
+use Rattle.cacache_base.specs.Fits.{AreProperNames}
 
 either_first : (a b c d e : Bool) → (c || d) ≡ e → ((a || c) || (b || d)) ≡ ((a || b) || e)
 either_first true b c d e h = refl

@@ -1,7 +1,8 @@
 //! What is in a folder.
 ghost use Rattle.std.specs.Prelude.{◌≡◌, ◌==◌, ◌↔◌, IfOk, IfSome, IsTrue};
 ghost use Rattle.std.specs.List.{list_any};
-ghost use Rattle.cacache_base.specs.Fits.{ends_name, IsProperName, AreProperNames};
+ghost use Rattle.cacache_core.specs.PathNames.{ends_name, IsProperName};
+ghost use Rattle.cacache_base.specs.Fits.{AreProperNames};
 
 use crate::folder::FolderStore;
 use cacache_base::store::{Kind, Listing, Name};
