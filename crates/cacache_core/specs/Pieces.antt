@@ -10,8 +10,8 @@ use Rattle.cacache_core.specs.Hashers.{algorithm_of, Holds}
 use Rattle.cacache_core.specs.Integrity.{strongest}
 
 -- the algorithm that was set last
-abbrev pub chosen : IntegrityOpts → Algorithm
-chosen o = o.chosen
+abbrev pub last_algorithm : IntegrityOpts → Algorithm
+last_algorithm o = o.chosen
 
 -- the builder was fed the bytes m, however cut
 abbrev pub WasFed : IntegrityOpts → List ℕ → Type 0

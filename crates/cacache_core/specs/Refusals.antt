@@ -6,13 +6,13 @@ use Rattle.cacache_core.specs.declared.errors.IntegrityFault.{IntegrityFault}
 use Rattle.cacache_core.specs.declared.errors.IntegrityFault.TheVariants.{Check}
 use Rattle.cacache_core.specs.declared.integrity.digest.Hash.{Hash}
 
--- a check fails with what was wanted and what was found, or for want of memory
+-- a check fails with what was wanted and what was found, or as memory ran out
 abbrev pub IsCheckFailure : List Hash → List Hash → Error → Type 0
 IsCheckFailure wanted found OutOfMemory = Unit {0}
 IsCheckFailure wanted found (IntegrityError fault) = fault ≡ Check wanted found
 IsCheckFailure wanted found _ = ⊥
 
--- a reading fails with its fault, or for want of memory
+-- a reading fails with its fault, or as memory ran out
 abbrev pub IsReadFailure : {T : Type 0} → Result T IntegrityFault → Error → Type 0
 IsReadFailure reading OutOfMemory = Unit {0}
 IsReadFailure reading (IntegrityError fault) = reading ≡ Err fault

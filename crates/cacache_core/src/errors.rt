@@ -107,7 +107,7 @@ pub enum Error {
     /// A text that is no integrity, or bytes that don't meet one.
     #[error("{0}")]
     IntegrityError(IntegrityFault),
-    /// Memory was refused.
+    /// There was no memory left for the call.
     #[error("out of memory")]
     OutOfMemory,
 }

@@ -3,7 +3,7 @@ ghost use Rattle.std.specs.Prelude.{◌≡◌, ◌++◌, ℕ, List, [], IfOk, If
 ghost use Rattle.cacache_core.specs.declared.integrity.algorithm.Algorithm.TheVariants.{Sha256};
 ghost use Rattle.cacache_core.specs.Hashers.{algorithm_of, Holds};
 ghost use Rattle.cacache_core.specs.Integrity.{integrity_under};
-ghost use Rattle.cacache_core.specs.Pieces.{WasFed, chosen as chosen_of};
+ghost use Rattle.cacache_core.specs.Pieces.{WasFed, last_algorithm};
 
 use crate::errors::{Error, Result};
 use crate::integrity::algorithm::Algorithm;
@@ -24,7 +24,7 @@ pub struct IntegrityOpts {
 }
 
 impl Default for IntegrityOpts {
-    ghost is_default = { λ builder. WasFed builder [] × (chosen_of builder ≡ Sha256) };
+    ghost is_default = { λ builder. WasFed builder [] × (last_algorithm builder ≡ Sha256) };
 
     fn default() -> IntegrityOpts {
         IntegrityOpts::new()
@@ -35,7 +35,7 @@ impl IntegrityOpts {
     /// A builder under SHA-256 that was fed nothing. Takes no memory.
     pub fn new() -> IntegrityOpts
         ensures fed { WasFed result [] }
-        ensures algorithm { chosen_of result ≡ Algorithm.Sha256 }
+        ensures algorithm { last_algorithm result ≡ Algorithm.Sha256 }
     {
         IntegrityOpts {
             chosen: Algorithm::Sha256,
@@ -49,7 +49,7 @@ impl IntegrityOpts {
     /// The builder with this algorithm set. Takes no memory.
     pub fn algorithm(mut self, algorithm: Algorithm) -> IntegrityOpts
         ensures fed { (m : List ℕ) → WasFed self m → WasFed result m }
-        ensures algorithm { chosen_of result ≡ algorithm }
+        ensures algorithm { last_algorithm result ≡ algorithm }
     {
         self.chosen = algorithm;
         self
@@ -58,7 +58,7 @@ impl IntegrityOpts {
     /// Feeds the builder these bytes after those that it was fed before. Takes no memory.
     pub fn input(&mut self, data: &[u8])
         ensures fed { (m : List ℕ) → WasFed self.old m → WasFed self.new (m ++ «data».now) }
-        ensures algorithm { chosen_of self.new ≡ chosen_of self.old }
+        ensures algorithm { last_algorithm self.new ≡ last_algorithm self.old }
     {
         self.sha512.update(data);
         self.sha384.update(data);
@@ -69,15 +69,16 @@ impl IntegrityOpts {
     /// The integrity of all that the builder was fed.
     pub fn result(self, alloc: Global) -> Result<Integrity>
         ensures ok { (m : List ℕ) → WasFed self m
-            → IfOk result (λ i. i ≡ integrity_under (chosen_of self) m) }
+            → IfOk result (λ i. i ≡ integrity_under (last_algorithm self) m) }
         ensures err { IfErr result (λ e. e ≡ Error.OutOfMemory) }
     {
         Integrity::of_hasher(alloc, self.into_hasher())
     }
 
+    /// The hasher of the algorithm that was set last.
     fn into_hasher(self) -> Hasher
         ensures fed { (m : List ℕ) → WasFed self m → Holds result m }
-        ensures algorithm { algorithm_of result ≡ chosen_of self }
+        ensures algorithm { algorithm_of result ≡ last_algorithm self }
     {
         match self.chosen {
             Algorithm::Sha512 => Hasher::Sha512(self.sha512),

@@ -38,7 +38,7 @@ impl IntegrityChecker {
         self.hasher.update(data);
     }
 
-    /// What `Integrity::check` answers of all that the checker was fed. Only the error takes
+    /// What `Integrity::check` returns for all that the checker was fed. Only the error takes
     /// memory.
     pub fn result(self, alloc: Global) -> Result<Algorithm>
         ensures ok { (i : List Hash) (m : List ℕ) → Compares self i m

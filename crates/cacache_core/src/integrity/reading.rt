@@ -117,7 +117,8 @@ fn next_word(text: &[u8]) -> Option<(&[u8], &[u8])>
     Some((&text[..end], &text[end..]))
 }
 
-/// The place of the first blank, or of the first byte that is none; the length where none is found.
+/// The place of the first byte that is a blank, or that is none, as asked; the length where there
+/// is no such byte.
 fn first_place(text: &[u8], blank: bool) -> usize
     ensures within { result ≤ length text.now }
     ensures before { (k : ℕ) → k < result → is_blank_of (slice_index text.now k) ≡ not blank }
