@@ -7,7 +7,7 @@ use Rattle.cacache_core.specs.PathNames.{Names}
 use Rattle.cacache_disk.specs.Tree.{Tree, look}
 use Rattle.cacache_disk.specs.Found.{followed, standing, on_link, and_then}
 
-followed_next : (most : ℕ) (t : Tree) (names : Names) (target : List ℕ) → Some (Link target) ≡ look t names → 0 < most
+pub followed_next : (most : ℕ) (t : Tree) (names : Names) (target : List ℕ) → Some (Link target) ≡ look t names → 0 < most
     → followed most t names ≡ and_then (standing t target) (followed (most - 1) t)
 unfolding followed
 followed_next zero t names target link some = absurd (omega arith)

@@ -1,11 +1,12 @@
 -- The names of a path's text, piece by piece.
-use Rattle.std.proofs.Common.{◌≡◌, ◌<◌, ◌+◌, ◌==◌, ◌||◌, ℕ, Bool, true, false, cond, List, [], ◌∷◌, ◌++◌, length, take, filter, get_or, refl, ap, sym, ◌∙◌, arith, append-nil}
+use Rattle.std.proofs.Common.{◌≡◌, ◌<◌, ◌+◌, ◌==◌, ◌||◌, ℕ, zero, suc, Bool, true, false, cond, subst, List, [], ◌∷◌, ◌++◌, length, take, filter, get_or, refl, ap, sym, ◌∙◌, arith, append-nil}
 use Rattle.std.specs.Prelude.{Ok, Err}
-use Rattle.std.specs.List.{list_any}
+use Rattle.std.specs.List.{list_any, slice_split, onto_first, AllByRecursion}
 use Rattle.std.proofs.lemmas.List.{take_all}
 use Rattle.std.proofs.lemmas.List.Elements.{filter_more}
 use Rattle.std.proofs.lemmas.List.Folds.{list_any_more, list_any_at}
 use Rattle.cacache_core.specs.declared.errors.Fault.TheVariants.{NotFound, InvalidInput}
+use Rattle.cacache_base.specs.Fits.{ends_name, IsProperName}
 use Rattle.cacache_core.specs.PathNames.{Names, names_of, pieces, is_above, is_name}
 
 -- one item more that passes the filter
@@ -50,3 +51,48 @@ names_all path names n e nul last so above =
     let none : list_any is_above (pieces path) ≡ false = ap (list_any is_above) (sym whole) ∙ above in
     let all : names ≡ filter is_name (pieces path) = so ∙ ap (filter is_name) whole in
     rw (e, nul, none, all) refl
+
+-- ---- a piece holds no slash, and no NUL where its text holds none
+
+abbrev AreOpen : Names → Type 0
+AreOpen parts = AllByRecursion (λ part. list_any ends_name part ≡ false) parts
+
+none_more : {X : Type 0} (p : X → Bool) (x : X) (xs : List X) → p x ≡ false → list_any p xs ≡ false → list_any p (x ∷ xs) ≡ false
+none_more p x xs first rest = rw (first, rest) refl
+
+onto_open : (b : ℕ) (parts : Names) → ends_name b ≡ false → AreOpen parts → AreOpen (onto_first b parts)
+onto_open b [] clean h = (none_more ends_name b [] clean refl, tt)
+onto_open b (part ∷ parts) clean h = (none_more ends_name b part clean h.0, h.1)
+
+neither : (x y rest : Bool) → x ≡ false → (y || rest) ≡ false → ((x || y) ≡ false) × (rest ≡ false)
+neither true y rest e f = absurd cc
+neither false true rest e f = absurd cc
+neither false false rest e f = (refl, f)
+
+or_right : (x y : Bool) → (x || y) ≡ false → y ≡ false
+or_right true y e = absurd cc
+or_right false y e = e
+
+split_at : (b : ℕ) (text : List ℕ) (slash : Bool) → (b == 47) ≡ slash → list_any (λ b. b == 0) (b ∷ text) ≡ false → (list_any (λ b. b == 0) text ≡ false → AreOpen (slice_split (λ b. b == 47) text))
+    → AreOpen (cond slash ([] ∷ slice_split (λ b. b == 47) text) (onto_first b (slice_split (λ b. b == 47) text)))
+split_at b text true is nul more = (refl, more (or_right (b == 0) _ nul))
+split_at b text false is nul more =
+    let f = neither (b == 47) (b == 0) (list_any (λ b. b == 0) text) is nul in
+    onto_open b (slice_split (λ b. b == 47) text) f.0 (more f.1)
+
+split_open : (text : List ℕ) → list_any (λ b. b == 0) text ≡ false → AreOpen (slice_split (λ b. b == 47) text)
+split_open [] nul = (refl, tt)
+split_open (b ∷ text) nul = split_at b text (b == 47) refl nul (split_open text)
+
+open_at : (parts : Names) (n : ℕ) (d : List ℕ) → n < length parts → AreOpen parts → list_any ends_name (get_or parts n d) ≡ false
+open_at [] n d h all = absurd (omega (arith, h))
+open_at (part ∷ parts) zero d h all = all.0
+open_at (part ∷ parts) (suc n) d h all = open_at parts n d (omega (arith, h)) all.1
+
+-- a piece that names something is a proper name
+pub piece_proper : (text : List ℕ) (n : ℕ) (piece name : List ℕ) → list_any (λ b. b == 0) text ≡ false → (n < length (pieces text)) × (piece ≡ get_or (pieces text) n piece)
+    → is_name piece ≡ true → is_above piece ≡ false → name ≡ piece → IsProperName name
+unfolding pieces
+piece_proper text n piece name nul here named above same =
+    let clean : list_any ends_name piece ≡ false = ap (list_any ends_name) here.1 ∙ open_at (pieces text) n piece here.0 (split_open text nul) in
+    subst IsProperName (sym same) (named, above, clean)

@@ -1,6 +1,6 @@
 -- Nodes that are put and cut.
 use Rattle.std.proofs.Common.{◌≡◌, Bool, true, false, cond, refl, sym, ap, ◌∙◌}
-use Rattle.std.specs.Prelude.{not, Option, None, Some}
+use Rattle.std.specs.Prelude.{Option, None, Some}
 use Rattle.std.specs.FinMap as map
 use Rattle.std.specs.Bool.{nat_eq}
 use Rattle.std.specs.Ordering.{nat_cmp}
@@ -44,16 +44,10 @@ put-cut_same t p q node e = rw (sym e) (map.same_map total only _ _ (λ r.
 same_names : (p q : Names) → pointwise (pointwise nat_eq) p q ≡ same_path p q
 same_names p q = lists_ties (slice_cmp nat_cmp) texts_ties p q
 
-not_false : (b : Bool) → false ≡ not b → b ≡ true
-not_false true e = refl
-not_false false e = e
+pub eq-true : (p q : Names) → true ≡ pointwise (pointwise nat_eq) p q → p ≡ q
+eq-true p q e = same_path-true p q (sym (same_names p q) ∙ sym e)
 
-pub ne-false : (p q : Names) → false ≡ not (pointwise (pointwise nat_eq) p q) → p ≡ q
-ne-false p q e = same_path-true p q (sym (same_names p q) ∙ not_false _ e)
-
-not_of : (b : Bool) → true ≡ not b → b ≡ true → ⊥
-not_of true e h = cc
-not_of false e h = cc
-
-pub ne-true : (p q : Names) → true ≡ not (pointwise (pointwise nat_eq) p q) → p ≡ q → ⊥
-ne-true p q e h = not_of _ e (same_names p q ∙ ap (same_path p) (sym h) ∙ (eq_by_cmp_equiv total).refl p)
+pub eq-false : (p q : Names) → false ≡ pointwise (pointwise nat_eq) p q → p ≡ q → ⊥
+eq-false p q e h =
+    let is : false ≡ true = e ∙ same_names p q ∙ ap (same_path p) (sym h) ∙ (eq_by_cmp_equiv total).refl p in
+    cc

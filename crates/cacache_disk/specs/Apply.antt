@@ -1,5 +1,6 @@
 -- What a step answers on a tree, and the tree after it.
 use Rattle.std.specs.Prelude.{ℕ, ◌-◌, ◌==◌, Bool, true, false, cond, List, [], ◌∷◌, ◌++◌, Option, None, Some, Result, Ok, Err, length, take, drop, min, max}
+use Rattle.std.specs.Result.{result_ok}
 use Rattle.cacache_core.specs.declared.errors.Fault.{Fault}
 use Rattle.cacache_core.specs.declared.errors.Fault.TheVariants.{NotFound, NotADirectory, IsADirectory, InvalidInput, Closed, Device}
 use Rattle.cacache_base.specs.declared.store.plain.PlainFile.{PlainFile}
@@ -7,14 +8,15 @@ use Rattle.cacache_base.specs.declared.store.plain.PlainTemp.{PlainTemp}
 use Rattle.cacache_base.specs.declared.store.step.Step.TheVariants.{MakeDirs, CreateTemp, Write, Persist, Append, ReadAll, Open, Read, Size, Exists, Symlink, Copy, Reflink, HardLink, ReadDir, RemoveFile, RemoveDir}
 use Rattle.cacache_base.specs.declared.store.answer.Answer.TheVariants as answer
 use Rattle.cacache_base.specs.declared.store.answer.Answer.TheVariants.{Done, Temp, Wrote, Took, Bytes, Got, There, Length, Failed}
-use Rattle.cacache_base.specs.Seen.{PlainStep, PlainAnswer}
+use Rattle.cacache_base.specs.Plain.{PlainStep, PlainAnswer}
+use Rattle.cacache_disk.specs.declared.find.Wanted.TheVariants as wanted
 use Rattle.cacache_disk.specs.declared.luck.Luck.{Luck}
 use Rattle.cacache_disk.specs.declared.luck.Luck.TheVariants.{Plain, Fail, Take}
 use Rattle.cacache_disk.specs.declared.node.Node.{Node}
 use Rattle.cacache_disk.specs.declared.node.Node.TheVariants.{Folder, File, Link}
 use Rattle.cacache_core.specs.PathNames.{Names, names_of}
 use Rattle.cacache_disk.specs.Tree.{Tree, look, put, cut, bytes_of, listing}
-use Rattle.cacache_disk.specs.Found.{and_then, or_fault, where_no_folder, dirs_fault, dirs, free, known, kept, replaceable, writable, file_at, found, linked, folder, removable, emptied}
+use Rattle.cacache_disk.specs.Found.{and_then, or_fault, suited, dirs_fault, dirs, free, known, kept, replaceable, writable, file_at, found, linked, folder, removable, emptied}
 
 -- a fault fails the step and changes nothing; else it goes on from what was found
 abbrev pub unless : {A : Type 0} → Result A Fault → Tree → (A → PlainAnswer × Tree) → PlainAnswer × Tree
@@ -138,5 +140,9 @@ unfoldable pub planted : Tree → List ℕ → List ℕ → Result Tree Fault
 planted t path bytes =
     and_then (names_of path) (λ names.
     and_then (or_fault (dirs_fault t [] (above_last names)) names) (λ names.
-    and_then (where_no_folder (look t names) names) (λ names.
+    and_then (suited wanted.NoFolder (look t names) names) (λ names.
     Ok (put (make_some t [] (above_last names) (length (above_last names))) names (File bytes)))))
+
+-- the bytes of the file that a path leads to, none where there is no such file
+abbrev pub bytes_at : Tree → List ℕ → Option (List ℕ)
+bytes_at t path = result_ok (file_at t path IsADirectory)

@@ -2,6 +2,8 @@
 use Rattle.std.specs.Prelude.{ℕ, zero, suc, Bool, true, false, ◌==◌, cond, List, [], ◌∷◌, ◌++◌, length, Option, None, Some, Result, Ok, Err}
 use Rattle.cacache_core.specs.declared.errors.Fault.{Fault}
 use Rattle.cacache_core.specs.declared.errors.Fault.TheVariants.{NotFound, AlreadyExists, NotADirectory, IsADirectory, NotEmpty, TooDeep, Closed}
+use Rattle.cacache_disk.specs.declared.find.Wanted.{Wanted}
+use Rattle.cacache_disk.specs.declared.find.Wanted.TheVariants as wanted
 use Rattle.cacache_disk.specs.declared.node.Node.{Node}
 use Rattle.cacache_disk.specs.declared.node.Node.TheVariants.{Folder, File, Link}
 use Rattle.cacache_core.specs.PathNames.{Names, names_of}
@@ -34,43 +36,56 @@ way_fault t above (name ∷ next ∷ rest) = through (look t (above ++ name ∷ 
 unfoldable pub place : Tree → List ℕ → Result Names Fault
 place t path = and_then (names_of path) (λ names. or_fault (way_fault t [] names) names)
 
+-- why what stands at a path isn't what is wanted, if so
+abbrev pub misfit : Wanted → Option Node → Option Fault
+misfit wanted.Anything None = Some NotFound
+misfit wanted.Anything (Some node) = None
+misfit wanted.Nothing None = None
+misfit wanted.Nothing (Some node) = Some AlreadyExists
+misfit wanted.NoFolder None = None
+misfit wanted.NoFolder (Some Folder) = Some IsADirectory
+misfit wanted.NoFolder (Some (File bytes)) = None
+misfit wanted.NoFolder (Some (Link target)) = None
+misfit wanted.File None = Some NotFound
+misfit wanted.File (Some Folder) = Some NotFound
+misfit wanted.File (Some (File bytes)) = None
+misfit wanted.File (Some (Link target)) = Some NotFound
+misfit wanted.FileOrLink None = Some NotFound
+misfit wanted.FileOrLink (Some Folder) = Some IsADirectory
+misfit wanted.FileOrLink (Some (File bytes)) = None
+misfit wanted.FileOrLink (Some (Link target)) = None
+misfit wanted.Folder None = Some NotFound
+misfit wanted.Folder (Some Folder) = None
+misfit wanted.Folder (Some (File bytes)) = Some NotADirectory
+misfit wanted.Folder (Some (Link target)) = Some NotADirectory
+
+-- the names, where what stands at them is what is wanted
+abbrev pub suited : Wanted → Option Node → Names → Result Names Fault
+suited want here names = or_fault (misfit want here) names
+
 -- the names, where something stands
 abbrev pub where_there : Option Node → Names → Result Names Fault
-where_there None names = Err NotFound
-where_there (Some node) names = Ok names
+where_there = suited wanted.Anything
 
 -- the names, where nothing stands
 abbrev pub where_free : Option Node → Names → Result Names Fault
-where_free None names = Ok names
-where_free (Some node) names = Err AlreadyExists
+where_free = suited wanted.Nothing
 
 -- the names, where no folder stands
 abbrev pub where_no_folder : Option Node → Names → Result Names Fault
-where_no_folder None names = Ok names
-where_no_folder (Some Folder) names = Err IsADirectory
-where_no_folder (Some (File bytes)) names = Ok names
-where_no_folder (Some (Link target)) names = Ok names
+where_no_folder = suited wanted.NoFolder
 
 -- the names, where a file or a link stands
 abbrev pub where_removable : Option Node → Names → Result Names Fault
-where_removable None names = Err NotFound
-where_removable (Some Folder) names = Err IsADirectory
-where_removable (Some (File bytes)) names = Ok names
-where_removable (Some (Link target)) names = Ok names
+where_removable = suited wanted.FileOrLink
 
 -- the names, where a folder stands
 abbrev pub where_folder : Option Node → Names → Result Names Fault
-where_folder None names = Err NotFound
-where_folder (Some Folder) names = Ok names
-where_folder (Some (File bytes)) names = Err NotADirectory
-where_folder (Some (Link target)) names = Err NotADirectory
+where_folder = suited wanted.Folder
 
 -- the names, where a file stands
 abbrev pub where_file : Option Node → Names → Result Names Fault
-where_file None names = Err NotFound
-where_file (Some Folder) names = Err NotFound
-where_file (Some (File bytes)) names = Ok names
-where_file (Some (Link target)) names = Err NotFound
+where_file = suited wanted.File
 
 -- the file's bytes; a folder is the given fault
 abbrev pub bytes_in : Fault → Option Node → Result (List ℕ) Fault
@@ -93,9 +108,13 @@ on_link (Some Folder) names go = Ok names
 on_link (Some (File bytes)) names go = Ok names
 on_link (Some (Link target)) names go = go target
 
+-- the names of a path where this is wanted
+abbrev pub at : Tree → List ℕ → Wanted → Result Names Fault
+at t path want = and_then (place t path) (λ names. suited want (look t names) names)
+
 -- the names of a path where something stands; nothing is followed
 unfoldable pub standing : Tree → List ℕ → Result Names Fault
-standing t path = and_then (place t path) (λ names. where_there (look t names) names)
+standing t path = at t path wanted.Anything
 
 -- where names lead through at most so many links
 unfoldable pub followed : ℕ → Tree → Names → Result Names Fault
@@ -106,9 +125,13 @@ followed (suc most) t names = on_link (look t names) names (λ target. and_then 
 unfoldable pub leads : Tree → List ℕ → Result Names Fault
 leads t path = and_then (place t path) (followed 16 t)
 
+-- the names that a path leads to, where this is wanted
+abbrev pub end_at : Tree → List ℕ → Wanted → Result Names Fault
+end_at t path want = and_then (leads t path) (λ names. suited want (look t names) names)
+
 -- where a path leads, and something stands
 unfoldable pub found : Tree → List ℕ → Result Names Fault
-found t path = and_then (leads t path) (λ names. where_there (look t names) names)
+found t path = end_at t path wanted.Anything
 
 -- the bytes of the file that a path leads to; a folder there is the given fault
 unfoldable pub file_at : Tree → List ℕ → Fault → Result (List ℕ) Fault
@@ -116,19 +139,19 @@ file_at t path folder = and_then (leads t path) (λ names. bytes_in folder (look
 
 -- where a file can be written: the one that a path leads to, or a new one
 unfoldable pub writable : Tree → List ℕ → Result Names Fault
-writable t path = and_then (leads t path) (λ names. where_no_folder (look t names) names)
+writable t path = end_at t path wanted.NoFolder
 
 -- where something new can be made
 unfoldable pub free : Tree → List ℕ → Result Names Fault
-free t path = and_then (place t path) (λ names. where_free (look t names) names)
+free t path = at t path wanted.Nothing
 
 -- where a file can be put in place of a file or link
 unfoldable pub replaceable : Tree → List ℕ → Result Names Fault
-replaceable t path = and_then (place t path) (λ names. where_no_folder (look t names) names)
+replaceable t path = at t path wanted.NoFolder
 
--- where a temporary file still stands
+-- where a temporary file still stands: whatever else is found on its path, it is gone
 unfoldable pub kept : Tree → List ℕ → Result Names Fault
-kept t path = and_then (place t path) (λ names. where_file (look t names) names)
+kept t path = and_then (names_of path) (λ names. suited wanted.File (look t names) names)
 
 -- the file or link at a path
 unfoldable pub linked : Tree → List ℕ → Result Node Fault
@@ -136,11 +159,11 @@ linked t path = and_then (place t path) (λ names. linked_in (look t names))
 
 -- where a file or link can be removed
 unfoldable pub removable : Tree → List ℕ → Result Names Fault
-removable t path = and_then (place t path) (λ names. where_removable (look t names) names)
+removable t path = at t path wanted.FileOrLink
 
 -- the names of a folder
 unfoldable pub folder : Tree → List ℕ → Result Names Fault
-folder t path = and_then (place t path) (λ names. where_folder (look t names) names)
+folder t path = at t path wanted.Folder
 
 -- the names, where a folder is empty and isn't the top
 abbrev pub where_empty : Tree → Names → Result Names Fault

@@ -1,3 +1,5 @@
 pub mod Tree
 pub mod Found
 pub mod Apply
+pub mod Stops
+pub mod Plans

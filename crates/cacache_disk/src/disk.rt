@@ -1,21 +1,28 @@
-//! The nodes of a disk, by their paths.
-ghost use Rattle.std.specs.Prelude.{◌≡◌, ◌==◌, ◌++◌, IfOk, OnOk, OnErr, length, option_copied};
-ghost use Rattle.cacache_disk.specs.declared.node.Node.TheVariants.{File};
-ghost use Rattle.cacache_disk.specs.Tree.{bare, look, put, cut, bytes_of, listing};
+//! A disk in memory, step by step.
+ghost use Rattle.std.specs.Prelude.{◌≡◌, false, IfOk, OnErr, MatchResult, Ok, Err, option_map, option_copied};
+ghost use Rattle.std.specs.Arc.{arc_value};
+ghost use Rattle.cacache_base.specs.Fits.{Fits, is_no_memory};
+ghost use Rattle.cacache_disk.specs.Tree.{bare};
+ghost use Rattle.cacache_disk.specs.Apply.{apply, planted, bytes_at};
 
+use crate::change::Plan;
+use crate::luck::Luck;
 use crate::node::Node;
+use crate::nodes::Nodes;
 use crate::path::Path;
-use cacache_base::store::{Listing, Name};
+use crate::steps::answers::copy_of;
+use crate::stop::Stop;
+use cacache_base::store::{Answer, PlainFile, PlainTemp, Step};
 use cacache_core::bytes::Bytes;
+use cacache_core::errors::Fault;
 use std::alloc::{AllocError, Global};
-use std::collections::BTreeMap;
 use std::marker::Model;
+use std::sync::Arc;
 
 /// A disk in memory. Contracts see its tree: the node at each path.
 #[derive(Debug, Drop)]
 pub struct Disk {
-    alloc: Global,
-    nodes: BTreeMap<Path, Node>,
+    nodes: Nodes,
 }
 
 impl Model for Disk {
@@ -29,97 +36,106 @@ impl Model for Disk {
 
     ghost coded = { map.code (coded_list (coded_list coded_ℕ)) node.the_row.coded };
 
-    ghost view = { λ d. map.from_entries d.nodes.entries };
+    ghost view = { λ d. d.nodes };
 }
+
+/// The value, where all went well.
+fn when_done<T: Drop>(done: Result<(), AllocError>, value: T) -> Result<T, AllocError>
+    ensures { MatchResult done (λ _. result ≡ Ok value) (λ error. result ≡ Err error) }
+{
+    match done {
+        Ok(()) => Ok(value),
+        Err(error) => Err(error),
+    }
+}
+
+/// Lets a value go: one call in place of its parts.
+fn let_go<T: Drop>(_value: T) {}
 
 impl Disk {
     /// A disk that holds nothing but its top folder.
     pub fn new(alloc: Global) -> Result<Disk, AllocError>
         ensures { IfOk result (λ d. d ≡ bare) }
     {
-        let mut disk = Disk {
-            alloc,
-            nodes: BTreeMap::new(alloc),
-        };
-        disk.put(Path::top(alloc), Node::Folder)?;
-        Ok(disk)
+        let mut nodes = Nodes::new(alloc);
+        nodes.put(Path::top(alloc), Node::Folder)?;
+        Ok(Disk { nodes })
     }
 
     /// The nodes by their paths.
-    #[cfg(test)]
-    pub(crate) fn nodes(&self) -> &BTreeMap<Path, Node> {
+    pub(crate) fn nodes(&self) -> &Nodes
+        ensures { result.now ≡ self.now }
+    {
         &self.nodes
     }
 
-    /// Where its memory comes from.
-    pub(crate) fn alloc(&self) -> Global {
-        self.alloc
-    }
-
-    /// What stands at the path.
-    pub(crate) fn node(&self, path: &Path) -> Option<&Node>
-        ensures { option_copied result ≡ look self.now path.now }
-    {
-        self.nodes.get(path)
-    }
-
-    /// Puts the node at the path, in place of what stands there.
-    pub(crate) fn put(&mut self, path: Path, node: Node) -> Result<(), AllocError>
-        ensures ok { OnOk result (self.new ≡ put self.old path node) }
+    /// Does one step. Where it fails, the answer says why. `AllocError` means that memory was refused, and nothing
+    /// changed.
+    pub fn apply(
+        &mut self,
+        step: &Step<PlainFile, PlainTemp>,
+        luck: Luck,
+    ) -> Result<Answer<PlainFile, PlainTemp>, AllocError>
+        ensures ok { IfOk result (λ answer. apply self.old step.now luck ≡ (answer, self.new)) }
+        ensures fits { IfOk result (λ answer. Fits step.now answer) }
+        ensures told { IfOk result (λ answer. is_no_memory answer ≡ false) }
         ensures err { OnErr result (self.new ≡ self.old) }
     {
-        self.nodes.insert(path, node)?;
-        Ok(())
+        let Plan { answer, change } = self.outcome(step, luck)?;
+        when_done(self.nodes.commit(change), answer)
     }
 
-    /// Puts more bytes behind what the file at the path holds, in place where nobody shares that.
-    pub(crate) fn lengthen(&mut self, path: Path, more: Bytes) -> Result<(), AllocError>
-        ensures ok { OnOk result (self.new ≡ put self.old path (File (bytes_of (look self.old path) ++ more))) }
+    /// Does one step as `apply` does, and gives the answer and a copy of it, which a log keeps.
+    pub fn apply_logged(
+        &mut self,
+        step: &Step<PlainFile, PlainTemp>,
+        luck: Luck,
+    ) -> Result<(Answer<PlainFile, PlainTemp>, Answer<PlainFile, PlainTemp>), AllocError>
+        ensures ok { IfOk result (λ r. apply self.old step.now luck ≡ (r.0, self.new)) }
+        ensures copy { IfOk result (λ r. r.1 ≡ r.0) }
+        ensures fits { IfOk result (λ r. Fits step.now r.0) }
+        ensures told { IfOk result (λ r. is_no_memory r.0 ≡ false) }
         ensures err { OnErr result (self.new ≡ self.old) }
     {
-        if let Some(node) = self.nodes.get_mut(&path) {
-            return node.lengthen(&more);
-        }
-        self.put(path, Node::File(more))
+        let plan = self.outcome(step, luck)?;
+        let copy = match copy_of(&plan.answer, self.nodes.alloc()) {
+            Ok(copy) => copy,
+            Err(error) => {
+                let_go(plan);
+                return Err(error);
+            }
+        };
+        let Plan { answer, change } = plan;
+        when_done(self.nodes.commit(change), (answer, copy))
     }
 
-    /// Takes away what stands at the path.
-    pub(crate) fn cut(&mut self, path: &Path)
-        ensures { self.new ≡ cut self.old path.now }
+    /// Does what somebody else may do: makes the missing folders of the path's folder, and puts a file with these bytes
+    /// at the path, in place of a file or link. Where that can't be done, the fault says why.
+    ///
+    /// `AllocError` means that memory was refused. On a fault and on an error nothing changed.
+    #[tactic(auto, unfolding(crate::specs::Apply::planted))]
+    pub fn plant(&mut self, path: &str, bytes: &Bytes) -> Result<Result<(), Fault>, AllocError>
+        ensures done { IfOk result (λ r. MatchResult r (λ _. planted self.old path.now bytes.now ≡ Ok self.new) (λ fault. planted self.old path.now bytes.now ≡ Err fault)) }
+        ensures fault { IfOk result (λ r. OnErr r (self.new ≡ self.old)) }
+        ensures err { OnErr result (self.new ≡ self.old) }
     {
-        self.nodes.remove(path);
+        match self.nodes.plant(path, bytes) {
+            Ok(()) => Ok(Ok(())),
+            Err(Stop::Fault(fault)) => Ok(Err(fault)),
+            Err(Stop::OutOfMemory) => Err(AllocError),
+        }
     }
 
-    /// The names in a folder and what stands there, in the order of the names' bytes.
-    pub(crate) fn listing(&self, folder: &Path) -> Result<Listing, AllocError>
-        ensures { IfOk result (λ names. names ≡ listing self.now folder.now) }
+    /// The bytes that a `ReadAll` of the path would give, or None where it would fail. No byte is copied.
+    ///
+    /// `AllocError` means that memory was refused.
+    pub fn shared(&self, path: &str) -> Result<Option<&Arc<Vec<u8>, Global>>, AllocError>
+        ensures { IfOk result (λ r. option_map (λ v. v.items) (option_map arc_value (option_copied r)) ≡ bytes_at self.now path.now) }
     {
-        let mut names: Vec<Name> = Vec::new(self.alloc);
-        for (path, node) in self.nodes.range(folder..) {
-            if !path.is_below(folder) {
-                return Ok(Listing::new(names));
-            }
-            if path.is_in(folder) {
-                let name = path.name(folder.len())?;
-                let kind = node.kind();
-                names.push(Name { name, kind })?;
-            }
+        match self.file_at(path, Fault::IsADirectory) {
+            Ok(contents) => Ok(Some(contents.shared())),
+            Err(Stop::Fault(_)) => Ok(None),
+            Err(Stop::OutOfMemory) => Err(AllocError),
         }
-        Ok(Listing::new(names))
-    }
-
-    /// Whether a folder has no names.
-    pub(crate) fn is_empty_at(&self, folder: &Path) -> bool
-        ensures { result ≡ (length (listing self.now folder.now) == 0) }
-    {
-        for (path, _) in self.nodes.range(folder..) {
-            if !path.is_below(folder) {
-                return true;
-            }
-            if path.is_in(folder) {
-                return false;
-            }
-        }
-        true
     }
 }

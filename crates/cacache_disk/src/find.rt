@@ -1,297 +1,209 @@
 //! What a path leads to, or why it leads nowhere.
-ghost use Rattle.std.specs.Prelude.{◌≡◌, IfOk, option_copied};
+ghost use Rattle.std.specs.Prelude.{◌≡◌, Ok, IfOk, IfErr, option_copied};
 ghost use Rattle.cacache_disk.specs.Tree.{look};
-ghost use Rattle.cacache_disk.specs.Found.{place, standing, followed, leads, found, file_at, writable, free, replaceable, kept, linked, removable, folder, emptied, dirs, where_there, where_free, where_no_folder, where_removable, where_folder, where_file, bytes_in, linked_in};
+ghost use Rattle.cacache_disk.specs.Found.{place, followed, leads, at, end_at, misfit, suited, file_at, kept, linked, emptied, dirs};
+ghost use Rattle.cacache_disk.specs.Stops.{Stops};
 
+use crate::contents::Contents;
 use crate::disk::Disk;
 use crate::node::Node;
 use crate::path::Path;
-use cacache_core::bytes::Bytes;
+use crate::stop::Stop;
 use cacache_core::errors::Fault;
-use cacache_core::text::Text;
-use std::alloc::AllocError;
 
 /// How many links may be followed, one after another.
 const MOST_LINKS: u8 = 16;
 
-/// What was found, or why nothing was.
-pub(crate) type Found<T> = Result<T, Fault>;
+/// What a step wants at a path.
+#[derive(Clone, Copy)]
+pub(crate) enum Wanted {
+    Anything,
+    Nothing,
+    /// Nothing, a file or a link.
+    NoFolder,
+    File,
+    FileOrLink,
+    Folder,
+}
+
+/// Why what stands at a path isn't what is wanted, if so.
+pub(crate) fn misfit(wanted: Wanted, node: Option<&Node>) -> Option<Fault>
+    ensures { result ≡ misfit wanted (option_copied node.entry) }
+{
+    match wanted {
+        Wanted::Anything => match node {
+            None => Some(Fault::NotFound),
+            Some(_) => None,
+        },
+        Wanted::Nothing => match node {
+            None => None,
+            Some(_) => Some(Fault::AlreadyExists),
+        },
+        Wanted::NoFolder => match node {
+            Some(Node::Folder) => Some(Fault::IsADirectory),
+            None | Some(Node::File(_)) | Some(Node::Link(_)) => None,
+        },
+        Wanted::File => match node {
+            Some(Node::File(_)) => None,
+            None | Some(Node::Folder) | Some(Node::Link(_)) => Some(Fault::NotFound),
+        },
+        Wanted::FileOrLink => match node {
+            None => Some(Fault::NotFound),
+            Some(Node::Folder) => Some(Fault::IsADirectory),
+            Some(Node::File(_)) | Some(Node::Link(_)) => None,
+        },
+        Wanted::Folder => match node {
+            None => Some(Fault::NotFound),
+            Some(Node::Folder) => None,
+            Some(Node::File(_)) | Some(Node::Link(_)) => Some(Fault::NotADirectory),
+        },
+    }
+}
+
+/// The names, where what stands at them is what is wanted.
+fn suited(wanted: Wanted, node: Option<&Node>, names: Path) -> Result<Path, Stop>
+    ensures ok { IfOk result (λ found. suited wanted (option_copied node.entry) names ≡ Ok found) }
+    ensures err { IfErr result (λ stop. Stops stop (suited wanted (option_copied node.entry) names)) }
+{
+    match misfit(wanted, node) {
+        None => Ok(names),
+        Some(fault) => Err(Stop::Fault(fault)),
+    }
+}
 
 impl Disk {
-    /// The names of a path whose folder stands.
+    /// The names of a path whose folder stands, and what stands there.
     #[tactic(auto, unfolding(crate::specs::Found::place))]
-    pub(crate) fn place(&self, path: &Text) -> Result<Found<Path>, AllocError>
-        ensures { IfOk result (λ r. r ≡ place self.now path.now) }
+    fn place(&self, path: &str) -> Result<(Path, Option<&Node>), Stop>
+        ensures ok { IfOk result (λ r. place self.now path.now ≡ Ok r.0) }
+        ensures node { IfOk result (λ r. option_copied r.1 ≡ look self.now r.0) }
+        ensures err { IfErr result (λ stop. Stops stop (place self.now path.now)) }
     {
-        let names = match Path::of(self.alloc(), path.as_str())? {
-            Ok(names) => names,
-            Err(fault) => return Ok(Err(fault)),
-        };
-        match self.way_fault(&names)? {
-            None => Ok(Ok(names)),
-            Some(fault) => Ok(Err(fault)),
+        let nodes = self.nodes();
+        let names = Path::of(nodes.alloc(), path)?;
+        if let Some(fault) = nodes.way_fault(&names)? {
+            return Err(Stop::Fault(fault));
         }
+        let node = nodes.node(&names);
+        Ok((names, node))
     }
 
-    /// The names of a path whose folders stand or can be made.
-    #[tactic(auto, unfolding(crate::specs::Found::dirs))]
-    pub(crate) fn dirs(&self, path: &Text) -> Result<Found<Path>, AllocError>
-        ensures { IfOk result (λ r. r ≡ dirs self.now path.now) }
+    /// The names of a path at which something is wanted. No link is followed.
+    pub(crate) fn at(&self, path: &str, wanted: Wanted) -> Result<Path, Stop>
+        ensures ok { IfOk result (λ names. at self.now path.now wanted ≡ Ok names) }
+        ensures err { IfErr result (λ stop. Stops stop (at self.now path.now wanted)) }
     {
-        let names = match Path::of(self.alloc(), path.as_str())? {
-            Ok(names) => names,
-            Err(fault) => return Ok(Err(fault)),
-        };
-        match self.dirs_fault(&names)? {
-            None => Ok(Ok(names)),
-            Some(fault) => Ok(Err(fault)),
-        }
-    }
-
-    /// The names of a path where something stands.
-    #[tactic(auto, unfolding(crate::specs::Found::standing))]
-    pub(crate) fn standing(&self, path: &Text) -> Result<Found<Path>, AllocError>
-        ensures { IfOk result (λ r. r ≡ standing self.now path.now) }
-    {
-        match self.place(path)? {
-            Ok(names) => Ok(where_there(self.node(&names), names)),
-            Err(fault) => Ok(Err(fault)),
-        }
+        let (names, node) = self.place(path)?;
+        suited(wanted, node, names)
     }
 
     /// Where names lead through at most so many links.
-    #[tactic(auto, unfolding(crate::specs::Found::followed))]
-    fn followed(&self, names: Path, most: u8) -> Result<Found<Path>, AllocError>
-        ensures { IfOk result (λ r. r ≡ followed most self.now names) }
+    #[tactic(auto, unfolding(crate::specs::Found::followed, crate::specs::Found::standing))]
+    fn followed(&self, names: Path, most: u8) -> Result<Path, Stop>
+        ensures ok { IfOk result (λ end. followed most self.now names ≡ Ok end) }
+        ensures err { IfErr result (λ stop. Stops stop (followed most self.now names)) }
     {
-        match self.node(&names) {
-            None => Ok(Ok(names)),
-            Some(Node::Folder) => Ok(Ok(names)),
-            Some(Node::File(_)) => Ok(Ok(names)),
+        match self.nodes().node(&names) {
+            None => Ok(names),
+            Some(Node::Folder) => Ok(names),
+            Some(Node::File(_)) => Ok(names),
             Some(Node::Link(target)) => {
                 if most == 0 {
-                    return Ok(Err(Fault::TooDeep));
+                    return Err(Stop::Fault(Fault::TooDeep));
                 }
-                match self.standing(target)? {
-                    Ok(names) => self.followed(names, most - 1),
-                    Err(fault) => Ok(Err(fault)),
-                }
+                let next = self.at(target.as_str(), Wanted::Anything)?;
+                self.followed(next, most - 1)
             }
         }
     }
 
-    /// Where a path leads.
+    /// Where a path leads, and what stands there.
     #[tactic(auto, unfolding(crate::specs::Found::leads))]
-    fn leads(&self, path: &Text) -> Result<Found<Path>, AllocError>
-        ensures { IfOk result (λ r. r ≡ leads self.now path.now) }
+    fn leads(&self, path: &str) -> Result<(Path, Option<&Node>), Stop>
+        ensures ok { IfOk result (λ r. leads self.now path.now ≡ Ok r.0) }
+        ensures node { IfOk result (λ r. option_copied r.1 ≡ look self.now r.0) }
+        ensures err { IfErr result (λ stop. Stops stop (leads self.now path.now)) }
     {
-        match self.place(path)? {
-            Ok(names) => self.followed(names, MOST_LINKS),
-            Err(fault) => Ok(Err(fault)),
-        }
+        let (names, _) = self.place(path)?;
+        let end = self.followed(names, MOST_LINKS)?;
+        let node = self.nodes().node(&end);
+        Ok((end, node))
     }
 
-    /// Where a path leads, and something stands.
-    #[tactic(auto, unfolding(crate::specs::Found::found))]
-    pub(crate) fn found(&self, path: &Text) -> Result<Found<Path>, AllocError>
-        ensures { IfOk result (λ r. r ≡ found self.now path.now) }
+    /// The names that a path leads to, where something is wanted.
+    pub(crate) fn end_at(&self, path: &str, wanted: Wanted) -> Result<Path, Stop>
+        ensures ok { IfOk result (λ names. end_at self.now path.now wanted ≡ Ok names) }
+        ensures err { IfErr result (λ stop. Stops stop (end_at self.now path.now wanted)) }
     {
-        match self.leads(path)? {
-            Ok(names) => Ok(where_there(self.node(&names), names)),
-            Err(fault) => Ok(Err(fault)),
-        }
+        let (names, node) = self.leads(path)?;
+        suited(wanted, node, names)
     }
 
-    /// The bytes of the file that a path leads to, shared. A folder there is the given fault.
+    /// The bytes of the file that a path leads to. A folder there is the given fault.
     #[tactic(auto, unfolding(crate::specs::Found::file_at))]
-    pub(crate) fn file_at(&self, path: &Text, folder: Fault) -> Result<Found<Bytes>, AllocError>
-        ensures { IfOk result (λ r. r ≡ file_at self.now path.now folder) }
+    pub(crate) fn file_at(&self, path: &str, folder: Fault) -> Result<&Contents, Stop>
+        ensures ok { IfOk result (λ bytes. file_at self.now path.now folder ≡ Ok bytes.now) }
+        ensures err { IfErr result (λ stop. Stops stop (file_at self.now path.now folder)) }
     {
-        match self.leads(path)? {
-            Ok(names) => bytes_in(folder, self.node(&names)),
-            Err(fault) => Ok(Err(fault)),
+        let (_, node) = self.leads(path)?;
+        match node {
+            None => Err(Stop::Fault(Fault::NotFound)),
+            Some(Node::Folder) => Err(Stop::Fault(folder)),
+            Some(Node::File(contents)) => Ok(contents),
+            Some(Node::Link(_)) => Err(Stop::Fault(Fault::TooDeep)),
         }
     }
 
-    /// Where a file can be written.
-    #[tactic(auto, unfolding(crate::specs::Found::writable))]
-    pub(crate) fn writable(&self, path: &Text) -> Result<Found<Path>, AllocError>
-        ensures { IfOk result (λ r. r ≡ writable self.now path.now) }
-    {
-        match self.leads(path)? {
-            Ok(names) => Ok(where_no_folder(self.node(&names), names)),
-            Err(fault) => Ok(Err(fault)),
-        }
-    }
-
-    /// Where something new can be made.
-    #[tactic(auto, unfolding(crate::specs::Found::free))]
-    pub(crate) fn free(&self, path: &Text) -> Result<Found<Path>, AllocError>
-        ensures { IfOk result (λ r. r ≡ free self.now path.now) }
-    {
-        match self.place(path)? {
-            Ok(names) => Ok(where_free(self.node(&names), names)),
-            Err(fault) => Ok(Err(fault)),
-        }
-    }
-
-    /// Where a file can be put in place of a file or link.
-    #[tactic(auto, unfolding(crate::specs::Found::replaceable))]
-    pub(crate) fn replaceable(&self, path: &Text) -> Result<Found<Path>, AllocError>
-        ensures { IfOk result (λ r. r ≡ replaceable self.now path.now) }
-    {
-        match self.place(path)? {
-            Ok(names) => Ok(where_no_folder(self.node(&names), names)),
-            Err(fault) => Ok(Err(fault)),
-        }
-    }
-
-    /// Where a temporary file still stands.
+    /// The names of a temporary file's path, where the file still stands.
     #[tactic(auto, unfolding(crate::specs::Found::kept))]
-    pub(crate) fn kept(&self, path: &Text) -> Result<Found<Path>, AllocError>
-        ensures { IfOk result (λ r. r ≡ kept self.now path.now) }
+    pub(crate) fn kept(&self, path: &str) -> Result<Path, Stop>
+        ensures ok { IfOk result (λ names. kept self.now path.now ≡ Ok names) }
+        ensures err { IfErr result (λ stop. Stops stop (kept self.now path.now)) }
     {
-        match self.place(path)? {
-            Ok(names) => Ok(where_file(self.node(&names), names)),
-            Err(fault) => Ok(Err(fault)),
-        }
+        let nodes = self.nodes();
+        let names = Path::of(nodes.alloc(), path)?;
+        let node = nodes.node(&names);
+        suited(Wanted::File, node, names)
     }
 
     /// A copy of the file or link at a path, its bytes shared.
     #[tactic(auto, unfolding(crate::specs::Found::linked))]
-    pub(crate) fn linked(&self, path: &Text) -> Result<Found<Node>, AllocError>
-        ensures { IfOk result (λ r. r ≡ linked self.now path.now) }
+    pub(crate) fn linked(&self, path: &str) -> Result<Node, Stop>
+        ensures ok { IfOk result (λ node. linked self.now path.now ≡ Ok node) }
+        ensures err { IfErr result (λ stop. Stops stop (linked self.now path.now)) }
     {
-        match self.place(path)? {
-            Ok(names) => linked_in(self.node(&names)),
-            Err(fault) => Ok(Err(fault)),
+        let (_, node) = self.place(path)?;
+        match node {
+            None => Err(Stop::Fault(Fault::NotFound)),
+            Some(Node::Folder) => Err(Stop::Fault(Fault::IsADirectory)),
+            Some(Node::File(contents)) => Ok(Node::File(contents.share()?)),
+            Some(Node::Link(target)) => Ok(Node::Link(target.clone()?)),
         }
     }
 
-    /// Where a file or link can be removed.
-    #[tactic(auto, unfolding(crate::specs::Found::removable))]
-    pub(crate) fn removable(&self, path: &Text) -> Result<Found<Path>, AllocError>
-        ensures { IfOk result (λ r. r ≡ removable self.now path.now) }
+    /// The names of an empty folder other than the top.
+    #[tactic(auto, unfolding(crate::specs::Found::emptied, crate::specs::Found::folder))]
+    pub(crate) fn emptied(&self, path: &str) -> Result<Path, Stop>
+        ensures ok { IfOk result (λ names. emptied self.now path.now ≡ Ok names) }
+        ensures err { IfErr result (λ stop. Stops stop (emptied self.now path.now)) }
     {
-        match self.place(path)? {
-            Ok(names) => Ok(where_removable(self.node(&names), names)),
-            Err(fault) => Ok(Err(fault)),
+        let names = self.at(path, Wanted::Folder)?;
+        if names.is_top() || !self.nodes().is_empty_at(&names) {
+            return Err(Stop::Fault(Fault::NotEmpty));
         }
+        Ok(names)
     }
 
-    /// The names of a folder.
-    #[tactic(auto, unfolding(crate::specs::Found::folder))]
-    pub(crate) fn folder(&self, path: &Text) -> Result<Found<Path>, AllocError>
-        ensures { IfOk result (λ r. r ≡ folder self.now path.now) }
+    /// The names of a path whose folders stand or can be made.
+    #[tactic(auto, unfolding(crate::specs::Found::dirs))]
+    pub(crate) fn dirs(&self, path: &str) -> Result<Path, Stop>
+        ensures ok { IfOk result (λ names. dirs self.now path.now ≡ Ok names) }
+        ensures err { IfErr result (λ stop. Stops stop (dirs self.now path.now)) }
     {
-        match self.place(path)? {
-            Ok(names) => Ok(where_folder(self.node(&names), names)),
-            Err(fault) => Ok(Err(fault)),
+        let names = Path::of(self.nodes().alloc(), path)?;
+        match self.nodes().dirs_fault(&names)? {
+            None => Ok(names),
+            Some(fault) => Err(Stop::Fault(fault)),
         }
-    }
-
-    /// Where an empty folder can be removed: not the top.
-    #[tactic(auto, unfolding(crate::specs::Found::emptied))]
-    pub(crate) fn emptied(&self, path: &Text) -> Result<Found<Path>, AllocError>
-        ensures { IfOk result (λ r. r ≡ emptied self.now path.now) }
-    {
-        let names = match self.folder(path)? {
-            Ok(names) => names,
-            Err(fault) => return Ok(Err(fault)),
-        };
-        if names.is_top() {
-            return Ok(Err(Fault::NotEmpty));
-        }
-        if self.is_empty_at(&names) {
-            Ok(Ok(names))
-        } else {
-            Ok(Err(Fault::NotEmpty))
-        }
-    }
-}
-
-fn where_there(node: Option<&Node>, names: Path) -> Found<Path>
-    ensures { result ≡ where_there (option_copied node.entry) names }
-{
-    match node {
-        None => Err(Fault::NotFound),
-        Some(_) => Ok(names),
-    }
-}
-
-fn where_free(node: Option<&Node>, names: Path) -> Found<Path>
-    ensures { result ≡ where_free (option_copied node.entry) names }
-{
-    match node {
-        None => Ok(names),
-        Some(_) => Err(Fault::AlreadyExists),
-    }
-}
-
-pub(crate) fn where_no_folder(node: Option<&Node>, names: Path) -> Found<Path>
-    ensures { result ≡ where_no_folder (option_copied node.entry) names }
-{
-    match node {
-        None => Ok(names),
-        Some(Node::Folder) => Err(Fault::IsADirectory),
-        Some(Node::File(_)) => Ok(names),
-        Some(Node::Link(_)) => Ok(names),
-    }
-}
-
-fn where_removable(node: Option<&Node>, names: Path) -> Found<Path>
-    ensures { result ≡ where_removable (option_copied node.entry) names }
-{
-    match node {
-        None => Err(Fault::NotFound),
-        Some(Node::Folder) => Err(Fault::IsADirectory),
-        Some(Node::File(_)) => Ok(names),
-        Some(Node::Link(_)) => Ok(names),
-    }
-}
-
-fn where_folder(node: Option<&Node>, names: Path) -> Found<Path>
-    ensures { result ≡ where_folder (option_copied node.entry) names }
-{
-    match node {
-        None => Err(Fault::NotFound),
-        Some(Node::Folder) => Ok(names),
-        Some(Node::File(_)) => Err(Fault::NotADirectory),
-        Some(Node::Link(_)) => Err(Fault::NotADirectory),
-    }
-}
-
-fn where_file(node: Option<&Node>, names: Path) -> Found<Path>
-    ensures { result ≡ where_file (option_copied node.entry) names }
-{
-    match node {
-        None => Err(Fault::NotFound),
-        Some(Node::Folder) => Err(Fault::NotFound),
-        Some(Node::File(_)) => Ok(names),
-        Some(Node::Link(_)) => Err(Fault::NotFound),
-    }
-}
-
-/// The file's bytes, shared.
-fn bytes_in(folder: Fault, node: Option<&Node>) -> Result<Found<Bytes>, AllocError>
-    ensures { IfOk result (λ r. r ≡ bytes_in folder (option_copied node.entry)) }
-{
-    match node {
-        None => Ok(Err(Fault::NotFound)),
-        Some(Node::Folder) => Ok(Err(folder)),
-        Some(Node::File(bytes)) => Ok(Ok(bytes.share()?)),
-        Some(Node::Link(_)) => Ok(Err(Fault::TooDeep)),
-    }
-}
-
-/// The file or link, its bytes shared.
-fn linked_in(node: Option<&Node>) -> Result<Found<Node>, AllocError>
-    ensures { IfOk result (λ r. r ≡ linked_in (option_copied node.entry)) }
-{
-    match node {
-        None => Ok(Err(Fault::NotFound)),
-        Some(Node::Folder) => Ok(Err(Fault::IsADirectory)),
-        Some(Node::File(bytes)) => Ok(Ok(Node::File(bytes.share()?))),
-        Some(Node::Link(target)) => Ok(Ok(Node::Link(target.clone()?))),
     }
 }

@@ -3,6 +3,7 @@ ghost use Rattle.std.specs.Prelude.{◌≡◌, ◌++◌, Some, OnOk, OnErr};
 ghost use Rattle.cacache_disk.specs.declared.node.Node.TheVariants.{File};
 ghost use Rattle.cacache_disk.specs.Tree.{bytes_of, kind_of};
 
+use crate::contents::Contents;
 use cacache_base::store::Kind;
 use cacache_core::bytes::Bytes;
 use cacache_core::text::Text;
@@ -12,7 +13,7 @@ use std::alloc::AllocError;
 #[derive(Debug, Drop)]
 pub(crate) enum Node {
     Folder,
-    File(Bytes),
+    File(Contents),
     /// The text of the path that it leads to.
     Link(Text),
 }
@@ -37,7 +38,7 @@ impl Node {
         if let Node::File(old) = self {
             return old.extend(more.as_slice());
         }
-        *self = Node::File(more.share()?);
+        *self = Node::File(Contents::of(more.share()?)?);
         Ok(())
     }
 }

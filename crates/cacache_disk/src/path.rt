@@ -1,6 +1,7 @@
 //! Paths as names from the top folder down.
-ghost use Rattle.std.specs.Prelude.{◌≡◌, ◌+◌, ◌++◌, ◌∷◌, ◌≤◌, ◌<◌, ◌==◌, [], List, IfOk, OnOk, OnErr, length, take, Some, slice_index_or};
+ghost use Rattle.std.specs.Prelude.{◌≡◌, ◌+◌, ◌++◌, ◌∷◌, ◌≤◌, ◌<◌, ◌==◌, [], List, Ok, IfOk, IfErr, OnOk, OnErr, length, take, Some, slice_index_or};
 ghost use Rattle.cacache_disk.specs.Tree.{is_below, is_child};
+ghost use Rattle.cacache_disk.specs.Stops.{Stops};
 ghost use Rattle.std.specs.Bool.{OnTrue};
 ghost use Rattle.cacache_core.specs.PathNames.{names_of, is_above, is_name};
 ghost use Rattle.std.proofs.Common.{refl};
@@ -9,6 +10,8 @@ ghost use Rattle.std.specs.Ordering.{nat_cmp};
 ghost use Rattle.std.specs.Cmp;
 ghost use Rattle.std.specs.Cmp.Lexicographic.{pointwise, slice_cmp, slice_partial_cmp, lists_equiv, lists_agrees, lists_total, lists_ties, nat_list_eq_equiv, nat_list_cmp_total, texts_ties, lists_po, texts_po};
 
+use crate::name::ProperName;
+use crate::stop::Stop;
 use cacache_core::errors::Fault;
 use cacache_core::text::Text;
 use std::alloc::{AllocError, Global};
@@ -18,7 +21,7 @@ use std::marker::Model;
 /// The names of a path. Contracts see their list.
 #[derive(Debug, Drop)]
 pub(crate) struct Path {
-    names: Vec<Text>,
+    names: Vec<ProperName>,
 }
 
 impl Model for Path {
@@ -39,26 +42,27 @@ impl Path {
         }
     }
 
-    /// The names of a path's text, or why it has none.
-    pub(crate) fn of(alloc: Global, text: &str) -> Result<Result<Path, Fault>, AllocError>
-        ensures { IfOk result (λ r. r ≡ names_of text.now) }
+    /// The names of a path's text.
+    pub(crate) fn of(alloc: Global, text: &str) -> Result<Path, Stop>
+        ensures ok { IfOk result (λ names. names_of text.now ≡ Ok names) }
+        ensures err { IfErr result (λ stop. Stops stop (names_of text.now)) }
     {
         if text.is_empty() {
-            return Ok(Err(Fault::NotFound));
+            return Err(Stop::Fault(Fault::NotFound));
         }
         if text.as_bytes().contains(&0) {
-            return Ok(Err(Fault::InvalidInput));
+            return Err(Stop::Fault(Fault::InvalidInput));
         }
         let mut names = Path::top(alloc);
         for piece in text.split('/') {
             if is_above(piece) {
-                return Ok(Err(Fault::InvalidInput));
+                return Err(Stop::Fault(Fault::InvalidInput));
             }
             if is_name(piece) {
-                names.push(Text::from_str(alloc, piece)?)?;
+                names.push(ProperName::new(Text::from_str(alloc, piece)?))?;
             }
         }
-        Ok(Ok(names))
+        Ok(names)
     }
 
     pub(crate) fn len(&self) -> usize
@@ -91,7 +95,7 @@ impl Path {
     }
 
     /// A copy of the name at an index.
-    pub(crate) fn name(&self, index: usize) -> Result<Text, AllocError>
+    pub(crate) fn name(&self, index: usize) -> Result<ProperName, AllocError>
         requires { index < length self.now }
         ensures { IfOk result (λ name. name ≡ slice_index_or self.now index name) }
     {
@@ -99,7 +103,7 @@ impl Path {
     }
 
     /// One name more at the end.
-    pub(crate) fn push(&mut self, name: Text) -> Result<(), AllocError>
+    pub(crate) fn push(&mut self, name: ProperName) -> Result<(), AllocError>
         ensures ok { OnOk result (self.new ≡ self.old ++ name ∷ []) }
         ensures err { OnErr result (self.new ≡ self.old) }
     {
@@ -112,16 +116,19 @@ impl Path {
         requires { count ≤ length self.now }
         ensures { IfOk result (λ p. p ≡ take count self.now) }
     {
-        let mut names: Vec<Text> = Vec::new(alloc);
+        let mut names: Vec<ProperName> = Vec::new(alloc);
         for i in 0..count {
             names.push(self.names[i].clone()?)?;
         }
         Ok(Path { names })
     }
+}
 
-    pub(crate) fn copy(&self, alloc: Global) -> Result<Path, AllocError>
-        ensures { IfOk result (λ p. p ≡ self.now) }
-    {
+impl Clone for Path {
+    ghost is_clone = { λ p q. q ≡ p };
+
+    fn clone(&self) -> Result<Path, AllocError> {
+        let alloc = *self.names.allocator();
         self.front(alloc, self.names.len())
     }
 }

@@ -1,20 +1,19 @@
 //! Steps on a disk.
-ghost use Rattle.std.specs.Prelude.{◌≡◌, Option, false, IfOk, OnErr};
+ghost use Rattle.std.specs.Prelude.{◌≡◌, Option, false, IfOk, IfErr};
 ghost use Rattle.cacache_base.specs.Fits.{Fits, is_no_memory};
-ghost use Rattle.cacache_disk.specs.declared.luck.Luck.TheVariants.{Fail};
-ghost use Rattle.cacache_disk.specs.Apply.{apply, plain, is_taking, is_parted, made_up};
+ghost use Rattle.cacache_disk.specs.Apply.{apply, is_taking, is_parted, made_up};
+ghost use Rattle.cacache_disk.specs.Plans.{IsPlan, Refuses, changed, most_of, with_luck, left_over};
 
-mod answers;
-mod faults;
+pub(crate) mod answers;
 mod files;
 mod folders;
+mod handles;
 mod links;
-mod plant;
-mod temps;
 
+use crate::change::{Change, Plan};
 use crate::disk::Disk;
 use crate::luck::Luck;
-use answers::{Twice, failed_twice};
+use crate::stop::Stop;
 use cacache_base::store::{Answer, PlainFile, PlainTemp, Step};
 use cacache_core::errors::Fault;
 use std::alloc::AllocError;
@@ -39,6 +38,17 @@ fn is_parted(step: &Step<PlainFile, PlainTemp>) -> bool
     )
 }
 
+/// How many of its bytes or folders a step may do.
+fn most_of(step: &Step<PlainFile, PlainTemp>, luck: Luck) -> Option<usize>
+    ensures { result ≡ most_of step.now luck }
+{
+    match luck {
+        Luck::Plain => None,
+        Luck::Take(most) => { if is_taking(step) { Some(most) } else { None } }
+        Luck::Fail(_, part) => { if is_parted(step) { part } else { None } }
+    }
+}
+
 /// The fault that luck may give in place of this one.
 fn made_up(fault: Fault) -> Fault
     ensures { result ≡ made_up fault }
@@ -49,80 +59,74 @@ fn made_up(fault: Fault) -> Fault
     }
 }
 
+/// The change, where a part of it is left done.
+fn left_over(is_parted: bool, part: Option<usize>, change: Change) -> Change
+    ensures { result ≡ left_over is_parted part change }
+{
+    match part {
+        None => Change::Nothing,
+        Some(_) => { if is_parted { change } else { Change::Nothing } }
+    }
+}
+
+/// What becomes of a plan under luck.
+fn with_luck(step: &Step<PlainFile, PlainTemp>, luck: Luck, plan: Plan) -> Plan
+    ensures { result ≡ with_luck step.now luck plan }
+{
+    let Luck::Fail(fault, part) = luck else {
+        return plan;
+    };
+    let Plan { answer: _, change } = plan;
+    Plan {
+        answer: Answer::Failed(made_up(fault)),
+        change: left_over(is_parted(step), part, change),
+    }
+}
+
 impl Disk {
-    /// Does one step, and gives its answer and a copy of it. The only error is that of memory, and nothing changes then.
-    #[tactic(auto, unfolding(crate::specs::Apply::apply))]
-    pub fn apply(
-        &mut self,
+    /// What a step answers under luck, and what it changes then.
+    pub(crate) fn outcome(
+        &self,
         step: &Step<PlainFile, PlainTemp>,
         luck: Luck,
-    ) -> Result<(Answer<PlainFile, PlainTemp>, Answer<PlainFile, PlainTemp>), AllocError>
-        ensures ok { IfOk result (λ r. apply self.old step.now luck ≡ (r.0, self.new)) }
-        ensures copy { IfOk result (λ r. r.1 ≡ r.0) }
-        ensures fits { IfOk result (λ r. Fits step.now r.0) }
-        ensures told { IfOk result (λ r. is_no_memory r.0 ≡ false) }
-        ensures err { OnErr result (self.new ≡ self.old) }
+    ) -> Result<Plan, AllocError>
+        ensures ok { IfOk result (λ plan. apply self.now step.now luck ≡ (plan.answer, changed self.now plan.change)) }
+        ensures fits { IfOk result (λ plan. Fits step.now plan.answer) }
+        ensures told { IfOk result (λ plan. is_no_memory plan.answer ≡ false) }
     {
-        match luck {
-            Luck::Plain => self.plain(step, None),
-            Luck::Take(most) => self.plain(step, if is_taking(step) { Some(most) } else { None }),
-            Luck::Fail(fault, part) => self.failing(step, fault, part),
+        match self.plan(step, most_of(step, luck)) {
+            Ok(plan) => Ok(with_luck(step, luck, plan)),
+            Err(Stop::Fault(fault)) => Ok(Plan {
+                answer: Answer::Failed(fault),
+                change: Change::Nothing,
+            }),
+            Err(Stop::OutOfMemory) => Err(AllocError),
         }
     }
 
-    /// A step that luck fails, where it doesn't fail on its own.
-    #[tactic(auto, unfolding(crate::specs::Apply::apply))]
-    fn failing(
-        &mut self,
-        step: &Step<PlainFile, PlainTemp>,
-        fault: Fault,
-        part: Option<usize>,
-    ) -> Result<Twice, AllocError>
-        ensures ok { IfOk result (λ r. apply self.old step.now (Fail fault part) ≡ (r.0, self.new)) }
-        ensures copy { IfOk result (λ r. r.1 ≡ r.0) }
-        ensures fits { IfOk result (λ r. Fits step.now r.0) }
-        ensures err { OnErr result (self.new ≡ self.old) }
-    {
-        if let Some(own) = self.fault(step)? {
-            return Ok(failed_twice(own));
-        }
-        if let Some(count) = part {
-            if is_parted(step) {
-                self.plain(step, Some(count))?;
-            }
-        }
-        Ok(failed_twice(made_up(fault)))
-    }
-
-    /// A step that goes its own way, where at most `most` of its bytes or folders are done.
-    fn plain(
-        &mut self,
-        step: &Step<PlainFile, PlainTemp>,
-        most: Option<usize>,
-    ) -> Result<Twice, AllocError>
-        ensures ok { IfOk result (λ r. plain self.old step.now most ≡ (r.0, self.new)) }
-        ensures copy { IfOk result (λ r. r.1 ≡ r.0) }
-        ensures fits { IfOk result (λ r. Fits step.now r.0) }
-        ensures err { OnErr result (self.new ≡ self.old) }
+    /// What a step answers and changes, where at most `most` of its bytes or folders are done.
+    fn plan(&self, step: &Step<PlainFile, PlainTemp>, most: Option<usize>) -> Result<Plan, Stop>
+        ensures ok { IfOk result (IsPlan self.now step.now most) }
+        ensures err { IfErr result (Refuses self.now step.now most) }
     {
         match step {
             Step::MakeDirs(path) => self.make_dirs(path, most),
-            Step::CreateTemp(path) => self.create_temp(path),
-            Step::Write(temp, bytes) => answers::written(self.alloc(), temp, bytes, most),
-            Step::Persist(temp, path) => self.persist(temp, path),
+            Step::CreateTemp(path) => self.create_temp(path, most),
+            Step::Write(temp, bytes) => self.write(temp, bytes, most),
+            Step::Persist(temp, path) => self.persist(temp, path, most),
             Step::Append(path, bytes) => self.append(path, bytes, most),
-            Step::ReadAll(path) => self.read_all(path),
-            Step::Open(path) => self.opened(path),
-            Step::Read(file, size) => answers::read(file, *size, most),
-            Step::Size(path) => self.size(path),
-            Step::Exists(path) => self.exists(path),
-            Step::Symlink(target, path) => self.symlink(target, path),
+            Step::ReadAll(path) => self.read_all(path, most),
+            Step::Open(path) => self.opened(path, most),
+            Step::Read(file, size) => self.read(file, *size, most),
+            Step::Size(path) => self.size(path, most),
+            Step::Exists(path) => self.exists(path, most),
+            Step::Symlink(target, path) => self.symlink(target, path, most),
             Step::Copy(from, to) => self.copy(from, to, most),
-            Step::Reflink(from, to) => self.reflink(from, to),
-            Step::HardLink(from, to) => self.hard_link(from, to),
-            Step::ReadDir(path) => self.read_dir(path),
-            Step::RemoveFile(path) => self.remove_file(path),
-            Step::RemoveDir(path) => self.remove_dir(path),
+            Step::Reflink(from, to) => self.reflink(from, to, most),
+            Step::HardLink(from, to) => self.hard_link(from, to, most),
+            Step::ReadDir(path) => self.read_dir(path, most),
+            Step::RemoveFile(path) => self.remove_file(path, most),
+            Step::RemoveDir(path) => self.remove_dir(path, most),
         }
     }
 }

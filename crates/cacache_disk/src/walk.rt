@@ -4,13 +4,13 @@ ghost use Rattle.cacache_disk.specs.Tree.{look, put, cut};
 ghost use Rattle.cacache_disk.specs.Found.{way_fault, dirs_fault, is_in_way};
 ghost use Rattle.cacache_disk.specs.Apply.{make_some};
 
-use crate::disk::Disk;
 use crate::node::Node;
+use crate::nodes::Nodes;
 use crate::path::Path;
 use cacache_core::errors::Fault;
 use std::alloc::AllocError;
 
-impl Disk {
+impl Nodes {
     /// Why the folders above the last name don't lead there.
     pub(crate) fn way_fault(&self, path: &Path) -> Result<Option<Fault>, AllocError>
         ensures { IfOk result (λ fault. fault ≡ way_fault self.now [] path.now) }

@@ -6,12 +6,12 @@ use Rattle.cacache_core.specs.declared.errors.Fault.{Fault}
 use Rattle.cacache_core.specs.declared.errors.Fault.TheVariants.{IsADirectory}
 use Rattle.cacache_base.specs.declared.store.step.Step.TheVariants.{MakeDirs}
 use Rattle.cacache_base.specs.declared.store.answer.Answer.TheVariants.{Done, Failed, Bytes}
-use Rattle.cacache_base.specs.Seen.{PlainAnswer}
+use Rattle.cacache_base.specs.Plain.{PlainAnswer}
 use Rattle.cacache_disk.specs.declared.luck.Luck.TheVariants.{Plain}
 use Rattle.cacache_core.specs.PathNames.{Names}
 use Rattle.cacache_disk.specs.Tree.{Tree}
 use Rattle.cacache_disk.specs.Found.{dirs, file_at}
-use Rattle.cacache_disk.specs.Apply.{apply, unless}
+use Rattle.cacache_disk.specs.Apply.{apply, unless, bytes_at}
 use Rattle.cacache_memory.specs.Replay.{bytes_in, shown}
 use Rattle.cacache_memory.specs.Refusals.{fault_in}
 
@@ -68,8 +68,6 @@ shown-file_at : (t : Tree) (p : List ℕ) → shown t p ≡ result_ok (file_at t
 unfolding apply
 shown-file_at t p = unless-shown (file_at t p IsADirectory) t
 
-pub shown-read : (t disk : Tree) (p path : List ℕ) (r : Result (List ℕ) Fault)
-    → t ≡ disk → path ≡ p → r ≡ file_at disk path IsADirectory → shown t p ≡ result_ok r
-shown-read t disk p path r same_tree same_path found =
-    shown-file_at t p ∙ ap result_ok (ap (λ (x : Tree). file_at x p IsADirectory) same_tree
-    ∙ ap (λ (x : List ℕ). file_at disk x IsADirectory) (sym same_path) ∙ sym found)
+-- and so do shared bytes
+pub shown-shared : (t disk : Tree) (p : List ℕ) (found : Option (List ℕ)) → t ≡ disk → found ≡ bytes_at disk p → found ≡ shown t p
+shown-shared t disk p found same_tree is = is ∙ sym (shown-file_at disk p) ∙ ap (λ (x : Tree). shown x p) (sym same_tree)

@@ -4,7 +4,7 @@ use Rattle.cacache_core.specs.declared.errors.Error.{Error}
 use Rattle.cacache_core.specs.declared.errors.Error.TheVariants.{IoError, OutOfMemory}
 use Rattle.cacache_core.specs.declared.errors.Fault.{Fault}
 use Rattle.cacache_base.specs.declared.store.answer.Answer.TheVariants.{Failed}
-use Rattle.cacache_base.specs.Seen.{PlainAnswer}
+use Rattle.cacache_base.specs.Plain.{PlainAnswer}
 
 -- the fault in an answer
 abbrev pub fault_in : PlainAnswer → Option Fault

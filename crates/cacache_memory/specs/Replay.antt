@@ -6,7 +6,7 @@ use Rattle.cacache_base.specs.declared.store.step.Step.TheVariants.{MakeDirs, Re
 use Rattle.cacache_base.specs.declared.store.answer.Answer.TheVariants.{Done, Bytes, NoMemory}
 use Rattle.cacache_base.specs.declared.store.log.LogItem.{LogItem}
 use Rattle.cacache_base.specs.declared.store.log.LogItem.TheVariants.{Made, Foreign, ForeignFolder}
-use Rattle.cacache_base.specs.Seen.{PlainStep, PlainAnswer}
+use Rattle.cacache_base.specs.Plain.{PlainStep, PlainAnswer}
 use Rattle.cacache_disk.specs.declared.luck.Luck.TheVariants.{Plain}
 use Rattle.cacache_disk.specs.Tree.{Tree, bare}
 use Rattle.cacache_disk.specs.Apply.{apply, planted}

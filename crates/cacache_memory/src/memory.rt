@@ -1,4 +1,4 @@
-//! A store in memory that tells its log.
+//! A store in memory that keeps its log.
 ghost use Rattle.std.specs.Prelude.{◌≡◌, ◌∷◌, ◌++◌, [], ◌<◌, Some, IfOk, IfErr, IfNone, OnOk, OnErr, OnSome, option_map, vec_len, vec_capacity};
 ghost use Rattle.std.specs.Result.{result_err};
 ghost use Rattle.cacache_core.specs.declared.errors.Error.TheVariants.{OutOfMemory};
@@ -29,12 +29,15 @@ fn make_room(log: &mut Vec<LogItem>) -> Result<(), AllocError>
     Ok(())
 }
 
+/// Lets a value go: one call in place of its parts.
+fn let_go<T: Drop>(_value: T) {}
+
 /// One item more, for which there is room.
 fn note(log: &mut Vec<LogItem>, item: LogItem)
     requires { vec_len log.old < vec_capacity log.old }
     ensures { log.new.items ≡ log.old.items ++ item ∷ [] }
 {
-    let _ = log.push(item);
+    let_go(log.push(item));
 }
 
 /// Why nothing was planted at the path.
@@ -47,12 +50,12 @@ fn refused(alloc: Global, fault: Fault, what: &str, path: &Text) -> Error
     }
 }
 
-/// The fault of an answer that tells one.
-fn fault_of(answer: Answer<PlainFile, PlainTemp>) -> Option<Fault>
-    ensures { result ≡ fault_in answer }
+/// The fault of a failed answer.
+fn fault_of(answer: &Answer<PlainFile, PlainTemp>) -> Option<Fault>
+    ensures { result ≡ fault_in answer.now }
 {
     match answer {
-        Answer::Failed(fault) => Some(fault),
+        Answer::Failed(fault) => Some(*fault),
         _ => None,
     }
 }
@@ -65,8 +68,12 @@ fn make_folders(disk: &mut Disk, path: Text) -> Result<Option<Fault>, AllocError
     ensures err { OnErr result (disk.new ≡ disk.old) }
 {
     let step = Step::MakeDirs(path);
-    let (answer, _copy) = disk.apply(&step, Luck::Plain)?;
-    Ok(fault_of(answer))
+    let applied = disk.apply(&step, Luck::Plain);
+    let_go(step);
+    let answer = applied?;
+    let fault = fault_of(&answer);
+    let_go(answer);
+    Ok(fault)
 }
 
 /// A disk in memory, and the log of all that happened on it, which is kept for good. Each step is applied with
@@ -124,7 +131,7 @@ impl MemStore {
         let path = Text::from_str(self.alloc, path)?;
         let bytes = Bytes::new(self.alloc, Vec::from_slice(self.alloc, bytes)?)?;
         make_room(&mut self.log)?;
-        match self.disk.plant(&path, &bytes)? {
+        match self.disk.plant(path.as_str(), &bytes)? {
             Err(fault) => Err(refused(self.alloc, fault, "file", &path)),
             Ok(()) => {
                 note(&mut self.log, LogItem::Foreign(path, bytes));
@@ -153,15 +160,14 @@ impl MemStore {
     }
 
     /// The bytes that reading the whole file at the path gives, which are copied once, or None where that fails.
-    /// The log doesn't tell it. The only error is `OutOfMemory`.
+    /// It isn't logged. The only error is `OutOfMemory`.
     pub fn bytes(&self, path: &str) -> errors::Result<Option<Vec<u8>>>
         ensures ok { IfOk result (λ found. option_map (λ v. v.items) found ≡ shown (tree_of self.now) path.now) }
         ensures err { IfErr result (λ error. error ≡ OutOfMemory) }
     {
-        let path = Text::from_str(self.alloc, path)?;
-        match self.disk.read(&path)? {
-            Ok(bytes) => Ok(Some(bytes.into_vec(self.alloc)?)),
-            Err(_) => Ok(None),
+        match self.disk.shared(path)? {
+            Some(bytes) => Ok(Some(Vec::from_slice(self.alloc, bytes.as_slice())?)),
+            None => Ok(None),
         }
     }
 }
@@ -181,7 +187,7 @@ impl Store for MemStore {
         if make_room(&mut self.log).is_err() {
             return Answer::NoMemory(step);
         }
-        let Ok((answer, copy)) = self.disk.apply(&step, Luck::Plain) else {
+        let Ok((answer, copy)) = self.disk.apply_logged(&step, Luck::Plain) else {
             return Answer::NoMemory(step);
         };
         note(&mut self.log, LogItem::Made(step, copy));

@@ -1,107 +1,100 @@
 //! Steps on files.
-ghost use Rattle.std.specs.Prelude.{◌≡◌, ◌++◌, ◌≤◌, None, IfOk, OnOk, OnErr, length, take};
-ghost use Rattle.cacache_base.specs.Fits.{Fits};
+ghost use Rattle.std.specs.Prelude.{◌≡◌, ℕ, Option, IfOk, IfErr};
 ghost use Rattle.cacache_base.specs.declared.store.step.Step.TheVariants.{Append, ReadAll, Open, Size, Exists, RemoveFile};
-ghost use Rattle.cacache_disk.specs.declared.node.Node.TheVariants.{File};
-ghost use Rattle.cacache_disk.specs.Tree.{look, put, bytes_of};
-ghost use Rattle.cacache_disk.specs.Apply.{plain};
+ghost use Rattle.cacache_disk.specs.Plans.{IsPlan, Refuses};
 
+use crate::change::{Change, Plan};
 use crate::disk::Disk;
-use crate::node::Node;
-use crate::path::Path;
-use crate::steps::answers::{Twice, done_twice, failed_twice, taken, there_twice, took_twice};
+use crate::find::Wanted;
+use crate::steps::answers::taken;
+use crate::stop::Stop;
 use cacache_base::store::{Answer, PlainFile};
 use cacache_core::bytes::Bytes;
 use cacache_core::errors::Fault;
 use cacache_core::text::Text;
-use std::alloc::AllocError;
 
 impl Disk {
+    #[tactic(auto, unfolding(crate::specs::Found::writable))]
     pub(crate) fn append(
-        &mut self,
+        &self,
         path: &Text,
         bytes: &Bytes,
         most: Option<usize>,
-    ) -> Result<Twice, AllocError>
-        ensures ok { IfOk result (λ r. plain self.old (Append path.now bytes.now) most ≡ (r.0, self.new)) }
-        ensures copy { IfOk result (λ r. r.1 ≡ r.0) }
-        ensures fits { IfOk result (λ r. Fits (Append path.now bytes.now) r.0) }
-        ensures err { OnErr result (self.new ≡ self.old) }
+    ) -> Result<Plan, Stop>
+        ensures ok { IfOk result (IsPlan self.now (Append path.now bytes.now) most) }
+        ensures err { IfErr result (Refuses self.now (Append path.now bytes.now) most) }
     {
-        let names = match self.writable(path)? {
-            Ok(names) => names,
-            Err(fault) => return Ok(failed_twice(fault)),
-        };
+        let names = self.end_at(path.as_str(), Wanted::NoFolder)?;
         let count = taken(most, bytes);
-        self.lengthen(names, bytes.share()?.front(count))?;
-        Ok(took_twice(count))
+        let more = bytes.share()?.front(count);
+        Ok(Plan {
+            answer: Answer::Took(count),
+            change: Change::Append(names, more),
+        })
     }
 
-    pub(crate) fn read_all(&self, path: &Text) -> Result<Twice, AllocError>
-        ensures ok { IfOk result (λ r. plain self.now (ReadAll path.now) None ≡ (r.0, self.now)) }
-        ensures copy { IfOk result (λ r. r.1 ≡ r.0) }
-        ensures fits { IfOk result (λ r. Fits (ReadAll path.now) r.0) }
+    pub(crate) fn read_all(&self, path: &Text, most: Option<usize>) -> Result<Plan, Stop>
+        ensures ok { IfOk result (IsPlan self.now (ReadAll path.now) most) }
+        ensures err { IfErr result (Refuses self.now (ReadAll path.now) most) }
     {
-        let bytes = match self.file_at(path, Fault::IsADirectory)? {
-            Ok(bytes) => bytes,
-            Err(fault) => return Ok(failed_twice(fault)),
-        };
-        Ok((Answer::Bytes(bytes.share()?), Answer::Bytes(bytes)))
+        let bytes = self.file_at(path.as_str(), Fault::IsADirectory)?.bytes()?;
+        Ok(Plan {
+            answer: Answer::Bytes(bytes),
+            change: Change::Nothing,
+        })
     }
 
-    pub(crate) fn opened(&self, path: &Text) -> Result<Twice, AllocError>
-        ensures ok { IfOk result (λ r. plain self.now (Open path.now) None ≡ (r.0, self.now)) }
-        ensures copy { IfOk result (λ r. r.1 ≡ r.0) }
-        ensures fits { IfOk result (λ r. Fits (Open path.now) r.0) }
+    pub(crate) fn opened(&self, path: &Text, most: Option<usize>) -> Result<Plan, Stop>
+        ensures ok { IfOk result (IsPlan self.now (Open path.now) most) }
+        ensures err { IfErr result (Refuses self.now (Open path.now) most) }
     {
-        let bytes = match self.file_at(path, Fault::IsADirectory)? {
-            Ok(bytes) => bytes,
-            Err(fault) => return Ok(failed_twice(fault)),
-        };
-        let left = bytes.len();
-        let answer = PlainFile {
-            left,
-            bytes: Some(bytes.share()?),
-        };
-        let copy = PlainFile {
-            left,
+        let bytes = self.file_at(path.as_str(), Fault::IsADirectory)?.bytes()?;
+        let file = PlainFile {
+            left: bytes.len(),
             bytes: Some(bytes),
         };
-        Ok((Answer::File(answer), Answer::File(copy)))
+        Ok(Plan {
+            answer: Answer::File(file),
+            change: Change::Nothing,
+        })
     }
 
-    pub(crate) fn size(&self, path: &Text) -> Result<Twice, AllocError>
-        ensures ok { IfOk result (λ r. plain self.now (Size path.now) None ≡ (r.0, self.now)) }
-        ensures copy { IfOk result (λ r. r.1 ≡ r.0) }
-        ensures fits { IfOk result (λ r. Fits (Size path.now) r.0) }
+    pub(crate) fn size(&self, path: &Text, most: Option<usize>) -> Result<Plan, Stop>
+        ensures ok { IfOk result (IsPlan self.now (Size path.now) most) }
+        ensures err { IfErr result (Refuses self.now (Size path.now) most) }
     {
-        let bytes = match self.file_at(path, Fault::IsADirectory)? {
-            Ok(bytes) => bytes,
-            Err(fault) => return Ok(failed_twice(fault)),
+        let count = self.file_at(path.as_str(), Fault::IsADirectory)?.len();
+        Ok(Plan {
+            answer: Answer::Length(count as u64),
+            change: Change::Nothing,
+        })
+    }
+
+    #[tactic(auto, unfolding(crate::specs::Found::found))]
+    pub(crate) fn exists(&self, path: &Text, most: Option<usize>) -> Result<Plan, Stop>
+        ensures ok { IfOk result (IsPlan self.now (Exists path.now) most) }
+        ensures err { IfErr result (Refuses self.now (Exists path.now) most) }
+    {
+        let is = match self.end_at(path.as_str(), Wanted::Anything) {
+            Ok(_) => true,
+            Err(Stop::Fault(Fault::NotFound | Fault::NotADirectory)) => false,
+            Err(stop) => return Err(stop),
         };
-        let count = bytes.len() as u64;
-        Ok((Answer::Length(count), Answer::Length(count)))
+        Ok(Plan {
+            answer: Answer::There(is),
+            change: Change::Nothing,
+        })
     }
 
-    pub(crate) fn exists(&self, path: &Text) -> Result<Twice, AllocError>
-        ensures ok { IfOk result (λ r. plain self.now (Exists path.now) None ≡ (r.0, self.now)) }
-        ensures copy { IfOk result (λ r. r.1 ≡ r.0) }
-        ensures fits { IfOk result (λ r. Fits (Exists path.now) r.0) }
+    #[tactic(auto, unfolding(crate::specs::Found::removable))]
+    pub(crate) fn remove_file(&self, path: &Text, most: Option<usize>) -> Result<Plan, Stop>
+        ensures ok { IfOk result (IsPlan self.now (RemoveFile path.now) most) }
+        ensures err { IfErr result (Refuses self.now (RemoveFile path.now) most) }
     {
-        Ok(there_twice(self.found(path)?, path))
-    }
-
-    pub(crate) fn remove_file(&mut self, path: &Text) -> Result<Twice, AllocError>
-        ensures ok { IfOk result (λ r. plain self.old (RemoveFile path.now) None ≡ (r.0, self.new)) }
-        ensures copy { IfOk result (λ r. r.1 ≡ r.0) }
-        ensures fits { IfOk result (λ r. Fits (RemoveFile path.now) r.0) }
-        ensures err { OnErr result (self.new ≡ self.old) }
-    {
-        let names = match self.removable(path)? {
-            Ok(names) => names,
-            Err(fault) => return Ok(failed_twice(fault)),
-        };
-        self.cut(&names);
-        Ok(done_twice())
+        let names = self.at(path.as_str(), Wanted::FileOrLink)?;
+        Ok(Plan {
+            answer: Answer::Done,
+            change: Change::Remove(names),
+        })
     }
 }

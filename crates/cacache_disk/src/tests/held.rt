@@ -10,7 +10,7 @@ pub(crate) enum Handle {
     Temp(PlainTemp),
 }
 
-/// What is told of a step.
+/// What is answered to a step.
 pub(crate) trait Told: Drop {
     fn shown(&self, alloc: Global) -> Result<String, AllocError>;
 

@@ -4,7 +4,7 @@ use crate::disk::Disk;
 use crate::luck::Luck;
 use crate::tests::row::row_of;
 use crate::tests::shown::shown_tree;
-use crate::tests::words::{bytes_of, disk_of, luck_of, step_of, text_of};
+use crate::tests::words::{bytes_of, disk_of, luck_of, step_of};
 use std::alloc::{AllocError, Global};
 use std::process::Abort;
 
@@ -49,7 +49,7 @@ fn planted_or_nothing(
     let alloc = rt.alloc();
     let mut disk = disk_of(alloc, before)?;
     let bytes = bytes_of(alloc, "new")?;
-    let done = is_there(disk.plant(&text_of(alloc, path)?, &bytes));
+    let done = is_there(disk.plant(path, &bytes));
     still(rt, &disk, if done { after } else { before }, path)
 }
 

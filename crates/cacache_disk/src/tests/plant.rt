@@ -2,24 +2,26 @@
 use crate::disk::Disk;
 use crate::tests::row::row_of;
 use crate::tests::shown::{shown_tree, word_of};
-use crate::tests::words::{bytes_of, disk_of, text_of};
+use crate::tests::words::{bytes_of, disk_of};
 use std::alloc::{AllocError, Global};
 use std::process::Abort;
 use std::test::Fail;
 
 /// What a plant comes to, as a text.
 fn planted(alloc: Global, disk: &mut Disk, path: &str, word: &str) -> Result<String, AllocError> {
-    match disk.plant(&text_of(alloc, path)?, &bytes_of(alloc, word)?)? {
+    let path = if path == "-" { "" } else { path };
+    match disk.plant(path, &bytes_of(alloc, word)?)? {
         Ok(()) => String::from_str(alloc, "Done"),
         Err(fault) => format!(in alloc; "Failed {fault:?}"),
     }
 }
 
-/// What a lookup gives, as a text.
-fn read(alloc: Global, disk: &Disk, path: &str) -> Result<String, AllocError> {
-    match disk.read(&text_of(alloc, path)?)? {
-        Ok(bytes) => String::from_str(alloc, word_of(&bytes)),
-        Err(fault) => format!(in alloc; "Failed {fault:?}"),
+/// The shared bytes at a path as a word, `none` where there are none.
+fn shared<'a>(disk: &'a Disk, path: &str) -> Result<&'a str, AllocError> {
+    let path = if path == "-" { "" } else { path };
+    match disk.shared(path)? {
+        Some(bytes) => Ok(word_of(bytes.as_slice())),
+        None => Ok("none"),
     }
 }
 
@@ -62,29 +64,27 @@ fn a_plant_makes_folders_and_replaces(rt: HostRuntime) -> Result<(), Fail> {
     Ok(())
 }
 
-// What lookups give on one disk.
-const LOOKUPS: &[&str] = &[
+// What is shared at each path of one disk.
+const SHARED: &[&str] = &[
     "a/f | abc",
     "/l | abc",
     "e | -",
-    "a | Failed IsADirectory",
-    "none | Failed NotFound",
-    "m | Failed NotFound",
-    "n | Failed TooDeep",
-    "a/f/g | Failed NotADirectory",
-    "l/g | Failed NotADirectory",
-    ".. | Failed InvalidInput",
-    "- | Failed NotFound",
+    "a | none",
+    "b | none",
+    "m | none",
+    "n | none",
+    "a/f/g | none",
+    "l/g | none",
+    ".. | none",
+    "- | none",
 ];
 
 #[test]
-fn a_lookup_reads_as_a_step_does(rt: HostRuntime) -> Result<(), Fail> {
-    let alloc = rt.alloc();
-    let disk = disk_of(alloc, "/ a/ a/f=abc e=- l->a/f m->none n->n")?;
-    for line in LOOKUPS {
+fn bytes_are_shared_as_a_step_reads_them(rt: HostRuntime) -> Result<(), Fail> {
+    let disk = disk_of(rt.alloc(), "/ a/ a/f=abc e=- l->a/f m->none n->n")?;
+    for line in SHARED {
         let (path, wanted) = line.split_once(" | ").unwrap_or((line, ""));
-        let came = read(alloc, &disk, path)?;
-        assert_eq!(rt; came.as_str(), wanted, "{line}");
+        assert_eq!(rt; shared(&disk, path)?, wanted, "{line}");
     }
     Ok(())
 }

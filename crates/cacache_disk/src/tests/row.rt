@@ -44,7 +44,7 @@ pub(crate) fn done(
     luck: Luck,
 ) -> Result<String, AllocError> {
     let step = step_of(alloc, held, step)?;
-    heard(alloc, held, disk.apply(&step, luck))
+    heard(alloc, held, disk.apply_logged(&step, luck))
 }
 
 /// What the row's step comes to: the disk before it, its answer and the disk after it.

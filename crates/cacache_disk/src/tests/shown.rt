@@ -7,18 +7,18 @@ use cacache_core::bytes::Bytes;
 use std::alloc::{AllocError, Global};
 
 /// Bytes as a word: `-` where there are none.
-pub(crate) fn word_of(bytes: &Bytes) -> &str {
+pub(crate) fn word_of(bytes: &[u8]) -> &str {
     if bytes.is_empty() {
         return "-";
     }
-    str::from_utf8(bytes.as_slice()).unwrap_or("?")
+    str::from_utf8(bytes).unwrap_or("?")
 }
 
 /// Bytes as a word: `?` where they aren't known.
 fn known(bytes: &Option<Bytes>) -> &str {
     match bytes {
         None => "?",
-        Some(bytes) => word_of(bytes),
+        Some(bytes) => word_of(bytes.as_slice()),
     }
 }
 
@@ -29,7 +29,8 @@ fn shown_path(alloc: Global, path: &Path) -> Result<String, AllocError> {
         if i > 0 {
             text.push('/')?;
         }
-        text.push_str(path.name(i)?.as_str())?;
+        let name = path.name(i)?.into_text();
+        text.push_str(name.as_str())?;
     }
     Ok(text)
 }
@@ -41,7 +42,7 @@ fn shown_node(alloc: Global, path: &Path, node: &Node) -> Result<String, AllocEr
         Node::Folder => text.push('/')?,
         Node::File(bytes) => {
             text.push('=')?;
-            text.push_str(word_of(bytes))?;
+            text.push_str(word_of(bytes.shared().as_slice()))?;
         }
         Node::Link(target) => {
             text.push_str("->")?;
@@ -55,7 +56,7 @@ fn shown_node(alloc: Global, path: &Path, node: &Node) -> Result<String, AllocEr
 /// All that a disk holds, in the order of the paths' names.
 pub(crate) fn shown_tree(alloc: Global, disk: &Disk) -> Result<String, AllocError> {
     let mut text = String::new(alloc);
-    for (path, node) in disk.nodes() {
+    for (path, node) in disk.nodes().nodes() {
         if !text.is_empty() {
             text.push(' ')?;
         }
@@ -107,7 +108,7 @@ pub(crate) fn shown_answer(
         }
         Answer::Took(count) => format!(in alloc; "Took {count}"),
         Answer::Bytes(bytes) => {
-            let bytes = word_of(bytes);
+            let bytes = word_of(bytes.as_slice());
             format!(in alloc; "Bytes {bytes}")
         }
         Answer::File(file) => {
@@ -116,7 +117,7 @@ pub(crate) fn shown_answer(
         }
         Answer::Got(file, bytes) => {
             let file = shown_file(alloc, file)?;
-            let bytes = word_of(bytes);
+            let bytes = word_of(bytes.as_slice());
             format!(in alloc; "Got {file} {bytes}")
         }
         Answer::There(is) => String::from_str(alloc, if *is { "There yes" } else { "There no" }),

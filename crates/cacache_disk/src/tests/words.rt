@@ -2,10 +2,8 @@
 //! aren't known.
 use crate::disk::Disk;
 use crate::luck::Luck;
-use crate::node::Node;
-use crate::path::Path;
 use crate::tests::held::Handle;
-use cacache_base::store::{PlainFile, PlainTemp, Step};
+use cacache_base::store::{Answer, PlainFile, PlainTemp, Step};
 use cacache_core::bytes::Bytes;
 use cacache_core::errors::Fault;
 use cacache_core::text::Text;
@@ -145,25 +143,29 @@ pub(crate) fn luck_of(text: &str) -> Luck {
     }
 }
 
-/// The node that a word says, and the text of its path.
-fn node_of(alloc: Global, word: &str) -> Result<(&str, Node), AllocError> {
+/// The step that makes what a word says.
+fn making(alloc: Global, word: &str) -> Result<Step<PlainFile, PlainTemp>, AllocError> {
     if let Some((path, target)) = word.split_once("->") {
-        return Ok((path, Node::Link(text_of(alloc, target)?)));
+        return Ok(Step::Symlink(text_of(alloc, target)?, text_of(alloc, path)?));
     }
     match word.split_once('=') {
-        Some((path, bytes)) => Ok((path, Node::File(bytes_of(alloc, bytes)?))),
-        None => Ok((word, Node::Folder)),
+        Some((path, bytes)) => Ok(Step::Append(text_of(alloc, path)?, bytes_of(alloc, bytes)?)),
+        None => Ok(Step::MakeDirs(text_of(alloc, word)?)),
     }
 }
 
-/// A disk with the nodes that the words say.
+/// Makes what a word says, and gives whether the step went well.
+fn is_made(alloc: Global, disk: &mut Disk, word: &str) -> Result<bool, AllocError> {
+    let step = making(alloc, word)?;
+    let answer = disk.apply(&step, Luck::Plain)?;
+    Ok(!matches!(answer, Answer::Failed(_)))
+}
+
+/// A disk with what the words say, folders before what stands in them.
 pub(crate) fn disk_of(alloc: Global, text: &str) -> Result<Disk, AllocError> {
     let mut disk = Disk::new(alloc)?;
     for word in text.split(' ') {
-        let (path, node) = node_of(alloc, word)?;
-        if let Ok(names) = Path::of(alloc, path)? {
-            disk.put(names, node)?;
-        }
+        let _ = is_made(alloc, &mut disk, word)?;
     }
     Ok(disk)
 }

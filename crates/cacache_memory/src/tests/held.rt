@@ -63,6 +63,7 @@ fn step_on(
         "Append" => Step::Append(text_of(alloc, first)?, bytes_of(alloc, second)?),
         "Symlink" => Step::Symlink(text_of(alloc, first)?, text_of(alloc, second)?),
         "Open" => Step::Open(text_of(alloc, first)?),
+        "RemoveFile" => Step::RemoveFile(text_of(alloc, first)?),
         _ => Step::ReadAll(text_of(alloc, first)?),
     })
 }

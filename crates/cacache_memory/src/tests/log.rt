@@ -88,3 +88,31 @@ fn handles_read_and_write(rt: HostRuntime) -> Result<(), Fail> {
     store.plant("file", b"other")?;
     gives(&rt, &mut file, &[b"hello wo", b"rld", b""])
 }
+
+/// Reads the first five bytes of the file.
+fn five(file: &mut PlainFile) -> Result<[u8; 5], Fail> {
+    let mut start = [0u8; 5];
+    let count = file.read(&mut start)?;
+    if count != 5 {
+        return Err("fewer than five bytes")?;
+    }
+    Ok(start)
+}
+
+#[test]
+fn an_open_file_keeps_bytes_that_are_replaced(rt: HostRuntime) -> Result<(), Fail> {
+    let mut store = MemStore::new(rt.alloc())?;
+    let mut file = opened(rt.alloc(), &mut store)?;
+    assert_eq!(rt; &five(&mut file)?, b"hello");
+    store.plant("file", b"hello")?;
+    gives(&rt, &mut file, &[b" world", b""])
+}
+
+#[test]
+fn an_open_file_keeps_bytes_that_are_removed(rt: HostRuntime) -> Result<(), Fail> {
+    let mut store = MemStore::new(rt.alloc())?;
+    let mut file = opened(rt.alloc(), &mut store)?;
+    assert_eq!(rt; &five(&mut file)?, b"hello");
+    ask(rt.alloc(), &mut store, &mut None, &["RemoveFile file"])?;
+    gives(&rt, &mut file, &[b" world", b""])
+}

@@ -1,6 +1,7 @@
-use Rattle.std.proofs.Common.{◌∙◌, ◌∷◌, ◌++◌, [], ap}
+use Rattle.std.proofs.Common.{◌∙◌, ◌∷◌, ◌++◌, [], sym, ap}
 use Rattle.std.specs.Result.{result_err}
 use Rattle.cacache_base.specs.declared.store.log.LogItem.TheVariants.{Foreign}
+use Rattle.cacache_disk.specs.Apply.{planted}
 use Rattle.cacache_memory.specs.Replay.{changed}
 use Rattle.cacache_memory.proofs.Keeping.{IsLog-push, tree_of-push}
 use Rattle.cacache_memory.proofs.memory.MemStore.plant.Goals as goal
@@ -8,7 +9,7 @@ use Rattle.cacache_memory.proofs.memory.MemStore.plant.Goals as goal
 pub invariant_of-self-in-Ok : goal.invariant_of-self-in-Ok
 invariant_of-self-in-Ok c =
     let grown = c.note.ensures ∙ ap (λ items. items ++ Foreign c.in_ok-path.path c.in_ok-bytes.bytes ∷ []) c.make_room.ensures.items in
-    let done = rw c.in-Ok.is at c.in_ok-fault.ensures.done in
+    let done = ap (λ p. planted c.self.inside.disk p c.in_ok-bytes.bytes) (sym c.as_str.ensures.same) ∙ (rw c.in-Ok.is at c.in_ok-fault.ensures.done) in
     record {
       logged = IsLog-push c.self.inside.log.items c.note.new.log.items (Foreign c.in_ok-path.path c.in_ok-bytes.bytes) c.self.inside.disk
           grown c.self.invariant.logged c.self.invariant.tree (ap result_err done);

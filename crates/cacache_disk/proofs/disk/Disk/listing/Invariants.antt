@@ -1,8 +1,0 @@
-use Rattle.std.proofs.Common.{◌≡◌, ◌++◌}
-use Rattle.std.specs.List.{filter_map}
-use Rattle.cacache_disk.specs.Tree.{listing, child_of}
-use Rattle.cacache_disk.proofs.Below.{Stops}
-use Rattle.cacache_disk.proofs.disk.Disk.listing.Given as goal
-
-abbrev pub invariant-loop-path : goal.invariant-loop-path
-invariant-loop-path l = (l.names.items ++ filter_map (child_of l.folder) l.path-iterator ≡ listing l.self l.folder) × Stops l.folder l.path-iterator

@@ -1,0 +1,10 @@
+use Rattle.std.proofs.Common.{◌∙◌}
+use Rattle.cacache_disk.proofs.Below.{listing_from, stops_from}
+use Rattle.cacache_disk.proofs.nodes.Nodes.is_empty_at.Goals as goal
+
+pub loop-path-init : goal.loop-path-init
+loop-path-init c =
+    let all = c.into_iter-path-iterator.ensures.into_iter_gives ∙ c.range-path-items.ensures.between tt in (
+      listing_from c.self.inside.nodes c.args.self.now c.args.folder.now _ c.range-path-items.ensures.ordered c.self.view_is all,
+      stops_from c.self.inside.nodes c.args.folder.now _ c.range-path-items.ensures.ordered all,
+    )

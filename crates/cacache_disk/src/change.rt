@@ -1,0 +1,69 @@
+//! What a step is about to do.
+ghost use Rattle.std.specs.Prelude.{◌≡◌, OnOk, OnErr};
+ghost use Rattle.cacache_disk.specs.declared.node.Node.TheVariants.{File};
+ghost use Rattle.cacache_disk.specs.Tree.{put, cut};
+ghost use Rattle.cacache_disk.specs.Plans.{changed};
+
+use crate::contents::Contents;
+use crate::node::Node;
+use crate::nodes::Nodes;
+use crate::path::Path;
+use cacache_base::store::{Answer, PlainFile, PlainTemp};
+use cacache_core::bytes::Bytes;
+use std::alloc::AllocError;
+
+/// What a step changes.
+#[derive(Drop)]
+pub(crate) enum Change {
+    Nothing,
+    /// Puts a node at the path, in place of what stands there.
+    Put(Path, Node),
+    /// Puts bytes behind those of the file at the path, which is made if missing.
+    Append(Path, Bytes),
+    /// Moves the file at the first path to the second, with these bytes.
+    Move(Path, Path, Contents),
+    /// Makes at most so many of the missing folders of the path.
+    MakeFolders(Path, usize),
+    /// Removes what stands at the path.
+    Remove(Path),
+}
+
+/// What a step answers where it goes well, and what it changes then.
+#[derive(Drop)]
+pub(crate) struct Plan {
+    pub(crate) answer: Answer<PlainFile, PlainTemp>,
+    pub(crate) change: Change,
+}
+
+impl Nodes {
+    /// A file with these bytes at the path `to`, and nothing at the path `from`.
+    fn moved(&mut self, from: &Path, to: Path, bytes: Contents) -> Result<(), AllocError>
+        ensures ok { OnOk result (self.new ≡ put (cut self.old from.now) to (File bytes)) }
+        ensures err { OnErr result (self.new ≡ self.old) }
+    {
+        let stays = to == *from;
+        self.put(to, Node::File(bytes))?;
+        if !stays {
+            self.cut(from);
+        }
+        Ok(())
+    }
+
+    /// Makes the change. Where memory is refused, nothing changes.
+    pub(crate) fn commit(&mut self, change: Change) -> Result<(), AllocError>
+        ensures ok { OnOk result (self.new ≡ changed self.old change) }
+        ensures err { OnErr result (self.new ≡ self.old) }
+    {
+        match change {
+            Change::Nothing => Ok(()),
+            Change::Put(path, node) => self.put(path, node),
+            Change::Append(path, bytes) => self.lengthen(path, bytes),
+            Change::Move(from, to, bytes) => self.moved(&from, to, bytes),
+            Change::MakeFolders(path, most) => self.make_from(&path, 0, most),
+            Change::Remove(path) => {
+                self.cut(&path);
+                Ok(())
+            }
+        }
+    }
+}
