@@ -8,9 +8,8 @@ use Rattle.cacache_core.specs.declared.integrity.digest.Hash.{Hash}
 use Rattle.cacache_core.specs.Digests.{digest}
 use Rattle.cacache_core.specs.declared.errors.Error.TheVariants.{IntegrityError}
 use Rattle.cacache_core.specs.declared.errors.IntegrityFault.{IntegrityFault}
-use Rattle.cacache_core.specs.declared.errors.IntegrityFault.TheVariants.{BadText, ShortDigest, Check}
+use Rattle.cacache_core.specs.declared.errors.IntegrityFault.TheVariants.{Check}
 use Rattle.cacache_core.specs.Integrity.{rank, hash_of, actual, Meets}
-use Rattle.cacache_core.specs.Refusals.{Tells}
 use Rattle.cacache_steps.specs.declared.jobs.reply.Reply.TheVariants.{Read}
 use Rattle.cacache_steps.specs.declared.jobs.stage.Content.{Content}
 use Rattle.cacache_steps.specs.Calls.{over, ends_with, checked}
@@ -79,11 +78,9 @@ pub checked_met : (k : Content) (b : List ℕ) → Meets k.integrity b → check
 checked_met k b m = rw (Meets-meets k.integrity b m) refl
 
 -- bytes that don't are refused, with what was wanted and what they are known by
-pub checked_unmet : (k : Content) (b : List ℕ) (fault : IntegrityFault) → (Meets k.integrity b → ⊥) → Tells k.integrity (actual k.integrity b) fault → checked k b ≡ ends_with (IntegrityError fault)
-checked_unmet k b BadText unmet t = absurd t
-checked_unmet k b ShortDigest unmet t = absurd t
-checked_unmet k b (Check w f) unmet t = by_test (meets k.integrity b) refl
+pub checked_unmet : (k : Content) (b : List ℕ) (fault : IntegrityFault) → (Meets k.integrity b → ⊥) → fault ≡ Check k.integrity (actual k.integrity b) → checked k b ≡ ends_with (IntegrityError fault)
+checked_unmet k b fault unmet is = by_test (meets k.integrity b) refl
   where
-    by_test : (v : Bool) → meets k.integrity b ≡ v → cond v (over (Read b)) (ends_with (IntegrityError (Check k.integrity (actual k.integrity b)))) ≡ ends_with (IntegrityError (Check w f))
+    by_test : (v : Bool) → meets k.integrity b ≡ v → cond v (over (Read b)) (ends_with (IntegrityError (Check k.integrity (actual k.integrity b)))) ≡ ends_with (IntegrityError fault)
     by_test true e = absurd (unmet (meets-Meets k.integrity b e))
-    by_test false e = rw (t.0, t.1) refl
+    by_test false e = ap (λ f. ends_with (IntegrityError f)) (sym is)
