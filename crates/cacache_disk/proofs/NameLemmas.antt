@@ -6,8 +6,7 @@ use Rattle.std.proofs.lemmas.List.{take_all}
 use Rattle.std.proofs.lemmas.List.Elements.{filter_more}
 use Rattle.std.proofs.lemmas.List.Folds.{list_any_more, list_any_at}
 use Rattle.cacache_core.specs.declared.errors.Fault.TheVariants.{NotFound, InvalidInput}
-use Rattle.cacache_base.specs.Fits.{ends_name, IsProperName}
-use Rattle.cacache_core.specs.PathNames.{Names, names_of, pieces, is_above, is_name}
+use Rattle.cacache_core.specs.PathNames.{Names, IsProperName, names_of, pieces, ends_name, is_above, is_name}
 
 -- one item more that passes the filter
 pub filter_yes : {X : Type 0} (p : X → Bool) (all : List X) (n m : ℕ) (x : X) (old new : List X) → (n < length all) × (x ≡ get_or all n x) → m ≡ n + 1 → p x ≡ true

@@ -5,7 +5,8 @@ ghost use Rattle.std.specs.Bool.{nat_eq};
 ghost use Rattle.std.specs.Ordering.{nat_cmp};
 ghost use Rattle.std.specs.Cmp;
 ghost use Rattle.std.specs.Cmp.Lexicographic.{pointwise, slice_cmp, texts_ties, nat_list_eq_equiv, nat_list_cmp_total, texts_po};
-ghost use Rattle.cacache_base.specs.Fits.{IsProperName, AreProperNames};
+ghost use Rattle.cacache_core.specs.PathNames.{IsProperName};
+ghost use Rattle.cacache_base.specs.Fits.{AreProperNames};
 
 use cacache_base::store::{Kind, Listing, Name};
 use cacache_core::text::Text;
@@ -21,7 +22,7 @@ pub(crate) struct ProperName {
 
 impl Model for ProperName {
     ghost use Rattle.std.specs.Prelude.{ℕ, List};
-    ghost use Rattle.cacache_base.specs.Fits.{IsProperName};
+    ghost use Rattle.cacache_core.specs.PathNames.{IsProperName};
 
     ghost Value = { List ℕ };
 
