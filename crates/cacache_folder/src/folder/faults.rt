@@ -32,7 +32,7 @@ fn may_do_a_part<F, T>(step: &Step<F, T>) -> bool {
 }
 
 /// Drops a value. A call keeps the many ways to drop a step out of its callers' proofs.
-fn let_go<T: Drop>(_value: T) {}
+pub(crate) fn let_go<T: Drop>(_value: T) {}
 
 /// The answer to a step that failed with this error.
 pub(crate) fn refused<F: FileHandle, T: TempHandle>(

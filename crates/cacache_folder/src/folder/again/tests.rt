@@ -1,4 +1,6 @@
 //! Files that are interrupted before they give or take their bytes.
+ghost use Rattle.std.specs.Prelude.{◌≤◌, IfOk};
+
 use crate::folder::again::{read_again, write_again};
 use std::io;
 use std::io::{ErrorKind, Read, Write};
@@ -13,7 +15,9 @@ struct Interrupted {
 }
 
 impl Interrupted {
-    fn turn(&mut self, room: usize) -> io::Result<usize> {
+    fn turn(&mut self, room: usize) -> io::Result<usize>
+        ensures { IfOk result (λ count. count ≤ room) }
+    {
         if self.times > 0 {
             self.times -= 1;
             return Err(io::Error::from(ErrorKind::Interrupted));

@@ -1,45 +1,66 @@
 //! Temporary files that are moved, and files that are read piece by piece.
 use super::{below, bytes_of, fresh};
+use crate::folder::faults::let_go;
 use crate::folder::{FolderFile, FolderStore};
 use cacache_base::store::{Answer, Step, Store};
 use cacache_core::bytes::Bytes;
 use cacache_core::errors::Fault;
 use cacache_core::text::Text;
-use std::alloc::Global;
+use std::alloc::{AllocError, Global};
 use std::io::Read;
 use std::os::unix::fs::MetadataExt;
 use std::rt::HostRuntime;
 use std::test::Fail;
 use std::{fs, io};
 
-type Folders = FolderStore<HostRuntime>;
-
-/// Makes a temporary file.
-fn temp_at(store: &mut Folders, path: Text) -> Option<<Folders as Store>::Temp> {
-    match store.step(Step::CreateTemp(path)) {
-        Answer::Temp(temp) => Some(temp),
-        _ => None,
+/// The temporary file of an answer.
+fn temp_of<F: Drop, T: Drop>(answer: Answer<F, T>) -> Option<T> {
+    match answer {
+        Answer::Temp(temp) | Answer::Wrote(temp, _) => Some(temp),
+        other => {
+            let_go(other);
+            None
+        }
     }
 }
 
-/// Writes a temporary file whole.
-fn written(store: &mut Folders, path: Text, bytes: Bytes) -> Option<<Folders as Store>::Temp> {
-    let count = bytes.len();
-    let temp = temp_at(store, path)?;
-    match store.step(Step::Write(temp, bytes)) {
-        Answer::Wrote(temp, taken) if taken == count => Some(temp),
-        _ => None,
+/// The open file of an answer with its bytes.
+fn piece_of<F: Drop, T: Drop>(answer: Answer<F, T>) -> Option<(F, Bytes)> {
+    match answer {
+        Answer::Got(file, bytes) => Some((file, bytes)),
+        other => {
+            let_go(other);
+            None
+        }
     }
 }
 
-/// Writes a temporary file whole and moves it to the path; None if it can't be written.
-fn put(store: &mut Folders, temp: Text, bytes: Bytes, path: Text) -> Option<Result<(), Fault>> {
-    let temp = written(store, temp, bytes)?;
-    match store.step(Step::Persist(temp, path)) {
-        Answer::Done => Some(Ok(())),
-        Answer::Failed(fault) => Some(Err(fault)),
-        _ => None,
+/// The open file of an answer.
+fn file_of<F: Drop, T: Drop>(answer: Answer<F, T>) -> Option<F> {
+    match answer {
+        Answer::File(file) => Some(file),
+        other => {
+            let_go(other);
+            None
+        }
     }
+}
+
+/// Makes a temporary file and writes the bytes to it in one step.
+pub fn written<S: Store>(store: &mut S, path: Text, bytes: Bytes) -> Option<S::Temp> {
+    let temp = temp_of(store.step(Step::CreateTemp(path)))?;
+    temp_of(store.step(Step::Write(temp, bytes)))
+}
+
+/// Moves a temporary file, and returns why it couldn't.
+pub fn moved<S: Store>(store: &mut S, temp: S::Temp, path: Text) -> Option<Fault> {
+    let answer = store.step(Step::Persist(temp, path));
+    let fault = match &answer {
+        Answer::Failed(fault) => Some(*fault),
+        _ => None,
+    };
+    let_go(answer);
+    fault
 }
 
 #[test]
@@ -55,15 +76,15 @@ fn a_temporary_file_replaces_a_file(rt: HostRuntime) -> Result<(), Fail> {
         "older and longer",
     )?;
     for (temp, path, wanted) in [
-        ("/temp", "/file", Ok(())),
-        ("/temp", "/new", Ok(())),
-        ("/temp", "/none/file", Err(Fault::NotFound)),
-        ("/temp2", "/new/file", Err(Fault::NotADirectory)),
-        ("/temp3", "/folder", Err(Fault::IsADirectory)),
+        ("/temp", "/file", None),
+        ("/temp", "/new", None),
+        ("/temp", "/none/file", Some(Fault::NotFound)),
+        ("/temp2", "/new/file", Some(Fault::NotADirectory)),
+        ("/temp3", "/folder", Some(Fault::IsADirectory)),
     ] {
         let (temp, target) = (below(alloc, root, temp)?, below(alloc, root, path)?);
-        let came = put(&mut store, temp, bytes_of(alloc, "newer")?, target);
-        assert_eq!(rt; came, Some(wanted), "{path}");
+        let temp = written(&mut store, temp, bytes_of(alloc, "newer")?).ok_or("no file")?;
+        assert_eq!(rt; moved(&mut store, temp, target), wanted, "{path}");
     }
     for path in ["/file", "/new"] {
         let text = fs::read_to_string(&rt, below(alloc, root, path)?.as_str())?;
@@ -89,8 +110,7 @@ fn a_temporary_file_is_private_and_is_moved_itself(rt: HostRuntime) -> Result<()
     let before = mode_and_number(&rt, path.as_str())?;
     assert_eq!(rt; before.0, 0o600);
     let target = below(alloc, root.as_str(), "/file")?;
-    let step = Step::Persist(temp, target.clone()?);
-    assert!(rt; matches!(store.step(step), Answer::Done));
+    assert_eq!(rt; moved(&mut store, temp, target.clone()?), None);
     assert_eq!(rt; mode_and_number(&rt, target.as_str())?, before);
     assert!(rt; !fs::exists(&rt, path.as_str())?);
     fs::remove_dir_all(&rt, root.as_str())?;
@@ -98,22 +118,25 @@ fn a_temporary_file_is_private_and_is_moved_itself(rt: HostRuntime) -> Result<()
 }
 
 /// Opens the file and reads it in steps of at most `max` bytes, each of which is put into a bracket.
-fn pieces(store: &mut Folders, alloc: Global, path: Text, max: usize) -> io::Result<Vec<u8>> {
+fn pieces<S: Store>(
+    store: &mut S,
+    alloc: Global,
+    path: Text,
+    max: usize,
+) -> Result<Vec<u8>, AllocError> {
     let mut shown = Vec::new(alloc);
-    let Answer::File(mut file) = store.step(Step::Open(path)) else {
-        return Ok(shown);
-    };
+    let mut file = file_of(store.step(Step::Open(path)));
     for _ in 0..9 {
-        let Answer::Got(next, bytes) = store.step(Step::Read(file, max)) else {
+        let Some(open) = file else {
             return Ok(shown);
         };
-        file = next;
+        let Some((open, bytes)) = piece_of(store.step(Step::Read(open, max))) else {
+            return Ok(shown);
+        };
         shown.push(b'(')?;
         shown.extend_from_slice(bytes.as_slice())?;
         shown.push(b')')?;
-        if bytes.is_empty() {
-            break;
-        }
+        file = if bytes.is_empty() { None } else { Some(open) };
     }
     Ok(shown)
 }

@@ -1,19 +1,19 @@
 //! A runtime of its own, which hands each call on to the system's and notes what was asked.
-use super::steps::{Ask, Outcome, came_of, step_of};
+use super::handles::{moved, written};
+use super::steps::came;
 use super::{below, bytes_of, fresh};
 use crate::folder::FolderStore;
-use cacache_base::store::{Answer, Step, Store};
-use cacache_core::errors::Fault;
-use std::alloc::{Alloc, Allocator, Global};
+use std::alloc::{Alloc, AllocError, Allocator, Global};
 use std::cell::RefCell;
 use std::fs::{File, Metadata, OpenFile, OpenOptions};
 use std::io::{Read, Seek, SeekFrom, Write};
+use std::rc::Rc;
 use std::rt::{Files, HostRuntime};
 use std::test::Fail;
 use std::{fs, io};
 
 /// What was asked, with a `;` behind each call.
-type Notes = RefCell<String>;
+type Notes = Rc<RefCell<String>>;
 
 fn note(notes: &Notes, call: &str) -> io::Result<()> {
     if let Ok(mut notes) = notes.try_borrow_mut() {
@@ -23,19 +23,19 @@ fn note(notes: &Notes, call: &str) -> io::Result<()> {
     Ok(())
 }
 
-#[derive(Clone, Copy)]
-struct Watched<'a> {
+#[derive(Clone, Drop)]
+struct Watched {
     host: HostRuntime,
-    notes: &'a Notes,
+    notes: Notes,
 }
 
 #[derive(Drop)]
-struct WatchedFile<'a> {
+struct WatchedFile {
     file: File,
-    notes: &'a Notes,
+    notes: Notes,
 }
 
-impl Alloc for Watched<'_> {
+impl Alloc for Watched {
     type A = Global;
 
     fn alloc(&self) -> Global {
@@ -43,49 +43,49 @@ impl Alloc for Watched<'_> {
     }
 }
 
-impl Read for WatchedFile<'_> {
+impl Read for WatchedFile {
     fn read(&mut self, buf: &mut [u8]) -> io::Result<usize> {
-        note(self.notes, "read")?;
+        note(&self.notes, "read")?;
         self.file.read(buf)
     }
 }
 
-impl Write for WatchedFile<'_> {
+impl Write for WatchedFile {
     fn write(&mut self, buf: &[u8]) -> io::Result<usize> {
-        note(self.notes, "write")?;
+        note(&self.notes, "write")?;
         self.file.write(buf)
     }
 
     fn flush(&mut self) -> io::Result<()> {
-        note(self.notes, "flush")?;
+        note(&self.notes, "flush")?;
         self.file.flush()
     }
 }
 
-impl Seek for WatchedFile<'_> {
+impl Seek for WatchedFile {
     fn seek(&mut self, to: SeekFrom) -> io::Result<u64> {
-        note(self.notes, "seek")?;
+        note(&self.notes, "seek")?;
         self.file.seek(to)
     }
 }
 
-impl OpenFile for WatchedFile<'_> {
+impl OpenFile for WatchedFile {
     fn metadata(&self) -> io::Result<Metadata> {
         self.file.metadata()
     }
 
     fn set_len(&self, size: u64) -> io::Result<()> {
-        note(self.notes, "set_len")?;
+        note(&self.notes, "set_len")?;
         self.file.set_len(size)
     }
 
     fn sync_all(&self) -> io::Result<()> {
-        note(self.notes, "sync_all")?;
+        note(&self.notes, "sync_all")?;
         self.file.sync_all()
     }
 
     fn sync_data(&self) -> io::Result<()> {
-        note(self.notes, "sync_data")?;
+        note(&self.notes, "sync_data")?;
         self.file.sync_data()
     }
 }
@@ -102,19 +102,17 @@ impl Read for OddNames {
     }
 }
 
-impl<'a> Files for Watched<'a> {
-    type File = WatchedFile<'a>;
+impl Files for Watched {
+    type File = WatchedFile;
 
     type Dir = OddNames;
 
-    fn open_file(&self, how: &OpenOptions, path: &str) -> io::Result<WatchedFile<'a>> {
+    fn open_file(&self, how: &OpenOptions, path: &str) -> io::Result<WatchedFile> {
         let asked = format!(in self.host.alloc(); "{how:?}")?;
-        note(self.notes, asked.as_str())?;
+        note(&self.notes, asked.as_str())?;
+        let notes = self.notes.clone()?;
         let file = self.host.open_file(how, path)?;
-        Ok(WatchedFile {
-            file,
-            notes: self.notes,
-        })
+        Ok(WatchedFile { file, notes })
     }
 
     fn open_dir(&self, _path: &str) -> io::Result<OddNames> {
@@ -124,42 +122,42 @@ impl<'a> Files for Watched<'a> {
     }
 
     fn metadata(&self, path: &str) -> io::Result<Metadata> {
-        note(self.notes, "metadata")?;
+        note(&self.notes, "metadata")?;
         self.host.metadata(path)
     }
 
     fn symlink_metadata(&self, path: &str) -> io::Result<Metadata> {
-        note(self.notes, "symlink_metadata")?;
+        note(&self.notes, "symlink_metadata")?;
         self.host.symlink_metadata(path)
     }
 
     fn copy(&self, from: &str, to: &str) -> io::Result<u64> {
-        note(self.notes, "copy")?;
+        note(&self.notes, "copy")?;
         self.host.copy(from, to)
     }
 
     fn rename(&self, from: &str, to: &str) -> io::Result<()> {
-        note(self.notes, "rename")?;
+        note(&self.notes, "rename")?;
         self.host.rename(from, to)
     }
 
     fn remove_file(&self, path: &str) -> io::Result<()> {
-        note(self.notes, "remove_file")?;
+        note(&self.notes, "remove_file")?;
         self.host.remove_file(path)
     }
 
     fn create_dir(&self, path: &str) -> io::Result<()> {
-        note(self.notes, "create_dir")?;
+        note(&self.notes, "create_dir")?;
         self.host.create_dir(path)
     }
 
     fn remove_dir(&self, path: &str) -> io::Result<()> {
-        note(self.notes, "remove_dir")?;
+        note(&self.notes, "remove_dir")?;
         self.host.remove_dir(path)
     }
 
     fn remove_dir_all<B: Allocator>(&self, alloc: B, path: &str) -> io::Result<()> {
-        note(self.notes, "remove_dir_all")?;
+        note(&self.notes, "remove_dir_all")?;
         self.host.remove_dir_all(alloc, path)
     }
 }
@@ -180,43 +178,35 @@ const READ: &str =
 const CREATE: &str =
     "OpenOptions { read: false, write: true, append: false, truncate: false, create: false, create_new: true, mode: 384 };";
 
+/// The runtime that notes what it was asked.
+fn noted(host: HostRuntime) -> Result<Watched, AllocError> {
+    let alloc = host.alloc();
+    let notes = Rc::new(alloc, RefCell::new(String::new(alloc)))?;
+    Ok(Watched { host, notes })
+}
+
+const STEPS: [(&str, &str); 8] = [
+    ("Append /file one: Took 3", APPEND),
+    ("Append /file two: Took 3", APPEND),
+    ("ReadAll /file: Bytes onetwo", READ),
+    ("Exists /file: There true", "metadata;"),
+    ("CreateTemp /temp: Temp", CREATE),
+    ("CreateTemp /temp: Failed AlreadyExists", CREATE),
+    ("RemoveFile /temp: Done", "remove_file;"),
+    ("ReadDir /: Failed Device", "symlink_metadata;"),
+];
+
 #[test]
 fn each_step_asks_the_system_for_what_it_is(rt: HostRuntime) -> Result<(), Fail> {
     let alloc = rt.alloc();
     let root = fresh(&rt, "watched")?;
-    let notes = RefCell::new(String::new(alloc));
-    let mut store = FolderStore::new(Watched {
-        host: rt,
-        notes: &notes,
-    });
-    for (ask, path, wanted, calls) in [
-        (Ask::Append("one"), "/file", Outcome::Took(3), APPEND),
-        (Ask::Append("two"), "/file", Outcome::Took(3), APPEND),
-        (Ask::Reads("onetwo"), "/file", Outcome::Is(true), READ),
-        (Ask::Exists, "/file", Outcome::Is(true), "metadata;"),
-        (Ask::CreateTemp, "/temp", Outcome::Temp, CREATE),
-        (
-            Ask::CreateTemp,
-            "/temp",
-            Outcome::Failed(Fault::AlreadyExists),
-            CREATE,
-        ),
-        (Ask::RemoveFile, "/temp", Outcome::Done, "remove_file;"),
-        (
-            Ask::ReadDir,
-            "/",
-            Outcome::Failed(Fault::Device),
-            "symlink_metadata;",
-        ),
-    ] {
-        let step = step_of(
-            alloc,
-            root.as_str(),
-            ask,
-            below(alloc, root.as_str(), path)?,
-        )?;
-        assert_eq!(rt; came_of(&mut store, ask, step), wanted, "{ask:?}");
-        assert_eq!(rt; taken(&notes, alloc).as_str(), calls, "{ask:?}");
+    let watched = noted(rt)?;
+    let notes = watched.notes.clone()?;
+    let mut store = FolderStore::new(watched);
+    for (line, calls) in STEPS {
+        let line_came = came(alloc, root.as_str(), &mut store, line)?;
+        assert_eq!(rt; line_came.as_str(), line);
+        assert_eq!(rt; taken(&notes, alloc).as_str(), calls, "{line}");
     }
     fs::remove_dir_all(&rt, root.as_str())?;
     Ok(())
@@ -226,18 +216,13 @@ fn each_step_asks_the_system_for_what_it_is(rt: HostRuntime) -> Result<(), Fail>
 fn a_write_is_one_write_and_a_persist_one_rename(rt: HostRuntime) -> Result<(), Fail> {
     let alloc = rt.alloc();
     let root = fresh(&rt, "renamed")?;
-    let notes = RefCell::new(String::new(alloc));
-    let mut store = FolderStore::new(Watched {
-        host: rt,
-        notes: &notes,
-    });
+    let watched = noted(rt)?;
+    let notes = watched.notes.clone()?;
+    let mut store = FolderStore::new(watched);
     let path = below(alloc, root.as_str(), "/temp")?;
-    if let Answer::Temp(temp) = store.step(Step::CreateTemp(path)) {
-        if let Answer::Wrote(temp, _) = store.step(Step::Write(temp, bytes_of(alloc, "hello")?)) {
-            let target = below(alloc, root.as_str(), "/file")?;
-            assert!(rt; matches!(store.step(Step::Persist(temp, target)), Answer::Done));
-        }
-    }
+    let temp = written(&mut store, path, bytes_of(alloc, "hello")?).ok_or("no file")?;
+    let target = below(alloc, root.as_str(), "/file")?;
+    assert_eq!(rt; moved(&mut store, temp, target), None);
     let calls = taken(&notes, alloc);
     assert_eq!(rt; calls.as_str().strip_prefix(CREATE), Some("write;rename;"));
     fs::remove_dir_all(&rt, root.as_str())?;
