@@ -155,16 +155,21 @@ fn wrong_words_and_missing_keys(rt: HostRuntime) -> Result<(), Fail> {
     Ok(())
 }
 
+/// What a run with an input that fails after three letters gives, as a line.
+fn with_torn_input(rt: &HostRuntime, env: &mut Folders, words: &[&str]) -> Result<String, Fail> {
+    let alloc = rt.alloc();
+    let mut input = TornInput { letters: 3 };
+    let mut output = Vec::new(alloc);
+    let (status, errors) = ran_on(rt, env, words, &mut input, &mut output)?;
+    Ok(format!(in alloc; "{status} {:?} {:?}", output.as_slice(), errors.as_slice())?)
+}
+
 #[test]
 fn torn_input_stores_nothing(rt: HostRuntime) -> Result<(), Fail> {
     let mut env = folders(rt)?;
-    let mut output = Vec::new(rt.alloc());
-    let mut input = TornInput { letters: 3 };
-    let words = ["write", "t", "torn"];
-    let (status, errors) = ran_on(&rt, &mut env, &words, &mut input, &mut output)?;
-    assert_eq!(rt; status, 1);
-    assert_eq!(rt; output.len(), 0);
-    assert_eq!(rt; errors.as_slice(), b"input failed\n".as_slice());
+    let line = with_torn_input(&rt, &mut env, &["write", "t", "torn"])?;
+    let failed = "1 [] [105, 110, 112, 117, 116, 32, 102, 97, 105, 108, 101, 100, 10]";
+    assert_eq!(rt; line.as_str(), failed);
     assert!(rt; fs::metadata(&rt, "t").is_err());
     Ok(())
 }
