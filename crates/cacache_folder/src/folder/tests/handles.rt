@@ -13,8 +13,18 @@ use std::rt::HostRuntime;
 use std::test::Fail;
 use std::{fs, io};
 
+/// Why the step failed.
+pub fn fault_of<F: Drop, T: Drop>(answer: Answer<F, T>) -> Option<Fault> {
+    let fault = match &answer {
+        Answer::Failed(fault) => Some(*fault),
+        _ => None,
+    };
+    let_go(answer);
+    fault
+}
+
 /// The temporary file of an answer.
-fn temp_of<F: Drop, T: Drop>(answer: Answer<F, T>) -> Option<T> {
+pub fn temp_of<F: Drop, T: Drop>(answer: Answer<F, T>) -> Option<T> {
     match answer {
         Answer::Temp(temp) | Answer::Wrote(temp, _) => Some(temp),
         other => {
@@ -47,20 +57,14 @@ fn file_of<F: Drop, T: Drop>(answer: Answer<F, T>) -> Option<F> {
 }
 
 /// Makes a temporary file and writes the bytes to it in one step.
-pub fn written<S: Store>(store: &mut S, path: Text, bytes: Bytes) -> Option<S::Temp> {
+fn written<S: Store>(store: &mut S, path: Text, bytes: Bytes) -> Option<S::Temp> {
     let temp = temp_of(store.step(Step::CreateTemp(path)))?;
     temp_of(store.step(Step::Write(temp, bytes)))
 }
 
 /// Moves a temporary file, and returns why it couldn't.
-pub fn moved<S: Store>(store: &mut S, temp: S::Temp, path: Text) -> Option<Fault> {
-    let answer = store.step(Step::Persist(temp, path));
-    let fault = match &answer {
-        Answer::Failed(fault) => Some(*fault),
-        _ => None,
-    };
-    let_go(answer);
-    fault
+fn moved<S: Store>(store: &mut S, temp: S::Temp, path: Text) -> Option<Fault> {
+    fault_of(store.step(Step::Persist(temp, path)))
 }
 
 #[test]
@@ -106,11 +110,14 @@ fn a_temporary_file_is_private_and_is_moved_itself(rt: HostRuntime) -> Result<()
     let root = fresh(&rt, "private")?;
     let mut store = FolderStore::new(rt);
     let path = below(alloc, root.as_str(), "/temp")?;
-    let temp = written(&mut store, path.clone()?, bytes_of(alloc, "hello")?).ok_or("no file")?;
-    let before = mode_and_number(&rt, path.as_str())?;
-    assert_eq!(rt; before.0, 0o600);
     let target = below(alloc, root.as_str(), "/file")?;
-    assert_eq!(rt; moved(&mut store, temp, target.clone()?), None);
+    let to = target.clone()?;
+    let hello = bytes_of(alloc, "hello")?;
+    let temp = written(&mut store, path.clone()?, hello).ok_or("no file")?;
+    let before = mode_and_number(&rt, path.as_str());
+    let fault = moved(&mut store, temp, to);
+    let before = before?;
+    assert_eq!(rt; (fault, before.0), (None, 0o600));
     assert_eq!(rt; mode_and_number(&rt, target.as_str())?, before);
     assert!(rt; !fs::exists(&rt, path.as_str())?);
     fs::remove_dir_all(&rt, root.as_str())?;

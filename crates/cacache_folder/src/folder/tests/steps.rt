@@ -34,7 +34,11 @@ fn long_step<F, T>(ask: &str, from: Text, to: Text) -> Option<Step<F, T>> {
 }
 
 /// The step of a line; None if it has none.
-fn step_of<F, T>(alloc: Global, root: &str, words: &str) -> Result<Option<Step<F, T>>, AllocError> {
+pub fn step_of<F, T>(
+    alloc: Global,
+    root: &str,
+    words: &str,
+) -> Result<Option<Step<F, T>>, AllocError> {
     let Some((ask, rest)) = words.split_once(' ') else {
         return Ok(None);
     };
@@ -80,8 +84,15 @@ fn shown<F, T>(alloc: Global, answer: &Answer<F, T>) -> Result<String, AllocErro
     }
 }
 
+/// The answer as a line ends with it. The answer is dropped.
+pub fn end_of<F: Drop, T: Drop>(alloc: Global, answer: Answer<F, T>) -> Result<String, AllocError> {
+    let end = shown(alloc, &answer);
+    let_go(answer);
+    end
+}
+
 /// Does the step of a line, and returns the line as it came.
-pub fn came<S: Store>(
+fn came<S: Store>(
     alloc: Global,
     root: &str,
     store: &mut S,
@@ -91,10 +102,7 @@ pub fn came<S: Store>(
     let Some(step) = step_of(alloc, root, words)? else {
         return format!(in alloc; "{words}: no step");
     };
-    let answer = store.step(step);
-    let end = shown(alloc, &answer);
-    let_go(answer);
-    let end = end?;
+    let end = end_of(alloc, store.step(step))?;
     format!(in alloc; "{words}: {end}")
 }
 

@@ -1,8 +1,9 @@
 //! A runtime of its own, which hands each call on to the system's and notes what was asked.
-use super::handles::{moved, written};
-use super::steps::came;
+use super::handles::{fault_of, temp_of};
+use super::steps::{end_of, step_of};
 use super::{below, bytes_of, fresh};
 use crate::folder::FolderStore;
+use cacache_base::store::{Step, Store};
 use std::alloc::{Alloc, AllocError, Allocator, Global};
 use std::cell::RefCell;
 use std::fs::{File, Metadata, OpenFile, OpenOptions};
@@ -204,8 +205,10 @@ fn each_step_asks_the_system_for_what_it_is(rt: HostRuntime) -> Result<(), Fail>
     let notes = watched.notes.clone()?;
     let mut store = FolderStore::new(watched);
     for (line, calls) in STEPS {
-        let line_came = came(alloc, root.as_str(), &mut store, line)?;
-        assert_eq!(rt; line_came.as_str(), line);
+        let (words, wanted) = line.split_once(": ").ok_or("no answer")?;
+        let step = step_of(alloc, root.as_str(), words)?.ok_or("no step")?;
+        let end = end_of(alloc, store.step(step))?;
+        assert_eq!(rt; end.as_str(), wanted, "{line}");
         assert_eq!(rt; taken(&notes, alloc).as_str(), calls, "{line}");
     }
     fs::remove_dir_all(&rt, root.as_str())?;
@@ -220,9 +223,12 @@ fn a_write_is_one_write_and_a_persist_one_rename(rt: HostRuntime) -> Result<(), 
     let notes = watched.notes.clone()?;
     let mut store = FolderStore::new(watched);
     let path = below(alloc, root.as_str(), "/temp")?;
-    let temp = written(&mut store, path, bytes_of(alloc, "hello")?).ok_or("no file")?;
     let target = below(alloc, root.as_str(), "/file")?;
-    assert_eq!(rt; moved(&mut store, temp, target), None);
+    let hello = bytes_of(alloc, "hello")?;
+    let temp = temp_of(store.step(Step::CreateTemp(path))).ok_or("no file")?;
+    let temp = temp_of(store.step(Step::Write(temp, hello))).ok_or("no write")?;
+    let fault = fault_of(store.step(Step::Persist(temp, target)));
+    assert_eq!(rt; fault, None);
     let calls = taken(&notes, alloc);
     assert_eq!(rt; calls.as_str().strip_prefix(CREATE), Some("write;rename;"));
     fs::remove_dir_all(&rt, root.as_str())?;
