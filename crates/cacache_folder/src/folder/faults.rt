@@ -7,22 +7,6 @@ use cacache_core::errors::Fault;
 use std::io;
 use std::io::ErrorKind;
 
-/// The fault that stands for the system's error.
-fn fault_of(kind: ErrorKind) -> Fault {
-    match kind {
-        ErrorKind::NotFound => Fault::NotFound,
-        ErrorKind::AlreadyExists => Fault::AlreadyExists,
-        ErrorKind::NotADirectory => Fault::NotADirectory,
-        ErrorKind::IsADirectory => Fault::IsADirectory,
-        ErrorKind::DirectoryNotEmpty => Fault::NotEmpty,
-        ErrorKind::Unsupported => Fault::Unsupported,
-        ErrorKind::InvalidInput => Fault::InvalidInput,
-        ErrorKind::WriteZero => Fault::WriteZero,
-        ErrorKind::FilesystemLoop => Fault::TooDeep,
-        _ => Fault::Device,
-    }
-}
-
 /// Whether the step may change something and then fail: it makes some of the folders, the file, or a part of a copy.
 fn may_do_a_part<F, T>(step: &Step<F, T>) -> bool {
     matches!(
@@ -46,5 +30,5 @@ pub(crate) fn refused<F: FileHandle, T: TempHandle>(
         return Answer::NoMemory(step);
     }
     let_go(step);
-    Answer::Failed(fault_of(kind))
+    Answer::Failed(Fault::from(kind))
 }
