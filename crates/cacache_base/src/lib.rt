@@ -3,5 +3,3 @@
 
 pub mod env;
 pub mod store;
-#[cfg(test)]
-mod tests;

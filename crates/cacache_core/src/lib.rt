@@ -9,6 +9,4 @@ pub mod hasher;
 pub mod integrity;
 pub mod laws;
 pub mod paths;
-#[cfg(test)]
-mod tests;
 pub mod text;

@@ -14,6 +14,3 @@ pub use metadata::{Metadata, SerializableMetadata};
 pub use read::entries;
 pub use search::{Lookup, latest};
 pub use write::line;
-
-#[cfg(test)]
-mod tests;

@@ -52,7 +52,9 @@ impl Algorithm {
 impl PartialOrd for Algorithm {
     ghost partial_cmp = { as_partial_cmp (on rank nat_cmp) };
 
-    ghost laws = { partial_order_from_own_ties (Prim.search (comparing, rules)) (Prim.search (comparing, rules)) };
+    ghost laws = { partial_order_from_own_ties
+        (Prim.search (comparing, rules))
+        (Prim.search (comparing, rules)) };
 
     fn partial_cmp(&self, other: &Algorithm) -> Option<Ordering> {
         Some(self.cmp(other))

@@ -1,8 +1,7 @@
 //! Lines that the Rust crate wrote. Each is also the line that is written here, and it reads back.
-use crate::{SerializableMetadata, entries, line};
+use cacache_entry::{SerializableMetadata, entries, line};
 use serde_json::Value;
 use std::alloc::{AllocError, Global};
-use std::process::Abort;
 use std::test::Fail;
 
 /// An entry and the line that the Rust crate wrote for it.
@@ -178,27 +177,35 @@ fn say_the_same(one: &SerializableMetadata, other: &SerializableMetadata) -> boo
         && one.raw_metadata == other.raw_metadata
 }
 
-/// The entry's line is the expected one, and that reads back as the entry.
-fn check(
-    rt: &impl Abort,
-    alloc: Global,
-    entry: &SerializableMetadata,
-    expected: &str,
-) -> Result<(), Fail> {
-    assert!(rt; line(alloc, entry)?.as_slice() == expected.as_bytes());
+/// Whether the entry's line is the expected one.
+fn is_line(alloc: Global, entry: &SerializableMetadata, expected: &str) -> Result<bool, Fail> {
+    Ok(line(alloc, entry)?.as_slice() == expected.as_bytes())
+}
+
+/// Whether the line reads back as the entry.
+fn reads_back(alloc: Global, entry: &SerializableMetadata, expected: &str) -> Result<bool, Fail> {
     let found = entries(alloc, expected.as_bytes())?;
-    assert_eq!(rt; found.len(), 1);
-    for read in &found {
-        assert!(rt; say_the_same(read, entry));
+    match found.last() {
+        Some(read) => Ok(found.len() == 1 && say_the_same(read, entry)),
+        None => Ok(false),
     }
-    Ok(())
+}
+
+/// Whether the entry's line is the expected one, and that reads back as the entry.
+fn holds(alloc: Global, entry: &SerializableMetadata, expected: &str) -> Result<bool, Fail> {
+    Ok(is_line(alloc, entry, expected)? && reads_back(alloc, entry, expected)?)
+}
+
+/// Whether that is so of a row's entry and line.
+fn row_holds(alloc: Global, row: &Row<'_>) -> Result<bool, Fail> {
+    let entry = entry_of(alloc, row)?;
+    holds(alloc, &entry, row.line)
 }
 
 #[test]
 fn lines_of_the_rust_crate(rt: HostRuntime) -> Result<(), Fail> {
     for row in &ROWS {
-        let entry = entry_of(rt.alloc(), row)?;
-        check(&rt, rt.alloc(), &entry, row.line)?;
+        assert!(rt; row_holds(rt.alloc(), row)?);
     }
     Ok(())
 }
@@ -212,15 +219,16 @@ fn repeated(alloc: Global, character: char, times: usize) -> Result<String, Allo
     Ok(text)
 }
 
-#[test]
-fn long_line_of_the_rust_crate(rt: HostRuntime) -> Result<(), Fail> {
-    let alloc = rt.alloc();
-    let key = format!(in alloc; "long {}", repeated(alloc, 'x', 3000)?)?;
-    let text = repeated(alloc, 'y', 2000)?;
-    let expected = format!(in alloc;
+/// The line of the entry with this key and this text as its metadata.
+fn long_line(alloc: Global, key: &str, text: &str) -> Result<String, AllocError> {
+    format!(in alloc;
         "\n3fab6a1ca14720c9add690ec42f80fbccd56b824185ee2832f15ffad02ae3cef\t{{\"key\":\"{key}\",\"integrity\":null,\"time\":9,\"size\":18446744073709551615,\"metadata\":\"{text}\",\"raw_metadata\":null}}"
-    )?;
-    assert_eq!(rt; expected.len(), 5169);
+    )
+}
+
+/// Whether that is the entry's line, and reads back.
+fn long_line_holds(alloc: Global, key: String, text: String) -> Result<bool, Fail> {
+    let expected = long_line(alloc, key.as_str(), text.as_str())?;
     let entry = SerializableMetadata {
         key,
         integrity: None,
@@ -229,5 +237,14 @@ fn long_line_of_the_rust_crate(rt: HostRuntime) -> Result<(), Fail> {
         metadata: Value::String(text),
         raw_metadata: None,
     };
-    check(&rt, alloc, &entry, expected.as_str())
+    Ok(expected.len() == 5169 && holds(alloc, &entry, expected.as_str())?)
+}
+
+#[test]
+fn long_line_of_the_rust_crate(rt: HostRuntime) -> Result<(), Fail> {
+    let alloc = rt.alloc();
+    let key = format!(in alloc; "long {}", repeated(alloc, 'x', 3000)?)?;
+    let text = repeated(alloc, 'y', 2000)?;
+    assert!(rt; long_line_holds(alloc, key, text)?);
+    Ok(())
 }

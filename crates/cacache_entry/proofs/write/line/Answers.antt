@@ -1,0 +1,1 @@
+-- No goal is left open here.
