@@ -12,8 +12,6 @@ mod listing;
 mod opened;
 mod paths;
 mod temp;
-#[cfg(test)]
-mod tests;
 mod whole;
 
 use answers::{created, given, moved, readable, written};
@@ -53,6 +51,22 @@ impl<R: Files + AllocGlobal + Clone + Drop> FolderStore<R> {
         }
     }
 
+    /// Does a step that asks about files and folders, or one that is answered by `Done`.
+    fn asked<F: FileHandle, T: TempHandle>(&self, step: &Step<F, T>) -> io::Result<Answer<F, T>>
+        ensures { IfOk result (λ answer.
+            Fits (plain_step F.seen T.seen step.now) (plain_answer F.seen T.seen answer)) }
+    {
+        Ok(match step {
+            Step::Exists(path) => Answer::There(self.exists(path.as_str())?),
+            Step::Size(path) => Answer::Length(self.size(path.as_str())?),
+            Step::ReadDir(path) => Answer::Names(self.read_dir(path.as_str())?),
+            step => {
+                self.change(step)?;
+                Answer::Done
+            }
+        })
+    }
+
     /// Does a step that has no file of its own.
     fn done<F: FileHandle, T: TempHandle>(&self, step: &Step<F, T>) -> io::Result<Answer<F, T>>
         ensures { IfOk result (λ answer.
@@ -62,15 +76,9 @@ impl<R: Files + AllocGlobal + Clone + Drop> FolderStore<R> {
             Step::Append(path, bytes) => {
                 Answer::Took(self.append(path.as_str(), bytes.as_slice())?)
             }
-            Step::ReadAll(path) => Answer::Bytes(self.read_all(path.as_str())?),
-            Step::Exists(path) => Answer::There(self.exists(path.as_str())?),
-            Step::Size(path) => Answer::Length(self.size(path.as_str())?),
             Step::Copy(from, to) => Answer::Took(self.copy(from.as_str(), to.as_str())?),
-            Step::ReadDir(path) => Answer::Names(self.read_dir(path.as_str())?),
-            step => {
-                self.change(step)?;
-                Answer::Done
-            }
+            Step::ReadAll(path) => Answer::Bytes(self.read_all(path.as_str())?),
+            step => return self.asked(step),
         })
     }
 }

@@ -57,37 +57,3 @@ impl Names for ProcessNames {
         number
     }
 }
-
-#[cfg(test)]
-mod tests {
-    use super::*;
-    use std::test::Fail;
-
-    #[test]
-    fn numbers_of_a_process_wrap(rt: HostRuntime) -> Result<(), Fail> {
-        for (millis, process, wanted) in [
-            (1, 2, [65538, 131074, 196610]),
-            (0, 65537, [1, 65537, 131073]),
-            (u64::MAX, 1, [18446744073709486081, 1, 65537]),
-        ] {
-            let mut names = ProcessNames::starting(millis, process);
-            for number in wanted {
-                assert_eq!(rt; names.fresh(), number, "{millis} {process}");
-            }
-        }
-        Ok(())
-    }
-
-    #[test]
-    fn numbers_start_at_the_time_with_the_process(rt: HostRuntime) -> Result<(), Fail> {
-        let before = SystemClock::new(rt).now();
-        let number = ProcessNames::new(rt).fresh();
-        let after = SystemClock::new(rt).now();
-        assert!(rt; (before..=after).contains(&(number / 65536)), "{number}");
-        assert_eq!(rt;
-            number % 65536,
-            u64::from(process::id(rt.process())) % 65536
-        );
-        Ok(())
-    }
-}

@@ -2,9 +2,6 @@
 ghost use Rattle.std.specs.Io.{ReadsAtMost, WritesAtMost};
 ghost use Rattle.std.specs.Io.KnownBytes.{ReadConsumes, WriteAppends};
 
-#[cfg(test)]
-mod tests;
-
 use std::io;
 use std::io::{ErrorKind, Read, Write};
 

@@ -65,6 +65,21 @@ fn name_of<R: Files + Clone + Drop>(
     Ok(Some(Name { name, kind }))
 }
 
+/// Adds what an entry of a folder names, unless it was removed since the folder was read.
+fn add<R: Files + Clone + Drop>(
+    alloc: Global,
+    names: &mut Vec<Name>,
+    entry: io::Result<DirEntry<R, Global>>,
+) -> io::Result<()>
+    ensures { AreProperNames names.old.items → AreProperNames names.new.items }
+{
+    let entry = entry?;
+    if let Some(name) = name_of(alloc, &entry)? {
+        names.push(name)?;
+    }
+    Ok(())
+}
+
 impl<R: Files + AllocGlobal + Clone + Drop> FolderStore<R> {
     /// What is in the folder, in the system's order. It fails if a name isn't UTF-8.
     pub(crate) fn read_dir(&self, path: &str) -> io::Result<Listing>
@@ -73,9 +88,7 @@ impl<R: Files + AllocGlobal + Clone + Drop> FolderStore<R> {
         let alloc = self.rt.alloc();
         let mut names = Vec::new(alloc);
         for entry in fs::read_dir(&self.rt, path)? {
-            if let Some(name) = name_of(alloc, &entry?)? {
-                names.push(name)?;
-            }
+            add(alloc, &mut names, entry)?;
         }
         Ok(Listing::new(names))
     }

@@ -2,9 +2,6 @@
 ghost use Rattle.std.specs.Prelude.{◌≡◌, IfOk, IfSome};
 ghost use Rattle.std.specs.Io.KnownBytes.{Consumes};
 
-#[cfg(test)]
-mod tests;
-
 use crate::folder::again::read_again;
 use std::alloc::Global;
 use std::io;

@@ -1,7 +1,7 @@
-//! What each step answers on a real folder, one after another.
-use super::fresh;
-use super::steps::other_of;
-use crate::folder::FolderStore;
+//! What each step answers on a real folder, one after another. What is wanted is what the system's manual says.
+use crate::common::fresh;
+use crate::steps::other_of;
+use cacache_folder::FolderStore;
 use std::rt::HostRuntime;
 use std::test::Fail;
 use std::{fs, io};
@@ -94,46 +94,82 @@ RemoveFile /link: Done
 RemoveDir /a: Done
 ReadDir /: Names 1 0 3";
 
+const MOVED: &str = "\
+MakeDirs /folder: Done
+Append /file older and longer: Took 16
+Persist /temp /file: Done
+Persist /temp /new: Done
+Persist /temp /none/file: Failed NotFound
+Persist /temp2 /new/file: Failed NotADirectory
+Persist /temp3 /folder: Failed IsADirectory
+ReadAll /file: Bytes newer
+ReadAll /new: Bytes newer";
+
+const OPENED: &str = "\
+Append /file hello world: Took 11
+Pieces /file 4: (hell)(o wo)(rld)()
+Pieces /file 11: (hello world)()
+Pieces /file 18446744073709551615: (hello world)()
+Pieces /file 0: ()
+Append /short hello: Took 5
+Gives /short: (hel)(lo)()";
+
 const DEVICES: &str = "\
 Append /dev/full one: Failed Device
 ReadAll /proc/self/mem: Failed Device";
 
-/// Does the steps below a fresh folder.
-fn other_below(rt: &HostRuntime, name: &str, lines: &str) -> io::Result<Option<String>> {
+/// The first line that comes otherwise below a fresh folder.
+fn other_below(rt: HostRuntime, name: &str, lines: &str) -> io::Result<Option<String>> {
     let root = fresh(rt, name)?;
-    let mut store = FolderStore::new(rt);
-    let other = other_of(rt.alloc(), root.as_str(), &mut store, lines)?;
-    fs::remove_dir_all(rt, root.as_str())?;
-    Ok(other)
+    let other = other_of(rt.alloc(), root.as_str(), &mut FolderStore::new(rt), lines);
+    fs::remove_dir_all(&rt, root.as_str())?;
+    Ok(other?)
+}
+
+/// Fails with a line that came otherwise.
+pub fn told(other: Option<String>) -> Result<(), Fail> {
+    match other {
+        Some(other) => Err(Fail::new(other)),
+        None => Ok(()),
+    }
+}
+
+/// Fails if a line comes otherwise below a fresh folder.
+fn all_come(rt: HostRuntime, name: &str, lines: &str) -> Result<(), Fail> {
+    told(other_below(rt, name, lines)?)
 }
 
 #[test]
 fn folder_store_fails_no_step_without_cause(rt: HostRuntime) -> Result<(), Fail> {
-    assert_eq!(rt; other_below(&rt, "made", MADE)?, None);
-    Ok(())
+    all_come(rt, "made", MADE)
 }
 
 #[test]
 fn refused_steps_have_their_faults(rt: HostRuntime) -> Result<(), Fail> {
-    assert_eq!(rt; other_below(&rt, "refused", REFUSED)?, None);
-    Ok(())
+    all_come(rt, "refused", REFUSED)
 }
 
 #[test]
 fn a_copy_leaves_its_own_file_whole(rt: HostRuntime) -> Result<(), Fail> {
-    assert_eq!(rt; other_below(&rt, "copied", COPIED)?, None);
-    Ok(())
+    all_come(rt, "copied", COPIED)
 }
 
 #[test]
 fn links_are_followed_where_files_are_asked_for(rt: HostRuntime) -> Result<(), Fail> {
-    assert_eq!(rt; other_below(&rt, "linked", LINKED)?, None);
-    Ok(())
+    all_come(rt, "linked", LINKED)
+}
+
+#[test]
+fn a_temporary_file_replaces_a_file(rt: HostRuntime) -> Result<(), Fail> {
+    all_come(rt, "moved", MOVED)
+}
+
+#[test]
+fn an_open_file_is_read_in_pieces(rt: HostRuntime) -> Result<(), Fail> {
+    all_come(rt, "opened", OPENED)
 }
 
 #[test]
 fn devices_that_fail_are_faults(rt: HostRuntime) -> Result<(), Fail> {
-    let mut store = FolderStore::new(rt);
-    assert_eq!(rt; other_of(rt.alloc(), "", &mut store, DEVICES)?, None);
-    Ok(())
+    told(other_of(rt.alloc(), "", &mut FolderStore::new(rt), DEVICES)?)
 }

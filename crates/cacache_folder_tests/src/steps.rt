@@ -1,10 +1,10 @@
 //! Steps as lines of text: `Append /file one: Took 3` is a step, its paths below a folder, and its answer.
-use super::{below, bytes_of};
-use crate::folder::faults::let_go;
+use crate::common::{below, bytes_of, let_go};
+use crate::handles::persisted;
+use crate::pieces::{given, pieces};
 use cacache_base::store::{Answer, Kind, Listing, Step, Store};
 use cacache_core::text::Text;
 use std::alloc::{AllocError, Global};
-use std::io;
 
 /// A step on one path.
 fn short_step<F, T>(ask: &str, path: Text) -> Option<Step<F, T>> {
@@ -33,25 +33,24 @@ fn long_step<F, T>(ask: &str, from: Text, to: Text) -> Option<Step<F, T>> {
     })
 }
 
-/// The step of a line; None if it has none.
-pub fn step_of<F, T>(
+/// The step of some words; None if they have none.
+fn step_of<F, T>(
     alloc: Global,
     root: &str,
-    words: &str,
+    words: (&str, &str, &str),
 ) -> Result<Option<Step<F, T>>, AllocError> {
-    let Some((ask, rest)) = words.split_once(' ') else {
-        return Ok(None);
-    };
-    let Some((path, other)) = rest.split_once(' ') else {
-        return Ok(short_step(ask, below(alloc, root, rest)?));
-    };
+    let (ask, path, other) = words;
     let path = below(alloc, root, path)?;
     if ask == "Append" {
         return Ok(Some(Step::Append(path, bytes_of(alloc, other)?)));
     }
+    if other.is_empty() {
+        return Ok(short_step(ask, path));
+    }
     Ok(long_step(ask, path, below(alloc, root, other)?))
 }
 
+/// How many names of a kind there are.
 fn count_of(listing: &Listing, kind: Kind) -> usize {
     listing
         .as_slice()
@@ -60,7 +59,15 @@ fn count_of(listing: &Listing, kind: Kind) -> usize {
         .count()
 }
 
-/// The answer as a line ends with it. Of a listing it counts the files, folders and links.
+/// A listing as its answer is shown: its files, folders and links are counted.
+fn counted(alloc: Global, names: &Listing) -> Result<String, AllocError> {
+    let files = count_of(names, Kind::File);
+    let folders = count_of(names, Kind::Folder);
+    let links = count_of(names, Kind::Link);
+    format!(in alloc; "Names {files} {folders} {links}")
+}
+
+/// An answer as a line ends with it.
 fn shown<F, T>(alloc: Global, answer: &Answer<F, T>) -> Result<String, AllocError> {
     match answer {
         Answer::Done => String::from_str(alloc, "Done"),
@@ -70,12 +77,7 @@ fn shown<F, T>(alloc: Global, answer: &Answer<F, T>) -> Result<String, AllocErro
         Answer::There(is) => format!(in alloc; "There {is}"),
         Answer::Length(size) => format!(in alloc; "Length {size}"),
         Answer::Failed(fault) => format!(in alloc; "Failed {fault:?}"),
-        Answer::Names(names) => {
-            let files = count_of(names, Kind::File);
-            let folders = count_of(names, Kind::Folder);
-            let links = count_of(names, Kind::Link);
-            format!(in alloc; "Names {files} {folders} {links}")
-        }
+        Answer::Names(names) => counted(alloc, names),
         Answer::Bytes(bytes) => {
             let text = std::str::from_utf8(bytes.as_slice()).unwrap_or("?");
             format!(in alloc; "Bytes {text}")
@@ -84,26 +86,47 @@ fn shown<F, T>(alloc: Global, answer: &Answer<F, T>) -> Result<String, AllocErro
     }
 }
 
-/// The answer as a line ends with it. The answer is dropped.
+/// An answer as a line ends with it. The answer is dropped.
 pub fn end_of<F: Drop, T: Drop>(alloc: Global, answer: Answer<F, T>) -> Result<String, AllocError> {
     let end = shown(alloc, &answer);
     let_go(answer);
     end
 }
 
-/// Does the step of a line, and returns the line as it came.
-fn came<S: Store>(
+/// Does one step, and returns how its line ends.
+fn stepped<S: Store>(
     alloc: Global,
     root: &str,
     store: &mut S,
-    line: &str,
+    words: (&str, &str, &str),
 ) -> Result<String, AllocError> {
-    let words = line.split_once(": ").map_or(line, |parts| parts.0);
-    let Some(step) = step_of(alloc, root, words)? else {
-        return format!(in alloc; "{words}: no step");
-    };
-    let end = end_of(alloc, store.step(step))?;
-    format!(in alloc; "{words}: {end}")
+    match step_of(alloc, root, words)? {
+        Some(step) => end_of(alloc, store.step(step)),
+        None => String::from_str(alloc, "no step"),
+    }
+}
+
+/// The first word, the second and the rest.
+fn split(words: &str) -> (&str, &str, &str) {
+    let (ask, rest) = words.split_once(' ').unwrap_or((words, ""));
+    let (path, other) = rest.split_once(' ').unwrap_or((rest, ""));
+    (ask, path, other)
+}
+
+/// Does what the words say, and returns how their line ends.
+pub fn end_after<S: Store>(
+    alloc: Global,
+    root: &str,
+    store: &mut S,
+    words: &str,
+) -> Result<String, AllocError> {
+    let (ask, path, other) = split(words);
+    match ask {
+        "Persist" => persisted(alloc, root, store, path, other),
+        "Pieces" => pieces(alloc, store, below(alloc, root, path)?, other),
+        "Gives" => given(alloc, store, below(alloc, root, path)?),
+        _ => stepped(alloc, root, store, (ask, path, other)),
+    }
 }
 
 /// Does the steps of the lines one after another, and returns the first line that came otherwise.
@@ -112,11 +135,12 @@ pub fn other_of<S: Store>(
     root: &str,
     store: &mut S,
     lines: &str,
-) -> io::Result<Option<String>> {
+) -> Result<Option<String>, AllocError> {
     for line in lines.lines() {
-        let came = came(alloc, root, store, line)?;
-        if came.as_str() != line {
-            return Ok(Some(came));
+        let (words, wanted) = line.split_once(": ").unwrap_or((line, ""));
+        let end = end_after(alloc, root, store, words)?;
+        if end.as_str() != wanted {
+            return Ok(Some(format!(in alloc; "{words}: {end}")?));
         }
     }
     Ok(None)

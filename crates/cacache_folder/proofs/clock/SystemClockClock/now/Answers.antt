@@ -1,0 +1,1 @@
+-- No answers are needed: there is one call of the system, and nothing that could run on.

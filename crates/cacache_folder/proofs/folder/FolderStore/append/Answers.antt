@@ -1,0 +1,1 @@
+-- No answers are needed: the one write takes at most the bytes that it is given.

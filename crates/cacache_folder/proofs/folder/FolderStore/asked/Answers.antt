@@ -1,0 +1,1 @@
+-- No answers are needed: each step's answer is of the kind that its contract names.

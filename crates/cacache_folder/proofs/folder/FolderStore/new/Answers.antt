@@ -1,0 +1,1 @@
+-- No answers are needed: the store keeps the runtime that it is given.

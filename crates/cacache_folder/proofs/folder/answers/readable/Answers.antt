@@ -1,0 +1,1 @@
+-- No answers are needed: a refused step is handed back as it was asked.

@@ -1,0 +1,1 @@
+-- No answers are needed: the write says how many bytes it took.

@@ -1,0 +1,1 @@
+-- No answers are needed: no more bytes are asked for than are left.

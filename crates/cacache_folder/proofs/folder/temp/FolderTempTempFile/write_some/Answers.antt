@@ -1,0 +1,1 @@
+-- No answers are needed: the write again has the same contract.

@@ -1,0 +1,1 @@
+-- No answers are needed: the first read and the rest are all that the file had.

@@ -1,0 +1,1 @@
+-- No answers are needed: the two wrapping operations compute the number modulo 2^64.

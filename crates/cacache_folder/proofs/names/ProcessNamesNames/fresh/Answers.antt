@@ -1,0 +1,1 @@
+-- No answers are needed: 65536 divides 2^64, so what is left modulo 65536 stays.

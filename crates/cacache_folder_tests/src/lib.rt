@@ -1,0 +1,21 @@
+//! Tests of real folders as a store, of the system's clock, and of the numbers of a process.
+#![tactic(auto)]
+
+#[cfg(test)]
+mod common;
+#[cfg(test)]
+mod handles;
+#[cfg(test)]
+mod names;
+#[cfg(test)]
+mod pieces;
+#[cfg(test)]
+mod rows;
+#[cfg(test)]
+mod steps;
+#[cfg(test)]
+mod watched;
+#[cfg(test)]
+mod ways;
+#[cfg(test)]
+mod whole;

@@ -1,0 +1,213 @@
+//! A runtime of its own, which hands each call on to the system's and notes what was asked.
+ghost use Rattle.std.specs.Prelude.{◌≤◌, IfOk};
+
+use crate::ways::Ways;
+use std::alloc::{Alloc, AllocError, Allocator, Global};
+use std::cell::RefCell;
+use std::fs::{File, Metadata, OpenFile, OpenOptions};
+use std::io;
+use std::io::{ErrorKind, Read, Seek, SeekFrom, Write};
+use std::rc::Rc;
+use std::rt::{Files, HostRuntime};
+
+/// What was asked, with a `;` behind each call.
+pub type Notes = Rc<RefCell<String>>;
+
+/// Notes a call.
+fn note(notes: &Notes, call: &str) -> io::Result<()> {
+    if let Ok(mut notes) = notes.try_borrow_mut() {
+        notes.push_str(call)?;
+        notes.push(';')?;
+    }
+    Ok(())
+}
+
+/// The notes so far, which begin anew.
+pub fn taken(notes: &Notes, alloc: Global) -> String {
+    notes
+        .try_replace(String::new(alloc))
+        .unwrap_or(String::new(alloc))
+}
+
+/// The system's runtime, but its files behave in ways of their own.
+#[derive(Clone, Drop)]
+pub struct Watched {
+    host: HostRuntime,
+    ways: Ways,
+    notes: Notes,
+}
+
+impl Watched {
+    /// The runtime, and what it will have been asked.
+    pub fn new(host: HostRuntime, ways: Ways) -> Result<(Watched, Notes), AllocError> {
+        let alloc = host.alloc();
+        let notes = Rc::new(alloc, RefCell::new(String::new(alloc)))?;
+        let watched = Watched {
+            host,
+            ways,
+            notes: notes.clone()?,
+        };
+        Ok((watched, notes))
+    }
+}
+
+/// An open file that behaves in its ways.
+#[derive(Drop)]
+pub struct WatchedFile {
+    file: File,
+    ways: Ways,
+    notes: Notes,
+}
+
+impl WatchedFile {
+    /// How many bytes the next read or write moves, of those that there is room for.
+    fn room(&mut self, call: &str, room: usize) -> io::Result<usize>
+        ensures { IfOk result (λ count. count ≤ room) }
+    {
+        if let Some(kind) = self.ways.fault {
+            return Err(io::Error::from(kind));
+        }
+        if let Some(left) = self.ways.interruptions.checked_sub(1) {
+            self.ways.interruptions = left;
+            note(&self.notes, "interrupted")?;
+            return Err(io::Error::from(ErrorKind::Interrupted));
+        }
+        note(&self.notes, call)?;
+        Ok(room.min(self.ways.most))
+    }
+}
+
+impl Alloc for Watched {
+    type A = Global;
+
+    fn alloc(&self) -> Global {
+        self.host.alloc()
+    }
+}
+
+impl Read for WatchedFile {
+    fn read(&mut self, buf: &mut [u8]) -> io::Result<usize> {
+        let room = self.room("read", buf.len())?;
+        self.file.read(&mut buf[..room])
+    }
+}
+
+impl Write for WatchedFile {
+    fn write(&mut self, buf: &[u8]) -> io::Result<usize> {
+        let room = self.room("write", buf.len())?;
+        self.file.write(&buf[..room])
+    }
+
+    fn flush(&mut self) -> io::Result<()> {
+        note(&self.notes, "flush")?;
+        self.file.flush()
+    }
+}
+
+impl Seek for WatchedFile {
+    fn seek(&mut self, to: SeekFrom) -> io::Result<u64> {
+        note(&self.notes, "seek")?;
+        self.file.seek(to)
+    }
+}
+
+impl OpenFile for WatchedFile {
+    fn metadata(&self) -> io::Result<Metadata> {
+        match self.ways.size {
+            Some(size) => Ok(Metadata::of_file(size)),
+            None => self.file.metadata(),
+        }
+    }
+
+    fn set_len(&self, size: u64) -> io::Result<()> {
+        note(&self.notes, "set_len")?;
+        self.file.set_len(size)
+    }
+
+    fn sync_all(&self) -> io::Result<()> {
+        note(&self.notes, "sync_all")?;
+        self.file.sync_all()
+    }
+
+    fn sync_data(&self) -> io::Result<()> {
+        note(&self.notes, "sync_data")?;
+        self.file.sync_data()
+    }
+}
+
+/// The names of a folder, of which the last isn't UTF-8.
+const ODD: &[u8] = b".\0..\0a\0\xff\0";
+
+/// A folder with odd names.
+#[derive(Drop)]
+pub struct OddNames {
+    given: usize,
+}
+
+impl Read for OddNames {
+    fn read(&mut self, buf: &mut [u8]) -> io::Result<usize> {
+        let mut rest = ODD.get(self.given..).unwrap_or(b"");
+        let count = rest.read(buf)?;
+        self.given = self.given.saturating_add(count);
+        Ok(count)
+    }
+}
+
+impl Files for Watched {
+    type File = WatchedFile;
+
+    type Dir = OddNames;
+
+    fn open_file(&self, how: &OpenOptions, path: &str) -> io::Result<WatchedFile> {
+        let asked = format!(in self.host.alloc(); "{how:?}")?;
+        note(&self.notes, asked.as_str())?;
+        let notes = self.notes.clone()?;
+        let file = self.host.open_file(how, path)?;
+        let ways = self.ways;
+        Ok(WatchedFile { file, ways, notes })
+    }
+
+    fn open_dir(&self, _path: &str) -> io::Result<OddNames> {
+        Ok(OddNames { given: 0 })
+    }
+
+    fn metadata(&self, path: &str) -> io::Result<Metadata> {
+        note(&self.notes, "metadata")?;
+        self.host.metadata(path)
+    }
+
+    fn symlink_metadata(&self, path: &str) -> io::Result<Metadata> {
+        note(&self.notes, "symlink_metadata")?;
+        self.host.symlink_metadata(path)
+    }
+
+    fn copy(&self, from: &str, to: &str) -> io::Result<u64> {
+        note(&self.notes, "copy")?;
+        self.host.copy(from, to)
+    }
+
+    fn rename(&self, from: &str, to: &str) -> io::Result<()> {
+        note(&self.notes, "rename")?;
+        self.host.rename(from, to)
+    }
+
+    fn remove_file(&self, path: &str) -> io::Result<()> {
+        note(&self.notes, "remove_file")?;
+        self.host.remove_file(path)
+    }
+
+    fn create_dir(&self, path: &str) -> io::Result<()> {
+        note(&self.notes, "create_dir")?;
+        self.host.create_dir(path)
+    }
+
+    fn remove_dir(&self, path: &str) -> io::Result<()> {
+        note(&self.notes, "remove_dir")?;
+        self.host.remove_dir(path)
+    }
+
+    fn remove_dir_all<B: Allocator>(&self, alloc: B, path: &str) -> io::Result<()> {
+        note(&self.notes, "remove_dir_all")?;
+        self.host.remove_dir_all(alloc, path)
+    }
+}

@@ -1,0 +1,204 @@
+//! What the system is asked for at each step, and files that behave in ways of their own.
+use crate::common::fresh;
+use crate::rows::told;
+use crate::steps::end_after;
+use crate::watched::{Watched, taken};
+use cacache_folder::FolderStore;
+use std::alloc::AllocError;
+use std::io::ErrorKind;
+use std::rt::HostRuntime;
+use std::test::Fail;
+use std::{fs, io};
+
+/// The ways of an open file.
+#[derive(Clone, Copy)]
+pub struct Ways {
+    /// Why each read and write fails.
+    pub fault: Option<ErrorKind>,
+    /// How many reads and writes are interrupted, before one goes through.
+    pub interruptions: u32,
+    /// The most bytes that a read or a write moves.
+    pub most: usize,
+    /// What the file says of its size, if it isn't to say its true size.
+    pub size: Option<u64>,
+}
+
+/// The ways of the system's files.
+const PLAIN: Ways = Ways {
+    fault: None,
+    interruptions: 0,
+    most: usize::MAX,
+    size: None,
+};
+
+/// Each read and write fails.
+const BROKEN: Ways = Ways {
+    fault: Some(ErrorKind::NotADirectory),
+    interruptions: 0,
+    most: usize::MAX,
+    size: None,
+};
+
+/// Each read and write moves one byte.
+const SHORT: Ways = Ways {
+    fault: None,
+    interruptions: 0,
+    most: 1,
+    size: None,
+};
+
+/// The same, but the first is interrupted.
+const ONCE: Ways = Ways {
+    fault: None,
+    interruptions: 1,
+    most: 1,
+    size: None,
+};
+
+/// The same, but the first five are interrupted.
+const OFTEN: Ways = Ways {
+    fault: None,
+    interruptions: 5,
+    most: 1,
+    size: None,
+};
+
+/// How a file is opened to append to it.
+const APPEND: &str =
+    "OpenOptions { read: false, write: false, append: true, truncate: false, create: true, create_new: false, mode: 438 };";
+
+/// How a file is opened to read it.
+const READ: &str =
+    "OpenOptions { read: true, write: false, append: false, truncate: false, create: false, create_new: false, mode: 438 };";
+
+/// How a temporary file is made.
+const CREATE: &str =
+    "OpenOptions { read: false, write: true, append: false, truncate: false, create: false, create_new: true, mode: 384 };";
+
+/// A step with its answer, how it opens a file, and what else it asks for.
+type Row = (Ways, &'static str, &'static str, &'static str);
+
+const ASKED: [Row; 9] = [
+    (PLAIN, "Append /file one: Took 3", APPEND, "write;"),
+    (PLAIN, "Append /file two: Took 3", APPEND, "write;"),
+    (PLAIN, "ReadAll /file: Bytes onetwo", READ, "read;read;"),
+    (PLAIN, "Exists /file: There true", "", "metadata;"),
+    (PLAIN, "CreateTemp /temp: Temp", CREATE, ""),
+    (PLAIN, "CreateTemp /temp: Failed AlreadyExists", CREATE, ""),
+    (PLAIN, "RemoveFile /temp: Done", "", "remove_file;"),
+    (PLAIN, "ReadDir /: Failed Device", "", "symlink_metadata;"),
+    (PLAIN, "Persist /temp /moved: Done", CREATE, "write;rename;"),
+];
+
+const INTERRUPTED: [Row; 9] = [
+    (PLAIN, "Append /file hello: Took 5", APPEND, "write;"),
+    (SHORT, "Append /none hello: Took 1", APPEND, "write;"),
+    (
+        ONCE,
+        "Append /one hello: Took 1",
+        APPEND,
+        "interrupted;write;",
+    ),
+    (
+        OFTEN,
+        "Append /five hello: Took 1",
+        APPEND,
+        "interrupted;interrupted;interrupted;interrupted;interrupted;write;",
+    ),
+    (
+        ONCE,
+        "Persist /temp /moved: Done",
+        CREATE,
+        "interrupted;write;rename;",
+    ),
+    (SHORT, "Gives /file: (h)(e)(l)", READ, "read;read;read;"),
+    (
+        ONCE,
+        "Gives /file: (h)(e)(l)",
+        READ,
+        "interrupted;read;read;read;",
+    ),
+    (
+        OFTEN,
+        "Gives /file: (h)(e)(l)",
+        READ,
+        "interrupted;interrupted;interrupted;interrupted;interrupted;read;read;read;",
+    ),
+    (
+        ONCE,
+        "ReadAll /file: Bytes hello",
+        READ,
+        "interrupted;read;read;read;read;read;read;",
+    ),
+];
+
+const FAILED: [Row; 3] = [
+    (PLAIN, "Append /file hello: Took 5", APPEND, "write;"),
+    (
+        BROKEN,
+        "Append /file more: Failed NotADirectory",
+        APPEND,
+        "",
+    ),
+    (BROKEN, "ReadAll /file: Failed NotADirectory", READ, ""),
+];
+
+/// Does the step of a line, and returns how the line ends and what was asked for.
+pub fn asked(rt: HostRuntime, root: &str, ways: Ways, words: &str) -> Result<String, AllocError> {
+    let alloc = rt.alloc();
+    let (watched, notes) = Watched::new(rt, ways)?;
+    let end = end_after(alloc, root, &mut FolderStore::new(watched), words)?;
+    let calls = taken(&notes, alloc);
+    format!(in alloc; "{end} after {calls}")
+}
+
+/// How the row came, if it came otherwise.
+fn other_of(rt: HostRuntime, root: &str, row: &Row) -> Result<Option<String>, AllocError> {
+    let (ways, line, opened, calls) = *row;
+    let (words, end) = line.split_once(": ").unwrap_or((line, ""));
+    let wanted = format!(in rt.alloc(); "{end} after {opened}{calls}")?;
+    let came = asked(rt, root, ways, words)?;
+    if came == wanted {
+        return Ok(None);
+    }
+    Ok(Some(format!(in rt.alloc(); "{words}: {came}")?))
+}
+
+/// The first row that comes otherwise below the folder.
+fn first_other(rt: HostRuntime, root: &str, rows: &[Row]) -> Result<Option<String>, AllocError> {
+    for row in rows {
+        let other = other_of(rt, root, row)?;
+        if other.is_some() {
+            return Ok(other);
+        }
+    }
+    Ok(None)
+}
+
+/// The first row that comes otherwise below a fresh folder.
+fn other_below(rt: HostRuntime, name: &str, rows: &[Row]) -> io::Result<Option<String>> {
+    let root = fresh(rt, name)?;
+    let other = first_other(rt, root.as_str(), rows);
+    fs::remove_dir_all(&rt, root.as_str())?;
+    Ok(other?)
+}
+
+/// Fails if a row comes otherwise below a fresh folder.
+fn all_come(rt: HostRuntime, name: &str, rows: &[Row]) -> Result<(), Fail> {
+    told(other_below(rt, name, rows)?)
+}
+
+#[test]
+fn each_step_asks_the_system_for_what_it_is(rt: HostRuntime) -> Result<(), Fail> {
+    all_come(rt, "asked", &ASKED)
+}
+
+#[test]
+fn an_interrupted_call_is_tried_again(rt: HostRuntime) -> Result<(), Fail> {
+    all_come(rt, "interrupted", &INTERRUPTED)
+}
+
+#[test]
+fn a_failed_read_or_write_is_an_error(rt: HostRuntime) -> Result<(), Fail> {
+    all_come(rt, "failed", &FAILED)
+}
