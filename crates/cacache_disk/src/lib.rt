@@ -13,8 +13,6 @@ mod path;
 mod plant;
 mod steps;
 mod stop;
-#[cfg(test)]
-mod tests;
 mod walk;
 
 pub use disk::Disk;

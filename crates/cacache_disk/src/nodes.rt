@@ -47,12 +47,6 @@ impl Nodes {
         }
     }
 
-    /// The nodes by their paths.
-    #[cfg(test)]
-    pub(crate) fn nodes(&self) -> &BTreeMap<Path, Node> {
-        &self.nodes
-    }
-
     /// Where its memory comes from.
     pub(crate) fn alloc(&self) -> Global {
         self.alloc

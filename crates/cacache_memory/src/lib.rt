@@ -2,7 +2,5 @@
 #![tactic(auto)]
 
 mod memory;
-#[cfg(test)]
-mod tests;
 
 pub use memory::MemStore;
