@@ -18,11 +18,15 @@ ends_with e = over (Refused e)
 abbrev pub fails : Fault → State
 fails fault = ends_with (IoError fault [])
 
--- what was answered goes to `next` and a fault to `failed`; out of memory ends every call
+-- a fault goes to `failed`; out of memory ends every call
+abbrev pub refuse : Refusal → (Fault → State) → State
+refuse (refusals.Fault fault) failed = failed fault
+refuse refusals.Memory failed = ends_with OutOfMemory
+
+-- what was answered goes to `next`
 abbrev pub go_on : {X : Type 0} → Result X Refusal → (Fault → State) → (X → State) → State
 go_on (Ok x) failed next = next x
-go_on (Err (refusals.Fault fault)) failed next = failed fault
-go_on (Err refusals.Memory) failed next = ends_with OutOfMemory
+go_on (Err refusal) failed next = refuse refusal failed
 
 -- the step of an errand
 abbrev pub errand_step : Errand → PlainStep

@@ -1,5 +1,5 @@
 -- Runs of a call: its steps with their answers, and its reply. They end.
-use Rattle.std.specs.Prelude.{◌≡◌, ◌⊎◌, ◌<◌, ◌+◌, ◌*◌, ◌^◌, ◌++◌, ℕ, List, [], ◌∷◌, Option, Some, None, option_map, map, length}
+use Rattle.std.specs.Prelude.{◌≡◌, ◌⊎◌, ◌<◌, ◌+◌, ◌*◌, ◌^◌, ◌++◌, ℕ, List, [], ◌∷◌, Option, Some, None, Ok, Err, option_map, map, length}
 use Rattle.cacache_core.specs.declared.errors.Error.{Error}
 use Rattle.cacache_core.specs.declared.errors.Error.TheVariants.{IoError, SerdeError, OutOfMemory}
 use Rattle.cacache_base.specs.declared.store.answer.Answer.TheVariants as answers
@@ -8,8 +8,8 @@ use Rattle.cacache_base.specs.declared.store.log.LogItem.TheVariants.{Made}
 use Rattle.cacache_base.specs.Plain.{PlainStep, PlainAnswer}
 use Rattle.cacache_base.specs.Fits.{Fits}
 use Rattle.cacache_calls.specs.declared.reply.Reply.{Reply}
-use Rattle.cacache_calls.specs.declared.reply.Reply.TheVariants.{Refused}
-use Rattle.cacache_calls.specs.State.{State, doing, creating, writing, persisting, linking, confirming, appending, looking, reading, asking, sizing, opening_file, hashing, copying, walking, over, Visit, enter, read_bucket, remove_file, remove_folder, Task, visit, stumble}
+use Rattle.cacache_calls.specs.declared.reply.Reply.TheVariants.{Listed, Refused}
+use Rattle.cacache_calls.specs.State.{State, doing, creating, writing, persisting, linking, confirming, appending, looking, reading, asking, sizing, opening_file, hashing, copying, walking, over, Item, Visit, enter, read_bucket, remove_file, remove_folder, Task, visit, stumble}
 use Rattle.cacache_calls.specs.Table.{wants, after}
 
 -- steps with their answers
@@ -37,7 +37,12 @@ without_message (IoError fault message) = IoError fault []
 without_message (SerdeError cause message) = SerdeError cause []
 without_message error = error
 
+abbrev pub plain_item : Item → Item
+plain_item (Ok found) = Ok found
+plain_item (Err error) = Err (without_message error)
+
 abbrev pub plain_reply : Reply → Reply
+plain_reply (Listed items) = Listed (map plain_item items)
 plain_reply (Refused error) = Refused (without_message error)
 plain_reply reply = reply
 

@@ -1,0 +1,153 @@
+-- How a run grows by a step, and how a job follows it.
+use Rattle.std.proofs.Common.{◌≡◌, ◌⊎◌, inl, inr, ◌<◌, List, [], ◌∷◌, ◌++◌, map, Option, Some, None, option_map, false, refl, sym, ◌∙◌, ap, arith, append_assoc, append-nil}
+use Rattle.std.proofs.lemmas.List.{map-append}
+use Rattle.cacache_core.specs.declared.errors.Error.TheVariants.{OutOfMemory}
+use Rattle.cacache_base.specs.declared.store.plain.PlainFile.{PlainFile}
+use Rattle.cacache_base.specs.declared.store.plain.PlainTemp.{PlainTemp}
+use Rattle.cacache_base.specs.declared.store.log.LogItem.{LogItem}
+use Rattle.cacache_base.specs.declared.store.log.LogItem.TheVariants.{Made}
+use Rattle.cacache_base.specs.declared.store.answer.Answer.TheVariants as answers
+use Rattle.cacache_base.specs.Plain.{PlainStep, PlainAnswer}
+use Rattle.cacache_base.specs.Fits.{Fits, Logs, is_no_memory}
+use Rattle.cacache_calls.specs.declared.reply.Reply.{Reply}
+use Rattle.cacache_calls.specs.declared.reply.Reply.TheVariants.{Refused}
+use Rattle.cacache_calls.specs.State.{State, over}
+use Rattle.cacache_calls.specs.Table.{wants, after}
+use Rattle.cacache_calls.specs.Runs.{Moves, Runs, Gains, Ran, effort}
+use Rattle.cacache_calls.proofs.Effort.{falls}
+use Rattle.cacache_calls.proofs.Memory.{no_memory_after}
+use Rattle.cacache_jobs.specs.declared.phase.Phase.{Phase}
+use Rattle.cacache_jobs.specs.declared.phase.Phase.TheVariants as phases
+use Rattle.cacache_jobs.specs.declared.job.Standing.{Standing}
+use Rattle.cacache_jobs.specs.declared.job.Standing.TheVariants as standings
+use Rattle.cacache_jobs.specs.Standing.{PhaseAt}
+use Rattle.cacache_jobs.specs.Jobs.{IdleAt, OutAt, LostMemory, GoesOnTo}
+use Rattle.cacache_jobs.specs.Effort.{standing_effort}
+use Rattle.cacache_jobs.proofs.Effort.{phase_effort_is}
+
+-- an move of the log
+abbrev made : PlainStep × PlainAnswer → LogItem
+made move = Made move.0 move.1
+
+-- the steps so far lead from the first state to this one
+pub record Reached (s0 : State) (old new : Option (List LogItem)) (s : State) : Type 0 where
+  pub moves : Moves
+  pub gains : Gains old new moves
+  pub goes : (more : Moves) (r : Reply) → Runs s more r → Runs s0 (moves ++ more) r
+
+-- any run may end out of memory
+pub memory_runs : (s : State) (more : Moves) (r : Reply) → Runs (over (Refused OutOfMemory)) more r → Runs s more r
+memory_runs s [] r (inl e) = inr cc
+memory_runs s [] r (inr e) = inr e
+memory_runs s (move ∷ more) r h = absurd (let e : None ≡ Some move.0 = h.0 in cc)
+
+-- a run's reply may be lost out of memory
+pub memory_lost : (s : State) (moves : Moves) (r : Reply) → Runs s moves r → Runs s moves (Refused OutOfMemory)
+memory_lost s [] r h = inr refl
+memory_lost s (move ∷ moves) r h = (h.0, h.1, memory_lost (after s move.1) moves r h.2)
+
+answer_cases : (t : PlainAnswer) → ((b : PlainStep) × (t ≡ answers.NoMemory b)) ⊎ (is_no_memory t ≡ false)
+answer_cases (answers.NoMemory b) = inl (b, refl)
+answer_cases answers.Done = inr refl
+answer_cases (answers.Temp t) = inr refl
+answer_cases (answers.Wrote t n) = inr refl
+answer_cases (answers.Took n) = inr refl
+answer_cases (answers.Bytes b) = inr refl
+answer_cases (answers.File f) = inr refl
+answer_cases (answers.Got f b) = inr refl
+answer_cases (answers.There there) = inr refl
+answer_cases (answers.Length n) = inr refl
+answer_cases (answers.Names names) = inr refl
+answer_cases (answers.Failed fault) = inr refl
+
+-- a call that is over out of memory
+stops : {s0 : State} {old new : Option (List LogItem)} {s : State} → Reached s0 old new s → Reached s0 old new (over (Refused OutOfMemory))
+stops {s = s} x = record { moves = x.moves; gains = x.gains; goes = λ more r h. x.goes more r (memory_runs s more r h) }
+
+gains_one : (old new : Option (List LogItem)) (moves : Moves) (move : PlainStep × PlainAnswer) → Gains old new moves → Gains old (option_map (λ log. log ++ made move ∷ []) new) (moves ++ move ∷ [])
+gains_one None new moves move e = rw e refl
+gains_one (Some log) new moves move e =
+    rw e (ap Some (append_assoc log (map made moves) (made move ∷ []) ∙ ap (λ more. log ++ more) (sym (map-append made moves (move ∷ [])))))
+
+-- one step more
+steps : {s0 : State} {old new next : Option (List LogItem)} {s : State} (a : PlainStep) (t : PlainAnswer) → Reached s0 old new s → wants s ≡ Some a → Fits a t → Logs new next a t → Reached s0 old next (after s t)
+steps {s0} {old} {new} {next} {s} a t x w fits logs =
+    elim (answer_cases t) [
+      | inl p ↦ rw p.1 (rw (no_memory_after s a p.0 w) (stops {s = s} (let e : next ≡ new = rw p.1 at logs in rw e x)))
+      | inr n ↦ record {
+        moves = x.moves ++ (a, t) ∷ [];
+        gains = let e : next ≡ option_map (λ log. log ++ made (a, t) ∷ []) new = rw n at logs in rw e (gains_one old new x.moves (a, t) x.gains);
+        goes = λ more r h. rw append_assoc (x.goes ((a, t) ∷ more) r (w, fits, h));
+      }
+    ]
+
+-- a call that wants a step isn't over
+wants_some : (s : State) (a : PlainStep) → wants s ≡ Some a → 0 < effort s
+wants_some s a w =
+    let below : effort (after s (answers.NoMemory a)) < effort s = falls s a (answers.NoMemory a) w refl in
+    omega arith
+
+module _ {F T : Type 0} (file : F → PlainFile) (temp : T → PlainTemp) where
+  memory_at : (p : Phase F T) → LostMemory p → PhaseAt file temp p (over (Refused OutOfMemory))
+  memory_at (phases.Wanting stage step) e = absurd e
+  memory_at (phases.Over reply) e = ap over (sym e)
+
+  -- where a job is after an answer, or at its beginning
+  turn_at : (p : Standing F T) (s : State) → GoesOnTo file temp p s → IdleAt file temp p s ⊎ IdleAt file temp p (over (Refused OutOfMemory))
+  turn_at (standings.At phase) s (inl e) = inl e
+  turn_at (standings.At phase) s (inr e) = inr (memory_at phase e)
+  turn_at (standings.Out stage) s e = absurd e
+  turn_at standings.Told s e = absurd e
+
+  out_wants : (q : Standing F T) (s : State) (a : PlainStep) → OutAt temp q s a → wants s ≡ Some a
+  out_wants (standings.At phase) s a e = absurd e
+  out_wants (standings.Out stage) s a e = e.wanted
+  out_wants standings.Told s a e = absurd e
+
+  effort_is : (p : Standing F T) (s : State) → IdleAt file temp p s → standing_effort file temp p ≡ effort s
+  effort_is (standings.At phase) s e = phase_effort_is file temp phase s e
+  effort_is (standings.Out stage) s e = absurd e
+  effort_is standings.Told s e = absurd e
+
+  -- the state that a job stands in after an answer, or at its beginning
+  pub turn_stands : (p : Standing F T) (s : State) → GoesOnTo file temp p s → (t : State) × IdleAt file temp p t
+  turn_stands p s e =
+      elim (turn_at p s e) [
+        | inl at ↦ (s, at)
+        | inr at ↦ (over (Refused OutOfMemory), at)
+      ]
+
+  pub turn_reached : (s0 s : State) (old new next : Option (List LogItem)) (q p : Standing F T) (a : PlainStep) (t : PlainAnswer) → Reached s0 old new s → OutAt temp q s a → Fits a t → Logs new next a t → GoesOnTo file temp p (after s t) → (u : State) × IdleAt file temp p u × Reached s0 old next u
+  turn_reached s0 s old new next q p a t x out fits logs e =
+      let y = steps a t x (out_wants q s a out) fits logs in
+      elim (turn_at p (after s t) e) [
+        | inl at ↦ (after s t, at, y)
+        | inr at ↦ (over (Refused OutOfMemory), at, stops y)
+      ]
+
+  pub turn_shrinks : (r q p : Standing F T) (s : State) (a : PlainStep) (t : PlainAnswer) → IdleAt file temp r s → OutAt temp q s a → Fits a t → GoesOnTo file temp p (after s t) → standing_effort file temp p < standing_effort file temp r
+  turn_shrinks r q p s a t now out fits e =
+      let w = out_wants q s a out in
+      elim (turn_at p (after s t) e) [
+        | inl at ↦ rw (effort_is p (after s t) at) (rw (effort_is r s now) (falls s a t w fits))
+        | inr at ↦ rw (effort_is p (over (Refused OutOfMemory)) at) (rw (effort_is r s now) (wants_some s a w))
+      ]
+
+  -- a run from the state that a new job stands in is one from its first state
+  pub ran_from : (p : Standing F T) (s : State) (r : Reply) (old new : Option (List LogItem)) → GoesOnTo file temp p s → ((t : State) → IdleAt file temp p t → Ran t r old new) → Ran s r old new
+  ran_from p s r old new e run =
+      elim (turn_at p s e) [
+        | inl at ↦ run s at
+        | inr at ↦ let h = run (over (Refused OutOfMemory)) at in (h.0, memory_runs s h.0 r h.1, h.2)
+      ]
+
+-- a run of a call that is over
+pub ended : {s0 : State} {old new : Option (List LogItem)} {s : State} (r : Reply) → Reached s0 old new s → s ≡ over r → Ran s0 r old new
+ended r x e = (x.moves ++ [], x.goes [] r (inl e), simp append-nil x.gains)
+
+no_gain : (log : Option (List LogItem)) → Gains log log []
+no_gain None = refl
+no_gain (Some moves) = ap Some (sym (append-nil moves))
+
+pub start : (s : State) (log : Option (List LogItem)) → Reached s log log s
+start s log = record { moves = []; gains = no_gain log; goes = λ more r h. h }

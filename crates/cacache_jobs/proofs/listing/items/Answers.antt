@@ -1,0 +1,6 @@
+use Rattle.cacache_jobs.proofs.Listed.{all_items}
+use Rattle.cacache_jobs.proofs.listing.items.Goals as goal
+
+pub loop-entry-init : goal.loop-entry-init
+loop-entry-init c =
+    rw (c.new-items.ensures.items, c.as_slice-rest.ensures.value) (all_items c.args.bytes.now c.in_ok-entries.entries.items c.in_ok-entries.ensures.entries)

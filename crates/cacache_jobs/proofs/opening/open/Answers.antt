@@ -1,0 +1,9 @@
+use Rattle.std.proofs.Common.{refl}
+use Rattle.cacache_jobs.specs.Opening.{site_of}
+use Rattle.cacache_jobs.proofs.opening.open.Goals as goal
+
+pub returns-in-Put : goal.returns-in-Put
+returns-in-Put g c = rw c.in-Put.is (c.store.ensures (site_of c.args.cache.now c.args.base.now c.args.number) refl refl)
+
+pub returns-in-Link : goal.returns-in-Link
+returns-in-Link g c = rw c.in-Link.is (c.start-in-Link.ensures c.args.number)

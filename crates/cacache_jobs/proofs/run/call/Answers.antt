@@ -1,0 +1,31 @@
+use Rattle.std.proofs.Common.{◌≡◌}
+use Rattle.cacache_calls.specs.Runs.{plain_reply}
+use Rattle.cacache_calls.specs.State.{Site}
+use Rattle.cacache_calls.proofs.Promises.{calls_answer}
+use Rattle.cacache_jobs.specs.Opening.{site_of}
+use Rattle.cacache_jobs.proofs.Running.{memory_lost, ran_from, turn_stands}
+use Rattle.cacache_jobs.proofs.Calling.{finds_bytes}
+use Rattle.cacache_jobs.proofs.run.call.Goals as goal
+
+pub drive-requires : goal.drive-requires
+drive-requires g c = turn_stands g.S.File.FileHandle.seen g.S.Temp.TempHandle.seen c.new-job.result.standing _ c.new-job.ensures.opens
+
+pub returns-clause-ran : goal.returns-clause-ran
+returns-clause-ran g c =
+    let is : c.as_str.result.now ≡ c.args.env.now.base = c.as_str.ensures.same in
+    let opens = rw is at c.new-job.ensures.opens in
+    ran_from g.S.File.FileHandle.seen g.S.Temp.TempHandle.seen c.new-job.result.standing _ (plain_reply c.drive.result) _ _ opens c.drive.ensures
+
+pub returns-clause-found : goal.returns-clause-found
+returns-clause-found g c =
+    let site : Site = site_of c.args.cache.now c.args.env.now.base c.args.number in
+    finds_bytes site c.args.command _ _ _ (returns-clause-ran g c)
+
+pub returns-clause-promised : goal.returns-clause-promised
+returns-clause-promised g c =
+    let site : Site = site_of c.args.cache.now c.args.env.now.base c.args.number in
+    let run = returns-clause-ran g c in
+    calls_answer site c.args.command run.0 _ run.1
+
+pub returns-clause-lost : goal.returns-clause-lost
+returns-clause-lost g c = let run = returns-clause-ran g c in (run.0, memory_lost _ run.0 _ run.1, run.2)

@@ -1,0 +1,64 @@
+-- A bound on the steps that a job still takes.
+use Rattle.std.specs.Prelude.{ℕ, ◌+◌, ◌*◌, ◌^◌, length}
+use Rattle.cacache_base.specs.declared.store.plain.PlainFile.{PlainFile}
+use Rattle.cacache_base.specs.declared.store.plain.PlainTemp.{PlainTemp}
+use Rattle.cacache_base.specs.Plain.{PlainStep, plain_step}
+use Rattle.cacache_base.specs.declared.store.step.Step.TheVariants as steps
+use Rattle.cacache_calls.specs.Runs.{weight, weights}
+use Rattle.cacache_jobs.specs.Standing.{visit_of, pending}
+use Rattle.cacache_jobs.specs.declared.stage.Then.{Then}
+use Rattle.cacache_jobs.specs.declared.stage.Then.TheVariants as thens
+use Rattle.cacache_jobs.specs.declared.stage.Stage.{Stage}
+use Rattle.cacache_jobs.specs.declared.stage.Stage.TheVariants as stages
+use Rattle.cacache_jobs.specs.declared.phase.Phase.{Phase}
+use Rattle.cacache_jobs.specs.declared.phase.Phase.TheVariants as phases
+use Rattle.cacache_jobs.specs.declared.job.Standing.{Standing}
+use Rattle.cacache_jobs.specs.declared.job.Standing.TheVariants as standings
+use Rattle.cacache_jobs.specs.declared.job.Job.{Job}
+
+-- of what follows an errand
+abbrev pub then_effort : {T : Type 0} → Then T → ℕ
+then_effort (thens.Create number c rest) = length rest + 7
+then_effort (thens.Persist c file path) = 4
+then_effort (thens.Append i line path) = 1
+then_effort (thens.RemoveBucket content bucket) = 1
+then_effort (thens.Symlink c target path) = 4
+then_effort (thens.EndReflink from to) = 0
+then_effort (thens.EndHardLink from to) = 0
+then_effort (thens.Finish removal) = 0
+
+-- how many bytes the file of a read has left
+abbrev pub left_to_read : PlainStep → ℕ
+left_to_read (steps.Read file n) = file.left
+left_to_read step = 0
+
+-- of a stage that wants this step
+abbrev pub stage_effort : {T : Type 0} → Stage T → PlainStep → ℕ
+stage_effort (stages.Doing then) step = then_effort then + 1
+stage_effort (stages.Creating c rest) step = length rest + 7
+stage_effort (stages.Writing c rest) step = length rest + 6
+stage_effort (stages.Persisting c) step = 4
+stage_effort (stages.Confirming c fault) step = 3
+stage_effort (stages.Appending i size) step = 1
+stage_effort (stages.Looking l) step = 2 ^ 64 + 7
+stage_effort (stages.Reading k) step = 1
+stage_effort (stages.Asking k) step = 1
+stage_effort (stages.Sizing target) step = 2 ^ 64 + 7
+stage_effort (stages.Opening h) step = 2 ^ 64 + 6
+stage_effort (stages.Hashing h size) step = left_to_read step + 6
+stage_effort (stages.Copying from to verified) step = 1
+stage_effort (stages.Linking c target) step = 4
+stage_effort (stages.ConfirmingLink c target fault) step = 3
+stage_effort (stages.Walking w v) step =
+    2 * w.left + weight (visit_of v) + weights (pending w.todo.items)
+
+abbrev pub phase_effort : {F T : Type 0} → (F → PlainFile) → (T → PlainTemp) → Phase F T → ℕ
+phase_effort file temp (phases.Wanting stage step) = stage_effort stage (plain_step file temp step)
+phase_effort file temp (phases.Over reply) = 0
+
+abbrev pub standing_effort : {F T : Type 0} → (F → PlainFile) → (T → PlainTemp) → Standing F T → ℕ
+standing_effort file temp (standings.At phase) = phase_effort file temp phase
+standing_effort file temp standing = 0
+
+abbrev pub job_effort : {F T : Type 0} → (F → PlainFile) → (T → PlainTemp) → Job F T → ℕ
+job_effort file temp job = standing_effort file temp job.standing

@@ -1,0 +1,166 @@
+-- Which state of the table a job stands in.
+use Rattle.std.specs.Prelude.{◌≡◌, ◌⊎◌, ℕ, List, Some, Result, Ok, Err, length, string_bytes, [], map, reverse}
+use Rattle.cacache_core.specs.declared.errors.Error.{Error}
+use Rattle.cacache_core.specs.declared.errors.Error.TheVariants.{OutOfMemory}
+use Rattle.cacache_core.specs.Hashers.{Holds, algorithm_of}
+use Rattle.cacache_core.specs.Pieces.{Compares}
+use Rattle.cacache_base.specs.declared.store.plain.PlainFile.{PlainFile}
+use Rattle.cacache_base.specs.declared.store.plain.PlainTemp.{PlainTemp}
+use Rattle.cacache_base.specs.Plain.{PlainStep, plain_step}
+use Rattle.cacache_calls.specs.Places.{content_path, bucket_path}
+use Rattle.cacache_calls.specs.State as states
+use Rattle.cacache_calls.specs.State.{State, doing, creating, writing, persisting, confirming, appending, looking, reading, asking, sizing, opening_file, hashing, copying, linking, walking, over, Errand, to_report, to_read, to_export, to_remove, to_verify, to_link, enter, read_bucket, remove_file, remove_folder, visit, stumble}
+use Rattle.cacache_calls.specs.Common.{ends_with}
+use Rattle.cacache_calls.specs.Inserting.{bucket_line}
+use Rattle.cacache_calls.specs.Removing.{remove_bucket}
+use Rattle.cacache_calls.specs.Runs.{without_message, plain_item, plain_reply}
+use Rattle.cacache_calls.specs.declared.reply.Reply.TheVariants.{Done}
+use Rattle.cacache_calls.specs.Table.{wants}
+use Rattle.cacache_jobs.specs.declared.storing.Commit.{Commit}
+use Rattle.cacache_jobs.specs.declared.inserting.Insertion.{Insertion}
+use Rattle.cacache_jobs.specs.declared.looking.Aim.{Aim}
+use Rattle.cacache_jobs.specs.declared.looking.Aim.TheVariants as aims
+use Rattle.cacache_jobs.specs.declared.looking.Lookup.{Lookup}
+use Rattle.cacache_jobs.specs.declared.reading.Content.{Content}
+use Rattle.cacache_jobs.specs.declared.linking.Target.{Target}
+use Rattle.cacache_jobs.specs.declared.hashing.Hashing.{Hashing}
+use Rattle.cacache_jobs.specs.declared.hashing.Hashing.TheVariants as hashings
+use Rattle.cacache_jobs.specs.declared.walking.Visit.{Visit}
+use Rattle.cacache_jobs.specs.declared.walking.Visit.TheVariants as visits
+use Rattle.cacache_jobs.specs.declared.walking.Task.{Task}
+use Rattle.cacache_jobs.specs.declared.walking.Task.TheVariants as tasks
+use Rattle.cacache_jobs.specs.declared.walking.Walk.{Walk}
+use Rattle.cacache_jobs.specs.declared.stage.Then.{Then}
+use Rattle.cacache_jobs.specs.declared.stage.Then.TheVariants as thens
+use Rattle.cacache_jobs.specs.declared.stage.Stage.{Stage}
+use Rattle.cacache_jobs.specs.declared.stage.Stage.TheVariants as stages
+use Rattle.cacache_jobs.specs.declared.phase.Phase.{Phase}
+use Rattle.cacache_jobs.specs.declared.phase.Phase.TheVariants as phases
+
+-- ---- what a stage carries, as the table has it
+
+abbrev pub commit_of : Commit → states.Commit
+commit_of c = record {
+  cache = c.cache;
+  key = c.key;
+  computed = c.computed;
+  count = c.count;
+  moment = c.moment;
+  options = c.options;
+}
+
+abbrev pub aim_of : Aim → states.Aim
+aim_of aims.Report = to_report
+aim_of aims.Read = to_read
+aim_of (aims.Export export) = to_export export
+aim_of aims.Remove = to_remove
+
+abbrev pub lookup_of : Lookup → states.Lookup
+lookup_of l = record { cache = l.cache; key = l.key; aim = aim_of l.aim }
+
+abbrev pub content_of : Content → states.Content
+content_of k = record { cache = k.cache; integrity = k.integrity }
+
+-- this entry is on its way, and so is this reply
+abbrev pub Inserts : Insertion → states.Insertion → Type 0
+Inserts i j =
+    (j.cache ≡ i.cache) × (j.entry.key ≡ string_bytes i.key) × (j.reply ≡ plain_reply i.reply)
+
+abbrev pub target_of : Target → states.Target
+target_of t = record {
+  cache = t.cache;
+  key = t.key;
+  path = t.path;
+  moment = t.moment;
+  options = t.options;
+}
+
+-- a file is read for this, and these bytes of it were hashed
+abbrev pub Hashes : Hashing → states.Hashing → List ℕ → Type 0
+Hashes (hashings.Verify checker from export) h bytes =
+    (k : states.Content) × (h ≡ to_verify k export) × Compares checker k.integrity bytes
+    × (from ≡ content_path k.cache k.integrity)
+Hashes (hashings.Link hasher target) h bytes =
+    (h ≡ to_link (target_of target)) × Holds hasher bytes
+    × (algorithm_of hasher ≡ target.options.algorithm)
+
+abbrev pub visit_of : Visit → states.Visit
+visit_of (visits.Enter path level) = enter path level
+visit_of (visits.ReadBucket path) = read_bucket path
+visit_of (visits.RemoveFile path) = remove_file path
+visit_of (visits.RemoveFolder path) = remove_folder path
+
+abbrev pub task_of : Task → states.Task
+task_of (tasks.Visit v) = visit (visit_of v)
+task_of (tasks.Stumble path fault) = stumble fault
+
+-- the tasks of a stack: the table has the next one first, and the stack has it last
+abbrev pub pending : List Task → List states.Task
+pending stack = reverse (map task_of stack)
+
+abbrev pub walk_of : Walk → states.Walk
+walk_of w = record { clears = w.clears; items = map plain_item w.items.items; left = w.left }
+
+-- ---- of a stage
+
+-- what follows an errand; the path of the next step is kept
+abbrev pub ThenAt : {T : Type 0} → (T → PlainTemp) → Then T → State → Type 0
+ThenAt temp (thens.Create number c rest) s = s ≡ creating number (commit_of c) rest
+ThenAt temp (thens.Persist c file path) s =
+    (path ≡ content_path c.cache c.computed) × (s ≡ persisting (commit_of c) (temp file))
+ThenAt temp (thens.Append i line path) s =
+    (j : states.Insertion) × Inserts i j × (line ≡ bucket_line j)
+    × (path ≡ bucket_path j.cache j.entry.key) × (s ≡ appending j)
+ThenAt temp (thens.RemoveBucket content bucket) s =
+    (cache : List ℕ) × (key : List ℕ) × (bucket ≡ bucket_path cache key)
+    × (s ≡ remove_bucket cache key)
+ThenAt temp (thens.Symlink c target path) s =
+    (path ≡ content_path c.cache c.computed) × (s ≡ linking (commit_of c) target)
+ThenAt temp (thens.EndReflink from to) s = s ≡ over Done
+ThenAt temp (thens.EndHardLink from to) s = s ≡ over Done
+ThenAt temp (thens.Finish removal) s = s ≡ over Done
+
+-- the call is in this state while the stage's step is out
+abbrev pub StageAt : {T : Type 0} → (T → PlainTemp) → Stage T → State → Type 0
+StageAt temp (stages.Doing then) s =
+    (errand : Errand) × (next : State) × ThenAt temp then next × (s ≡ doing errand next)
+StageAt temp (stages.Creating c rest) s = (number : ℕ) × (s ≡ creating number (commit_of c) rest)
+StageAt temp (stages.Writing c rest) s = (file : PlainTemp) × (s ≡ writing (commit_of c) file rest)
+StageAt temp (stages.Persisting c) s = (file : PlainTemp) × (s ≡ persisting (commit_of c) file)
+StageAt temp (stages.Confirming c fault) s = s ≡ confirming (commit_of c) fault
+StageAt temp (stages.Appending i size) s =
+    (j : states.Insertion) × Inserts i j × (size ≡ length (bucket_line j)) × (s ≡ appending j)
+StageAt temp (stages.Looking l) s = s ≡ looking (lookup_of l)
+StageAt temp (stages.Reading k) s = s ≡ reading (content_of k)
+StageAt temp (stages.Asking k) s = s ≡ asking (content_of k)
+StageAt temp (stages.Sizing t) s = s ≡ sizing (target_of t)
+StageAt temp (stages.Opening h) s =
+    (purpose : states.Hashing) × Hashes h purpose [] × (s ≡ opening_file purpose)
+StageAt temp (stages.Hashing h size) s =
+    (purpose : states.Hashing) × (bytes : List ℕ) × Hashes h purpose bytes
+    × (size ≡ length bytes) × (file : PlainFile) × (s ≡ hashing purpose file bytes)
+StageAt temp (stages.Copying from to verified) s = s ≡ copying from to verified
+StageAt temp (stages.Linking c target) s = s ≡ linking (commit_of c) target
+StageAt temp (stages.ConfirmingLink c target fault) s = s ≡ confirming (commit_of c) fault
+StageAt temp (stages.Walking w v) s = s ≡ walking (walk_of w) (visit_of v) (pending w.todo.items)
+
+-- ---- of a phase
+
+-- the call is at this stage, and wants this step
+pub record IsAt {T : Type 0} (temp : T → PlainTemp) (stage : Stage T) (step : PlainStep) (s : State) : Type 0 where
+  pub state : StageAt temp stage s
+  pub wanted : wants s ≡ Some step
+
+-- the call is in this state
+abbrev pub PhaseAt : {F T : Type 0} → (F → PlainFile) → (T → PlainTemp) → Phase F T → State → Type 0
+PhaseAt file temp (phases.Wanting stage step) s = IsAt temp stage (plain_step file temp step) s
+PhaseAt file temp (phases.Over reply) s = s ≡ over (plain_reply reply)
+
+-- the call is over with this error, or out of memory ended it
+abbrev pub EndsAs : Error → State → Type 0
+EndsAs e s = (s ≡ ends_with (without_message e)) ⊎ (e ≡ OutOfMemory)
+
+-- the call goes on to this state, or out of memory ended it
+abbrev pub Leads : {F T : Type 0} → (F → PlainFile) → (T → PlainTemp) → Result (Phase F T) Error → State → Type 0
+Leads file temp (Ok phase) s = PhaseAt file temp phase s
+Leads file temp (Err e) s = EndsAs e s

@@ -1,0 +1,50 @@
+//! What was said of a content is compared with it.
+ghost use Rattle.std.specs.Prelude.{◌≡◌, IfOk, IfErr};
+ghost use Rattle.cacache_calls.specs.Storing.{placed, sized, indexed, matches};
+ghost use Rattle.cacache_jobs.specs.Standing.{EndsAs, commit_of};
+
+use crate::storing::Commit;
+use cacache_core::errors::{self, Error, IntegrityFault};
+use cacache_core::integrity::Integrity;
+use cacache_core::laws::integrity_laws;
+
+/// Whether the expected integrity matches the computed one.
+#[tactic(auto, using(crate::proofs::Matching::same_answer))]
+fn agree(expected: &Integrity, computed: &Integrity) -> bool
+    ensures { result ≡ matches expected.now computed.now }
+{
+    integrity_laws();
+    expected.matches(computed).is_some()
+}
+
+/// Refuses a content that isn't of the expected integrity.
+pub(crate) fn compare_integrity(commit: &Commit) -> errors::Result<()>
+    ensures ok { IfOk result (λ _. placed (commit_of commit.now)
+        ≡ sized (commit_of commit.now) commit.now.options.size) }
+    ensures err { IfErr result (λ e. EndsAs e (placed (commit_of commit.now))) }
+{
+    if let Some(expected) = &commit.options.integrity {
+        let computed = &commit.computed;
+        if !agree(expected, computed) {
+            let expected = expected.clone()?;
+            let fault = IntegrityFault::Check(expected, computed.clone()?);
+            return Err(Error::IntegrityError(fault));
+        }
+    }
+    Ok(())
+}
+
+/// Refuses a content that isn't of the expected size.
+pub(crate) fn compare_size(commit: &Commit) -> errors::Result<()>
+    ensures ok { IfOk result (λ _. sized (commit_of commit.now) commit.now.options.size
+        ≡ indexed (commit_of commit.now) commit.now.key) }
+    ensures err { IfErr result
+        (λ e. EndsAs e (sized (commit_of commit.now) commit.now.options.size)) }
+{
+    if let Some(wanted) = commit.options.size {
+        if wanted != commit.count {
+            return Err(Error::SizeMismatch(wanted, commit.count));
+        }
+    }
+    Ok(())
+}

@@ -1,0 +1,83 @@
+//! Exports: an unchecked one is one step; a checked one reads the content to its end first.
+ghost use Rattle.cacache_calls.specs.Common.{go_on, fails};
+ghost use Rattle.cacache_calls.specs.Exporting.{export as export_of, export_from as export_from_of, counted as counted_of};
+ghost use Rattle.cacache_calls.specs.State.{over};
+ghost use Rattle.cacache_calls.specs.declared.reply.Reply.TheVariants.{Copied};
+ghost use Rattle.cacache_jobs.specs.Standing.{Leads, content_of};
+
+use crate::phase::{Phase, refused};
+use crate::places::content_path;
+use crate::reading::Content;
+use crate::stage::{Stage, Then};
+use crate::{hashing, messages};
+use cacache_base::store::{FileHandle, Step, TempHandle};
+use cacache_calls::{Export, How, Refusal, Reply};
+use cacache_core::errors;
+use cacache_core::text::Text;
+use std::alloc::Global;
+
+/// Exports a content; a checked export opens it first.
+pub(crate) fn start<F: FileHandle, T: TempHandle>(
+    alloc: Global,
+    content: Content,
+    export: Export,
+) -> errors::Result<Phase<F, T>>
+    ensures { Leads F.seen T.seen result (export_of (content_of content) export) }
+{
+    let from = content_path(alloc, content.cache.as_str(), &content.integrity)?;
+    if export.checked {
+        return hashing::verify(content, from, export);
+    }
+    export_from(export.how, from, export.to, None)
+}
+
+/// Exports the file at a path, with the count that was verified, if any.
+pub(crate) fn export_from<F: FileHandle, T: TempHandle>(
+    how: How,
+    from: Text,
+    to: Text,
+    verified: Option<u64>,
+) -> errors::Result<Phase<F, T>>
+    ensures { Leads F.seen T.seen result (export_from_of how from to verified) }
+{
+    let source = from.clone()?;
+    let target = to.clone()?;
+    let (stage, step) = match how {
+        How::Copy => (
+            Stage::Copying(from, to, verified),
+            Step::Copy(source, target),
+        ),
+        How::Reflink => (
+            Stage::Doing(Then::EndReflink(from, to)),
+            Step::Reflink(source, target),
+        ),
+        How::HardLink => (
+            Stage::Doing(Then::EndHardLink(from, to)),
+            Step::HardLink(source, target),
+        ),
+    };
+    Ok(Phase::Wanting(stage, step))
+}
+
+/// After the content was to be copied; the count that was verified is answered, and else the copy's own.
+pub(crate) fn copied<F: FileHandle, T: TempHandle>(
+    alloc: Global,
+    from: Text,
+    to: Text,
+    verified: Option<u64>,
+    taken: Result<usize, Refusal>,
+) -> errors::Result<Phase<F, T>>
+    ensures { Leads F.seen T.seen result
+        (go_on taken fails (λ n. over (Copied (counted_of verified n)))) }
+{
+    match taken {
+        Ok(count) => {
+            let count = match verified {
+                Some(verified) => verified,
+                None => count as u64,
+            };
+            Ok(Phase::Over(Reply::Copied(count)))
+        }
+        Err(refusal) => Err(refused(refusal, messages::copying(alloc, &from, &to))),
+    }
+}

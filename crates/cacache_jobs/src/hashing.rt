@@ -1,0 +1,166 @@
+//! Files that are read to their end, each byte hashed once and none kept: contents to verify, and targets of links.
+ghost use Rattle.std.specs.Prelude.{◌≡◌, ℕ, List, [], ◌++◌, length};
+ghost use Rattle.cacache_calls.specs.Common.{go_on, fails};
+ghost use Rattle.cacache_calls.specs.Linking.{after_read, hashed as hashed_of};
+ghost use Rattle.cacache_calls.specs.Places.{content_path as content_path_of};
+ghost use Rattle.cacache_calls.specs.Exporting.{verified as verified_of};
+ghost use Rattle.cacache_core.specs.Pieces.{Compares};
+ghost use Rattle.cacache_calls.specs.State.{Content as Named, Hashing as Purpose, opening_file, hashing as hashing_state, to_verify};
+ghost use Rattle.cacache_jobs.specs.Seen.{seen_by, got_as};
+ghost use Rattle.cacache_jobs.specs.Standing.{Leads, Hashes, content_of};
+
+use crate::answers::Got;
+use crate::linking::Target;
+use crate::phase::{Phase, refused};
+use crate::reading::Content;
+use crate::stage::Stage;
+use crate::{exporting, messages};
+use cacache_base::store::{FileHandle, Step, TempHandle};
+use cacache_calls::{Export, Refusal};
+use cacache_core::errors::{self, Error};
+use cacache_core::hasher::Hasher;
+use cacache_core::integrity::IntegrityChecker;
+use cacache_core::text::Text;
+use std::alloc::Global;
+
+/// A read asks for at most so many bytes.
+const PIECE: usize = 8192;
+
+/// What a file is read to its end for, with what hashes its bytes.
+pub enum Hashing {
+    /// The content at this path is verified for the export.
+    Verify(IntegrityChecker, Text, Export),
+    /// The target is to be linked to.
+    Link(Hasher, Target),
+}
+
+// Written out, so that it is a call of its own: whoever lets one go has a proof that doesn't go through its parts.
+impl Drop for Hashing {
+    fn drop(self) {
+        match self {
+            Hashing::Verify(_checker, _from, _export) => {}
+            Hashing::Link(_hasher, _target) => {}
+        }
+    }
+}
+
+/// Opens the content at this path, to verify it for an export.
+pub(crate) fn verify<F: FileHandle, T: TempHandle>(
+    content: Content,
+    from: Text,
+    export: Export,
+) -> errors::Result<Phase<F, T>>
+    ensures { from ≡ content_path_of content.cache content.integrity
+        → Leads F.seen T.seen result (opening_file (to_verify (content_of content) export)) }
+{
+    let path = from.clone()?;
+    let checker = IntegrityChecker::new(content.integrity);
+    let stage = Stage::Opening(Hashing::Verify(checker, from, export));
+    Ok(Phase::Wanting(stage, Step::Open(path)))
+}
+
+/// After the file was to be opened.
+pub(crate) fn opened<F: FileHandle, T: TempHandle>(
+    alloc: Global,
+    hashing: Hashing,
+    file: Result<F, Refusal>,
+) -> errors::Result<Phase<F, T>>
+    ensures { (h : Purpose) → Hashes hashing h []
+        → Leads F.seen T.seen result
+        (go_on (seen_by F.seen file) fails (λ f. hashing_state h f [])) }
+{
+    match file {
+        Ok(file) => Ok(Phase::Wanting(Stage::Hashing(hashing, 0), Step::Read(file, PIECE))),
+        Err(refusal) => Err(refused(refusal, messages::opening_file(alloc, &hashing))),
+    }
+}
+
+/// The content at this path was read to its end, and has this size: exports it where it is what its integrity says.
+fn verified<F: FileHandle, T: TempHandle>(
+    alloc: Global,
+    checker: IntegrityChecker,
+    from: Text,
+    export: Export,
+    size: usize,
+) -> errors::Result<Phase<F, T>>
+    ensures { (k : Named) (bytes : List ℕ) → Compares checker k.integrity bytes
+        → from ≡ content_path_of k.cache k.integrity → size ≡ length bytes
+        → Leads F.seen T.seen result (verified_of k export bytes) }
+{
+    match checker.result(alloc) {
+        Ok(_) => exporting::export_from(export.how, from, export.to, Some(size as u64)),
+        Err(error) => Err(error),
+    }
+}
+
+impl Hashing {
+    /// The file was read to its end, and has this size.
+    fn end<F: FileHandle, T: TempHandle>(
+        self,
+        alloc: Global,
+        size: usize,
+    ) -> errors::Result<Phase<F, T>>
+        ensures { (h : Purpose) (bytes : List ℕ) → Hashes self h bytes → size ≡ length bytes
+            → Leads F.seen T.seen result (hashed_of h bytes) }
+    {
+        match self {
+            Hashing::Verify(checker, from, export) => {
+                verified(alloc, checker, from, export, size)
+            }
+            Hashing::Link(hasher, target) => {
+                let computed = hasher.result(alloc)?;
+                target.link(alloc, computed, size)
+            }
+        }
+    }
+
+    /// Hashes these bytes after those before.
+    fn feed(&mut self, piece: &[u8])
+        ensures { (h : Purpose) (bytes : List ℕ) → Hashes self.old h bytes
+            → Hashes self.new h (bytes ++ piece.now) }
+    {
+        match self {
+            Hashing::Verify(checker, _, _) => checker.input(piece),
+            Hashing::Link(hasher, _) => hasher.update(piece),
+        }
+    }
+}
+
+/// A piece of the file, after so many bytes; no bytes stand for the end.
+fn piece<F: FileHandle, T: TempHandle>(
+    alloc: Global,
+    mut hashing: Hashing,
+    size: usize,
+    got: Got<F>,
+) -> errors::Result<Phase<F, T>>
+    ensures { (h : Purpose) (bytes : List ℕ) → Hashes hashing h bytes → size ≡ length bytes
+        → Leads F.seen T.seen result (after_read h bytes (got_as F.seen got)) }
+{
+    let Got { file, bytes } = got;
+    if bytes.is_empty() {
+        return hashing.end(alloc, size);
+    }
+    // a longer file has no size that could be told
+    let Some(size) = size.checked_add(bytes.len()) else {
+        return Err(Error::OutOfMemory);
+    };
+    hashing.feed(bytes.as_slice());
+    Ok(Phase::Wanting(Stage::Hashing(hashing, size), Step::Read(file, PIECE)))
+}
+
+/// After a piece was to be read, so many bytes having been read before.
+pub(crate) fn read<F: FileHandle, T: TempHandle>(
+    alloc: Global,
+    hashing: Hashing,
+    size: usize,
+    got: Result<Got<F>, Refusal>,
+) -> errors::Result<Phase<F, T>>
+    ensures { (h : Purpose) (bytes : List ℕ) → Hashes hashing h bytes → size ≡ length bytes
+        → Leads F.seen T.seen result
+        (go_on (seen_by (got_as F.seen) got) fails (after_read h bytes)) }
+{
+    match got {
+        Ok(got) => piece(alloc, hashing, size, got),
+        Err(refusal) => Err(refused(refusal, messages::hashing(alloc, &hashing))),
+    }
+}

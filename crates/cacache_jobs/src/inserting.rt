@@ -1,0 +1,254 @@
+//! How an entry goes into its bucket: the test of the entry, the bucket's folder, one append.
+ghost use Rattle.std.specs.Prelude.{◌≡◌, None, IfOk, IfErr, OnOk, option_map, string_bytes, length};
+ghost use Rattle.cacache_core.specs.declared.errors.Error.TheVariants.{OutOfMemory};
+ghost use Rattle.cacache_calls.specs.Common.{go_on, fails};
+ghost use Rattle.cacache_calls.specs.Inserting.{insert as insert_of, insertion as insertion_of, deletion as deletion_of, after_append, bucket_line, refused_cause, given_or, given_text, no_integrity as without_integrity};
+ghost use Rattle.cacache_calls.specs.Places.{bucket_path};
+ghost use Rattle.cacache_calls.specs.State.{Insertion as Inserted, appending};
+ghost use Rattle.cacache_entry.specs.View.{entry_view};
+ghost use Rattle.cacache_calls.specs.Runs.{plain_reply};
+ghost use Rattle.cacache_jobs.specs.Entries.{entry_with, into_bucket};
+ghost use Rattle.cacache_jobs.specs.Standing.{EndsAs, Leads, PhaseAt, Inserts};
+
+use crate::messages;
+use crate::phase::{Phase, refused};
+use crate::places::bucket_place;
+use crate::stage::{Stage, Then};
+use cacache_base::store::{FileHandle, Step, TempHandle};
+use cacache_calls::{Delete, Insert, Json, Options, Refusal, Reply};
+use cacache_core::bytes::Bytes;
+use cacache_core::errors::{self, Fault};
+use cacache_core::integrity::Integrity;
+use cacache_core::paths::Place;
+use cacache_core::text::Text;
+use cacache_entry::{SerializableMetadata, line};
+use serde_json::Value;
+use std::alloc::{AllocError, Global};
+
+/// An entry on its way into the bucket of its key, and what the call answers once it is there.
+pub struct Insertion {
+    pub cache: Text,
+    pub key: String,
+    pub reply: Reply,
+}
+
+// Written out for the same reason as a commit's.
+impl Drop for Insertion {
+    fn drop(self) {
+        let Insertion {
+            cache: _cache,
+            key: _key,
+            reply: _reply,
+        } = self;
+    }
+}
+
+impl Insertion {
+    /// What the call answers once the entry is in its bucket.
+    fn into_reply(self) -> Reply
+        ensures { result ≡ self.reply }
+    {
+        let Insertion {
+            cache: _cache,
+            key: _key,
+            reply,
+        } = self;
+        reply
+    }
+}
+
+/// Raw metadata as an entry has them: the bytes inside are moved where nobody else owns them.
+fn raw_of(alloc: Global, bytes: Option<Bytes>) -> Result<Option<Vec<u8>>, AllocError>
+    ensures { IfOk result (λ raw. option_map (λ v. v.items) raw ≡ bytes) }
+{
+    match bytes {
+        Some(bytes) => Ok(Some(bytes.into_vec(alloc)?)),
+        None => Ok(None),
+    }
+}
+
+/// The entry of these parts.
+pub(crate) fn entry_of(
+    alloc: Global,
+    key: String,
+    integrity: Option<String>,
+    size: usize,
+    moment: u128,
+    metadata: Json,
+    raw_metadata: Option<Bytes>,
+) -> Result<SerializableMetadata, AllocError>
+    ensures { IfOk result (λ entry. entry_view entry ≡ entry_with (string_bytes key)
+        (option_map string_bytes integrity) size moment metadata raw_metadata) }
+{
+    let raw_metadata = raw_of(alloc, raw_metadata)?;
+    Ok(SerializableMetadata {
+        key,
+        integrity,
+        time: moment,
+        size,
+        metadata: metadata.into_value(),
+        raw_metadata,
+    })
+}
+
+/// The line of an entry that can be written.
+#[tactic(auto, using(crate::proofs::Refusing::refusal_ends), unfolding(cacache_calls::specs::Inserting::bucket_line, cacache_calls::specs::Inserting::refused_cause))]
+fn line_of(alloc: Global, entry: &SerializableMetadata) -> errors::Result<Bytes>
+    ensures line { IfOk result (λ line. (j : Inserted) → j.entry ≡ entry_view entry.now
+        → line ≡ bucket_line j) }
+    ensures fits { OnOk result ((j : Inserted) → j.entry ≡ entry_view entry.now
+        → refused_cause j ≡ None) }
+    ensures refused { IfErr result (λ e. (j : Inserted) → j.entry ≡ entry_view entry.now
+        → EndsAs e (insert_of j)) }
+{
+    let line = line(alloc, entry)?;
+    Ok(Bytes::new(alloc, line)?)
+}
+
+/// Makes the folder of the bucket, for a line that is to be appended.
+fn make_bucket<F: FileHandle, T: TempHandle>(
+    alloc: Global,
+    insertion: Insertion,
+    line: Bytes,
+) -> errors::Result<Phase<F, T>>
+    ensures { (j : Inserted) → Inserts insertion j → line ≡ bucket_line j
+        → Leads F.seen T.seen result (into_bucket j) }
+{
+    let place = bucket_place(alloc, insertion.cache.as_str(), insertion.key.as_str())?;
+    let Place { folder, path } = place;
+    Ok(Phase::Wanting(
+        Stage::Doing(Then::Append(insertion, line, path)),
+        Step::MakeDirs(folder),
+    ))
+}
+
+/// The key of an entry, whose other parts are let go.
+fn key_of(entry: SerializableMetadata) -> String
+    ensures { string_bytes result ≡ string_bytes entry.key }
+{
+    entry.key
+}
+
+/// Tests the entry, and makes the folder of its bucket.
+pub(crate) fn insert<F: FileHandle, T: TempHandle>(
+    alloc: Global,
+    cache: Text,
+    entry: SerializableMetadata,
+    reply: Reply,
+) -> errors::Result<Phase<F, T>>
+    ensures { (j : Inserted) → j.cache ≡ cache → j.entry ≡ entry_view entry
+        → j.reply ≡ plain_reply reply → Leads F.seen T.seen result (insert_of j) }
+{
+    let line = line_of(alloc, &entry)?;
+    let key = key_of(entry);
+    make_bucket(alloc, Insertion { cache, key, reply }, line)
+}
+
+/// The bucket's folder is there: appends the line.
+pub(crate) fn append<F: FileHandle, T: TempHandle>(
+    insertion: Insertion,
+    line: Bytes,
+    path: Text,
+) -> Phase<F, T>
+    ensures { (j : Inserted) → Inserts insertion j → line ≡ bucket_line j
+        → path ≡ bucket_path j.cache j.entry.key → PhaseAt F.seen T.seen result (appending j) }
+{
+    let size = line.len();
+    Phase::Wanting(Stage::Appending(insertion, size), Step::Append(path, line))
+}
+
+/// After the line, of this size, was to be appended; a short append is not retried.
+pub(crate) fn appended<F: FileHandle, T: TempHandle>(
+    alloc: Global,
+    insertion: Insertion,
+    size: usize,
+    taken: Result<usize, Refusal>,
+) -> errors::Result<Phase<F, T>>
+    ensures { (j : Inserted) → Inserts insertion j → size ≡ length (bucket_line j)
+        → Leads F.seen T.seen result (go_on taken fails (after_append j)) }
+{
+    let refusal = match taken {
+        Ok(count) => {
+            if size <= count {
+                return Ok(Phase::Over(insertion.into_reply()));
+            }
+            Refusal::Fault(Fault::ShortAppend)
+        }
+        Err(refusal) => refusal,
+    };
+    Err(refused(refusal, messages::appending(alloc, &insertion)))
+}
+
+/// The integrity that an insertion without one answers: `sha1-deadbeef`.
+fn no_integrity(alloc: Global) -> errors::Result<Integrity>
+    ensures ok { IfOk result (λ i. i ≡ without_integrity) }
+    ensures err { IfErr result (λ e. e ≡ OutOfMemory) }
+{
+    Integrity::parse(alloc, "sha1-deadbeef")
+}
+
+/// The integrity that an insertion answers.
+fn answered(alloc: Global, integrity: Option<Integrity>) -> errors::Result<Integrity>
+    ensures ok { IfOk result (λ i. i ≡ given_or without_integrity integrity) }
+    ensures err { IfErr result (λ e. e ≡ OutOfMemory) }
+{
+    match integrity {
+        Some(integrity) => Ok(integrity),
+        None => no_integrity(alloc),
+    }
+}
+
+/// The text of an integrity that was given.
+fn text_of(alloc: Global, integrity: &Option<Integrity>) -> Result<Option<String>, AllocError>
+    ensures { IfOk result (λ text. option_map string_bytes text ≡ given_text integrity.now) }
+{
+    match integrity {
+        Some(integrity) => Ok(Some(integrity.to_string(alloc)?)),
+        None => Ok(None),
+    }
+}
+
+/// Where an insertion begins; without an integrity its entry is a tombstone.
+pub(crate) fn begin_insertion<F: FileHandle, T: TempHandle>(
+    alloc: Global,
+    cache: &str,
+    insert_: Insert,
+) -> errors::Result<Phase<F, T>>
+    ensures { Leads F.seen T.seen result (insert_of (insertion_of cache.now insert_)) }
+{
+    let Insert {
+        key,
+        moment,
+        options,
+    } = insert_;
+    let Options {
+        algorithm: _,
+        size,
+        integrity,
+        metadata,
+        raw_metadata,
+    } = options;
+    let cache = Text::from_str(alloc, cache)?;
+    let text = text_of(alloc, &integrity)?;
+    let reply = Reply::Stored(answered(alloc, integrity)?);
+    let size = size.unwrap_or(0);
+    let key = key.into_string();
+    let entry = entry_of(alloc, key, text, size, moment, metadata, raw_metadata)?;
+    insert(alloc, cache, entry, reply)
+}
+
+/// Where a deletion begins: its entry is a tombstone.
+pub(crate) fn begin_deletion<F: FileHandle, T: TempHandle>(
+    alloc: Global,
+    cache: &str,
+    delete: Delete,
+) -> errors::Result<Phase<F, T>>
+    ensures { Leads F.seen T.seen result (insert_of (deletion_of cache.now delete)) }
+{
+    let cache = Text::from_str(alloc, cache)?;
+    let null = Json::new(Value::Null);
+    let Delete { key, moment } = delete;
+    let key = key.into_string();
+    let entry = entry_of(alloc, key, None, 0, moment, null, None)?;
+    insert(alloc, cache, entry, Reply::Done)
+}

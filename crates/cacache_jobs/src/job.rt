@@ -1,0 +1,174 @@
+//! One call, which asks for its steps.
+ghost use Rattle.std.specs.Prelude.{◌≡◌, IfOk, IsTrue, option_map};
+ghost use Rattle.cacache_base.specs.Plain.{PlainStep, plain_step, plain_answer};
+ghost use Rattle.cacache_calls.specs.State.{State};
+ghost use Rattle.cacache_calls.specs.Table.{opening, after};
+ghost use Rattle.cacache_jobs.specs.Opening.{site_of};
+ghost use Rattle.cacache_jobs.specs.Jobs.{Stands, HasOut, GoesTo, PhaseGoesTo, HandsOut, Tells, is_step, has_out, can_go_on, reply_in};
+ghost use Rattle.cacache_jobs.specs.Standing.{Leads, PhaseAt};
+
+use crate::opening::open;
+use crate::phase::Phase;
+use crate::stage::Stage;
+use cacache_base::store::{Answer, FileHandle, Step, TempHandle};
+use cacache_calls::{Command, Reply};
+use cacache_core::errors::{self, Error};
+use std::alloc::{AllocError, Global};
+use std::mem::replace;
+
+/// What a job hands out.
+#[derive(Drop)]
+pub enum Next<F, T> {
+    Step(Step<F, T>),
+    Over(Reply),
+}
+
+/// Where a job is between two calls of it.
+#[derive(Drop)]
+pub enum Standing<F, T> {
+    /// No step is out.
+    At(Phase<F, T>),
+    /// The step of this stage is out.
+    Out(Stage<T>),
+    /// The reply was handed out.
+    Told,
+}
+
+/// One call, which asks for its steps: `next` hands one out, and `take` goes on with its answer, until `next` hands out
+/// the reply.
+pub struct Job<F, T> {
+    alloc: Global,
+    standing: Standing<F, T>,
+}
+
+impl<F: Drop, T: Drop> Drop for Job<F, T> {
+    fn drop(self) {
+        let Job {
+            alloc: _,
+            standing: _standing,
+        } = self;
+    }
+}
+
+/// Where a call is that went on so: with an error it is over.
+fn settled<F: FileHandle, T: TempHandle>(phase: errors::Result<Phase<F, T>>) -> Phase<F, T>
+    ensures { (s : State) → Leads F.seen T.seen phase s → PhaseGoesTo F.seen T.seen result s }
+{
+    match phase {
+        Ok(phase) => phase,
+        Err(error) => Phase::Over(Reply::Refused(error)),
+    }
+}
+
+/// The same, but out of memory isn't the end of a call.
+fn begun<F: FileHandle, T: TempHandle>(
+    phase: errors::Result<Phase<F, T>>,
+) -> Result<Phase<F, T>, AllocError>
+    ensures { IfOk result (λ begun. (s : State) → Leads F.seen T.seen phase s
+        → PhaseAt F.seen T.seen begun s) }
+{
+    match phase {
+        Ok(phase) => Ok(phase),
+        Err(Error::OutOfMemory) => Err(AllocError),
+        Err(error) => Ok(Phase::Over(Reply::Refused(error))),
+    }
+}
+
+impl<F: FileHandle, T: TempHandle> Job<F, T> {
+    /// A call on a cache that has asked for nothing yet. A put's temporary file has this number; relative link targets
+    /// start from the base folder.
+    ///
+    /// # Errors
+    ///
+    /// Where memory is refused there is no job.
+    pub fn try_new(
+        alloc: Global,
+        cache: &str,
+        base: &str,
+        command: Command,
+        number: u64,
+    ) -> Result<Job<F, T>, AllocError>
+        ensures ready { IfOk result (λ job. IsTrue (can_go_on job)) }
+        ensures opens { IfOk result (λ job. Stands F.seen T.seen job
+            (opening (site_of cache.now base.now number) command)) }
+    {
+        let phase = begun(open(alloc, cache, base, number, command))?;
+        Ok(Job {
+            alloc,
+            standing: Standing::At(phase),
+        })
+    }
+
+    /// The same, but where memory is refused, the call is over with `OutOfMemory`.
+    pub fn new(alloc: Global, cache: &str, base: &str, command: Command, number: u64) -> Job<F, T>
+        ensures ready { IsTrue (can_go_on result) }
+        ensures opens { GoesTo F.seen T.seen result
+            (opening (site_of cache.now base.now number) command) }
+    {
+        match Job::try_new(alloc, cache, base, command, number) {
+            Ok(job) => job,
+            Err(_) => Job {
+                alloc,
+                standing: Standing::At(Phase::Over(Reply::Refused(Error::OutOfMemory))),
+            },
+        }
+    }
+
+    /// The step that the call wants, or its reply. Takes no memory.
+    pub fn next(&mut self) -> Next<F, T>
+        requires { IsTrue (can_go_on self.old) }
+        ensures out { has_out self.new ≡ is_step result }
+        ensures hands_out { (s : State) → Stands F.seen T.seen self.old s
+            → HandsOut F.seen T.seen result self.new s }
+    {
+        match replace(&mut self.standing, Standing::Told) {
+            Standing::At(Phase::Wanting(stage, step)) => {
+                self.standing = Standing::Out(stage);
+                Next::Step(step)
+            }
+            Standing::At(Phase::Over(reply)) => Next::Over(reply),
+            Standing::Out(_) | Standing::Told => unreachable!(),
+        }
+    }
+
+    /// Goes on with the answer to the step that is out. Where memory is refused, the call is over with `OutOfMemory`.
+    pub fn take(&mut self, answer: Answer<F, T>)
+        requires { IsTrue (has_out self.old) }
+        ensures ready { IsTrue (can_go_on self.new) }
+        ensures goes_on { (s : State) (step : PlainStep) → HasOut T.seen self.old s step
+            → GoesTo F.seen T.seen self.new (after s (plain_answer F.seen T.seen answer)) }
+    {
+        match replace(&mut self.standing, Standing::Told) {
+            Standing::Out(stage) => {
+                let phase = settled(stage.resume(self.alloc, answer));
+                self.standing = Standing::At(phase);
+            }
+            Standing::At(_) | Standing::Told => unreachable!(),
+        }
+    }
+
+    /// Takes back the step that is out, which changed nothing. Takes no memory.
+    pub fn back(&mut self, step: Step<F, T>)
+        requires { IsTrue (has_out self.old) }
+        ensures ready { IsTrue (can_go_on self.new) }
+        ensures stands { (s : State) → HasOut T.seen self.old s (plain_step F.seen T.seen step)
+            → Stands F.seen T.seen self.new s }
+    {
+        match replace(&mut self.standing, Standing::Told) {
+            Standing::Out(stage) => self.standing = Standing::At(Phase::Wanting(stage, step)),
+            Standing::At(_) | Standing::Told => unreachable!(),
+        }
+    }
+
+    /// The reply of a call that is over and hasn't handed it out. Takes no memory.
+    pub fn reply(&self) -> Option<&Reply>
+        ensures is { option_map (λ r. r.now) result ≡ reply_in self.now }
+        ensures tells { (s : State) → Stands F.seen T.seen self.now s
+            → Tells (option_map (λ r. r.now) result) s }
+    {
+        match &self.standing {
+            Standing::At(Phase::Over(reply)) => Some(reply),
+            _ => None,
+        }
+    }
+}

@@ -1,0 +1,125 @@
+//! Lookups of keys, and what the found entry is wanted for.
+ghost use Rattle.std.specs.Prelude.{◌≡◌, IfOk, IfErr};
+ghost use Rattle.cacache_core.specs.declared.errors.Error.TheVariants.{OutOfMemory};
+ghost use Rattle.cacache_calls.specs.Common.{go_on};
+ghost use Rattle.cacache_calls.specs.Looking.{found_for, found_in, after_bucket, no_bucket};
+ghost use Rattle.cacache_calls.specs.State.{looking as looking_state};
+ghost use Rattle.cacache_jobs.specs.Standing.{Leads, lookup_of, aim_of};
+
+use crate::phase::{Phase, refused};
+use crate::places::bucket_path;
+use crate::reading::Content;
+use crate::stage::Stage;
+use crate::{exporting, messages, reading, removing};
+use cacache_base::store::{FileHandle, Step, TempHandle};
+use cacache_calls::{Export, Found, Refusal, Reply};
+use cacache_core::bytes::Bytes;
+use cacache_core::errors::{self, Error, Fault};
+use cacache_core::text::Text;
+use cacache_entry::latest;
+use std::alloc::Global;
+
+/// What a key is looked up for.
+#[derive(Drop)]
+pub enum Aim {
+    /// What the lookup found is answered.
+    Report,
+    /// The content that it found is read.
+    Read,
+    /// The content that it found is exported.
+    Export(Export),
+    /// The content that it found and the bucket are removed.
+    Remove,
+}
+
+/// A key that is looked up.
+#[derive(Drop)]
+pub struct Lookup {
+    pub cache: Text,
+    pub key: Text,
+    pub aim: Aim,
+}
+
+/// Reads the bucket of the key.
+pub(crate) fn start<F: FileHandle, T: TempHandle>(
+    alloc: Global,
+    lookup: Lookup,
+) -> errors::Result<Phase<F, T>>
+    ensures { Leads F.seen T.seen result (looking_state (lookup_of lookup)) }
+{
+    let path = bucket_path(alloc, lookup.cache.as_str(), lookup.key.as_str())?;
+    Ok(Phase::Wanting(Stage::Looking(lookup), Step::ReadAll(path)))
+}
+
+/// What the lookup is for, once it found this entry.
+fn found<F: FileHandle, T: TempHandle>(
+    alloc: Global,
+    lookup: Lookup,
+    found: Found,
+) -> errors::Result<Phase<F, T>>
+    ensures { Leads F.seen T.seen result
+        (found_for (lookup_of lookup) (aim_of lookup.aim) (Some found)) }
+{
+    let Lookup { cache, key, aim } = lookup;
+    if let Aim::Report = &aim {
+        return Ok(Phase::Over(Reply::LookedUp(Some(found))));
+    }
+    let integrity = found.into_metadata().integrity;
+    match aim {
+        Aim::Read => reading::start(alloc, Content { cache, integrity }),
+        Aim::Export(export) => exporting::start(alloc, Content { cache, integrity }, export),
+        _ => removing::remove_key(alloc, cache.as_str(), key.as_str(), &integrity),
+    }
+}
+
+/// What the lookup is for, once it found nothing.
+fn not_found<F: FileHandle, T: TempHandle>(
+    alloc: Global,
+    lookup: Lookup,
+) -> errors::Result<Phase<F, T>>
+    ensures { Leads F.seen T.seen result
+        (found_for (lookup_of lookup) (aim_of lookup.aim) None) }
+{
+    let Lookup { cache, key, aim } = lookup;
+    match aim {
+        Aim::Report => Ok(Phase::Over(Reply::LookedUp(None))),
+        Aim::Read => Err(Error::EntryNotFound(cache, key)),
+        Aim::Export(_export) => Err(Error::EntryNotFound(cache, key)),
+        Aim::Remove => {
+            let bucket = bucket_path(alloc, cache.as_str(), key.as_str())?;
+            removing::remove_bucket(bucket)
+        }
+    }
+}
+
+/// What the bytes of the bucket answer to the lookup.
+#[tactic(auto, unfolding(cacache_calls::specs::Looking::found_in))]
+fn entry_in(alloc: Global, lookup: &Lookup, bytes: &[u8]) -> errors::Result<Option<Found>>
+    ensures found { IfOk result (λ found. found ≡ found_in lookup.now.key bytes.now) }
+    ensures refused { IfErr result (λ e. e ≡ OutOfMemory) }
+{
+    let answer = latest(alloc, bytes, lookup.key.as_str())?;
+    match answer.found {
+        Some(metadata) => Ok(Some(Found::new(metadata))),
+        None => Ok(None),
+    }
+}
+
+/// After the bucket was to be read; one that isn't there is an empty one.
+pub(crate) fn looked<F: FileHandle, T: TempHandle>(
+    alloc: Global,
+    lookup: Lookup,
+    bytes: Result<Bytes, Refusal>,
+) -> errors::Result<Phase<F, T>>
+    ensures { Leads F.seen T.seen result
+        (go_on bytes (no_bucket (lookup_of lookup)) (after_bucket (lookup_of lookup))) }
+{
+    match bytes {
+        Ok(bytes) => match entry_in(alloc, &lookup, bytes.as_slice())? {
+            Some(entry) => found(alloc, lookup, entry),
+            None => not_found(alloc, lookup),
+        },
+        Err(Refusal::Fault(Fault::NotFound)) => not_found(alloc, lookup),
+        Err(refusal) => Err(refused(refusal, messages::looking(alloc, &lookup))),
+    }
+}

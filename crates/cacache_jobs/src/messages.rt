@@ -1,0 +1,154 @@
+//! What a call says where a step failed. No contract speaks of these texts; tests show them.
+use crate::hashing::Hashing;
+use crate::inserting::Insertion;
+use crate::linking::Target;
+use crate::looking::Lookup;
+use crate::places::{bucket_path, bucket_place, content_path, content_place, temp_folder};
+use crate::reading::Content;
+use crate::removing::Removal;
+use crate::storing::Commit;
+use cacache_core::text::Text;
+use std::alloc::{AllocError, Global};
+
+pub(crate) fn making_temps(alloc: Global, commit: &Commit) -> Result<Text, AllocError> {
+    let folder = temp_folder(alloc, commit.cache.as_str())?;
+    Ok(Text::new(format!(in alloc;
+        "Failed to create cache directory for temporary files, at {folder}"
+    )?))
+}
+
+pub(crate) fn creating(alloc: Global, commit: &Commit) -> Result<Text, AllocError> {
+    let folder = temp_folder(alloc, commit.cache.as_str())?;
+    Ok(Text::new(format!(in alloc;
+        "Failed to create temp file while initializing a writer, inside {folder}"
+    )?))
+}
+
+pub(crate) fn writing(alloc: Global, commit: &Commit) -> Result<Text, AllocError> {
+    let cache = &commit.cache;
+    let message = match &commit.key {
+        Some(key) => format!(in alloc;
+            "Failed to write to cache data for key {key} for cache at {cache:?}"
+        )?,
+        None => format!(in alloc; "Failed to write to cache data for cache at {cache:?}")?,
+    };
+    Ok(Text::new(message))
+}
+
+pub(crate) fn making_contents(alloc: Global, commit: &Commit) -> Result<Text, AllocError> {
+    let place = content_place(alloc, commit.cache.as_str(), &commit.computed)?;
+    let folder = &place.folder;
+    Ok(Text::new(format!(in alloc;
+        "Failed to create destination directory for cache contents, at {folder}"
+    )?))
+}
+
+pub(crate) fn persisting(alloc: Global, commit: &Commit) -> Result<Text, AllocError> {
+    let path = content_path(alloc, commit.cache.as_str(), &commit.computed)?;
+    Ok(Text::new(format!(in alloc;
+        "Failed to persist cache contents while closing writer, at {path}"
+    )?))
+}
+
+pub(crate) fn making_bucket(alloc: Global, insertion: &Insertion) -> Result<Text, AllocError> {
+    let place = bucket_place(alloc, insertion.cache.as_str(), insertion.key.as_str())?;
+    let folder = &place.folder;
+    Ok(Text::new(format!(in alloc; "Failed to create index bucket directory: {folder:?}")?))
+}
+
+pub(crate) fn appending(alloc: Global, insertion: &Insertion) -> Result<Text, AllocError> {
+    let bucket = bucket_path(alloc, insertion.cache.as_str(), insertion.key.as_str())?;
+    Ok(Text::new(format!(in alloc; "Failed to write to index bucket at {bucket:?}")?))
+}
+
+pub(crate) fn looking(alloc: Global, lookup: &Lookup) -> Result<Text, AllocError> {
+    let bucket = bucket_path(alloc, lookup.cache.as_str(), lookup.key.as_str())?;
+    Ok(Text::new(format!(in alloc; "Failed to read index bucket entries from {bucket:?}")?))
+}
+
+pub(crate) fn reading(alloc: Global, content: &Content) -> Result<Text, AllocError> {
+    let path = content_path(alloc, content.cache.as_str(), &content.integrity)?;
+    Ok(Text::new(format!(in alloc; "Failed to read contents for file at {path}")?))
+}
+
+/// The content that a key's lookup found wasn't removed.
+pub(crate) fn removing_content(alloc: Global, path: &Text) -> Result<Text, AllocError> {
+    Ok(Text::new(format!(in alloc; "Failed to remove content at {path:?}")?))
+}
+
+pub(crate) fn removing(alloc: Global, removal: &Removal) -> Result<Text, AllocError> {
+    let message = match removal {
+        Removal::Content(path) => format!(in alloc; "Failed to remove cache file {path}")?,
+        Removal::Bucket(path) => format!(in alloc; "Failed to remove bucket at {path:?}")?,
+    };
+    Ok(Text::new(message))
+}
+
+pub(crate) fn opening_file(alloc: Global, hashing: &Hashing) -> Result<Text, AllocError> {
+    let path = match hashing {
+        Hashing::Verify(_, from, _) => from,
+        Hashing::Link(_, target) => &target.path,
+    };
+    Ok(Text::new(format!(in alloc; "Failed to open reader to {path}")?))
+}
+
+pub(crate) fn hashing(alloc: Global, hashing: &Hashing) -> Result<Text, AllocError> {
+    let message = match hashing {
+        Hashing::Verify(_, from, _) => format!(in alloc;
+            "Failed to read cache contents while verifying integrity for {from}"
+        )?,
+        Hashing::Link(_, _) => String::from_str(
+            alloc,
+            "Failed to read target file contents while calculating integrity",
+        )?,
+    };
+    Ok(Text::new(message))
+}
+
+pub(crate) fn copying(alloc: Global, from: &Text, to: &Text) -> Result<Text, AllocError> {
+    Ok(Text::new(format!(in alloc; "Failed to copy cache contents from {from} to {to}")?))
+}
+
+pub(crate) fn reflinking(alloc: Global, from: &Text, to: &Text) -> Result<Text, AllocError> {
+    Ok(Text::new(format!(in alloc; "Failed to reflink cache contents from {from} to {to}")?))
+}
+
+pub(crate) fn hard_linking(alloc: Global, from: &Text, to: &Text) -> Result<Text, AllocError> {
+    Ok(Text::new(format!(in alloc; "Failed to link cache contents from {from} to {to}")?))
+}
+
+pub(crate) fn sizing(alloc: Global, target: &Target) -> Result<Text, AllocError> {
+    let path = &target.path;
+    Ok(Text::new(format!(in alloc; "Failed to get metadata of {path}")?))
+}
+
+pub(crate) fn making_links(alloc: Global, commit: &Commit) -> Result<Text, AllocError> {
+    let place = content_place(alloc, commit.cache.as_str(), &commit.computed)?;
+    let folder = &place.folder;
+    Ok(Text::new(format!(in alloc;
+        "Failed to create destination directory for linked cache file, at {folder}"
+    )?))
+}
+
+pub(crate) fn linking(alloc: Global, commit: &Commit, target: &Text) -> Result<Text, AllocError> {
+    let path = content_path(alloc, commit.cache.as_str(), &commit.computed)?;
+    Ok(Text::new(format!(in alloc; "Failed to create cache symlink for {target} at {path}")?))
+}
+
+pub(crate) fn clearing_folder(alloc: Global, path: &Text) -> Result<Text, AllocError> {
+    Ok(Text::new(format!(in alloc;
+        "Failed to read directory contents while clearing cache, at {path}"
+    )?))
+}
+
+pub(crate) fn clearing(alloc: Global, cache: &Text) -> Result<Text, AllocError> {
+    Ok(Text::new(format!(in alloc; "Failed to clear cache at {cache}")?))
+}
+
+pub(crate) fn listing_folder(alloc: Global, path: &Text) -> Result<Text, AllocError> {
+    Ok(Text::new(format!(in alloc; "Error while walking cache index directory at {path}")?))
+}
+
+pub(crate) fn listing_bucket(alloc: Global, path: &Text) -> Result<Text, AllocError> {
+    Ok(Text::new(format!(in alloc; "Error getting bucket entries from {path}")?))
+}

@@ -1,0 +1,84 @@
+//! Where calls begin.
+ghost use Rattle.std.specs.Prelude.{ℕ, List};
+ghost use Rattle.cacache_calls.specs.State.{looking as looking_state};
+ghost use Rattle.cacache_calls.specs.Table.{opening};
+ghost use Rattle.cacache_calls.specs.declared.command.Command.TheVariants.{Export as ExportCall};
+ghost use Rattle.cacache_jobs.specs.Opening.{site_of};
+ghost use Rattle.cacache_jobs.specs.Standing.{Leads, aim_of};
+
+use crate::looking::{Aim, Lookup};
+use crate::phase::Phase;
+use crate::reading::Content;
+use crate::{exporting, inserting, linking, looking, reading, removing, storing, walking};
+use cacache_base::store::{FileHandle, TempHandle};
+use cacache_calls::{Command, Export, Source};
+use cacache_core::errors;
+use cacache_core::paths::join;
+use cacache_core::text::Text;
+use std::alloc::Global;
+
+/// Where a lookup of a key begins.
+fn look<F: FileHandle, T: TempHandle>(
+    alloc: Global,
+    cache: &str,
+    key: Text,
+    aim: Aim,
+) -> errors::Result<Phase<F, T>>
+    ensures { Leads F.seen T.seen result
+        (looking_state (record { cache = cache.now; key = key; aim = aim_of aim })) }
+{
+    let cache = Text::from_str(alloc, cache)?;
+    looking::start(alloc, Lookup { cache, key, aim })
+}
+
+/// Where an export begins.
+fn begin_export<F: FileHandle, T: TempHandle>(
+    alloc: Global,
+    cache: &str,
+    source: Source,
+    export: Export,
+) -> errors::Result<Phase<F, T>>
+    ensures { (base : List ℕ) (number : ℕ) → Leads F.seen T.seen result
+        (opening (site_of cache.now base number) (ExportCall source export)) }
+{
+    match source {
+        Source::Key(key) => look(alloc, cache, key, Aim::Export(export)),
+        Source::Hash(integrity) => {
+            let cache = Text::from_str(alloc, cache)?;
+            exporting::start(alloc, Content { cache, integrity }, export)
+        }
+    }
+}
+
+/// Where a call begins.
+pub(crate) fn open<F: FileHandle, T: TempHandle>(
+    alloc: Global,
+    cache: &str,
+    base: &str,
+    number: u64,
+    command: Command,
+) -> errors::Result<Phase<F, T>>
+    ensures { Leads F.seen T.seen result (opening (site_of cache.now base.now number) command) }
+{
+    match command {
+        Command::Put(put) => storing::store(alloc, cache, number, put),
+        Command::Insert(insert) => inserting::begin_insertion(alloc, cache, insert),
+        Command::Delete(delete) => inserting::begin_deletion(alloc, cache, delete),
+        Command::Find(key) => look(alloc, cache, key, Aim::Report),
+        Command::Get(key) => look(alloc, cache, key, Aim::Read),
+        Command::RemoveFully(key) => look(alloc, cache, key, Aim::Remove),
+        Command::GetHash(integrity) => {
+            let cache = Text::from_str(alloc, cache)?;
+            reading::start(alloc, Content { cache, integrity })
+        }
+        Command::Exists(integrity) => {
+            let cache = Text::from_str(alloc, cache)?;
+            reading::ask(alloc, Content { cache, integrity })
+        }
+        Command::RemoveHash(integrity) => removing::remove_content(alloc, cache, &integrity),
+        Command::Link(link) => linking::start(alloc, cache, base, link),
+        Command::Export(source, export) => begin_export(alloc, cache, source, export),
+        Command::Ls => walking::start(alloc, false, join(alloc, cache, "index-v5")?),
+        Command::Clear => walking::start(alloc, true, Text::from_str(alloc, cache)?),
+    }
+}

@@ -1,0 +1,70 @@
+//! The paths that a call's steps name.
+ghost use Rattle.std.specs.Prelude.{◌≡◌, IfOk};
+ghost use Rattle.cacache_calls.specs.Places.{temp_path as temp_path_of, temp_folder as temp_folder_of, content_path as content_path_of, content_folder as content_folder_of, bucket_path as bucket_path_of, bucket_folder as bucket_folder_of};
+
+use cacache_core::integrity::Integrity;
+use cacache_core::paths::{self, Place};
+use cacache_core::text::Text;
+use std::alloc::{AllocError, Global};
+
+/// The folder of temporary files.
+#[tactic(auto, unfolding(cacache_calls::specs::Places::temp_folder))]
+pub(crate) fn temp_folder(alloc: Global, cache: &str) -> Result<Text, AllocError>
+    ensures { IfOk result (λ path. path ≡ temp_folder_of cache.now) }
+{
+    paths::join(alloc, cache, "tmp")
+}
+
+/// The path of the temporary file of a number.
+#[tactic(auto, unfolding(cacache_calls::specs::Places::temp_path))]
+pub(crate) fn temp_path(alloc: Global, cache: &str, number: u64) -> Result<Text, AllocError>
+    ensures { IfOk result (λ path. path ≡ temp_path_of cache.now number) }
+{
+    let Place { folder: _, path } = paths::temp_place(alloc, cache, number)?;
+    Ok(path)
+}
+
+/// The path of an integrity's content.
+#[tactic(auto, unfolding(cacache_calls::specs::Places::content_path))]
+pub(crate) fn content_path(
+    alloc: Global,
+    cache: &str,
+    integrity: &Integrity,
+) -> Result<Text, AllocError>
+    ensures { IfOk result (λ path. path ≡ content_path_of cache.now integrity.now) }
+{
+    let _address = integrity.address();
+    paths::content_path(alloc, cache, integrity)
+}
+
+/// The same with its folder.
+#[tactic(auto, unfolding(cacache_calls::specs::Places::content_path, cacache_calls::specs::Places::content_folder))]
+pub(crate) fn content_place(
+    alloc: Global,
+    cache: &str,
+    integrity: &Integrity,
+) -> Result<Place, AllocError>
+    ensures folder { IfOk result
+        (λ place. place.folder ≡ content_folder_of cache.now integrity.now) }
+    ensures path { IfOk result (λ place. place.path ≡ content_path_of cache.now integrity.now) }
+{
+    let _address = integrity.address();
+    paths::content_place(alloc, cache, integrity)
+}
+
+/// The path of a key's bucket.
+#[tactic(auto, unfolding(cacache_calls::specs::Places::bucket_path))]
+pub(crate) fn bucket_path(alloc: Global, cache: &str, key: &str) -> Result<Text, AllocError>
+    ensures { IfOk result (λ path. path ≡ bucket_path_of cache.now key.now) }
+{
+    paths::bucket_path(alloc, cache, key)
+}
+
+/// The same with its folder.
+#[tactic(auto, unfolding(cacache_calls::specs::Places::bucket_path, cacache_calls::specs::Places::bucket_folder))]
+pub(crate) fn bucket_place(alloc: Global, cache: &str, key: &str) -> Result<Place, AllocError>
+    ensures folder { IfOk result (λ place. place.folder ≡ bucket_folder_of cache.now key.now) }
+    ensures path { IfOk result (λ place. place.path ≡ bucket_path_of cache.now key.now) }
+{
+    paths::bucket_place(alloc, cache, key)
+}

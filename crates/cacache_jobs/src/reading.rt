@@ -1,0 +1,87 @@
+//! Reads of contents, and the question whether one is there.
+ghost use Rattle.cacache_calls.specs.Common.{go_on, fails};
+ghost use Rattle.cacache_calls.specs.Reading.{checked as checked_of, is_there, is_absent};
+ghost use Rattle.cacache_calls.specs.State.{reading as reading_state, asking as asking_state};
+ghost use Rattle.cacache_jobs.specs.Standing.{Leads, content_of};
+
+use crate::messages;
+use crate::phase::{Phase, refused};
+use crate::places::content_path;
+use crate::stage::Stage;
+use cacache_base::store::{FileHandle, Step, TempHandle};
+use cacache_calls::{Refusal, Reply};
+use cacache_core::bytes::Bytes;
+use cacache_core::errors::{self, Error};
+use cacache_core::integrity::Integrity;
+use cacache_core::text::Text;
+use std::alloc::Global;
+
+/// A content that is read or asked for.
+#[derive(Drop)]
+pub struct Content {
+    pub cache: Text,
+    pub integrity: Integrity,
+}
+
+/// Reads the content.
+pub(crate) fn start<F: FileHandle, T: TempHandle>(
+    alloc: Global,
+    content: Content,
+) -> errors::Result<Phase<F, T>>
+    ensures { Leads F.seen T.seen result (reading_state (content_of content)) }
+{
+    let path = content_path(alloc, content.cache.as_str(), &content.integrity)?;
+    Ok(Phase::Wanting(Stage::Reading(content), Step::ReadAll(path)))
+}
+
+/// Asks whether the content is there.
+pub(crate) fn ask<F: FileHandle, T: TempHandle>(
+    alloc: Global,
+    content: Content,
+) -> errors::Result<Phase<F, T>>
+    ensures { Leads F.seen T.seen result (asking_state (content_of content)) }
+{
+    let path = content_path(alloc, content.cache.as_str(), &content.integrity)?;
+    Ok(Phase::Wanting(Stage::Asking(content), Step::Exists(path)))
+}
+
+/// The bytes, where they meet the integrity.
+fn checked<F: FileHandle, T: TempHandle>(
+    alloc: Global,
+    content: Content,
+    bytes: Bytes,
+) -> errors::Result<Phase<F, T>>
+    ensures { Leads F.seen T.seen result (checked_of (content_of content) bytes) }
+{
+    match content.integrity.check(alloc, bytes.as_slice()) {
+        Ok(_) => Ok(Phase::Over(Reply::Read(bytes))),
+        Err(error) => Err(error),
+    }
+}
+
+/// After the content was to be read: its bytes are answered where they meet the integrity.
+pub(crate) fn read<F: FileHandle, T: TempHandle>(
+    alloc: Global,
+    content: Content,
+    bytes: Result<Bytes, Refusal>,
+) -> errors::Result<Phase<F, T>>
+    ensures { Leads F.seen T.seen result (go_on bytes fails (checked_of (content_of content))) }
+{
+    match bytes {
+        Ok(bytes) => checked(alloc, content, bytes),
+        Err(refusal) => Err(refused(refusal, messages::reading(alloc, &content))),
+    }
+}
+
+/// After the question; a store that couldn't tell has no content.
+pub(crate) fn asked<F: FileHandle, T: TempHandle>(
+    there: Result<bool, Refusal>,
+) -> errors::Result<Phase<F, T>>
+    ensures { Leads F.seen T.seen result (go_on there is_absent is_there) }
+{
+    match there {
+        Ok(there) => Ok(Phase::Over(Reply::Exists(there))),
+        Err(Refusal::Fault(_)) => Ok(Phase::Over(Reply::Exists(false))),
+        Err(Refusal::Memory) => Err(Error::OutOfMemory),
+    }
+}

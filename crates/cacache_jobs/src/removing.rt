@@ -1,0 +1,71 @@
+//! Removals of one content, or of one key.
+ghost use Rattle.std.specs.Prelude.{◌≡◌, List, ℕ};
+ghost use Rattle.cacache_calls.specs.State.{over};
+ghost use Rattle.cacache_calls.specs.Places.{bucket_path as bucket_path_of};
+ghost use Rattle.cacache_calls.specs.Removing.{remove_content as remove_content_of, remove_bucket as remove_bucket_of};
+ghost use Rattle.cacache_calls.specs.declared.reply.Reply.TheVariants.{Done};
+ghost use Rattle.cacache_jobs.specs.Standing.{Leads};
+
+use crate::phase::Phase;
+use crate::places::{bucket_path, content_path};
+use crate::stage::{Stage, Then};
+use cacache_base::store::{FileHandle, Step, TempHandle};
+use cacache_core::errors;
+use cacache_core::integrity::Integrity;
+use cacache_core::text::Text;
+use std::alloc::Global;
+
+/// A file that is removed last, by its path.
+#[derive(Drop)]
+pub enum Removal {
+    Content(Text),
+    Bucket(Text),
+}
+
+/// Removes the content of an integrity.
+pub(crate) fn remove_content<F: FileHandle, T: TempHandle>(
+    alloc: Global,
+    cache: &str,
+    integrity: &Integrity,
+) -> errors::Result<Phase<F, T>>
+    ensures { Leads F.seen T.seen result
+        (remove_content_of cache.now integrity.now (over Done)) }
+{
+    let path = content_path(alloc, cache, integrity)?;
+    let named = path.clone()?;
+    Ok(Phase::Wanting(
+        Stage::Doing(Then::Finish(Removal::Content(named))),
+        Step::RemoveFile(path),
+    ))
+}
+
+/// Removes the bucket at this path.
+pub(crate) fn remove_bucket<F: FileHandle, T: TempHandle>(path: Text) -> errors::Result<Phase<F, T>>
+    ensures { (cache : List ℕ) (key : List ℕ) → path ≡ bucket_path_of cache key
+        → Leads F.seen T.seen result (remove_bucket_of cache key) }
+{
+    let named = path.clone()?;
+    Ok(Phase::Wanting(
+        Stage::Doing(Then::Finish(Removal::Bucket(named))),
+        Step::RemoveFile(path),
+    ))
+}
+
+/// Removes the content that a key's lookup found, and then the key's bucket.
+pub(crate) fn remove_key<F: FileHandle, T: TempHandle>(
+    alloc: Global,
+    cache: &str,
+    key: &str,
+    integrity: &Integrity,
+) -> errors::Result<Phase<F, T>>
+    ensures { Leads F.seen T.seen result (remove_content_of cache.now integrity.now
+        (remove_bucket_of cache.now key.now)) }
+{
+    let bucket = bucket_path(alloc, cache, key)?;
+    let content = content_path(alloc, cache, integrity)?;
+    let named = content.clone()?;
+    Ok(Phase::Wanting(
+        Stage::Doing(Then::RemoveBucket(named, bucket)),
+        Step::RemoveFile(content),
+    ))
+}

@@ -1,0 +1,214 @@
+//! How far a call is while a step of it is out, and where the answer takes it.
+ghost use Rattle.cacache_base.specs.Plain.{plain_answer};
+ghost use Rattle.cacache_calls.specs.Common.{go_on, fails};
+ghost use Rattle.cacache_calls.specs.State.{State};
+ghost use Rattle.cacache_calls.specs.Table.{after};
+ghost use Rattle.cacache_jobs.specs.Standing.{Leads, StageAt, ThenAt};
+
+use crate::answers::{
+    bytes_of, done_of, file_of, got_of, length_of, taken_of, temp_of, there_of, written_of,
+};
+use crate::hashing::Hashing;
+use crate::inserting::Insertion;
+use crate::linking::Target;
+use crate::looking::Lookup;
+use crate::phase::{Phase, refused};
+use crate::reading::Content;
+use crate::removing::Removal;
+use crate::storing::Commit;
+use crate::walking::{Visit, Walk};
+use crate::{
+    exporting, hashing, inserting, linking, looking, messages, reading, removing, storing, walking,
+};
+use cacache_base::store::{Answer, FileHandle, TempHandle};
+use cacache_calls::{Refusal, Reply};
+use cacache_core::bytes::Bytes;
+use cacache_core::errors::{self, Fault};
+use cacache_core::text::Text;
+use std::alloc::{AllocError, Global};
+
+/// What a call does once its errand is done: a folder was made, or a file removed.
+pub enum Then<T> {
+    /// Makes the temporary file of this number; the bytes are still to write.
+    Create(u64, Commit, Bytes),
+    /// Moves the temporary file to the content's path.
+    Persist(Commit, T, Text),
+    /// Appends the line to the bucket at this path.
+    Append(Insertion, Bytes, Text),
+    /// The content at the first path is removed; removes the bucket at the second.
+    RemoveBucket(Text, Text),
+    /// Makes the link to the target of the first path at the second, which is the content's.
+    Symlink(Commit, Text, Text),
+    /// The call is over: the second path shares the storage of the content at the first.
+    EndReflink(Text, Text),
+    /// The call is over: the second path is one more name of the content at the first.
+    EndHardLink(Text, Text),
+    /// The call is over.
+    Finish(Removal),
+}
+
+// The drops of this file are written out, so that each is a call of its own: whoever lets such a value go has a proof
+// that doesn't go through all its variants.
+impl<T: Drop> Drop for Then<T> {
+    fn drop(self) {
+        match self {
+            Then::Create(_, _commit, _rest) => {}
+            Then::Persist(_commit, _file, _path) => {}
+            Then::Append(_insertion, _line, _path) => {}
+            Then::RemoveBucket(_content, _bucket) => {}
+            Then::Symlink(_commit, _target, _path) => {}
+            Then::EndReflink(_from, _to) => {}
+            Then::EndHardLink(_from, _to) => {}
+            Then::Finish(_removal) => {}
+        }
+    }
+}
+
+impl<T: TempHandle> Then<T> {
+    /// Why the errand before this one failed, in words.
+    fn message(&self, alloc: Global) -> Result<Text, AllocError> {
+        match self {
+            Then::Create(_, commit, _) => messages::making_temps(alloc, commit),
+            Then::Persist(commit, _, _) => messages::making_contents(alloc, commit),
+            Then::Append(insertion, _, _) => messages::making_bucket(alloc, insertion),
+            Then::RemoveBucket(content, _) => messages::removing_content(alloc, content),
+            Then::Symlink(commit, _, _) => messages::making_links(alloc, commit),
+            Then::EndReflink(from, to) => messages::reflinking(alloc, from, to),
+            Then::EndHardLink(from, to) => messages::hard_linking(alloc, from, to),
+            Then::Finish(removal) => messages::removing(alloc, removal),
+        }
+    }
+
+    /// What follows once the errand is done.
+    fn start<F: FileHandle>(self, alloc: Global) -> errors::Result<Phase<F, T>>
+        ensures { (next : State) → ThenAt T.seen self next → Leads F.seen T.seen result next }
+    {
+        match self {
+            Then::Create(number, commit, rest) => storing::create(alloc, number, commit, rest),
+            Then::Persist(commit, file, path) => Ok(storing::persist(commit, file, path)),
+            Then::Append(insertion, line, path) => Ok(inserting::append(insertion, line, path)),
+            Then::RemoveBucket(_content, bucket) => removing::remove_bucket(bucket),
+            Then::Symlink(commit, target, path) => linking::symlink(commit, target, path),
+            Then::EndReflink(_from, _to) => Ok(Phase::Over(Reply::Done)),
+            Then::EndHardLink(_from, _to) => Ok(Phase::Over(Reply::Done)),
+            Then::Finish(_removal) => Ok(Phase::Over(Reply::Done)),
+        }
+    }
+
+    /// Where the end of the errand takes the call.
+    fn resume<F: FileHandle>(
+        self,
+        alloc: Global,
+        done: Result<(), Refusal>,
+    ) -> errors::Result<Phase<F, T>>
+        ensures { (next : State) → ThenAt T.seen self next
+            → Leads F.seen T.seen result (go_on done fails (λ _. next)) }
+    {
+        match done {
+            Ok(()) => self.start(alloc),
+            Err(refusal) => Err(refused(refusal, self.message(alloc))),
+        }
+    }
+}
+
+/// How far a call is: what it does now, and what it needs after that. A temporary file is here while no step carries it.
+pub enum Stage<T> {
+    /// A folder is made, or a file removed.
+    Doing(Then<T>),
+    /// The temporary file is made; the bytes are still to write.
+    Creating(Commit, Bytes),
+    /// These bytes are written.
+    Writing(Commit, Bytes),
+    /// The temporary file becomes the content.
+    Persisting(Commit),
+    /// The persist failed so; a content that is there all the same will do.
+    Confirming(Commit, Fault),
+    /// The line, of this size, is appended.
+    Appending(Insertion, usize),
+    /// The bucket is read.
+    Looking(Lookup),
+    /// The content is read.
+    Reading(Content),
+    /// The store is asked whether the content is there.
+    Asking(Content),
+    /// The size of the target is asked.
+    Sizing(Target),
+    /// The file is opened.
+    Opening(Hashing),
+    /// A piece of the file is read, after so many bytes.
+    Hashing(Hashing, usize),
+    /// The content at the first path is copied to the second; so many bytes were verified, if any.
+    Copying(Text, Text, Option<u64>),
+    /// A link to the target becomes the content.
+    Linking(Commit, Text),
+    /// That failed so; a content that is there all the same will do.
+    ConfirmingLink(Commit, Text, Fault),
+    /// A walk does this.
+    Walking(Walk, Visit),
+}
+
+impl<T: Drop> Drop for Stage<T> {
+    fn drop(self) {
+        match self {
+            Stage::Doing(_then) => {}
+            Stage::Creating(_commit, _rest) => {}
+            Stage::Writing(_commit, _rest) => {}
+            Stage::Persisting(_commit) => {}
+            Stage::Confirming(_commit, _fault) => {}
+            Stage::Appending(_insertion, _size) => {}
+            Stage::Looking(_lookup) => {}
+            Stage::Reading(_content) => {}
+            Stage::Asking(_content) => {}
+            Stage::Sizing(_target) => {}
+            Stage::Opening(_hashing) => {}
+            Stage::Hashing(_hashing, _size) => {}
+            Stage::Copying(_from, _to, _verified) => {}
+            Stage::Linking(_commit, _target) => {}
+            Stage::ConfirmingLink(_commit, _target, _fault) => {}
+            Stage::Walking(_walk, _visit) => {}
+        }
+    }
+}
+
+impl<T: TempHandle> Stage<T> {
+    /// Where the answer to the stage's step takes the call.
+    pub(crate) fn resume<F: FileHandle>(
+        self,
+        alloc: Global,
+        answer: Answer<F, T>,
+    ) -> errors::Result<Phase<F, T>>
+        ensures { (s : State) → StageAt T.seen self s
+            → Leads F.seen T.seen result (after s (plain_answer F.seen T.seen answer)) }
+    {
+        match self {
+            Stage::Doing(then) => then.resume(alloc, done_of(answer)),
+            Stage::Creating(commit, rest) => storing::created(alloc, commit, rest, temp_of(answer)),
+            Stage::Writing(commit, rest) => {
+                storing::written(alloc, commit, rest, written_of(answer))
+            }
+            Stage::Persisting(commit) => storing::persisted(alloc, commit, done_of(answer)),
+            Stage::Confirming(commit, fault) => {
+                storing::confirmed(alloc, commit, fault, there_of(answer))
+            }
+            Stage::Appending(insertion, size) => {
+                inserting::appended(alloc, insertion, size, taken_of(answer))
+            }
+            Stage::Looking(lookup) => looking::looked(alloc, lookup, bytes_of(answer)),
+            Stage::Reading(content) => reading::read(alloc, content, bytes_of(answer)),
+            Stage::Asking(_content) => reading::asked(there_of(answer)),
+            Stage::Sizing(target) => linking::sized(alloc, target, length_of(answer)),
+            Stage::Opening(hashing) => hashing::opened(alloc, hashing, file_of(answer)),
+            Stage::Hashing(hashing, size) => hashing::read(alloc, hashing, size, got_of(answer)),
+            Stage::Copying(from, to, verified) => {
+                exporting::copied(alloc, from, to, verified, taken_of(answer))
+            }
+            Stage::Linking(commit, target) => {
+                linking::linked(alloc, commit, target, done_of(answer))
+            }
+            Stage::ConfirmingLink(commit, target, fault) => {
+                linking::confirmed(alloc, commit, target, fault, there_of(answer))
+            }
+            Stage::Walking(walk, visit) => walking::resume(alloc, walk, visit, answer),
+        }
+    }
+}

@@ -1,0 +1,282 @@
+//! How a commit goes on: its bytes become a content, what was said of it is compared, and with a key its entry follows.
+ghost use Rattle.std.specs.Prelude.{◌≡◌, IfOk, IfErr, drop};
+ghost use Rattle.cacache_core.specs.Integrity.{integrity_under};
+ghost use Rattle.cacache_core.specs.declared.errors.Error.TheVariants.{OutOfMemory};
+ghost use Rattle.cacache_calls.specs.Common.{go_on, fails};
+ghost use Rattle.cacache_calls.specs.Places.{content_path as content_path_of};
+ghost use Rattle.cacache_calls.specs.State.{Site, creating, persisting, confirming};
+ghost use Rattle.cacache_calls.specs.Storing.{write_rest as write_rest_of, placed as placed_of, indexed, after_write, after_confirm, commit_of as put_commit, store as store_of};
+ghost use Rattle.cacache_jobs.specs.Seen.{seen_by, written_as};
+ghost use Rattle.cacache_jobs.specs.Standing.{Leads, PhaseAt, commit_of};
+
+use crate::answers::Written;
+use crate::comparing::{compare_integrity, compare_size};
+use crate::inserting::{entry_of, insert};
+use crate::messages;
+use crate::phase::{Phase, refused};
+use crate::places::{content_path, content_place, temp_folder, temp_path};
+use crate::stage::{Stage, Then};
+use cacache_base::store::{FileHandle, Step, TempHandle};
+use cacache_calls::{Options, Put, Refusal, Reply};
+use cacache_core::bytes::Bytes;
+use cacache_core::errors::{self, Error, Fault};
+use cacache_core::hasher::Hasher;
+use cacache_core::integrity::{Algorithm, Integrity};
+use cacache_core::paths::Place;
+use cacache_core::text::Text;
+use std::alloc::Global;
+
+/// A content on its way to its place: what it is known by, and what was said of it.
+pub struct Commit {
+    pub cache: Text,
+    pub key: Option<Text>,
+    /// The integrity of the bytes.
+    pub computed: Integrity,
+    /// How many bytes there are.
+    pub count: usize,
+    /// The entry's time, in milliseconds since 1970.
+    pub moment: u128,
+    pub options: Options,
+}
+
+// Written out, so that it is a call of its own: whoever lets a commit go has a proof that doesn't go through its fields.
+impl Drop for Commit {
+    fn drop(self) {
+        let Commit {
+            cache: _cache,
+            key: _key,
+            computed: _computed,
+            count: _,
+            moment: _,
+            options: _options,
+        } = self;
+    }
+}
+
+/// The integrity of the bytes of a put.
+fn computed_of(alloc: Global, algorithm: Algorithm, bytes: &[u8]) -> errors::Result<Integrity>
+    ensures ok { IfOk result (λ i. i ≡ integrity_under algorithm bytes.now) }
+    ensures err { IfErr result (λ e. e ≡ OutOfMemory) }
+{
+    let mut hasher = Hasher::new(algorithm);
+    hasher.update(bytes);
+    hasher.result(alloc)
+}
+
+/// The commit of a put, with its bytes; its integrity is known before its first step.
+fn commit_of(alloc: Global, cache: &str, put: Put) -> errors::Result<(Commit, Bytes)>
+    ensures commit { IfOk result (λ r. commit_of r.0 ≡ put_commit cache.now put) }
+    ensures bytes { IfOk result (λ r. r.1 ≡ put.data) }
+    ensures err { IfErr result (λ e. e ≡ OutOfMemory) }
+{
+    let Put {
+        key,
+        data,
+        moment,
+        options,
+    } = put;
+    let cache = Text::from_str(alloc, cache)?;
+    let computed = computed_of(alloc, options.algorithm, data.as_slice())?;
+    let count = data.len();
+    let commit = Commit {
+        cache,
+        key,
+        computed,
+        count,
+        moment,
+        options,
+    };
+    Ok((commit, data))
+}
+
+/// Where a put begins.
+pub(crate) fn store<F: FileHandle, T: TempHandle>(
+    alloc: Global,
+    cache: &str,
+    number: u64,
+    put: Put,
+) -> errors::Result<Phase<F, T>>
+    ensures { (site : Site) → site.cache ≡ cache.now → site.number ≡ number
+        → Leads F.seen T.seen result (store_of site put) }
+{
+    let folder = temp_folder(alloc, cache)?;
+    let (commit, data) = commit_of(alloc, cache, put)?;
+    Ok(Phase::Wanting(
+        Stage::Doing(Then::Create(number, commit, data)),
+        Step::MakeDirs(folder),
+    ))
+}
+
+/// The folder of temporary files is there: makes the file.
+pub(crate) fn create<F: FileHandle, T: TempHandle>(
+    alloc: Global,
+    number: u64,
+    commit: Commit,
+    rest: Bytes,
+) -> errors::Result<Phase<F, T>>
+    ensures { Leads F.seen T.seen result (creating number (commit_of commit) rest) }
+{
+    let path = temp_path(alloc, commit.cache.as_str(), number)?;
+    Ok(Phase::Wanting(Stage::Creating(commit, rest), Step::CreateTemp(path)))
+}
+
+/// Writes what is left of the bytes, or goes on to the content's folder.
+fn write_rest<F: FileHandle, T: TempHandle>(
+    alloc: Global,
+    commit: Commit,
+    file: T,
+    rest: Bytes,
+) -> errors::Result<Phase<F, T>>
+    ensures { Leads F.seen T.seen result (write_rest_of (commit_of commit) (T.seen file) rest) }
+{
+    if rest.is_empty() {
+        let place = content_place(alloc, commit.cache.as_str(), &commit.computed)?;
+        let Place { folder, path } = place;
+        return Ok(Phase::Wanting(
+            Stage::Doing(Then::Persist(commit, file, path)),
+            Step::MakeDirs(folder),
+        ));
+    }
+    let shared = rest.share()?;
+    Ok(Phase::Wanting(Stage::Writing(commit, rest), Step::Write(file, shared)))
+}
+
+/// After the temporary file was to be made.
+pub(crate) fn created<F: FileHandle, T: TempHandle>(
+    alloc: Global,
+    commit: Commit,
+    rest: Bytes,
+    temp: Result<T, Refusal>,
+) -> errors::Result<Phase<F, T>>
+    ensures { Leads F.seen T.seen result
+        (go_on (seen_by T.seen temp) fails (λ file. write_rest_of (commit_of commit) file rest)) }
+{
+    match temp {
+        Ok(file) => write_rest(alloc, commit, file, rest),
+        Err(refusal) => Err(refused(refusal, messages::creating(alloc, &commit))),
+    }
+}
+
+/// What a write of so many of the bytes leaves.
+#[tactic(auto, using(std::proofs::lemmas::List::drop_min))]
+fn left_after(bytes: Bytes, count: usize) -> Bytes
+    ensures { result ≡ drop count bytes }
+{
+    let count = count.min(bytes.len());
+    bytes.rest(count)
+}
+
+/// After these bytes were to be written.
+pub(crate) fn written<F: FileHandle, T: TempHandle>(
+    alloc: Global,
+    commit: Commit,
+    rest: Bytes,
+    written: Result<Written<T>, Refusal>,
+) -> errors::Result<Phase<F, T>>
+    ensures { Leads F.seen T.seen result
+        (go_on (seen_by (written_as T.seen) written) fails (after_write (commit_of commit) rest)) }
+{
+    let refusal = match written {
+        Ok(Written { file, count }) => {
+            if count > 0 {
+                return write_rest(alloc, commit, file, left_after(rest, count));
+            }
+            Refusal::Fault(Fault::WriteZero)
+        }
+        Err(refusal) => refusal,
+    };
+    Err(refused(refusal, messages::writing(alloc, &commit)))
+}
+
+/// The content's folder is there: moves the temporary file to the content's path.
+pub(crate) fn persist<F: FileHandle, T: TempHandle>(
+    commit: Commit,
+    file: T,
+    path: Text,
+) -> Phase<F, T>
+    ensures { path ≡ content_path_of commit.cache commit.computed
+        → PhaseAt F.seen T.seen result (persisting (commit_of commit) (T.seen file)) }
+{
+    Phase::Wanting(Stage::Persisting(commit), Step::Persist(file, path))
+}
+
+/// After the temporary file was to become the content.
+pub(crate) fn persisted<F: FileHandle, T: TempHandle>(
+    alloc: Global,
+    commit: Commit,
+    done: Result<(), Refusal>,
+) -> errors::Result<Phase<F, T>>
+    ensures { Leads F.seen T.seen result
+        (go_on done (confirming (commit_of commit)) (λ _. placed_of (commit_of commit))) }
+{
+    match done {
+        Ok(()) => placed(alloc, commit),
+        Err(Refusal::Fault(fault)) => {
+            let path = content_path(alloc, commit.cache.as_str(), &commit.computed)?;
+            Ok(Phase::Wanting(Stage::Confirming(commit, fault), Step::Exists(path)))
+        }
+        Err(Refusal::Memory) => Err(Error::OutOfMemory),
+    }
+}
+
+/// After the store was asked whether the content is there all the same; without a yes, the first fault is answered.
+pub(crate) fn confirmed<F: FileHandle, T: TempHandle>(
+    alloc: Global,
+    commit: Commit,
+    fault: Fault,
+    there: Result<bool, Refusal>,
+) -> errors::Result<Phase<F, T>>
+    ensures { Leads F.seen T.seen result
+        (go_on there (λ _. fails fault) (after_confirm (commit_of commit) fault)) }
+{
+    let refusal = match there {
+        Ok(true) => return placed(alloc, commit),
+        Ok(false) | Err(Refusal::Fault(_)) => Refusal::Fault(fault),
+        Err(Refusal::Memory) => Refusal::Memory,
+    };
+    Err(refused(refusal, messages::persisting(alloc, &commit)))
+}
+
+impl Commit {
+    /// What was said of the content is so: with a key its entry follows.
+    fn index<F: FileHandle, T: TempHandle>(self, alloc: Global) -> errors::Result<Phase<F, T>>
+        ensures { Leads F.seen T.seen result (indexed (commit_of self) self.key) }
+    {
+        let Commit {
+            cache,
+            key,
+            computed,
+            count,
+            moment,
+            options,
+        } = self;
+        let Options {
+            algorithm: _,
+            size: _,
+            integrity: expected,
+            metadata,
+            raw_metadata,
+        } = options;
+        let Some(key) = key else {
+            return Ok(Phase::Over(Reply::Stored(computed)));
+        };
+        // the entry has the expected integrity, where there is one
+        let integrity = expected.unwrap_or(computed);
+        let text = Some(integrity.to_string(alloc)?);
+        let key = key.into_string();
+        let entry = entry_of(alloc, key, text, count, moment, metadata, raw_metadata)?;
+        insert(alloc, cache, entry, Reply::Stored(integrity))
+    }
+}
+
+/// The content is at its place: what was said of it is compared, the integrity first.
+pub(crate) fn placed<F: FileHandle, T: TempHandle>(
+    alloc: Global,
+    commit: Commit,
+) -> errors::Result<Phase<F, T>>
+    ensures { Leads F.seen T.seen result (placed_of (commit_of commit)) }
+{
+    compare_integrity(&commit)?;
+    compare_size(&commit)?;
+    commit.index(alloc)
+}

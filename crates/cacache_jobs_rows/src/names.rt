@@ -1,0 +1,43 @@
+//! Names that stand for longer texts: `{bucket}` in a row is the text of the line `= bucket ..`.
+use crate::words::cut;
+use std::alloc::{AllocError, Global};
+
+/// A name with its braces, and its text.
+#[derive(Drop)]
+struct Named {
+    name: String,
+    text: String,
+}
+
+/// The names so far.
+#[derive(Drop)]
+pub(crate) struct Names {
+    names: Vec<Named>,
+}
+
+impl Names {
+    /// No names.
+    pub(crate) fn new(alloc: Global) -> Names {
+        Names {
+            names: Vec::new(alloc),
+        }
+    }
+
+    /// One name more.
+    pub(crate) fn define(&mut self, alloc: Global, line: &str) -> Result<(), AllocError> {
+        let (name, text) = cut(line);
+        let name = format!(in alloc; "{{{name}}}")?;
+        let text = self.filled(alloc, text)?;
+        self.names.push(Named { name, text })?;
+        Ok(())
+    }
+
+    /// A line with the texts of its names.
+    pub(crate) fn filled(&self, alloc: Global, line: &str) -> Result<String, AllocError> {
+        let mut line = String::from_str(alloc, line)?;
+        for named in &self.names {
+            line = line.replace(alloc, named.name.as_str(), named.text.as_str())?;
+        }
+        Ok(line)
+    }
+}

@@ -1,2 +1,0 @@
-//! Contents by their address.
-pub mod path;
