@@ -1,19 +1,21 @@
--- Which commands read, and what a reading call answers, as the reply that it stands for.
-use Rattle.std.specs.Prelude.{ℕ, List, Vec, Result, Ok, Err}
-use Rattle.cacache_core.specs.declared.errors.Error.{Error}
-use Rattle.cacache_steps.specs.declared.jobs.command.Command.{Command}
-use Rattle.cacache_steps.specs.declared.jobs.command.Command.TheVariants.{Put, Get, GetHash}
-use Rattle.cacache_steps.specs.declared.jobs.reply.Reply.{Reply}
-use Rattle.cacache_steps.specs.declared.jobs.reply.Reply.TheVariants.{Read, Refused}
-use Rattle.cacache_steps.specs.Runs.{without_message}
+-- Which commands read bytes, and what a reading call answers.
+use Rattle.std.specs.Prelude.{ℕ, List, Vec, Option, None, Some, true, false}
+use Rattle.cacache_core.specs.declared.integrity.digest.Hash.{Hash}
+use Rattle.cacache_calls.specs.declared.command.Command.{Command}
+use Rattle.cacache_calls.specs.declared.reply.Reply.{Reply}
+use Rattle.cacache_calls.specs.declared.reply.Reply.TheVariants.{Read, Exists}
+use Rattle.cacache_calls.specs.State.{Site}
+use Rattle.cacache_calls.specs.Promises.{Answers, OnlyReads}
 
--- the command reads bytes
+-- wherever the command is called, it answers bytes
 abbrev pub IsReading : Command → Type 0
-IsReading (Put p) = ⊥
-IsReading (Get key) = Unit {0}
-IsReading (GetHash integrity) = Unit {0}
+IsReading command = (site : Site) (r : Reply) → Answers site command r → OnlyReads r
 
--- a result as the reply that it stands for
-abbrev pub read_reply : {A : Type 0} → Result (Vec ℕ A) Error → Reply
-read_reply (Ok bytes) = Read bytes.items
-read_reply (Err error) = Refused (without_message error)
+-- bytes, as their answer
+abbrev pub bytes_read : {A : Type 0} → Vec ℕ A → Reply
+bytes_read bytes = Read bytes.items
+
+-- an integrity whose content is there, or none, as its answer
+abbrev pub has : Option (List Hash) → Reply
+has None = Exists false
+has (Some i) = Exists true

@@ -1,37 +1,39 @@
-//! Calls that read bytes.
-ghost use Rattle.std.specs.Prelude.{◌≡◌, IfOk};
-ghost use Rattle.cacache_steps.specs.declared.jobs.command.Command.TheVariants.{Get, GetHash};
+//! Calls that read.
+ghost use Rattle.std.specs.Prelude.{◌≡◌, IfOk, IfErr};
+ghost use Rattle.cacache_core.specs.declared.errors.Error.TheVariants.{OutOfMemory};
 ghost use Rattle.cacache_core.specs.Integrity.{Meets};
-ghost use Rattle.cacache_steps.specs.Calls.{opening};
-ghost use Rattle.cacache_steps.specs.Promises.{Promises};
-ghost use Rattle.cacache_steps.specs.Runs.{Ran};
-ghost use Rattle.cacache_steps.specs.Verified.{FindsBytes, ReadsFound};
-ghost use Rattle.cacache.specs.Reads.{IsReading, read_reply};
+ghost use Rattle.cacache_calls.specs.declared.command.Command.TheVariants as commands;
+ghost use Rattle.cacache_calls.specs.declared.reply.Reply.TheVariants.{Read, Exists};
+ghost use Rattle.cacache_calls.specs.Promises.{Answers};
+ghost use Rattle.cacache_jobs.specs.Found.{FindsBytes, ReadsFound};
+ghost use Rattle.cacache_jobs.specs.Opening.{site_of};
+ghost use Rattle.cacache_put.specs.Replies.{reply_of, looked_up};
+ghost use Rattle.cacache_put.specs.Writes.{Calls};
+ghost use Rattle.cacache.specs.Reads.{IsReading, bytes_read};
 
 use cacache_base::env::{Clock, Env, Names};
 use cacache_base::store::Store;
+use cacache_calls::{Command, Reply};
 use cacache_core::errors::Result;
 use cacache_core::integrity::Integrity;
 use cacache_core::text::Text;
-use cacache_steps::jobs::{Command, Reply, call};
+use cacache_entry::Metadata;
+use cacache_jobs::call;
+use cacache_put::index::find;
 
-/// Makes a call that reads.
+/// Makes a call that reads bytes.
 fn read<S: Store, C, N>(env: &mut Env<S, C, N>, cache: &str, command: Command) -> Result<Vec<u8>>
     requires { IsReading command }
-    ensures ran { Ran (opening cache.now command 0) (read_reply result)
-        (S.log env.old.store) (S.log env.new.store) }
-    ensures found { IfOk result (λ bytes. FindsBytes cache.now command (Reply.Read bytes.items)
+    ensures ran { Calls S.log env.old env.new cache.now command (reply_of bytes_read result) }
+    ensures found { IfOk result (λ bytes. FindsBytes cache.now command (Read bytes.items)
         (S.log env.old.store) (S.log env.new.store)) }
     ensures promised { IfOk result (λ bytes.
-        Promises (opening cache.now command 0) (Reply.Read bytes.items)) }
-    ensures clock { env.new.clock ≡ env.old.clock }
-    ensures names { env.new.names ≡ env.old.names }
-    ensures base { env.new.base ≡ env.old.base }
+        Answers (site_of cache.now env.old.base 0) command (Read bytes.items)) }
 {
     match call(env, cache, command, 0) {
         Reply::Read(bytes) => Ok(bytes.into_vec(env.alloc)?),
         Reply::Refused(error) => Err(error),
-        Reply::Stored(_) => unreachable!(),
+        _ => unreachable!(),
     }
 }
 
@@ -47,11 +49,8 @@ pub fn read_sync<S: Store, C: Clock, N: Names>(
 ) -> Result<Vec<u8>>
     ensures verified { IfOk result (λ bytes. ReadsFound cache.now key.now bytes.items
         (S.log env.old.store) (S.log env.new.store)) }
-    ensures ran { Ran (opening cache.now (Get key.now) 0) (read_reply result)
-        (S.log env.old.store) (S.log env.new.store) }
-    ensures clock { env.new.clock ≡ env.old.clock }
-    ensures names { env.new.names ≡ env.old.names }
-    ensures base { env.new.base ≡ env.old.base }
+    ensures ran { Calls S.log env.old env.new cache.now (commands.Get key.now)
+        (reply_of bytes_read result) }
 {
     let command = Command::Get(Text::from_str(env.alloc, key)?);
     read(env, cache, command)
@@ -67,12 +66,41 @@ pub fn read_hash_sync<S: Store, C: Clock, N: Names>(
     sri: &Integrity,
 ) -> Result<Vec<u8>>
     ensures verified { IfOk result (λ bytes. Meets sri.now bytes.items) }
-    ensures ran { Ran (opening cache.now (GetHash sri.now) 0) (read_reply result)
-        (S.log env.old.store) (S.log env.new.store) }
-    ensures clock { env.new.clock ≡ env.old.clock }
-    ensures names { env.new.names ≡ env.old.names }
-    ensures base { env.new.base ≡ env.old.base }
+    ensures ran { Calls S.log env.old env.new cache.now (commands.GetHash sri.now)
+        (reply_of bytes_read result) }
 {
     let command = Command::GetHash(sri.clone()?);
     read(env, cache, command)
+}
+
+/// What the index has of the key. This is `index::find`; `exists_sync` says whether the content is there.
+pub fn metadata_sync<S: Store, C: Clock, N: Names>(
+    env: &mut Env<S, C, N>,
+    cache: &str,
+    key: &str,
+) -> Result<Option<Metadata>>
+    ensures ran { Calls S.log env.old env.new cache.now (commands.Find key.now)
+        (reply_of looked_up result) }
+{
+    find(env, cache, key)
+}
+
+/// Whether the content of the integrity is there. Whether it meets the integrity isn't asked.
+///
+/// A failed step counts as a content that isn't there, so `OutOfMemory` is the only error. Nothing changes.
+pub fn exists_sync<S: Store, C: Clock, N: Names>(
+    env: &mut Env<S, C, N>,
+    cache: &str,
+    sri: &Integrity,
+) -> Result<bool>
+    ensures memory { IfErr result (λ e. e ≡ OutOfMemory) }
+    ensures ran { Calls S.log env.old env.new cache.now (commands.Exists sri.now)
+        (reply_of Exists result) }
+{
+    let command = Command::Exists(sri.clone()?);
+    match call(env, cache, command, 0) {
+        Reply::Exists(there) => Ok(there),
+        Reply::Refused(error) => Err(error),
+        _ => unreachable!(),
+    }
 }

@@ -11,14 +11,17 @@ pub mod index;
 pub mod integrity;
 pub mod jobs;
 pub mod put;
+pub mod rm;
 pub mod store;
-#[cfg(test)]
-mod tests;
 pub mod text;
 
 pub use errors::{Error, Result};
-pub use get::{read_hash_sync, read_sync};
-pub use index::Metadata;
+pub use get::{exists_sync, metadata_sync, read_hash_sync, read_sync};
+pub use index::{Metadata, RemoveOpts};
 pub use integrity::{Algorithm, Integrity};
-pub use put::{write_hash_sync, write_sync, write_vec_sync};
+pub use put::{
+    WriteOpts, write_hash_sync, write_hash_sync_with_algo, write_sync, write_sync_with_algo,
+    write_vec_sync,
+};
+pub use rm::{remove_hash_sync, remove_sync};
 pub use serde_json::Value;

@@ -3,7 +3,7 @@ use Rattle.std.specs.Prelude.{◌≡◌, ◌<◌, ◌⊎◌, ℕ, List, [], ◌�
 use Rattle.std.specs.Io.KnownBytes.{Appends}
 use Rattle.cacache.specs.Integrities.{Sha256, integrity_under, text_of}
 use Rattle.cacache.specs.Stores.{LogItem}
-use Rattle.cacache.specs.Calls.{Env, Error, Reply, Get, Stored, Read, Refused, opening, Ran, RunsPut, keyed_put}
+use Rattle.cacache.specs.Calls.{Env, Error, Reply, Get, Stored, Read, Refused, Calls, RunsPut, keyed_put}
 
 -- known bytes grow by a beginning of these, and not by all of them
 abbrev pub AppendsPart : Option (List ℕ) → Option (List ℕ) → List ℕ → Type 0
@@ -23,7 +23,7 @@ module _ {S C N : Type 0} (log : S → Option (List LogItem)) (moments : C → O
   -- all that the input had to give was put under the key, with this reply
   abbrev pub PutsAll : List ℕ → List ℕ → Option (List ℕ) → Env S C N → Env S C N → List ℕ → Reply → Type 0
   PutsAll cache key input old new bytes reply =
-      AreAllOf input bytes × RunsPut log moments numbers old new cache (keyed_put key bytes) reply
+      AreAllOf input bytes × RunsPut log moments numbers old new cache (keyed_put Sha256 key bytes) reply
 
   -- a write that succeeded stored all of the input, and appended the integrity's line to the output
   abbrev pub Writes : List ℕ → List ℕ → Option (List ℕ) → Env S C N → Env S C N → Option (List ℕ) → Option (List ℕ) → Type 0
@@ -50,15 +50,16 @@ module _ {S C N : Type 0} (log : S → Option (List LogItem)) (moments : C → O
       ((new ≡ old) × (after ≡ before))
       ⊎ (PutRefused cache key input old new before after ⊎ PutUntold cache key input old new before after)
 
--- ---- of a read: its logs, and the output before and after
+-- ---- of a read: its log is that of the environment, before and after
 
--- a read that succeeded appended exactly the bytes of its run to the output
-abbrev pub Reads : List ℕ → List ℕ → Option (List LogItem) → Option (List LogItem) → Option (List ℕ) → Option (List ℕ) → Type 0
-Reads cache key old new before after =
-    (bytes : List ℕ) × Ran (opening cache (Get key) 0) (Read bytes) old new × Appends before after bytes
+module _ {S C N : Type 0} (log : S → Option (List LogItem)) where
+  -- a read that succeeded appended exactly the bytes of its run to the output
+  abbrev pub Reads : List ℕ → List ℕ → Env S C N → Env S C N → Option (List ℕ) → Option (List ℕ) → Type 0
+  Reads cache key old new before after =
+      (bytes : List ℕ) × Calls log old new cache (Get key) (Read bytes) × Appends before after bytes
 
--- a read that failed was refused by its call and printed nothing, or printed a beginning of the bytes of its run
-abbrev pub ReadFails : List ℕ → List ℕ → Option (List LogItem) → Option (List LogItem) → Option (List ℕ) → Option (List ℕ) → Type 0
-ReadFails cache key old new before after =
-    ((error : Error) × Ran (opening cache (Get key) 0) (Refused error) old new × (after ≡ before))
-    ⊎ ((bytes : List ℕ) × Ran (opening cache (Get key) 0) (Read bytes) old new × AppendsPart before after bytes)
+  -- a read that failed was refused by its call and printed nothing, or printed a beginning of the bytes of its run
+  abbrev pub ReadFails : List ℕ → List ℕ → Env S C N → Env S C N → Option (List ℕ) → Option (List ℕ) → Type 0
+  ReadFails cache key old new before after =
+      ((error : Error) × Calls log old new cache (Get key) (Refused error) × (after ≡ before))
+      ⊎ ((bytes : List ℕ) × Calls log old new cache (Get key) (Read bytes) × AppendsPart before after bytes)

@@ -137,10 +137,10 @@ fn read<S: Store, C: Clock, N: Names, W: Write, E: Write>(
     errors: &mut E,
 ) -> u8
     ensures status { result ≤ 1 }
-    ensures reads { result ≡ 0 → Reads cache.now key.now (S.log env.old.store)
-        (S.log env.new.store) (W.contents output.old) (W.contents output.new) }
-    ensures fails { result ≡ 1 → ReadFails cache.now key.now (S.log env.old.store)
-        (S.log env.new.store) (W.contents output.old) (W.contents output.new) }
+    ensures reads { result ≡ 0 → Reads S.log cache.now key.now env.old env.new
+        (W.contents output.old) (W.contents output.new) }
+    ensures fails { result ≡ 1 → ReadFails S.log cache.now key.now env.old env.new
+        (W.contents output.old) (W.contents output.new) }
     ensures quiet { result ≡ 0 → errors.new ≡ errors.old }
 {
     match cacache::read_sync(env, cache, key) {
@@ -187,10 +187,10 @@ pub fn run<S: Store, C: Clock, N: Names, R: Read, W: Write, E: Write>(
 
     // Of `read` likewise.
     ensures reads { IfSome (request_of words.now) (λ r. r.name ≡ codes "read" → result ≡ 0 →
-        Reads r.cache r.key (S.log env.old.store) (S.log env.new.store)
+        Reads S.log r.cache r.key env.old env.new
         (W.contents output.old) (W.contents output.new)) }
     ensures read_fails { IfSome (request_of words.now) (λ r. r.name ≡ codes "read" → result ≡ 1 →
-        ReadFails r.cache r.key (S.log env.old.store) (S.log env.new.store)
+        ReadFails S.log r.cache r.key env.old env.new
         (W.contents output.old) (W.contents output.new)) }
 {
     match request(words) {

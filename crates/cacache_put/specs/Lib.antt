@@ -1,1 +1,3 @@
+pub mod Options
+pub mod Replies
 pub mod Writes

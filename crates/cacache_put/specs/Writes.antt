@@ -1,35 +1,74 @@
--- What a writing call asks of its environment, and what it puts.
-use Rattle.std.specs.Prelude.{◌≡◌, ℕ, List, [], ◌∷◌, ◌++◌, Option, None, Some, Result, Ok, Err, option_map}
-use Rattle.cacache_core.specs.declared.errors.Error.{Error}
-use Rattle.cacache_core.specs.declared.integrity.digest.Hash.{Hash}
+-- What a call does to its environment, and what a writing call puts.
+use Rattle.std.specs.Prelude.{◌≡◌, ℕ, List, Option, None, Some}
+use Rattle.cacache_core.specs.declared.integrity.algorithm.Algorithm.{Algorithm}
 use Rattle.cacache_base.specs.declared.env.Env.{Env}
 use Rattle.cacache_base.specs.declared.store.log.LogItem.{LogItem}
 use Rattle.cacache_base.specs.Given.{AddsAnswer}
-use Rattle.cacache_steps.specs.declared.jobs.command.Put.{Put}
-use Rattle.cacache_steps.specs.declared.jobs.command.Command.TheVariants as commands
-use Rattle.cacache_steps.specs.declared.jobs.reply.Reply.{Reply}
-use Rattle.cacache_steps.specs.declared.jobs.reply.Reply.TheVariants.{Stored, Refused}
-use Rattle.cacache_steps.specs.Calls.{opening}
-use Rattle.cacache_steps.specs.Runs.{Ran, without_message}
+use Rattle.cacache_calls.specs.declared.command.Put.{Put}
+use Rattle.cacache_calls.specs.declared.command.Insert.{Insert}
+use Rattle.cacache_calls.specs.declared.command.Delete.{Delete}
+use Rattle.cacache_calls.specs.declared.command.Command.{Command}
+use Rattle.cacache_calls.specs.declared.command.Command.TheVariants as commands
+use Rattle.cacache_calls.specs.declared.reply.Reply.{Reply}
+use Rattle.cacache_calls.specs.Table.{opening}
+use Rattle.cacache_calls.specs.Runs.{Ran}
+use Rattle.cacache_jobs.specs.Opening.{site_of}
+use Rattle.cacache_put.specs.Options.{Said, options_of, blank}
+
+-- ---- what is put
 
 -- bytes that are put under a key
-abbrev pub keyed_put : List ℕ → List ℕ → ℕ → Put
-keyed_put key bytes moment = record { key = Some key; «data» = bytes; moment = moment }
+abbrev pub keyed_put : Algorithm → List ℕ → List ℕ → ℕ → Put
+keyed_put a key bytes moment =
+    record { key = Some key; «data» = bytes; moment = moment; options = blank a }
 
 -- bytes that are put without a key, for which the moment has no effect
-abbrev pub unkeyed_put : List ℕ → Put
-unkeyed_put bytes = record { key = None; «data» = bytes; moment = 0 }
+abbrev pub unkeyed_put : Algorithm → List ℕ → Put
+unkeyed_put a bytes = record { key = None; «data» = bytes; moment = 0; options = blank a }
 
--- a result as the reply that it stands for
-abbrev pub stored_reply : Result (List Hash) Error → Reply
-stored_reply (Ok integrity) = Stored integrity
-stored_reply (Err error) = Refused (without_message error)
+-- an entry that is inserted, by what was said of it
+abbrev pub insert_of : List ℕ → Said → ℕ → Insert
+insert_of key s moment = record { key = key; moment = moment; options = options_of s }
 
--- the clock and the source of numbers were asked once each, and with what they gave the log gained a run of the put
-abbrev pub RunsPut : {S C N : Type 0} → (S → Option (List LogItem)) → (C → Option (List ℕ))
-    → (N → Option (List ℕ)) → Env S C N → Env S C N → List ℕ → (ℕ → Put) → Reply → Type 0
-RunsPut log moments numbers old new cache put reply =
-    (moment number : ℕ)
-    × AddsAnswer (moments old.clock) (moments new.clock) moment
-    × AddsAnswer (numbers old.names) (numbers new.names) number
-    × Ran (opening cache (commands.Put (put moment)) number) reply (log old.store) (log new.store)
+-- a tombstone of the key
+abbrev pub delete_of : List ℕ → ℕ → Delete
+delete_of key moment = record { key = key; moment = moment }
+
+-- ---- what a call does: its moments and numbers are those of the environment, before and after
+
+-- the moment is the one that was set; where none was, the clock was asked for it, once
+abbrev pub HasMoment : {C : Type 0} → (C → Option (List ℕ)) → Option ℕ → C → C → ℕ → Type 0
+HasMoment moments None old new moment = AddsAnswer (moments old) (moments new) moment
+HasMoment moments (Some time) old new moment = (new ≡ old) × (moment ≡ time)
+
+module _ {S C N : Type 0} (log : S → Option (List LogItem)) where
+  -- the log gained a run of the command with this reply, and the base folder stayed
+  abbrev pub Steps : Env S C N → Env S C N → List ℕ → ℕ → Command → Reply → Type 0
+  Steps old new cache number command reply =
+      Ran (opening (site_of cache old.base number) command) reply (log old.store) (log new.store)
+      × (new.base ≡ old.base)
+
+  -- so it did with a call that asks for neither a moment nor a number
+  abbrev pub Calls : Env S C N → Env S C N → List ℕ → Command → Reply → Type 0
+  Calls old new cache command reply =
+      Steps old new cache 0 command reply × (new.clock ≡ old.clock) × (new.names ≡ old.names)
+
+  -- so it did with a number that was asked for once, and no moment
+  abbrev pub RunsNumbered : (N → Option (List ℕ)) → Env S C N → Env S C N → List ℕ → Command → Reply → Type 0
+  RunsNumbered numbers old new cache command reply =
+      (number : ℕ) × AddsAnswer (numbers old.names) (numbers new.names) number
+      × Steps old new cache number command reply × (new.clock ≡ old.clock)
+
+  -- so it did with a moment, and no number
+  abbrev pub RunsTimed : (C → Option (List ℕ)) → Option ℕ → Env S C N → Env S C N → List ℕ → (ℕ → Command) → Reply → Type 0
+  RunsTimed moments time old new cache command reply =
+      (moment : ℕ) × HasMoment moments time old.clock new.clock moment
+      × Steps old new cache 0 (command moment) reply × (new.names ≡ old.names)
+
+  -- so it did with a put, of a moment and a number that were asked for once each
+  abbrev pub RunsPut : (C → Option (List ℕ)) → (N → Option (List ℕ)) → Env S C N → Env S C N → List ℕ → (ℕ → Put) → Reply → Type 0
+  RunsPut moments numbers old new cache put reply =
+      (moment number : ℕ)
+      × AddsAnswer (moments old.clock) (moments new.clock) moment
+      × AddsAnswer (numbers old.names) (numbers new.names) number
+      × Steps old new cache number (commands.Put (put moment)) reply

@@ -1,4 +1,9 @@
-//! Calls that write: bytes into a cache, with a key or without.
+//! Calls that write: bytes into a cache, entries into its index, and removals.
 #![tactic(auto)]
 
+pub mod index;
+mod moment;
+pub mod opts;
 pub mod put;
+mod replies;
+pub mod rm;

@@ -2,44 +2,69 @@
 ghost use Rattle.std.specs.Prelude.{◌≡◌, ℕ, IfOk};
 ghost use Rattle.cacache_core.specs.declared.integrity.algorithm.Algorithm.TheVariants.{Sha256};
 ghost use Rattle.cacache_core.specs.Integrity.{integrity_under};
-ghost use Rattle.cacache_steps.specs.Calls.{opening};
-ghost use Rattle.cacache_steps.specs.Runs.{Ran};
-ghost use Rattle.cacache_base.specs.Given.{AddsAnswer};
-ghost use Rattle.cacache_put.specs.Writes.{RunsPut, keyed_put, unkeyed_put, stored_reply};
+ghost use Rattle.cacache_calls.specs.declared.command.Command.TheVariants as commands;
+ghost use Rattle.cacache_calls.specs.declared.reply.Reply.TheVariants.{Stored};
+ghost use Rattle.cacache_put.specs.Options.{blank};
+ghost use Rattle.cacache_put.specs.Replies.{reply_of};
+ghost use Rattle.cacache_put.specs.Writes.{Steps, RunsNumbered, RunsPut, keyed_put, unkeyed_put};
 
 use cacache_base::env::{Clock, Env, Names};
 use cacache_base::store::Store;
+use cacache_calls::{Command, Json, Options, Put, Reply};
 use cacache_core::bytes::Bytes;
 use cacache_core::errors::Result;
-use cacache_core::integrity::Integrity;
+use cacache_core::integrity::{Algorithm, Integrity};
 use cacache_core::text::Text;
-use cacache_steps::jobs::{Command, Put, Reply, call};
+use cacache_jobs::call;
+use serde_json::Value;
 use std::alloc::{AllocError, Global};
+
+/// Options of a command that say no more than the algorithm.
+fn blank(algorithm: Algorithm) -> Options
+    ensures { result ≡ blank algorithm }
+{
+    Options {
+        algorithm,
+        size: None,
+        integrity: None,
+        metadata: Json::new(Value::Null),
+        raw_metadata: None,
+    }
+}
 
 /// What to store: the bytes, under a key.
 fn keyed(
     alloc: Global,
+    algorithm: Algorithm,
     key: &str,
     data: Vec<u8>,
     moment: u64,
 ) -> std::result::Result<Put, AllocError>
-    ensures { IfOk result (λ put. put ≡ keyed_put key.now «data».items moment) }
+    ensures { IfOk result (λ put. put ≡ keyed_put algorithm key.now «data».items moment) }
 {
     let key = Some(Text::from_str(alloc, key)?);
     let data = Bytes::new(alloc, data)?;
     let moment = u128::from(moment);
-    Ok(Put { key, data, moment })
+    let options = blank(algorithm);
+    Ok(Put {
+        key,
+        data,
+        moment,
+        options,
+    })
 }
 
 /// What to store: a copy of the bytes, without a key.
-fn unkeyed(alloc: Global, data: &[u8]) -> std::result::Result<Put, AllocError>
-    ensures { IfOk result (λ put. put ≡ unkeyed_put «data».now) }
+fn unkeyed(alloc: Global, algorithm: Algorithm, data: &[u8]) -> std::result::Result<Put, AllocError>
+    ensures { IfOk result (λ put. put ≡ unkeyed_put algorithm «data».now) }
 {
     let data = Bytes::new(alloc, Vec::from_slice(alloc, data)?)?;
+    let options = blank(algorithm);
     Ok(Put {
         key: None,
         data,
         moment: 0,
+        options,
     })
 }
 
@@ -50,17 +75,18 @@ fn stored<S: Store, C, N>(
     put: Put,
     number: u64,
 ) -> Result<Integrity>
-    ensures stored { IfOk result (λ i. i ≡ integrity_under Sha256 put.«data») }
-    ensures ran { Ran (opening cache.now (Command.Put put) number) (stored_reply result)
-        (S.log env.old.store) (S.log env.new.store) }
+    requires { put.options.integrity ≡ None }
+    ensures stored { IfOk result
+        (λ i. i ≡ integrity_under put.options.algorithm put.«data») }
+    ensures ran { Steps S.log env.old env.new cache.now number (commands.Put put)
+        (reply_of Stored result) }
     ensures clock { env.new.clock ≡ env.old.clock }
     ensures names { env.new.names ≡ env.old.names }
-    ensures base { env.new.base ≡ env.old.base }
 {
     match call(env, cache, Command::Put(put), number) {
         Reply::Stored(integrity) => Ok(integrity),
         Reply::Refused(error) => Err(error),
-        Reply::Read(_) => unreachable!(),
+        _ => unreachable!(),
     }
 }
 
@@ -78,12 +104,27 @@ pub fn write_sync<S: Store, C: Clock, N: Names>(
 ) -> Result<Integrity>
     ensures stored { IfOk result (λ i. i ≡ integrity_under Sha256 «data».now) }
     ensures ran { RunsPut S.log C.given N.given env.old env.new cache.now
-        (keyed_put key.now «data».now) (stored_reply result) }
-    ensures base { env.new.base ≡ env.old.base }
+        (keyed_put Sha256 key.now «data».now) (reply_of Stored result) }
+{
+    write_sync_with_algo(env, Algorithm::Sha256, cache, key, data)
+}
+
+/// What `write_sync` does, with an algorithm of the caller's for the integrity.
+pub fn write_sync_with_algo<S: Store, C: Clock, N: Names>(
+    env: &mut Env<S, C, N>,
+    algo: Algorithm,
+    cache: &str,
+    key: &str,
+    data: &[u8],
+) -> Result<Integrity>
+    ensures stored { IfOk result (λ i. i ≡ integrity_under algo «data».now) }
+    ensures ran { RunsPut S.log C.given N.given env.old env.new cache.now
+        (keyed_put algo key.now «data».now) (reply_of Stored result) }
 {
     let moment = env.clock.now();
     let number = env.names.fresh();
-    let put = keyed(env.alloc, key, Vec::from_slice(env.alloc, data)?, moment)?;
+    let data = Vec::from_slice(env.alloc, data)?;
+    let put = keyed(env.alloc, algo, key, data, moment)?;
     stored(env, cache, put, number)
 }
 
@@ -96,12 +137,11 @@ pub fn write_vec_sync<S: Store, C: Clock, N: Names>(
 ) -> Result<Integrity>
     ensures stored { IfOk result (λ i. i ≡ integrity_under Sha256 «data».items) }
     ensures ran { RunsPut S.log C.given N.given env.old env.new cache.now
-        (keyed_put key.now «data».items) (stored_reply result) }
-    ensures base { env.new.base ≡ env.old.base }
+        (keyed_put Sha256 key.now «data».items) (reply_of Stored result) }
 {
     let moment = env.clock.now();
     let number = env.names.fresh();
-    let put = keyed(env.alloc, key, data, moment)?;
+    let put = keyed(env.alloc, Algorithm::Sha256, key, data, moment)?;
     stored(env, cache, put, number)
 }
 
@@ -115,13 +155,24 @@ pub fn write_hash_sync<S: Store, C: Clock, N: Names>(
     data: &[u8],
 ) -> Result<Integrity>
     ensures stored { IfOk result (λ i. i ≡ integrity_under Sha256 «data».now) }
-    ensures ran { (number : ℕ) × AddsAnswer (N.given env.old.names) (N.given env.new.names) number
-        × Ran (opening cache.now (Command.Put (unkeyed_put «data».now)) number)
-        (stored_reply result) (S.log env.old.store) (S.log env.new.store) }
-    ensures clock { env.new.clock ≡ env.old.clock }
-    ensures base { env.new.base ≡ env.old.base }
+    ensures ran { RunsNumbered S.log N.given env.old env.new cache.now
+        (commands.Put (unkeyed_put Sha256 «data».now)) (reply_of Stored result) }
+{
+    write_hash_sync_with_algo(env, Algorithm::Sha256, cache, data)
+}
+
+/// What `write_hash_sync` does, with an algorithm of the caller's for the integrity.
+pub fn write_hash_sync_with_algo<S: Store, C: Clock, N: Names>(
+    env: &mut Env<S, C, N>,
+    algo: Algorithm,
+    cache: &str,
+    data: &[u8],
+) -> Result<Integrity>
+    ensures stored { IfOk result (λ i. i ≡ integrity_under algo «data».now) }
+    ensures ran { RunsNumbered S.log N.given env.old env.new cache.now
+        (commands.Put (unkeyed_put algo «data».now)) (reply_of Stored result) }
 {
     let number = env.names.fresh();
-    let put = unkeyed(env.alloc, data)?;
+    let put = unkeyed(env.alloc, algo, data)?;
     stored(env, cache, put, number)
 }

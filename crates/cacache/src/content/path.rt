@@ -1,2 +1,2 @@
 //! Where contents lie.
-pub use cacache_steps::content::path::content_path;
+pub use cacache_core::paths::content_path;

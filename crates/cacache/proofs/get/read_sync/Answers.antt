@@ -1,6 +1,6 @@
 use Rattle.std.proofs.Common.{subst}
 use Rattle.std.specs.Prelude.{IfOk}
-use Rattle.cacache_steps.specs.Verified.{ReadsFound}
+use Rattle.cacache_jobs.specs.Found.{ReadsFound}
 use Rattle.cacache.proofs.get.read_sync.Goals as goal
 
 pub returns-clause-verified : goal.returns-clause-verified

@@ -1,7 +1,6 @@
 //! The example of the README.
-use crate as cacache;
-use crate::env::{Env, ProcessNames, SystemClock};
-use crate::store::FolderStore;
+use cacache::env::{Env, ProcessNames, SystemClock};
+use cacache::store::FolderStore;
 use std::test::Fail;
 
 /// Stores some bytes, and reads them back by their key and by their integrity.

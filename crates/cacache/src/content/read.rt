@@ -1,0 +1,34 @@
+//! What is there of a content.
+ghost use Rattle.std.specs.Prelude.{◌≡◌, IfOk, IfErr, IfSome};
+ghost use Rattle.cacache_core.specs.declared.errors.Error.TheVariants.{OutOfMemory};
+ghost use Rattle.cacache_calls.specs.declared.command.Command.TheVariants as commands;
+ghost use Rattle.cacache_put.specs.Replies.{reply_of};
+ghost use Rattle.cacache_put.specs.Writes.{Calls};
+ghost use Rattle.cacache.specs.Reads.{has};
+
+use crate::get::exists_sync;
+use cacache_base::env::{Clock, Env, Names};
+use cacache_base::store::Store;
+use cacache_core::errors::Result;
+use cacache_core::integrity::Integrity;
+
+/// The integrity again, if its content is there. Whether that meets the integrity isn't asked.
+///
+/// A failed step counts as a content that isn't there, so `OutOfMemory` is the only error. Nothing changes.
+pub fn has_content<S: Store, C: Clock, N: Names>(
+    env: &mut Env<S, C, N>,
+    cache: &str,
+    sri: &Integrity,
+) -> Result<Option<Integrity>>
+    ensures same { IfOk result (λ found. IfSome found (λ i. i ≡ sri.now)) }
+    ensures memory { IfErr result (λ e. e ≡ OutOfMemory) }
+    ensures ran { Calls S.log env.old env.new cache.now (commands.Exists sri.now)
+        (reply_of has result) }
+{
+    let copy = sri.clone()?;
+    if exists_sync(env, cache, sri)? {
+        Ok(Some(copy))
+    } else {
+        Ok(None)
+    }
+}

@@ -1,0 +1,1 @@
+-- No answers are needed: the status depends on the error's kind alone.

@@ -1,0 +1,48 @@
+-- What the options of a writer say.
+use Rattle.std.specs.Prelude.{ℕ, List, Option, None}
+use Rattle.serde_json.specs.Data.{Data, null}
+use Rattle.cacache_core.specs.declared.integrity.algorithm.Algorithm.{Algorithm}
+use Rattle.cacache_core.specs.declared.integrity.algorithm.Algorithm.TheVariants.{Sha256}
+use Rattle.cacache_core.specs.declared.integrity.digest.Hash.{Hash}
+use Rattle.cacache_calls.specs.declared.command.Options.{Options}
+
+-- what was said of a content and of its entry
+pub record Said : Type 0 where
+  pub algorithm : Algorithm
+  pub size : Option ℕ
+  pub integrity : Option (List Hash)
+  pub metadata : Data
+  pub raw_metadata : Option (List ℕ)
+  -- the entry's time; the clock is asked where none was set
+  pub time : Option ℕ
+
+-- what blank options say
+abbrev pub nothing_said : Said
+nothing_said = record {
+  algorithm = Sha256;
+  size = None;
+  integrity = None;
+  metadata = null;
+  raw_metadata = None;
+  time = None;
+}
+
+-- the same as the options of a command, which has its moment beside them
+abbrev pub options_of : Said → Options
+options_of s = record {
+  algorithm = s.algorithm;
+  size = s.size;
+  integrity = s.integrity;
+  metadata = s.metadata;
+  raw_metadata = s.raw_metadata;
+}
+
+-- blank options of a command with this algorithm
+abbrev pub blank : Algorithm → Options
+blank a = record {
+  algorithm = a;
+  size = None;
+  integrity = None;
+  metadata = null;
+  raw_metadata = None;
+}

@@ -1,0 +1,191 @@
+//! What a writer may say of a content and of its entry.
+ghost use Rattle.std.specs.Prelude.{◌≡◌, Some, IfOk, option_map};
+ghost use Rattle.serde_json.specs.View.{view};
+ghost use Rattle.cacache_put.specs.Options.{nothing_said, options_of};
+
+use cacache_calls::{Json, Options};
+use cacache_core::bytes::Bytes;
+use cacache_core::integrity::{Algorithm, Integrity};
+use serde_json::Value;
+use std::alloc::{AllocError, Global};
+use std::marker::Model;
+
+/// Options for a content that is written, or for an entry that is inserted. Of each option the last one set counts.
+#[derive(Drop)]
+pub struct WriteOpts {
+    algorithm: Algorithm,
+    size: Option<usize>,
+    integrity: Option<Integrity>,
+    metadata: Json,
+    raw_metadata: Option<Vec<u8>>,
+    time: Option<u128>,
+}
+
+impl Model for WriteOpts {
+    ghost use Rattle.std.specs.Prelude.{option_map};
+    ghost use Rattle.std.specs.Coded.{codes};
+    ghost use Rattle.cacache_calls.specs.JsonCode.{data_code};
+    ghost use Rattle.cacache_put.specs.Options.{Said};
+
+    ghost Value = { Said };
+
+    ghost coded = { Prim.hlevel (codes, data_code) };
+
+    ghost view = { λ o. record {
+      algorithm = o.algorithm;
+      size = o.size;
+      integrity = o.integrity;
+      metadata = o.metadata;
+      raw_metadata = option_map (λ v. v.items) o.raw_metadata;
+      time = o.time;
+    } };
+}
+
+impl WriteOpts {
+    /// Blank options: SHA-256, no metadata, and nothing that is expected.
+    pub fn new() -> WriteOpts
+        ensures { result ≡ nothing_said }
+    {
+        WriteOpts {
+            algorithm: Algorithm::Sha256,
+            size: None,
+            integrity: None,
+            metadata: Json::new(Value::Null),
+            raw_metadata: None,
+            time: None,
+        }
+    }
+
+    /// With the algorithm of the content's digest.
+    pub fn algorithm(self, algo: Algorithm) -> WriteOpts
+        ensures { result ≡ record self { algorithm = algo } }
+    {
+        let mut opts = self;
+        opts.algorithm = algo;
+        opts
+    }
+
+    /// With the size that the content is to have. An inserted entry has it as its own.
+    pub fn size(self, size: usize) -> WriteOpts
+        ensures { result ≡ record self { size = Some size } }
+    {
+        let mut opts = self;
+        opts.size = Some(size);
+        opts
+    }
+
+    /// With any data for the entry.
+    pub fn metadata(self, metadata: Value) -> WriteOpts
+        ensures { result ≡ record self { metadata = view metadata } }
+    {
+        let mut opts = self;
+        opts.metadata = Json::new(metadata);
+        opts
+    }
+
+    /// With any bytes for the entry.
+    pub fn raw_metadata(self, metadata: Vec<u8>) -> WriteOpts
+        ensures { result ≡ record self { raw_metadata = Some metadata.items } }
+    {
+        let mut opts = self;
+        opts.raw_metadata = Some(metadata);
+        opts
+    }
+
+    /// With the entry's time, in milliseconds since 1970, in place of the clock's.
+    pub fn time(self, time: u128) -> WriteOpts
+        ensures { result ≡ record self { time = Some time } }
+    {
+        let mut opts = self;
+        opts.time = Some(time);
+        opts
+    }
+
+    /// With the integrity that the content is to meet. An inserted entry has it as its own.
+    pub fn integrity(self, sri: Integrity) -> WriteOpts
+        ensures { result ≡ record self { integrity = Some sri } }
+    {
+        let mut opts = self;
+        opts.integrity = Some(sri);
+        opts
+    }
+
+    /// The time that was set.
+    pub(crate) fn set_time(&self) -> Option<u128>
+        ensures { result ≡ self.now.time }
+    {
+        self.time
+    }
+
+    /// The options of a command.
+    pub(crate) fn into_options(self, alloc: Global) -> Result<Options, AllocError>
+        ensures { IfOk result (λ options. options ≡ options_of self) }
+    {
+        let WriteOpts {
+            algorithm,
+            size,
+            integrity,
+            metadata,
+            raw_metadata,
+            time: _,
+        } = self;
+        let raw_metadata = match raw_metadata {
+            Some(bytes) => Some(Bytes::new(alloc, bytes)?),
+            None => None,
+        };
+        Ok(Options {
+            algorithm,
+            size,
+            integrity,
+            metadata,
+            raw_metadata,
+        })
+    }
+}
+
+impl Default for WriteOpts {
+    /// Blank options.
+    fn default() -> WriteOpts
+        ensures { result ≡ nothing_said }
+    {
+        WriteOpts::new()
+    }
+}
+
+/// A copy of an integrity that may be absent.
+fn copy_integrity(integrity: &Option<Integrity>) -> Result<Option<Integrity>, AllocError>
+    ensures { IfOk result (λ copy. copy ≡ integrity.now) }
+{
+    match integrity {
+        Some(integrity) => Ok(Some(integrity.clone()?)),
+        None => Ok(None),
+    }
+}
+
+/// A copy of bytes that may be absent.
+fn copy_bytes(bytes: &Option<Vec<u8>>) -> Result<Option<Vec<u8>>, AllocError>
+    ensures { IfOk result (λ copy. option_map (λ v. v.items) copy ≡ option_map (λ v. v.items) bytes.now) }
+{
+    match bytes {
+        Some(bytes) => Ok(Some(bytes.clone()?)),
+        None => Ok(None),
+    }
+}
+
+impl Clone for WriteOpts {
+    ghost is_clone = { λ opts copy. copy ≡ opts };
+
+    fn clone(&self) -> Result<WriteOpts, AllocError> {
+        let integrity = copy_integrity(&self.integrity)?;
+        let metadata = self.metadata.clone()?;
+        let raw_metadata = copy_bytes(&self.raw_metadata)?;
+        Ok(WriteOpts {
+            algorithm: self.algorithm,
+            size: self.size,
+            integrity,
+            metadata,
+            raw_metadata,
+            time: self.time,
+        })
+    }
+}

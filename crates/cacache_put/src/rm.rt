@@ -1,0 +1,109 @@
+//! Calls that remove.
+ghost use Rattle.std.specs.Prelude.{◌≡◌, None, true, false};
+ghost use Rattle.cacache_calls.specs.declared.command.Command.TheVariants as commands;
+ghost use Rattle.cacache_put.specs.Replies.{reply_of, done as says_done};
+ghost use Rattle.cacache_put.specs.Writes.{Calls, RunsTimed, delete_of};
+
+use crate::index::delete;
+use crate::replies::done;
+use cacache_base::env::{Clock, Env, Names};
+use cacache_base::store::Store;
+use cacache_calls::Command;
+use cacache_core::errors::Result;
+use cacache_core::integrity::Integrity;
+use cacache_core::text::Text;
+
+/// Removes the key from the index, by a tombstone; the content stays. This is `index::delete`.
+pub fn remove_sync<S: Store, C: Clock, N: Names>(
+    env: &mut Env<S, C, N>,
+    cache: &str,
+    key: &str,
+) -> Result<()>
+    ensures ran { RunsTimed S.log C.given None env.old env.new cache.now
+        (λ moment. commands.Delete (delete_of key.now moment)) (reply_of says_done result) }
+{
+    delete(env, cache, key)
+}
+
+/// Removes the content of the integrity; entries that name it stay.
+///
+/// `IoError` says that the content couldn't be removed, as where there is none. Then nothing changed.
+pub fn remove_hash_sync<S: Store, C: Clock, N: Names>(
+    env: &mut Env<S, C, N>,
+    cache: &str,
+    sri: &Integrity,
+) -> Result<()>
+    ensures ran { Calls S.log env.old env.new cache.now (commands.RemoveHash sri.now)
+        (reply_of says_done result) }
+{
+    let command = Command::RemoveHash(sri.clone()?);
+    done(env, cache, command)
+}
+
+/// Removes the content that a lookup of the key finds, if any, and then the key's bucket. Other keys that share either
+/// lose it too.
+fn remove_fully<S: Store, C, N>(env: &mut Env<S, C, N>, cache: &str, key: &str) -> Result<()>
+    ensures { Calls S.log env.old env.new cache.now (commands.RemoveFully key.now)
+        (reply_of says_done result) }
+{
+    let command = Command::RemoveFully(Text::from_str(env.alloc, key)?);
+    done(env, cache, command)
+}
+
+/// How a key is removed: by a tombstone, or fully. Contracts see whether it is fully.
+#[derive(Clone, Copy)]
+pub struct RemoveOpts {
+    remove_fully: bool,
+}
+
+impl RemoveOpts {
+    /// Blank options: by a tombstone.
+    pub fn new() -> RemoveOpts
+        ensures { result.remove_fully ≡ false }
+    {
+        RemoveOpts {
+            remove_fully: false,
+        }
+    }
+
+    /// With the choice whether the content and the bucket go too.
+    pub fn remove_fully(self, remove_fully: bool) -> RemoveOpts
+        ensures { result.remove_fully ≡ remove_fully }
+    {
+        let RemoveOpts { remove_fully: _ } = self;
+        RemoveOpts { remove_fully }
+    }
+
+    /// Removes the key. Fully, the content that its lookup finds goes first, if there is one, and then the key's bucket;
+    /// other keys that share either lose it too. Else this is `remove_sync`.
+    ///
+    /// `IoError` says which step failed; a content that couldn't be removed keeps its bucket, and a key without a bucket
+    /// fails with `NotFound`. By a tombstone, errors are those of `index::insert`.
+    pub fn remove_sync<S: Store, C: Clock, N: Names>(
+        self,
+        env: &mut Env<S, C, N>,
+        cache: &str,
+        key: &str,
+    ) -> Result<()>
+        ensures fully { self.remove_fully ≡ true → Calls S.log env.old env.new cache.now
+            (commands.RemoveFully key.now) (reply_of says_done result) }
+        ensures tombstone { self.remove_fully ≡ false →
+            RunsTimed S.log C.given None env.old env.new cache.now
+            (λ moment. commands.Delete (delete_of key.now moment)) (reply_of says_done result) }
+    {
+        if self.remove_fully {
+            remove_fully(env, cache, key)
+        } else {
+            remove_sync(env, cache, key)
+        }
+    }
+}
+
+impl Default for RemoveOpts {
+    /// Blank options.
+    fn default() -> RemoveOpts
+        ensures { result.remove_fully ≡ false }
+    {
+        RemoveOpts::new()
+    }
+}

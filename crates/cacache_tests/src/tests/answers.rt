@@ -1,0 +1,73 @@
+//! Lines that tell answers.
+use cacache::errors::Error;
+use cacache::{Integrity, Metadata};
+use std::alloc::Global;
+use std::test::Fail;
+
+/// A line on an error: its kind, where a message would follow.
+pub fn refused(alloc: Global, error: &Error) -> Result<String, Fail> {
+    Ok(match error {
+        Error::IoError(fault, _) => format!(in alloc; "IoError {fault:?}")?,
+        Error::SerdeError(cause, _) => format!(in alloc; "SerdeError {cause:?}")?,
+        Error::SizeMismatch(wanted, got) => format!(in alloc; "SizeMismatch {wanted} {got}")?,
+        error => format!(in alloc; "{error}")?,
+    })
+}
+
+/// A line on what was stored.
+pub fn stored(alloc: Global, answer: Result<Integrity, Error>) -> Result<String, Fail> {
+    match answer {
+        Ok(integrity) => Ok(format!(in alloc; "stored {integrity}")?),
+        Err(error) => refused(alloc, &error),
+    }
+}
+
+/// A line on what was read.
+pub fn read(alloc: Global, answer: Result<Vec<u8>, Error>) -> Result<String, Fail> {
+    match answer {
+        Ok(bytes) => Ok(format!(in alloc; "read {:?}", bytes.as_slice())?),
+        Err(error) => refused(alloc, &error),
+    }
+}
+
+/// A line on a call that says nothing.
+pub fn done(alloc: Global, answer: Result<(), Error>) -> Result<String, Fail> {
+    match answer {
+        Ok(()) => Ok(String::from_str(alloc, "done")?),
+        Err(error) => refused(alloc, &error),
+    }
+}
+
+/// A line on a question.
+pub fn there(alloc: Global, answer: Result<bool, Error>) -> Result<String, Fail> {
+    match answer {
+        Ok(there) => Ok(format!(in alloc; "{there}")?),
+        Err(error) => refused(alloc, &error),
+    }
+}
+
+/// A line on the integrity of a content that may be there.
+pub fn has(alloc: Global, answer: Result<Option<Integrity>, Error>) -> Result<String, Fail> {
+    match answer {
+        Ok(Some(integrity)) => Ok(format!(in alloc; "has {integrity}")?),
+        Ok(None) => Ok(String::from_str(alloc, "none")?),
+        Err(error) => refused(alloc, &error),
+    }
+}
+
+/// A line on an entry.
+fn entry(alloc: Global, found: &Metadata) -> Result<String, Fail> {
+    let data = found.metadata.to_string(alloc)?;
+    let raw = &found.raw_metadata;
+    let head = format!(in alloc; "{} {} {}", found.key, found.integrity, found.time)?;
+    Ok(format!(in alloc; "{head} {} {data} {raw:?}", found.size)?)
+}
+
+/// A line on what a lookup found.
+pub fn found(alloc: Global, answer: Result<Option<Metadata>, Error>) -> Result<String, Fail> {
+    match answer {
+        Ok(Some(found)) => entry(alloc, &found),
+        Ok(None) => Ok(String::from_str(alloc, "none")?),
+        Err(error) => refused(alloc, &error),
+    }
+}
