@@ -16,9 +16,9 @@ import time
 MIB = 64
 KEYS, SIZE = 2000, 1024
 DEPTHS = [(100, 1000), (1000, 100), (10000, 10)]
-SMALL = ["put", "get", "put-again", "get-hash"]
-# Blocks of SHA-256 in an operation on 1 KiB: 17 of the content and, but for get-hash, 3 of the line's text.
-BLOCKS = {"put": 20, "get": 20, "put-again": 20, "get-hash": 17}
+SMALL = ["put", "get", "put-again", "get-hash", "find", "exists"]
+# Blocks of SHA-256 in an operation on 1 KiB: 17 of the content where it is hashed, and 3 of the line's text where there is one.
+BLOCKS = {"put": 20, "get": 20, "put-again": 20, "get-hash": 17, "find": 3, "exists": 0}
 
 figures = {}  # name -> list of (ns by the clock, ns of the processor)
 peaks = {}  # name -> KiB
@@ -42,8 +42,8 @@ def run(name, words, per=1, stdin=None, stdout=subprocess.DEVNULL):
 
 def run_small(bench, floor, at):
     for kind in SMALL:
-        # get reads what put wrote; the two others write first what they need
-        folder = {"get": "put", "get-hash": "put"}.get(kind, kind)
+        # get, get-hash, find and exists read what put wrote; put-again writes first what it needs
+        folder = {"get": "put", "get-hash": "put", "find": "put", "exists": "put"}.get(kind, kind)
         more = [str(SIZE)] if kind.startswith("put") else []
         for who, program in (("ours", bench), ("floor", floor)):
             run(f"{kind} {who}", [program, kind, f"{at}/{folder}-{who}", str(KEYS)] + more, KEYS)

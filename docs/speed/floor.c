@@ -1,5 +1,5 @@
 // The system calls of one put or get of the cache, and nothing else: no digest, no entry, no allocation.
-// floor put|put-again|get|get-hash FOLDER N [BYTES]; prints "ns PER_OPERATION" on standard error. Built with: gcc -O2 -o floor floor.c
+// floor put|put-again|get|get-hash|find|exists FOLDER N [BYTES]; prints "ns PER_OPERATION" on standard error. Built with: gcc -O2 -o floor floor.c
 #define _GNU_SOURCE
 #include <errno.h>
 #include <fcntl.h>
@@ -120,9 +120,20 @@ static void get_hash(uint64_t number) {
     read_all(content);
 }
 
+static void find(uint64_t number) {
+    name_at(bucket, bucket_start, number, 1, 20);
+    read_all(bucket);
+}
+
+static void exists(uint64_t number) {
+    struct statx found;
+    name_at(content, content_start, number, 0, 32);
+    if (statx(AT_FDCWD, content, 0, STATX_ALL, &found) != 0) fail(content);
+}
+
 int main(int count, char **words) {
     if (count < 4) {
-        fprintf(stderr, "usage: floor put|put-again FOLDER N BYTES | get|get-hash FOLDER N\n");
+        fprintf(stderr, "usage: floor put|put-again FOLDER N BYTES | get|get-hash|find|exists FOLDER N\n");
         return 2;
     }
     const char *kind = words[1], *cache = words[2];
@@ -134,10 +145,11 @@ int main(int count, char **words) {
     content_start = sprintf(content, "%s/content-v2/sha256/", cache);
     bucket_start = sprintf(bucket, "%s/index-v5/", cache);
     int again = strcmp(kind, "put-again") == 0, putting = again || strcmp(kind, "put") == 0;
-    int hash = strcmp(kind, "get-hash") == 0;
+    int asking = strcmp(kind, "exists") == 0, hash = strcmp(kind, "get-hash") == 0;
+    int finding = strcmp(kind, "find") == 0;
     if (again)
         for (uint64_t i = 0; i < n; i++) put(i, bytes);
-    if (hash)
+    if (hash || asking)
         for (uint64_t i = 0; i < n; i++) get(i);
     struct timespec start, end;
     clock_gettime(CLOCK_MONOTONIC, &start);
@@ -145,6 +157,10 @@ int main(int count, char **words) {
         for (uint64_t i = 0; i < n; i++) put(i, bytes);
     else if (hash)
         for (uint64_t i = 0; i < n; i++) get_hash(i);
+    else if (finding)
+        for (uint64_t i = 0; i < n; i++) find(i);
+    else if (asking)
+        for (uint64_t i = 0; i < n; i++) exists(i);
     else
         for (uint64_t i = 0; i < n; i++) get(i);
     clock_gettime(CLOCK_MONOTONIC, &end);

@@ -1,4 +1,5 @@
 //! Does work in bulk.
+use crate::steps::{append_lines, count_entries, write_pieces};
 use crate::work::{Kind, Work};
 use cacache::env::{Clock, Env, Names};
 use cacache::store::Store;
@@ -27,9 +28,9 @@ fn number_content(content: &mut Vec<u8>, number: u64) {
 fn size_of(work: Work<'_>) -> u64 {
     match work.kind {
         Kind::Put | Kind::PutAgain => work.second,
-        Kind::GetDeep => 8,
+        Kind::GetDeep | Kind::MemoryPut | Kind::MemoryList => 8,
         Kind::PutLarge | Kind::Digest => work.first.saturating_mul(1024 * 1024),
-        Kind::Get | Kind::GetHash | Kind::GetLarge => 0,
+        _ => 0,
     }
 }
 
@@ -170,6 +171,40 @@ fn get_hashes<S: Store, C: Clock, N: Names>(
     Ok(())
 }
 
+fn find<S: Store, C: Clock, N: Names>(
+    env: &mut Env<S, C, N>,
+    cache: &str,
+    key: &str,
+) -> Result<()> {
+    match cacache::index::find(env, cache, key) {
+        Ok(_) => Ok(()),
+        Err(error) => Err(error),
+    }
+}
+
+fn find_keys<S: Store, C: Clock, N: Names>(
+    env: &mut Env<S, C, N>,
+    cache: &str,
+    count: u64,
+) -> Result<()> {
+    for number in 0..count {
+        let key = key_of(env.alloc, number)?;
+        find(env, cache, key.as_str())?;
+    }
+    Ok(())
+}
+
+fn ask_contents<S: Store, C: Clock, N: Names>(
+    env: &mut Env<S, C, N>,
+    cache: &str,
+    integrities: &[Integrity],
+) -> Result<()> {
+    for integrity in integrities {
+        cacache::exists_sync(env, cache, integrity)?;
+    }
+    Ok(())
+}
+
 fn digest(alloc: Global, content: &[u8]) -> Result<()> {
     match Integrity::from(alloc, content) {
         Ok(_) => Ok(()),
@@ -184,35 +219,50 @@ pub fn prepare<S: Store, C: Clock, N: Names>(
     content: &mut Vec<u8>,
 ) -> Result<Vec<Integrity>> {
     match work.kind {
-        Kind::PutAgain => put_keys(env, work.cache, work.first, content)?,
+        Kind::PutAgain | Kind::MemoryList => put_keys(env, work.cache, work.first, content)?,
         Kind::GetDeep => put_deep(env, work.cache, work.first, content)?,
-        Kind::GetHash => return integrities_of(env, work.cache, work.first),
+        Kind::GetHash | Kind::Exists => return integrities_of(env, work.cache, work.first),
         _ => {}
     }
     Ok(Vec::new(env.alloc))
 }
 
-/// Does the work, and answers how many operations that were.
-pub fn perform<S: Store, C: Clock, N: Names>(
+/// Does work that consists of calls, and answers how many those were.
+fn call<S: Store, C: Clock, N: Names>(
     env: &mut Env<S, C, N>,
     work: Work<'_>,
     content: &mut Vec<u8>,
     integrities: &[Integrity],
 ) -> Result<u64> {
     match work.kind {
-        Kind::Put | Kind::PutAgain => put_keys(env, work.cache, work.first, content)?,
         Kind::Get => get_keys(env, work.cache, work.first)?,
         Kind::GetHash => get_hashes(env, work.cache, integrities)?,
-        Kind::GetDeep => {
-            get_deep(env, work.cache, work.second)?;
-            return Ok(work.second);
-        }
+        Kind::GetDeep => get_deep(env, work.cache, work.second)?,
+        Kind::Find => find_keys(env, work.cache, work.first)?,
+        Kind::Exists => ask_contents(env, work.cache, integrities)?,
         Kind::PutLarge => put_large(env, work.cache, content)?,
         Kind::GetLarge => get(env, work.cache, LARGE)?,
         Kind::Digest => digest(env.alloc, content)?,
+        _ => put_keys(env, work.cache, work.first, content)?,
     }
+    Ok(match work.kind {
+        Kind::PutLarge | Kind::GetLarge | Kind::Digest => 1,
+        Kind::GetDeep => work.second,
+        _ => work.first,
+    })
+}
+
+/// Does the work, and answers how many operations that were; None where anything failed.
+pub fn perform<S: Store, C: Clock, N: Names>(
+    env: &mut Env<S, C, N>,
+    work: Work<'_>,
+    content: &mut Vec<u8>,
+    integrities: &[Integrity],
+) -> Option<u64> {
     match work.kind {
-        Kind::PutLarge | Kind::GetLarge | Kind::Digest => Ok(1),
-        _ => Ok(work.first),
+        Kind::MemoryList => count_entries(env.alloc, &mut env.store, work.cache),
+        Kind::MemoryAppend => append_lines(env.alloc, &mut env.store, work.first),
+        Kind::MemoryPieces => write_pieces(env.alloc, &mut env.store, work.first),
+        _ => call(env, work, content, integrities).ok(),
     }
 }

@@ -9,18 +9,37 @@ pub enum Kind {
     Get,
     GetHash,
     GetDeep,
+    Find,
+    Exists,
     PutLarge,
     GetLarge,
     Digest,
+    MemoryPut,
+    MemoryList,
+    MemoryAppend,
+    MemoryPieces,
 }
+
+impl Kind {
+    /// Whether it is measured on a disk in memory.
+    pub fn is_in_memory(self) -> bool {
+        matches!(
+            self,
+            Kind::MemoryPut | Kind::MemoryList | Kind::MemoryAppend | Kind::MemoryPieces
+        )
+    }
+}
+
+/// The cache of what is measured in memory.
+const MEMORY: &str = "memory";
 
 /// Work, as the words of a command line ask for it.
 #[derive(Clone, Copy, Debug)]
 pub struct Work<'a> {
     pub kind: Kind,
-    /// The folder of the cache; empty for a digest, which needs none.
+    /// The folder of the cache; a digest has none.
     pub cache: &'a str,
-    /// N, DEPTH or MIB: the first number.
+    /// N, DEPTH, KEYS or MIB: the first number.
     pub first: u64,
     /// BYTES, or the N of a deep key: the second number, or 0.
     pub second: u64,
@@ -33,14 +52,20 @@ fn kind_of(name: &str) -> Option<Kind> {
         "get" => Some(Kind::Get),
         "get-hash" => Some(Kind::GetHash),
         "get-deep" => Some(Kind::GetDeep),
+        "find" => Some(Kind::Find),
+        "exists" => Some(Kind::Exists),
         "put-large" => Some(Kind::PutLarge),
         "get-large" => Some(Kind::GetLarge),
         "digest" => Some(Kind::Digest),
+        "memory-put" => Some(Kind::MemoryPut),
+        "memory-list" => Some(Kind::MemoryList),
+        "memory-append" => Some(Kind::MemoryAppend),
+        "memory-pieces" => Some(Kind::MemoryPieces),
         _ => None,
     }
 }
 
-/// How many numbers stand behind the cache.
+/// How many numbers stand behind the kind and the cache.
 fn numbers_of(kind: Kind) -> usize {
     match kind {
         Kind::Put | Kind::PutAgain | Kind::GetDeep => 2,
@@ -74,8 +99,8 @@ fn asked<'a>(kind: Kind, cache: &'a str, numbers: &[String]) -> Option<Work<'a>>
 pub fn work_of(words: &[String]) -> Option<Work<'_>> {
     let (name, others) = words.split_first()?;
     let kind = kind_of(name.as_str())?;
-    if kind == Kind::Digest {
-        return asked(kind, "", others);
+    if kind == Kind::Digest || kind.is_in_memory() {
+        return asked(kind, MEMORY, others);
     }
     let (cache, numbers) = others.split_first()?;
     asked(kind, cache.as_str(), numbers)
@@ -91,9 +116,15 @@ impl fmt::Display for Work<'_> {
             Kind::Get => write!(f, "get {first} keys"),
             Kind::GetHash => write!(f, "get-hash {first} contents"),
             Kind::GetDeep => write!(f, "get-deep {second} reads of a key written {first} times"),
+            Kind::Find => write!(f, "find {first} keys"),
+            Kind::Exists => write!(f, "exists {first} contents"),
             Kind::PutLarge => write!(f, "put-large {first} MiB"),
             Kind::GetLarge => write!(f, "get-large {first} MiB"),
             Kind::Digest => write!(f, "digest {first} MiB"),
+            Kind::MemoryPut => write!(f, "memory-put {first} keys"),
+            Kind::MemoryList => write!(f, "memory-list {first} keys"),
+            Kind::MemoryAppend => write!(f, "memory-append {first} lines"),
+            Kind::MemoryPieces => write!(f, "memory-pieces {first} MiB"),
         }
     }
 }

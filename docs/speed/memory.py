@@ -1,0 +1,46 @@
+#!/usr/bin/env python3
+"""Runs what cacache_bench measures in memory at a small and a large size in turn, and prints medians and their ratios.
+
+memory.py BENCH [ROUNDS]: the built binary of cacache_bench. Each figure is the nanoseconds of one operation: a key that is put or
+listed, an append of 212 bytes, a write of 8 KiB.
+"""
+import os
+import re
+import statistics
+import subprocess
+import sys
+import time
+
+# The kind, its small and its large size, and the most that the ratio of their costs should be.
+KINDS = [("memory-put", 1000, 64000, 3), ("memory-list", 1000, 64000, 3), ("memory-append", 1000, 10000, 2), ("memory-pieces", 6, 64, 2)]
+
+
+def nanos(bench, kind, size):
+    """The nanoseconds of one operation, and the most memory in KiB that the process had."""
+    words = [bench, kind, str(size)]
+    child = subprocess.Popen(words, stdout=subprocess.DEVNULL, stderr=subprocess.PIPE)
+    errors = child.stderr.read().decode()
+    _, status, used = os.wait4(child.pid, 0)
+    child.returncode = os.waitstatus_to_exitcode(status)
+    told = re.search(r"ns (\d+)", errors)
+    if child.returncode != 0 or not told:
+        sys.exit(f"{words}: status {child.returncode}: {errors}")
+    return int(told.group(1)), used.ru_maxrss
+
+
+def main():
+    """Measures each kind at both sizes so many times, and prints what came."""
+    bench = os.path.realpath(sys.argv[1])
+    rounds = int(sys.argv[2]) if len(sys.argv) > 2 else 5
+    print(f"{time.strftime('%F %T')}, {os.cpu_count()} processors, load {os.getloadavg()[0]:.2f}, {rounds} rounds")
+    for kind, small, large, most in KINDS:
+        pairs = [(nanos(bench, kind, small), nanos(bench, kind, large)) for _ in range(rounds)]
+        few, many = ([pair[at][0] for pair in pairs] for at in (0, 1))
+        each = [b / a for a, b in zip(few, many)]
+        peak = max(pair[1][1] for pair in pairs) / 1024
+        ratio = statistics.median(many) / statistics.median(few)
+        print(f"{kind:14} {small:5}: {statistics.median(few):9.0f} ns  {large:5}: {statistics.median(many):9.0f} ns  "
+              f"ratio {ratio:.2f} ({min(each):.2f} to {max(each):.2f}), at most {most}  peak memory {peak:.0f} MiB", flush=True)
+
+
+main()
