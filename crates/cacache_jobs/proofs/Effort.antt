@@ -23,8 +23,6 @@ module _ {T : Type 0} (temp : T → PlainTemp) where
   then_effort_is (thens.Append i line path) s e = ap effort e.4
   then_effort_is (thens.RemoveBucket content bucket) s e = ap effort e.3
   then_effort_is (thens.Symlink c target path) s e = ap effort e.1
-  then_effort_is (thens.EndReflink from to) s e = ap effort e
-  then_effort_is (thens.EndHardLink from to) s e = ap effort e
   then_effort_is (thens.Finish removal) s e = ap effort e
 
   -- a read's step tells how many bytes are left
@@ -39,7 +37,7 @@ module _ {T : Type 0} (temp : T → PlainTemp) where
   stage_effort_is (stages.Creating c rest) step s e w = ap effort e.1
   stage_effort_is (stages.Writing c rest) step s e w = ap effort e.1
   stage_effort_is (stages.Persisting c) step s e w = ap effort e.1
-  stage_effort_is (stages.Confirming c fault) step s e w = ap effort e
+  stage_effort_is (stages.Confirming c target fault) step s e w = ap effort e
   stage_effort_is (stages.Appending i size) step s e w = ap effort e.3
   stage_effort_is (stages.Looking l) step s e w = ap effort e
   stage_effort_is (stages.Reading k) step s e w = ap effort e
@@ -49,7 +47,6 @@ module _ {T : Type 0} (temp : T → PlainTemp) where
   stage_effort_is (stages.Hashing h size) step s e w = read_effort e.0 e.4 e.1 step s e.5 w
   stage_effort_is (stages.Copying from to verified) step s e w = ap effort e
   stage_effort_is (stages.Linking c target) step s e w = ap effort e
-  stage_effort_is (stages.ConfirmingLink c target fault) step s e w = ap effort e
   stage_effort_is (stages.Walking walk v) step s e w = ap effort e
 
 -- a job that stands in a state has its bound

@@ -23,9 +23,7 @@ then_effort (thens.Persist c file path) = 4
 then_effort (thens.Append i line path) = 1
 then_effort (thens.RemoveBucket content bucket) = 1
 then_effort (thens.Symlink c target path) = 4
-then_effort (thens.EndReflink from to) = 0
-then_effort (thens.EndHardLink from to) = 0
-then_effort (thens.Finish removal) = 0
+then_effort (thens.Finish last) = 0
 
 -- how many bytes the file of a read has left
 abbrev pub left_to_read : PlainStep → ℕ
@@ -38,7 +36,7 @@ stage_effort (stages.Doing then) step = then_effort then + 1
 stage_effort (stages.Creating c rest) step = length rest + 7
 stage_effort (stages.Writing c rest) step = length rest + 6
 stage_effort (stages.Persisting c) step = 4
-stage_effort (stages.Confirming c fault) step = 3
+stage_effort (stages.Confirming c target fault) step = 3
 stage_effort (stages.Appending i size) step = 1
 stage_effort (stages.Looking l) step = 2 ^ 64 + 7
 stage_effort (stages.Reading k) step = 1
@@ -48,7 +46,6 @@ stage_effort (stages.Opening h) step = 2 ^ 64 + 6
 stage_effort (stages.Hashing h size) step = left_to_read step + 6
 stage_effort (stages.Copying from to verified) step = 1
 stage_effort (stages.Linking c target) step = 4
-stage_effort (stages.ConfirmingLink c target fault) step = 3
 stage_effort (stages.Walking w v) step =
     2 * w.left + weight (visit_of v) + weights (pending w.todo.items)
 

@@ -92,7 +92,7 @@ visit_of (visits.RemoveFolder path) = remove_folder path
 
 abbrev pub task_of : Task → states.Task
 task_of (tasks.Visit v) = visit (visit_of v)
-task_of (tasks.Stumble path fault) = stumble fault
+task_of (tasks.Stumble fault) = stumble fault
 
 -- the tasks of a stack: the table has the next one first, and the stack has it last
 abbrev pub pending : List Task → List states.Task
@@ -116,9 +116,7 @@ ThenAt temp (thens.RemoveBucket content bucket) s =
     × (s ≡ remove_bucket cache key)
 ThenAt temp (thens.Symlink c target path) s =
     (path ≡ content_path c.cache c.computed) × (s ≡ linking (commit_of c) target)
-ThenAt temp (thens.EndReflink from to) s = s ≡ over Done
-ThenAt temp (thens.EndHardLink from to) s = s ≡ over Done
-ThenAt temp (thens.Finish removal) s = s ≡ over Done
+ThenAt temp (thens.Finish last) s = s ≡ over Done
 
 -- the call is in this state while the stage's step is out
 abbrev pub StageAt : {T : Type 0} → (T → PlainTemp) → Stage T → State → Type 0
@@ -127,7 +125,7 @@ StageAt temp (stages.Doing then) s =
 StageAt temp (stages.Creating c rest) s = (number : ℕ) × (s ≡ creating number (commit_of c) rest)
 StageAt temp (stages.Writing c rest) s = (file : PlainTemp) × (s ≡ writing (commit_of c) file rest)
 StageAt temp (stages.Persisting c) s = (file : PlainTemp) × (s ≡ persisting (commit_of c) file)
-StageAt temp (stages.Confirming c fault) s = s ≡ confirming (commit_of c) fault
+StageAt temp (stages.Confirming c target fault) s = s ≡ confirming (commit_of c) fault
 StageAt temp (stages.Appending i size) s =
     (j : states.Insertion) × Inserts i j × (size ≡ length (bucket_line j)) × (s ≡ appending j)
 StageAt temp (stages.Looking l) s = s ≡ looking (lookup_of l)
@@ -141,7 +139,6 @@ StageAt temp (stages.Hashing h size) s =
     × (size ≡ length bytes) × (file : PlainFile) × (s ≡ hashing purpose file bytes)
 StageAt temp (stages.Copying from to verified) s = s ≡ copying from to verified
 StageAt temp (stages.Linking c target) s = s ≡ linking (commit_of c) target
-StageAt temp (stages.ConfirmingLink c target fault) s = s ≡ confirming (commit_of c) fault
 StageAt temp (stages.Walking w v) s = s ≡ walking (walk_of w) (visit_of v) (pending w.todo.items)
 
 -- ---- of a phase

@@ -26,14 +26,14 @@ fn task_at(clears: bool, level: u8, path: Text, kind: Kind) -> Task
             if level < DEEPEST {
                 return Task::Visit(Visit::Enter(path, level + 1));
             }
-            Task::Stumble(path, Fault::TooDeep)
+            Task::Stumble(Fault::TooDeep)
         }
         Kind::File => {
             if !clears {
                 return Task::Visit(Visit::ReadBucket(path));
             }
             if level == 0 {
-                return Task::Stumble(path, Fault::NotADirectory);
+                return Task::Stumble(Fault::NotADirectory);
             }
             Task::Visit(Visit::RemoveFile(path))
         }

@@ -8,7 +8,7 @@ ghost use Rattle.cacache_jobs.specs.Standing.{Leads, content_of};
 use crate::phase::{Phase, refused};
 use crate::places::content_path;
 use crate::reading::Content;
-use crate::stage::{Stage, Then};
+use crate::stage::{Last, Stage, Then};
 use crate::{hashing, messages};
 use cacache_base::store::{FileHandle, Step, TempHandle};
 use cacache_calls::{Export, How, Refusal, Reply};
@@ -48,11 +48,11 @@ pub(crate) fn export_from<F: FileHandle, T: TempHandle>(
             Step::Copy(source, target),
         ),
         How::Reflink => (
-            Stage::Doing(Then::EndReflink(from, to)),
+            Stage::Doing(Then::Finish(Last::Reflink(from, to))),
             Step::Reflink(source, target),
         ),
         How::HardLink => (
-            Stage::Doing(Then::EndHardLink(from, to)),
+            Stage::Doing(Then::Finish(Last::HardLink(from, to))),
             Step::HardLink(source, target),
         ),
     };

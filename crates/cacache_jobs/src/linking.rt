@@ -5,19 +5,19 @@ ghost use Rattle.cacache_calls.specs.Common.{go_on, fails};
 ghost use Rattle.cacache_calls.specs.Linking.{based as based_of, target_of as link_target, with_size as sized_target, after_size, commit_for};
 ghost use Rattle.cacache_calls.specs.Places.{content_path as content_path_of};
 ghost use Rattle.cacache_jobs.specs.Opening.{site_of};
-ghost use Rattle.cacache_calls.specs.State.{sizing, linking as linking_state, confirming};
-ghost use Rattle.cacache_calls.specs.Storing.{link as link_of, placed as placed_of, after_confirm};
+ghost use Rattle.cacache_calls.specs.State.{sizing, linking as linking_state};
+ghost use Rattle.cacache_calls.specs.Storing.{link as link_of};
 ghost use Rattle.cacache_jobs.specs.Standing.{Leads, commit_of, target_of};
 
 use crate::hashing::Hashing;
 use crate::messages;
 use crate::phase::{Phase, refused};
-use crate::places::{content_path, content_place};
+use crate::places::content_place;
 use crate::stage::{Stage, Then};
-use crate::storing::{self, Commit};
+use crate::storing::Commit;
 use cacache_base::store::{FileHandle, Step, TempHandle};
 use cacache_calls::{Link, Options, Refusal};
-use cacache_core::errors::{self, Error, Fault};
+use cacache_core::errors;
 use cacache_core::hasher::Hasher;
 use cacache_core::integrity::Integrity;
 use cacache_core::paths::{self, Place};
@@ -196,44 +196,4 @@ pub(crate) fn symlink<F: FileHandle, T: TempHandle>(
 {
     let named = target.clone()?;
     Ok(Phase::Wanting(Stage::Linking(commit, named), Step::Symlink(target, path)))
-}
-
-/// After the link was to become the content.
-pub(crate) fn linked<F: FileHandle, T: TempHandle>(
-    alloc: Global,
-    commit: Commit,
-    target: Text,
-    done: Result<(), Refusal>,
-) -> errors::Result<Phase<F, T>>
-    ensures { Leads F.seen T.seen result
-        (go_on done (confirming (commit_of commit)) (λ _. placed_of (commit_of commit))) }
-{
-    match done {
-        Ok(()) => storing::placed(alloc, commit),
-        Err(Refusal::Fault(fault)) => {
-            let path = content_path(alloc, commit.cache.as_str(), &commit.computed)?;
-            let stage = Stage::ConfirmingLink(commit, target, fault);
-            Ok(Phase::Wanting(stage, Step::Exists(path)))
-        }
-        Err(Refusal::Memory) => Err(Error::OutOfMemory),
-    }
-}
-
-/// After the store was asked whether the content is there all the same; without a yes, the first fault is answered.
-pub(crate) fn confirmed<F: FileHandle, T: TempHandle>(
-    alloc: Global,
-    commit: Commit,
-    target: Text,
-    fault: Fault,
-    there: Result<bool, Refusal>,
-) -> errors::Result<Phase<F, T>>
-    ensures { Leads F.seen T.seen result
-        (go_on there (λ _. fails fault) (after_confirm (commit_of commit) fault)) }
-{
-    let refusal = match there {
-        Ok(true) => return storing::placed(alloc, commit),
-        Ok(false) | Err(Refusal::Fault(_)) => Refusal::Fault(fault),
-        Err(Refusal::Memory) => Refusal::Memory,
-    };
-    Err(refused(refusal, messages::linking(alloc, &commit, &target)))
 }

@@ -5,7 +5,7 @@ use crate::linking::Target;
 use crate::looking::Lookup;
 use crate::places::{bucket_path, bucket_place, content_path, content_place, temp_folder};
 use crate::reading::Content;
-use crate::removing::Removal;
+use crate::stage::Last;
 use crate::storing::Commit;
 use cacache_core::text::Text;
 use std::alloc::{AllocError, Global};
@@ -43,11 +43,20 @@ pub(crate) fn making_contents(alloc: Global, commit: &Commit) -> Result<Text, Al
     )?))
 }
 
-pub(crate) fn persisting(alloc: Global, commit: &Commit) -> Result<Text, AllocError> {
+/// The content didn't arrive at its place: the temporary file, or a link to the target.
+pub(crate) fn arriving(
+    alloc: Global,
+    commit: &Commit,
+    target: &Option<Text>,
+) -> Result<Text, AllocError> {
     let path = content_path(alloc, commit.cache.as_str(), &commit.computed)?;
-    Ok(Text::new(format!(in alloc;
-        "Failed to persist cache contents while closing writer, at {path}"
-    )?))
+    let message = match target {
+        None => format!(in alloc;
+            "Failed to persist cache contents while closing writer, at {path}"
+        )?,
+        Some(target) => format!(in alloc; "Failed to create cache symlink for {target} at {path}")?,
+    };
+    Ok(Text::new(message))
 }
 
 pub(crate) fn making_bucket(alloc: Global, insertion: &Insertion) -> Result<Text, AllocError> {
@@ -76,10 +85,17 @@ pub(crate) fn removing_content(alloc: Global, path: &Text) -> Result<Text, Alloc
     Ok(Text::new(format!(in alloc; "Failed to remove content at {path:?}")?))
 }
 
-pub(crate) fn removing(alloc: Global, removal: &Removal) -> Result<Text, AllocError> {
-    let message = match removal {
-        Removal::Content(path) => format!(in alloc; "Failed to remove cache file {path}")?,
-        Removal::Bucket(path) => format!(in alloc; "Failed to remove bucket at {path:?}")?,
+/// What the call was to do last wasn't done.
+pub(crate) fn finishing(alloc: Global, last: &Last) -> Result<Text, AllocError> {
+    let message = match last {
+        Last::RemoveContent(path) => format!(in alloc; "Failed to remove cache file {path}")?,
+        Last::RemoveBucket(path) => format!(in alloc; "Failed to remove bucket at {path:?}")?,
+        Last::Reflink(from, to) => format!(in alloc;
+            "Failed to reflink cache contents from {from} to {to}"
+        )?,
+        Last::HardLink(from, to) => format!(in alloc;
+            "Failed to link cache contents from {from} to {to}"
+        )?,
     };
     Ok(Text::new(message))
 }
@@ -109,14 +125,6 @@ pub(crate) fn copying(alloc: Global, from: &Text, to: &Text) -> Result<Text, All
     Ok(Text::new(format!(in alloc; "Failed to copy cache contents from {from} to {to}")?))
 }
 
-pub(crate) fn reflinking(alloc: Global, from: &Text, to: &Text) -> Result<Text, AllocError> {
-    Ok(Text::new(format!(in alloc; "Failed to reflink cache contents from {from} to {to}")?))
-}
-
-pub(crate) fn hard_linking(alloc: Global, from: &Text, to: &Text) -> Result<Text, AllocError> {
-    Ok(Text::new(format!(in alloc; "Failed to link cache contents from {from} to {to}")?))
-}
-
 pub(crate) fn sizing(alloc: Global, target: &Target) -> Result<Text, AllocError> {
     let path = &target.path;
     Ok(Text::new(format!(in alloc; "Failed to get metadata of {path}")?))
@@ -128,11 +136,6 @@ pub(crate) fn making_links(alloc: Global, commit: &Commit) -> Result<Text, Alloc
     Ok(Text::new(format!(in alloc;
         "Failed to create destination directory for linked cache file, at {folder}"
     )?))
-}
-
-pub(crate) fn linking(alloc: Global, commit: &Commit, target: &Text) -> Result<Text, AllocError> {
-    let path = content_path(alloc, commit.cache.as_str(), &commit.computed)?;
-    Ok(Text::new(format!(in alloc; "Failed to create cache symlink for {target} at {path}")?))
 }
 
 pub(crate) fn clearing_folder(alloc: Global, path: &Text) -> Result<Text, AllocError> {

@@ -8,19 +8,12 @@ ghost use Rattle.cacache_jobs.specs.Standing.{Leads};
 
 use crate::phase::Phase;
 use crate::places::{bucket_path, content_path};
-use crate::stage::{Stage, Then};
+use crate::stage::{Last, Stage, Then};
 use cacache_base::store::{FileHandle, Step, TempHandle};
 use cacache_core::errors;
 use cacache_core::integrity::Integrity;
 use cacache_core::text::Text;
 use std::alloc::Global;
-
-/// A file that is removed last, by its path.
-#[derive(Drop)]
-pub enum Removal {
-    Content(Text),
-    Bucket(Text),
-}
 
 /// Removes the content of an integrity.
 pub(crate) fn remove_content<F: FileHandle, T: TempHandle>(
@@ -34,7 +27,7 @@ pub(crate) fn remove_content<F: FileHandle, T: TempHandle>(
     let path = content_path(alloc, cache, integrity)?;
     let named = path.clone()?;
     Ok(Phase::Wanting(
-        Stage::Doing(Then::Finish(Removal::Content(named))),
+        Stage::Doing(Then::Finish(Last::RemoveContent(named))),
         Step::RemoveFile(path),
     ))
 }
@@ -46,7 +39,7 @@ pub(crate) fn remove_bucket<F: FileHandle, T: TempHandle>(path: Text) -> errors:
 {
     let named = path.clone()?;
     Ok(Phase::Wanting(
-        Stage::Doing(Then::Finish(Removal::Bucket(named))),
+        Stage::Doing(Then::Finish(Last::RemoveBucket(named))),
         Step::RemoveFile(path),
     ))
 }

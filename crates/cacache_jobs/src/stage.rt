@@ -14,7 +14,6 @@ use crate::linking::Target;
 use crate::looking::Lookup;
 use crate::phase::{Phase, refused};
 use crate::reading::Content;
-use crate::removing::Removal;
 use crate::storing::Commit;
 use crate::walking::{Visit, Walk};
 use crate::{
@@ -26,6 +25,17 @@ use cacache_core::bytes::Bytes;
 use cacache_core::errors::{self, Fault};
 use cacache_core::text::Text;
 use std::alloc::{AllocError, Global};
+
+/// What a call does last, by the paths that its message names.
+#[derive(Drop)]
+pub enum Last {
+    RemoveContent(Text),
+    RemoveBucket(Text),
+    /// The second path shares the storage of the content at the first.
+    Reflink(Text, Text),
+    /// The second path is one more name of the content at the first.
+    HardLink(Text, Text),
+}
 
 /// What a call does once its errand is done: a folder was made, or a file removed.
 pub enum Then<T> {
@@ -39,12 +49,8 @@ pub enum Then<T> {
     RemoveBucket(Text, Text),
     /// Makes the link to the target of the first path at the second, which is the content's.
     Symlink(Commit, Text, Text),
-    /// The call is over: the second path shares the storage of the content at the first.
-    EndReflink(Text, Text),
-    /// The call is over: the second path is one more name of the content at the first.
-    EndHardLink(Text, Text),
     /// The call is over.
-    Finish(Removal),
+    Finish(Last),
 }
 
 // The drops of this file are written out, so that each is a call of its own: whoever lets such a value go has a proof
@@ -57,9 +63,7 @@ impl<T: Drop> Drop for Then<T> {
             Then::Append(_insertion, _line, _path) => {}
             Then::RemoveBucket(_content, _bucket) => {}
             Then::Symlink(_commit, _target, _path) => {}
-            Then::EndReflink(_from, _to) => {}
-            Then::EndHardLink(_from, _to) => {}
-            Then::Finish(_removal) => {}
+            Then::Finish(_last) => {}
         }
     }
 }
@@ -73,9 +77,7 @@ impl<T: TempHandle> Then<T> {
             Then::Append(insertion, _, _) => messages::making_bucket(alloc, insertion),
             Then::RemoveBucket(content, _) => messages::removing_content(alloc, content),
             Then::Symlink(commit, _, _) => messages::making_links(alloc, commit),
-            Then::EndReflink(from, to) => messages::reflinking(alloc, from, to),
-            Then::EndHardLink(from, to) => messages::hard_linking(alloc, from, to),
-            Then::Finish(removal) => messages::removing(alloc, removal),
+            Then::Finish(last) => messages::finishing(alloc, last),
         }
     }
 
@@ -89,9 +91,7 @@ impl<T: TempHandle> Then<T> {
             Then::Append(insertion, line, path) => Ok(inserting::append(insertion, line, path)),
             Then::RemoveBucket(_content, bucket) => removing::remove_bucket(bucket),
             Then::Symlink(commit, target, path) => linking::symlink(commit, target, path),
-            Then::EndReflink(_from, _to) => Ok(Phase::Over(Reply::Done)),
-            Then::EndHardLink(_from, _to) => Ok(Phase::Over(Reply::Done)),
-            Then::Finish(_removal) => Ok(Phase::Over(Reply::Done)),
+            Then::Finish(_last) => Ok(Phase::Over(Reply::Done)),
         }
     }
 
@@ -121,8 +121,8 @@ pub enum Stage<T> {
     Writing(Commit, Bytes),
     /// The temporary file becomes the content.
     Persisting(Commit),
-    /// The persist failed so; a content that is there all the same will do.
-    Confirming(Commit, Fault),
+    /// That, or the link to this target, failed so; a content that is there all the same will do.
+    Confirming(Commit, Option<Text>, Fault),
     /// The line, of this size, is appended.
     Appending(Insertion, usize),
     /// The bucket is read.
@@ -141,8 +141,6 @@ pub enum Stage<T> {
     Copying(Text, Text, Option<u64>),
     /// A link to the target becomes the content.
     Linking(Commit, Text),
-    /// That failed so; a content that is there all the same will do.
-    ConfirmingLink(Commit, Text, Fault),
     /// A walk does this.
     Walking(Walk, Visit),
 }
@@ -154,7 +152,7 @@ impl<T: Drop> Drop for Stage<T> {
             Stage::Creating(_commit, _rest) => {}
             Stage::Writing(_commit, _rest) => {}
             Stage::Persisting(_commit) => {}
-            Stage::Confirming(_commit, _fault) => {}
+            Stage::Confirming(_commit, _target, _fault) => {}
             Stage::Appending(_insertion, _size) => {}
             Stage::Looking(_lookup) => {}
             Stage::Reading(_content) => {}
@@ -164,7 +162,6 @@ impl<T: Drop> Drop for Stage<T> {
             Stage::Hashing(_hashing, _size) => {}
             Stage::Copying(_from, _to, _verified) => {}
             Stage::Linking(_commit, _target) => {}
-            Stage::ConfirmingLink(_commit, _target, _fault) => {}
             Stage::Walking(_walk, _visit) => {}
         }
     }
@@ -186,9 +183,9 @@ impl<T: TempHandle> Stage<T> {
             Stage::Writing(commit, rest) => {
                 storing::written(alloc, commit, rest, written_of(answer))
             }
-            Stage::Persisting(commit) => storing::persisted(alloc, commit, done_of(answer)),
-            Stage::Confirming(commit, fault) => {
-                storing::confirmed(alloc, commit, fault, there_of(answer))
+            Stage::Persisting(commit) => storing::arrived(alloc, commit, None, done_of(answer)),
+            Stage::Confirming(commit, target, fault) => {
+                storing::confirmed(alloc, commit, target, fault, there_of(answer))
             }
             Stage::Appending(insertion, size) => {
                 inserting::appended(alloc, insertion, size, taken_of(answer))
@@ -203,10 +200,7 @@ impl<T: TempHandle> Stage<T> {
                 exporting::copied(alloc, from, to, verified, taken_of(answer))
             }
             Stage::Linking(commit, target) => {
-                linking::linked(alloc, commit, target, done_of(answer))
-            }
-            Stage::ConfirmingLink(commit, target, fault) => {
-                linking::confirmed(alloc, commit, target, fault, there_of(answer))
+                storing::arrived(alloc, commit, Some(target), done_of(answer))
             }
             Stage::Walking(walk, visit) => walking::resume(alloc, walk, visit, answer),
         }

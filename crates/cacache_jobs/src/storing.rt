@@ -200,10 +200,11 @@ pub(crate) fn persist<F: FileHandle, T: TempHandle>(
     Phase::Wanting(Stage::Persisting(commit), Step::Persist(file, path))
 }
 
-/// After the temporary file was to become the content.
-pub(crate) fn persisted<F: FileHandle, T: TempHandle>(
+/// After the content was to arrive at its place: the temporary file itself, or a link to the target.
+pub(crate) fn arrived<F: FileHandle, T: TempHandle>(
     alloc: Global,
     commit: Commit,
+    target: Option<Text>,
     done: Result<(), Refusal>,
 ) -> errors::Result<Phase<F, T>>
     ensures { Leads F.seen T.seen result
@@ -213,7 +214,7 @@ pub(crate) fn persisted<F: FileHandle, T: TempHandle>(
         Ok(()) => placed(alloc, commit),
         Err(Refusal::Fault(fault)) => {
             let path = content_path(alloc, commit.cache.as_str(), &commit.computed)?;
-            Ok(Phase::Wanting(Stage::Confirming(commit, fault), Step::Exists(path)))
+            Ok(Phase::Wanting(Stage::Confirming(commit, target, fault), Step::Exists(path)))
         }
         Err(Refusal::Memory) => Err(Error::OutOfMemory),
     }
@@ -223,6 +224,7 @@ pub(crate) fn persisted<F: FileHandle, T: TempHandle>(
 pub(crate) fn confirmed<F: FileHandle, T: TempHandle>(
     alloc: Global,
     commit: Commit,
+    target: Option<Text>,
     fault: Fault,
     there: Result<bool, Refusal>,
 ) -> errors::Result<Phase<F, T>>
@@ -234,7 +236,7 @@ pub(crate) fn confirmed<F: FileHandle, T: TempHandle>(
         Ok(false) | Err(Refusal::Fault(_)) => Refusal::Fault(fault),
         Err(Refusal::Memory) => Refusal::Memory,
     };
-    Err(refused(refusal, messages::persisting(alloc, &commit)))
+    Err(refused(refusal, messages::arriving(alloc, &commit, &target)))
 }
 
 impl Commit {

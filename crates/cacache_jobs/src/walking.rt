@@ -32,7 +32,7 @@ pub enum Visit {
 #[derive(Drop)]
 pub enum Task {
     Visit(Visit),
-    Stumble(Text, Fault),
+    Stumble(Fault),
 }
 
 /// A walk through all folders below one.
@@ -159,7 +159,7 @@ pub(crate) fn walk_on<F: FileHandle, T: TempHandle>(
     while let Some(task) = walk.todo.pop() {
         match task {
             Task::Visit(visit) => return go_to(walk, visit),
-            Task::Stumble(_path, fault) => {
+            Task::Stumble(fault) => {
                 let message = message_of(alloc, &walk);
                 walk.miss(fault, message)?;
             }
