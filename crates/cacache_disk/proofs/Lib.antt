@@ -1,8 +1,13 @@
 pub mod Below
+pub mod Finding
 pub mod Follow
+pub mod Kept
 pub mod Maps
 pub mod NameLemmas
 pub mod Outcomes
+pub mod Planting
 pub mod Puts
+pub mod Roots
+pub mod Standing
 pub mod Told
 pub mod Walks

@@ -5,8 +5,9 @@ use Rattle.std.specs.List.{list_any, slice_split, onto_first, AllByRecursion}
 use Rattle.std.proofs.lemmas.List.{take_all}
 use Rattle.std.proofs.lemmas.List.Elements.{filter_more}
 use Rattle.std.proofs.lemmas.List.Folds.{list_any_more, list_any_at}
+use Rattle.cacache_core.specs.declared.errors.Fault.{Fault}
 use Rattle.cacache_core.specs.declared.errors.Fault.TheVariants.{NotFound, InvalidInput}
-use Rattle.cacache_core.specs.PathNames.{Names, IsProperName, names_of, pieces, ends_name, is_above, is_name}
+use Rattle.cacache_core.specs.PathNames.{Names, IsProperName, names_of, pieces, ends_name, is_above, is_name, is_bad}
 
 -- one item more that passes the filter
 pub filter_yes : {X : Type 0} (p : X → Bool) (all : List X) (n m : ℕ) (x : X) (old new : List X) → (n < length all) × (x ≡ get_or all n x) → m ≡ n + 1 → p x ≡ true
@@ -95,3 +96,33 @@ unfolding pieces
 piece_proper text n piece name nul here named above same =
     let clean : list_any ends_name piece ≡ false = ap (list_any ends_name) here.1 ∙ open_at (pieces text) n piece here.0 (split_open text nul) in
     subst IsProperName (sym same) (named, above, clean)
+
+-- ---- the names of a path are proper
+
+-- what is left where neither of two tests stops
+neither_stops : {A : Type 0} (a b : Bool) (x y : Fault) (all names : A) → cond a (Err x) (cond b (Err y) (Ok all)) ≡ Ok names → (b ≡ false) × (all ≡ names)
+neither_stops true b x y all names e = absurd cc
+neither_stops false true x y all names e = absurd cc
+neither_stops false false x y all names e = (refl, cc)
+
+proper_more : (b : Bool) (piece : List ℕ) (rest : Names) → is_name piece ≡ b → is_above piece ≡ false → list_any ends_name piece ≡ false
+    → AllByRecursion IsProperName rest → AllByRecursion IsProperName (cond b (piece ∷ rest) rest)
+proper_more true piece rest is above clean more = ((is, above, clean), more)
+proper_more false piece rest is above clean more = more
+
+either_off : (x y : Bool) → (x || y) ≡ false → (x ≡ false) × (y ≡ false)
+either_off true y e = absurd cc
+either_off false y e = (refl, e)
+
+proper_pieces : (parts : Names) → AreOpen parts → list_any is_above parts ≡ false → AllByRecursion IsProperName (filter is_name parts)
+proper_pieces [] clean above = tt
+proper_pieces (part ∷ parts) clean above =
+    let f = either_off (is_above part) (list_any is_above parts) above in
+    proper_more (is_name part) part (filter is_name parts) refl f.0 clean.0 (proper_pieces parts clean.1 f.1)
+
+pub names_proper : (path : List ℕ) (names : Names) → names_of path ≡ Ok names → AllByRecursion IsProperName names
+unfolding names_of pieces
+names_proper path names e =
+    let f = neither_stops (length path == 0) (is_bad path) NotFound InvalidInput (filter is_name (pieces path)) names e in
+    let g = either_off (list_any (λ b. b == 0) path) (list_any is_above (pieces path)) f.0 in
+    subst (AllByRecursion IsProperName) f.1 (proper_pieces (pieces path) (split_open path g.0) g.1)

@@ -8,6 +8,7 @@ use Rattle.std.specs.Cmp.{eq_by_cmp_equiv}
 use Rattle.std.specs.Cmp.Lexicographic.{pointwise, slice_cmp, lists_ties, texts_ties}
 use Rattle.cacache_disk.specs.declared.node.Node.{Node}
 use Rattle.cacache_disk.specs.Tree.{Tree, Names, look, put, cut, same_path}
+use Rattle.cacache_disk.specs.Rooted.{is_folder}
 use Rattle.cacache_disk.proofs.Maps.{total, only, same_path-true}
 
 undone : (t : Tree) (p : Names) (node : Node) → None ≡ look t p → (q : Names) (b : Bool) → same_path q p ≡ b → cond b None (cond b (Some node) (look t q)) ≡ look t q
@@ -51,3 +52,24 @@ pub eq-false : (p q : Names) → false ≡ pointwise (pointwise nat_eq) p q → 
 eq-false p q e h =
     let is : false ≡ true = e ∙ same_names p q ∙ ap (same_path p) (sym h) ∙ (eq_by_cmp_equiv total).refl p in
     cc
+
+-- ---- what stands after a node is put or cut
+
+pub look-put : (t : Tree) (p : Names) (node : Node) (q : Names) → look (put t p node) q ≡ cond (same_path q p) (Some node) (look t q)
+look-put t p node q = map.get-insert total t p node q
+
+pub look-cut : (t : Tree) (p q : Names) → look (cut t p) q ≡ cond (same_path q p) None (look t q)
+look-cut t p q = map.get-remove total t p q
+
+-- folders
+folder_at : (t : Tree) (p q : Names) (new : Option Node) (b : Bool) → same_path q p ≡ b → is_folder new ≡ false → is_folder (look t p) ≡ false
+    → is_folder (cond b new (look t q)) ≡ is_folder (look t q)
+folder_at t p q new true e fresh old = fresh ∙ sym (ap (λ r. is_folder (look t r)) (same_path-true q p e) ∙ old)
+folder_at t p q new false e fresh old = refl
+
+pub folders-put : (t : Tree) (p : Names) (node : Node) (q : Names) → is_folder (Some node) ≡ false → is_folder (look t p) ≡ false
+    → is_folder (look (put t p node) q) ≡ is_folder (look t q)
+folders-put t p node q fresh old = ap is_folder (look-put t p node q) ∙ folder_at t p q (Some node) (same_path q p) refl fresh old
+
+pub folders-cut : (t : Tree) (p q : Names) → is_folder (look t p) ≡ false → is_folder (look (cut t p) q) ≡ is_folder (look t q)
+folders-cut t p q old = ap is_folder (look-cut t p q) ∙ folder_at t p q None (same_path q p) refl refl old

@@ -12,28 +12,6 @@ use Rattle.cacache_disk.specs.Apply.{make_some, if_missing}
 pub drop_here : (path : Names) (i : ℕ) (d : List ℕ) → i < length path → drop i path ≡ get_or path i d ∷ drop (i + 1) path
 drop_here path i d h = let e : suc i ≤ length path = omega (arith, h) in rw add-one (drop-cons path i d e)
 
-pub way_next : (t : Tree) (above path : Names) (i : ℕ) (d : List ℕ) → i + 1 < length path
-    → way_fault t above (drop i path) ≡ through (look t (above ++ get_or path i d ∷ [])) (way_fault t (above ++ get_or path i d ∷ []) (drop (i + 1) path))
-way_next t above path i d h =
-    let here : i < length path = omega arith in
-    rw (drop_here path i d here, drop_here path (i + 1) d h)
-
-way_short : (t : Tree) (above rest : Names) → length rest ≤ 1 → way_fault t above rest ≡ None
-way_short t above [] h = refl
-way_short t above (name ∷ []) h = refl
-way_short t above (name ∷ next ∷ rest) h = absurd (omega arith)
-
-pub way_last : (t : Tree) (above path : Names) (i : ℕ) → length path ≤ i + 1 → way_fault t above (drop i path) ≡ None
-way_last t above path i h = way_short t above (drop i path) (rw length-drop (omega arith))
-
--- one folder on the way
-pub way_at : (t : Tree) (above path : Names) (i : ℕ) (name : List ℕ) (new : Names) (here : Option Node) → i + 1 < length path
-    → name ≡ get_or path i name → new ≡ above ++ name ∷ [] → here ≡ look t new
-    → way_fault t above (drop i path) ≡ through here (way_fault t new (drop (i + 1) path))
-way_at t above path i name new here h n p l =
-    let e : above ++ get_or path i name ∷ [] ≡ new = ap (λ x. above ++ x ∷ []) (sym n) ∙ sym p in
-    way_next t above path i name h ∙ rw (e, l)
-
 pub make_next : (t : Tree) (above path : Names) (i most : ℕ) (d : List ℕ) → i < length path
     → make_some t above (drop i path) most ≡ make_some
     (if_missing (look t (above ++ get_or path i d ∷ [])) (cond (most == 0) t (put t (above ++ get_or path i d ∷ []) Folder)) t)
@@ -42,7 +20,7 @@ pub make_next : (t : Tree) (above path : Names) (i most : ℕ) (d : List ℕ) �
     (if_missing (look t (above ++ get_or path i d ∷ [])) (most - 1) most)
 make_next t above path i most d h = rw (drop_here path i d h)
 
-pub drop_end : (t : Tree) (above path : Names) (i most : ℕ) → i ≡ length path → make_some t above (drop i path) most ≡ t
+pub drop_end : (t : Tree) (above path : Names) (i most : ℕ) → length path ≤ i → make_some t above (drop i path) most ≡ t
 drop_end t above path i most e = rw (drop_all i path (omega arith))
 
 -- the front of a path, one name longer

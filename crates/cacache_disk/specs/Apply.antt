@@ -1,5 +1,5 @@
 -- What a step answers on a tree, and the tree after it.
-use Rattle.std.specs.Prelude.{ℕ, ◌-◌, ◌==◌, Bool, true, false, cond, List, [], ◌∷◌, ◌++◌, Option, None, Some, Result, Ok, Err, length, take, drop, min, max}
+use Rattle.std.specs.Prelude.{ℕ, ◌-◌, ◌==◌, Bool, true, false, if◌then◌else◌, List, [], ◌∷◌, ◌++◌, Option, None, Some, Result, Ok, Err, length, take, drop, min, max}
 use Rattle.std.specs.Result.{result_ok}
 use Rattle.cacache_core.specs.declared.errors.Fault.{Fault}
 use Rattle.cacache_core.specs.declared.errors.Fault.TheVariants.{NotFound, NotADirectory, IsADirectory, InvalidInput, Closed, Device}
@@ -19,7 +19,8 @@ use Rattle.cacache_disk.specs.Tree.{Tree, look, put, cut, bytes_of, listing}
 use Rattle.cacache_disk.specs.Found.{and_then, or_fault, suited, dirs_fault, dirs, free, known, kept, replaceable, writable, file_at, found, linked, folder, removable, emptied}
 
 -- a fault fails the step and changes nothing; else it goes on from what was found
-abbrev pub unless : {A : Type 0} → Result A Fault → Tree → (A → PlainAnswer × Tree) → PlainAnswer × Tree
+abbrev pub unless : {A : Type 0} → Result A Fault → Tree → (A → PlainAnswer × Tree)
+    → PlainAnswer × Tree
 unless (Ok found) t go = go found
 unless (Err fault) t go = (Failed fault, t)
 
@@ -43,7 +44,9 @@ abbrev pub make_some : Tree → Names → Names → ℕ → Tree
 make_some t above [] count = t
 make_some t above (name ∷ rest) count =
     make_some
-    (if_missing (look t (above ++ name ∷ [])) (cond (count == 0) t (put t (above ++ name ∷ []) Folder)) t)
+    (if_missing (look t (above ++ name ∷ []))
+    (if count == 0 then t else put t (above ++ name ∷ []) Folder)
+    t)
     (above ++ name ∷ [])
     rest
     (if_missing (look t (above ++ name ∷ [])) (count - 1) count)
@@ -56,13 +59,21 @@ making (Some most) names = most
 -- a temporary file that took more bytes; it is closed where its bytes aren't known
 abbrev pub grown : PlainTemp → List ℕ → ℕ → Option (List ℕ) → PlainAnswer
 grown temp bytes count None = Failed Closed
-grown temp bytes count (Some old) = Wrote (record { path = temp.path; bytes = Some (old ++ take count bytes) }) count
+grown temp bytes count (Some old) =
+    Wrote (record { path = temp.path; bytes = Some (old ++ take count bytes) }) count
 
--- at most so many bytes of an open file; it is closed where its bytes aren't known, or aren't as many as it has left
+-- what is left of an open file's bytes behind the first so many
+abbrev pub rest_of : List ℕ → ℕ → PlainFile
+rest_of bytes size = record {
+  left = length bytes - min size (length bytes);
+  bytes = Some (drop size bytes);
+}
+
+-- bytes of an open file; it is closed where they aren't known, or aren't as many as it has left
 abbrev pub given : PlainFile → ℕ → Option (List ℕ) → PlainAnswer
 given file size None = Failed Closed
 given file size (Some bytes) =
-    cond (file.left == length bytes) (Got (record { left = length bytes - min size (length bytes); bytes = Some (drop size bytes) }) (take size bytes)) (Failed Closed)
+    if file.left == length bytes then Got (rest_of bytes size) (take size bytes) else Failed Closed
 
 -- whether something is there: for want of a folder on the way it isn't
 abbrev pub is_there : Result Names Fault → PlainAnswer
@@ -71,22 +82,52 @@ is_there (Err NotFound) = There false
 is_there (Err NotADirectory) = There false
 is_there (Err fault) = Failed fault
 
--- the table of steps: the answer and the new tree, where at most `most` of its bytes or folders are done
+-- the temporary file that is made at a path
+abbrev pub made_temp : List ℕ → PlainTemp
+made_temp path = record { path = path; bytes = Some [] }
+
+-- an open file of these bytes
+abbrev pub opened : List ℕ → PlainFile
+opened bytes = record { left = length bytes; bytes = Some bytes }
+
+-- the tree with more bytes behind those of the file at a path
+abbrev pub lengthened : Tree → Names → List ℕ → Tree
+lengthened t names more = put t names (File (bytes_of (look t names) ++ more))
+
+-- the table of steps: the answer and the new tree, where at most so many bytes or folders are done
 abbrev pub plain : Tree → PlainStep → Option ℕ → PlainAnswer × Tree
-plain t (MakeDirs p) most = unless (dirs t p) t (λ names. (Done, make_some t [] names (making most names)))
-plain t (CreateTemp p) most = unless (free t p) t (λ names. (Temp (record { path = p; bytes = Some [] }), put t names (File [])))
+plain t (MakeDirs p) most =
+    unless (dirs t p) t (λ names. (Done, make_some t [] names (making most names)))
+plain t (CreateTemp p) most =
+    unless (free t p) t (λ names. (Temp (made_temp p), put t names (File [])))
 plain t (Write f bytes) most = (grown f bytes (taken most bytes) f.bytes, t)
-plain t (Persist f p) most = unless (known f.bytes) t (λ bytes. unless (kept t f.path) t (λ old. unless (replaceable t p) t (λ new. (Done, put (cut t old) new (File bytes)))))
-plain t (Append p bytes) most = unless (writable t p) t (λ names. (Took (taken most bytes), put t names (File (bytes_of (look t names) ++ take (taken most bytes) bytes))))
+plain t (Persist f p) most =
+    unless (known f.bytes) t (λ bytes.
+    unless (kept t f.path) t (λ old.
+    unless (replaceable t p) t (λ new.
+    (Done, put (cut t old) new (File bytes)))))
+plain t (Append p bytes) most =
+    unless (writable t p) t (λ names.
+    (Took (taken most bytes), lengthened t names (take (taken most bytes) bytes)))
 plain t (ReadAll p) most = unless (file_at t p IsADirectory) t (λ bytes. (Bytes bytes, t))
-plain t (Open p) most = unless (file_at t p IsADirectory) t (λ bytes. (answer.File (record { left = length bytes; bytes = Some bytes }), t))
+plain t (Open p) most =
+    unless (file_at t p IsADirectory) t (λ bytes. (answer.File (opened bytes), t))
 plain t (Read f size) most = (given f (readable most size) f.bytes, t)
 plain t (Size p) most = unless (file_at t p IsADirectory) t (λ bytes. (Length (length bytes), t))
 plain t (Exists p) most = (is_there (found t p), t)
 plain t (Symlink target p) most = unless (free t p) t (λ names. (Done, put t names (Link target)))
-plain t (Copy p q) most = unless (file_at t p InvalidInput) t (λ bytes. unless (writable t q) t (λ names. (Took (length bytes), put t names (File (take (taken most bytes) bytes)))))
-plain t (Reflink p q) most = unless (free t q) t (λ names. unless (file_at t p IsADirectory) t (λ bytes. (Done, put t names (File bytes))))
-plain t (HardLink p q) most = unless (free t q) t (λ names. unless (linked t p) t (λ node. (Done, put t names node)))
+plain t (Copy p q) most =
+    unless (file_at t p InvalidInput) t (λ bytes.
+    unless (writable t q) t (λ names.
+    (Took (length bytes), put t names (File (take (taken most bytes) bytes)))))
+plain t (Reflink p q) most =
+    unless (free t q) t (λ names.
+    unless (file_at t p IsADirectory) t (λ bytes.
+    (Done, put t names (File bytes))))
+plain t (HardLink p q) most =
+    unless (free t q) t (λ names.
+    unless (linked t p) t (λ node.
+    (Done, put t names node)))
 plain t (ReadDir p) most = unless (folder t p) t (λ names. (answer.Names (listing t names), t))
 plain t (RemoveFile p) most = unless (removable t p) t (λ names. (Done, cut t names))
 plain t (RemoveDir p) most = unless (emptied t p) t (λ names. (Done, cut t names))
@@ -113,7 +154,7 @@ made_up fault = fault
 -- what a failed step leaves, where so much of it was done
 abbrev pub left_by : Tree → PlainStep → Option ℕ → Tree
 left_by t step None = t
-left_by t step (Some part) = cond (is_parted step) (plain t step (Some part)).1 t
+left_by t step (Some part) = if is_parted step then (plain t step (Some part)).1 else t
 
 -- why a step failed, if it did
 abbrev pub fault_of : PlainAnswer → Option Fault
@@ -128,14 +169,15 @@ fails None fault t left = (Failed (made_up fault), left)
 -- the answer and the new tree
 unfoldable pub apply : Tree → PlainStep → Luck → PlainAnswer × Tree
 apply t step Plain = plain t step None
-apply t step (Take most) = plain t step (cond (is_taking step) (Some most) None)
-apply t step (Fail fault part) = fails (fault_of (plain t step None).0) fault t (left_by t step part)
+apply t step (Take most) = plain t step (if is_taking step then Some most else None)
+apply t step (Fail fault part) =
+    fails (fault_of (plain t step None).0) fault t (left_by t step part)
 
 -- the names of a path's folder
 abbrev pub above_last : Names → Names
 above_last names = take (length names - 1) names
 
--- the tree after somebody else put a file at a path: the path's folder made, and the file put in place of a file or link
+-- the tree after somebody else put a file at a path, whose folder is made
 unfoldable pub planted : Tree → List ℕ → List ℕ → Result Tree Fault
 planted t path bytes =
     and_then (names_of path) (λ names.

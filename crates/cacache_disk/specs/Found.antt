@@ -1,5 +1,5 @@
 -- What a path leads to in a tree, or why it leads nowhere.
-use Rattle.std.specs.Prelude.{ℕ, zero, suc, Bool, true, false, ◌==◌, cond, List, [], ◌∷◌, ◌++◌, length, Option, None, Some, Result, Ok, Err}
+use Rattle.std.specs.Prelude.{ℕ, zero, suc, Bool, true, false, ◌==◌, if◌then◌else◌, List, [], ◌∷◌, ◌++◌, length, Option, None, Some, Result, Ok, Err}
 use Rattle.cacache_core.specs.declared.errors.Fault.{Fault}
 use Rattle.cacache_core.specs.declared.errors.Fault.TheVariants.{NotFound, AlreadyExists, NotADirectory, IsADirectory, NotEmpty, TooDeep, Closed}
 use Rattle.cacache_disk.specs.declared.find.Wanted.{Wanted}
@@ -30,7 +30,8 @@ through (Some (Link target)) later = Some NotADirectory
 abbrev pub way_fault : Tree → Names → Names → Option Fault
 way_fault t above [] = None
 way_fault t above (name ∷ []) = None
-way_fault t above (name ∷ next ∷ rest) = through (look t (above ++ name ∷ [])) (way_fault t (above ++ name ∷ []) (next ∷ rest))
+way_fault t above (name ∷ next ∷ rest) =
+    through (look t (above ++ name ∷ [])) (way_fault t (above ++ name ∷ []) (next ∷ rest))
 
 -- the names of a path whose folder stands
 unfoldable pub place : Tree → List ℕ → Result Names Fault
@@ -119,7 +120,8 @@ standing t path = at t path wanted.Anything
 -- where names lead through at most so many links
 unfoldable pub followed : ℕ → Tree → Names → Result Names Fault
 followed zero t names = on_link (look t names) names (λ target. Err TooDeep)
-followed (suc most) t names = on_link (look t names) names (λ target. and_then (standing t target) (followed most t))
+followed (suc most) t names =
+    on_link (look t names) names (λ target. and_then (standing t target) (followed most t))
 
 -- where a path leads; nothing may stand there if the path itself is missing
 unfoldable pub leads : Tree → List ℕ → Result Names Fault
@@ -167,7 +169,10 @@ folder t path = at t path wanted.Folder
 
 -- the names, where a folder is empty and isn't the top
 abbrev pub where_empty : Tree → Names → Result Names Fault
-where_empty t names = cond (length names == 0) (Err NotEmpty) (cond (length (listing t names) == 0) (Ok names) (Err NotEmpty))
+where_empty t names =
+    if length names == 0 then Err NotEmpty
+    else if length (listing t names) == 0 then Ok names
+    else Err NotEmpty
 
 -- where an empty folder can be removed
 unfoldable pub emptied : Tree → List ℕ → Result Names Fault
@@ -184,9 +189,9 @@ is_in_way (Some (Link target)) = true
 abbrev pub dirs_fault : Tree → Names → Names → Option Fault
 dirs_fault t above [] = None
 dirs_fault t above (name ∷ rest) =
-    cond (is_in_way (look t (above ++ name ∷ [])))
-    (Some (cond (length rest == 0) AlreadyExists NotADirectory))
-    (dirs_fault t (above ++ name ∷ []) rest)
+    if is_in_way (look t (above ++ name ∷ []))
+    then Some (if length rest == 0 then AlreadyExists else NotADirectory)
+    else dirs_fault t (above ++ name ∷ []) rest
 
 -- the names of a path whose folders stand or can be made
 unfoldable pub dirs : Tree → List ℕ → Result Names Fault

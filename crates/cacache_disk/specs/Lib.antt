@@ -3,3 +3,5 @@ pub mod Found
 pub mod Apply
 pub mod Stops
 pub mod Plans
+pub mod Rooted
+pub mod Deepest

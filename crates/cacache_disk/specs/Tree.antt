@@ -1,5 +1,5 @@
 -- A disk's tree: the node at each path. The top folder stands at the empty list of names.
-use Rattle.std.specs.Prelude.{ℕ, Bool, cond, List, [], ◌∷◌, ◌++◌, Option, None, Some, length, ◌==◌, ◌+◌, ◌&&◌, take, slice_index_or}
+use Rattle.std.specs.Prelude.{ℕ, Bool, if◌then◌else◌, List, [], ◌∷◌, ◌++◌, Option, None, Some, length, ◌==◌, ◌+◌, ◌&&◌, take, slice_index_or}
 use Rattle.std.specs.FinMap as map
 use Rattle.std.specs.declared.cmp.Ordering.{Ordering}
 use Rattle.std.specs.Ordering.{nat_cmp, eq_by_cmp}
@@ -65,7 +65,9 @@ is_child folder names = (length names == length folder + 1) && is_below folder n
 -- what a listing of a folder says of a node of the tree
 abbrev pub child_of : Names → Names × Node → Option Name
 child_of folder entry =
-    cond (is_child folder entry.0) (Some (record { name = slice_index_or entry.0 (length folder) []; kind = kind_of entry.1 })) None
+    if is_child folder entry.0
+    then Some (record { name = slice_index_or entry.0 (length folder) []; kind = kind_of entry.1 })
+    else None
 
 -- the names in a folder and what stands there, in the order of the names' bytes
 unfoldable pub listing : Tree → Names → List Name

@@ -22,8 +22,9 @@ pub(crate) enum Change {
     Append(Path, Bytes),
     /// Moves the file at the first path to the second, with these bytes.
     Move(Path, Path, Contents),
-    /// Makes at most so many of the missing folders of the path.
-    MakeFolders(Path, usize),
+    /// Makes, from the name at the first number on, at most so many of the path's missing folders,
+    /// and then puts the file, if there is one.
+    MakeFolders(Path, usize, usize, Option<(Path, Contents)>),
     /// Removes what stands at the path.
     Remove(Path),
 }
@@ -33,6 +34,15 @@ pub(crate) enum Change {
 pub(crate) struct Plan {
     pub(crate) answer: Answer<PlainFile, PlainTemp>,
     pub(crate) change: Change,
+}
+
+impl Plan {
+    /// An answer, and what changes with it.
+    pub(crate) fn of(answer: Answer<PlainFile, PlainTemp>, change: Change) -> Plan
+        ensures { result ≡ record { answer = answer; change = change } }
+    {
+        Plan { answer, change }
+    }
 }
 
 impl Nodes {
@@ -59,7 +69,9 @@ impl Nodes {
             Change::Put(path, node) => self.put(path, node),
             Change::Append(path, bytes) => self.lengthen(path, bytes),
             Change::Move(from, to, bytes) => self.moved(&from, to, bytes),
-            Change::MakeFolders(path, most) => self.make_from(&path, 0, most),
+            Change::MakeFolders(path, from, most, file) => {
+                self.make_from(&path, from, most, file)
+            }
             Change::Remove(path) => {
                 self.cut(&path);
                 Ok(())

@@ -72,7 +72,8 @@ impl Contents {
         Ok(Bytes::front_of(Arc::try_clone(&self.shared)?, count))
     }
 
-    /// Puts more bytes behind these. They grow in place where nobody else owns them, and else as a copy.
+    /// Puts more bytes behind these. They grow in place where nobody else owns them, and else as a
+    /// copy.
     pub(crate) fn extend(&mut self, more: &[u8]) -> Result<(), AllocError>
         ensures ok { OnOk result (self.new ≡ self.old ++ more.now) }
         ensures err { OnErr result (self.new ≡ self.old) }
@@ -94,5 +95,13 @@ impl Contents {
         all.extend_from_slice(self.shared.as_slice())?;
         all.extend_from_slice(more)?;
         Ok(Arc::new(alloc, all)?)
+    }
+}
+
+impl Clone for Contents {
+    ghost is_clone = { λ c d. d ≡ c };
+
+    fn clone(&self) -> Result<Contents, AllocError> {
+        self.share()
     }
 }

@@ -1,7 +1,8 @@
 //! A disk in memory, step by step.
-ghost use Rattle.std.specs.Prelude.{◌≡◌, false, IfOk, OnErr, MatchResult, Ok, Err, option_map, option_copied};
+ghost use Rattle.std.specs.Prelude.{◌≡◌, false, IfOk, OnOk, OnErr, MatchResult, Ok, Err, option_map, option_copied};
 ghost use Rattle.std.specs.Arc.{arc_value};
 ghost use Rattle.cacache_base.specs.Fits.{Fits, is_no_memory};
+ghost use Rattle.cacache_disk.specs.Rooted.{Rooted};
 ghost use Rattle.cacache_disk.specs.Tree.{bare};
 ghost use Rattle.cacache_disk.specs.Apply.{apply, planted, bytes_at};
 
@@ -37,6 +38,10 @@ impl Model for Disk {
     ghost coded = { map.code (coded_list (coded_list coded_ℕ)) node.the_row.coded };
 
     ghost view = { λ d. d.nodes };
+
+    ghost use Rattle.cacache_disk.specs.Rooted.{Rooted};
+
+    ghost invariant = { λ d. Rooted d.nodes };
 }
 
 /// The value, where all went well.
@@ -55,7 +60,8 @@ fn let_go<T: Drop>(_value: T) {}
 impl Disk {
     /// A disk that holds nothing but its top folder.
     pub fn new(alloc: Global) -> Result<Disk, AllocError>
-        ensures { IfOk result (λ d. d ≡ bare) }
+        ensures bare { IfOk result (λ d. d ≡ bare) }
+        ensures rooted { IfOk result (λ d. Rooted d) }
     {
         let mut nodes = Nodes::new(alloc);
         nodes.put(Path::top(alloc), Node::Folder)?;
@@ -64,13 +70,15 @@ impl Disk {
 
     /// The nodes by their paths.
     pub(crate) fn nodes(&self) -> &Nodes
-        ensures { result.now ≡ self.now }
+        ensures same { result.now ≡ self.now }
+        ensures rooted { Rooted self.now }
     {
         &self.nodes
     }
 
-    /// Does one step. Where it fails, the answer says why. `AllocError` means that memory was refused, and nothing
-    /// changed.
+    /// Does one step. Where it fails, the answer says why.
+    ///
+    /// `AllocError` means that memory was refused, and nothing changed.
     pub fn apply(
         &mut self,
         step: &Step<PlainFile, PlainTemp>,
@@ -79,9 +87,11 @@ impl Disk {
         ensures ok { IfOk result (λ answer. apply self.old step.now luck ≡ (answer, self.new)) }
         ensures fits { IfOk result (λ answer. Fits step.now answer) }
         ensures told { IfOk result (λ answer. is_no_memory answer ≡ false) }
+        ensures rooted { OnOk result (Rooted self.new) }
         ensures err { OnErr result (self.new ≡ self.old) }
     {
-        let Plan { answer, change } = self.outcome(step, luck)?;
+        let plan = self.outcome(step, luck)?;
+        let Plan { answer, change } = plan;
         when_done(self.nodes.commit(change), answer)
     }
 
@@ -95,6 +105,7 @@ impl Disk {
         ensures copy { IfOk result (λ r. r.1 ≡ r.0) }
         ensures fits { IfOk result (λ r. Fits step.now r.0) }
         ensures told { IfOk result (λ r. is_no_memory r.0 ≡ false) }
+        ensures rooted { OnOk result (Rooted self.new) }
         ensures err { OnErr result (self.new ≡ self.old) }
     {
         let plan = self.outcome(step, luck)?;
@@ -109,33 +120,50 @@ impl Disk {
         when_done(self.nodes.commit(change), (answer, copy))
     }
 
-    /// Does what somebody else may do: makes the missing folders of the path's folder, and puts a file with these bytes
-    /// at the path, in place of a file or link. Where that can't be done, the fault says why.
+    /// Does what somebody else may do: makes the missing folders of the path's folder, and puts a
+    /// file with these bytes at the path, in place of a file or link. Where that can't be done, the
+    /// fault says why.
     ///
     /// `AllocError` means that memory was refused. On a fault and on an error nothing changed.
     #[tactic(auto, unfolding(crate::specs::Apply::planted))]
     pub fn plant(&mut self, path: &str, bytes: &Bytes) -> Result<Result<(), Fault>, AllocError>
-        ensures done { IfOk result (λ r. MatchResult r (λ _. planted self.old path.now bytes.now ≡ Ok self.new) (λ fault. planted self.old path.now bytes.now ≡ Err fault)) }
+        ensures done { IfOk result (λ r. MatchResult r
+            (λ _. planted self.old path.now bytes.now ≡ Ok self.new)
+            (λ fault. planted self.old path.now bytes.now ≡ Err fault)) }
         ensures fault { IfOk result (λ r. OnErr r (self.new ≡ self.old)) }
+        ensures rooted { IfOk result (λ r. OnOk r (Rooted self.new)) }
         ensures err { OnErr result (self.new ≡ self.old) }
     {
-        match self.nodes.plant(path, bytes) {
-            Ok(()) => Ok(Ok(())),
+        match self.planting(path, bytes) {
+            Ok(change) => when_done(self.nodes.commit(change), Ok(())),
             Err(Stop::Fault(fault)) => Ok(Err(fault)),
             Err(Stop::OutOfMemory) => Err(AllocError),
         }
     }
 
-    /// The bytes that a `ReadAll` of the path would give, or None where it would fail. No byte is copied.
+    /// The bytes that a `ReadAll` of the path would give, or None where it would fail. No byte is
+    /// copied.
     ///
     /// `AllocError` means that memory was refused.
     pub fn shared(&self, path: &str) -> Result<Option<&Arc<Vec<u8>, Global>>, AllocError>
-        ensures { IfOk result (λ r. option_map (λ v. v.items) (option_map arc_value (option_copied r)) ≡ bytes_at self.now path.now) }
+        ensures { IfOk result (λ found.
+            option_map (λ v. v.items) (option_map arc_value (option_copied found))
+            ≡ bytes_at self.now path.now) }
     {
         match self.file_at(path, Fault::IsADirectory) {
             Ok(contents) => Ok(Some(contents.shared())),
             Err(Stop::Fault(_)) => Ok(None),
             Err(Stop::OutOfMemory) => Err(AllocError),
         }
+    }
+}
+
+impl Clone for Disk {
+    ghost is_clone = { λ d e. e ≡ d };
+
+    fn clone(&self) -> Result<Disk, AllocError> {
+        Ok(Disk {
+            nodes: self.nodes.clone()?,
+        })
     }
 }

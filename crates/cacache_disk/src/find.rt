@@ -1,14 +1,16 @@
 //! What a path leads to, or why it leads nowhere.
-ghost use Rattle.std.specs.Prelude.{◌≡◌, Ok, IfOk, IfErr, option_copied};
+ghost use Rattle.std.specs.Prelude.{◌≡◌, [], None, Ok, IfOk, IfErr, option_copied};
 ghost use Rattle.cacache_disk.specs.Tree.{look};
-ghost use Rattle.cacache_disk.specs.Found.{place, followed, leads, at, end_at, misfit, suited, file_at, kept, linked, emptied, dirs};
-ghost use Rattle.cacache_disk.specs.Stops.{Stops};
+ghost use Rattle.cacache_disk.specs.Found.{place, followed, leads, at, end_at, misfit, suited, file_at, kept, linked, emptied, dirs_fault};
+ghost use Rattle.cacache_disk.specs.Deepest.{MakesFrom};
+ghost use Rattle.cacache_disk.specs.Stops.{Stops, Blocks};
 
 use crate::contents::Contents;
 use crate::disk::Disk;
 use crate::node::Node;
 use crate::path::Path;
 use crate::stop::Stop;
+use crate::walk::{dirs_past, way_past};
 use cacache_core::errors::Fault;
 
 /// How many links may be followed, one after another.
@@ -27,7 +29,7 @@ pub(crate) enum Wanted {
 }
 
 /// Why what stands at a path isn't what is wanted, if so.
-pub(crate) fn misfit(wanted: Wanted, node: Option<&Node>) -> Option<Fault>
+fn misfit(wanted: Wanted, node: Option<&Node>) -> Option<Fault>
     ensures { result ≡ misfit wanted (option_copied node.entry) }
 {
     match wanted {
@@ -61,9 +63,10 @@ pub(crate) fn misfit(wanted: Wanted, node: Option<&Node>) -> Option<Fault>
 }
 
 /// The names, where what stands at them is what is wanted.
-fn suited(wanted: Wanted, node: Option<&Node>, names: Path) -> Result<Path, Stop>
+pub(crate) fn suited(wanted: Wanted, node: Option<&Node>, names: Path) -> Result<Path, Stop>
     ensures ok { IfOk result (λ found. suited wanted (option_copied node.entry) names ≡ Ok found) }
-    ensures err { IfErr result (λ stop. Stops stop (suited wanted (option_copied node.entry) names)) }
+    ensures err { IfErr result (λ stop.
+        Stops stop (suited wanted (option_copied node.entry) names)) }
 {
     match misfit(wanted, node) {
         None => Ok(names),
@@ -81,11 +84,13 @@ impl Disk {
     {
         let nodes = self.nodes();
         let names = Path::of(nodes.alloc(), path)?;
-        if let Some(fault) = nodes.way_fault(&names)? {
-            return Err(Stop::Fault(fault));
+        let (count, node) = nodes.deepest(&names)?;
+        let left = names.len() - count;
+        match way_past(node, left) {
+            Some(fault) => Err(Stop::Fault(fault)),
+            None if left == 0 => Ok((names, Some(node))),
+            None => Ok((names, None)),
         }
-        let node = nodes.node(&names);
-        Ok((names, node))
     }
 
     /// The names of a path at which something is wanted. No link is followed.
@@ -176,8 +181,7 @@ impl Disk {
         match node {
             None => Err(Stop::Fault(Fault::NotFound)),
             Some(Node::Folder) => Err(Stop::Fault(Fault::IsADirectory)),
-            Some(Node::File(contents)) => Ok(Node::File(contents.share()?)),
-            Some(Node::Link(target)) => Ok(Node::Link(target.clone()?)),
+            Some(node) => Ok(node.clone()?),
         }
     }
 
@@ -194,15 +198,15 @@ impl Disk {
         Ok(names)
     }
 
-    /// The names of a path whose folders stand or can be made.
-    #[tactic(auto, unfolding(crate::specs::Found::dirs))]
-    pub(crate) fn dirs(&self, path: &str) -> Result<Path, Stop>
-        ensures ok { IfOk result (λ names. dirs self.now path.now ≡ Ok names) }
-        ensures err { IfErr result (λ stop. Stops stop (dirs self.now path.now)) }
+    /// How many of the names lead to the deepest folder, from which the missing ones can be made.
+    pub(crate) fn made_from(&self, names: &Path) -> Result<usize, Stop>
+        ensures ok { IfOk result (λ from. dirs_fault self.now [] names.now ≡ None) }
+        ensures from { IfOk result (MakesFrom self.now names.now) }
+        ensures err { IfErr result (λ stop. Blocks stop (dirs_fault self.now [] names.now)) }
     {
-        let names = Path::of(self.nodes().alloc(), path)?;
-        match self.nodes().dirs_fault(&names)? {
-            None => Ok(names),
+        let (count, node) = self.nodes().deepest(names)?;
+        match dirs_past(node, names.len() - count) {
+            None => Ok(count),
             Some(fault) => Err(Stop::Fault(fault)),
         }
     }

@@ -6,10 +6,11 @@ use cacache_core::errors::Fault;
 pub enum Luck {
     /// It goes well, and all of its bytes are taken.
     Plain,
-    /// It fails with this fault. `NotFound` is never made up: `Device` stands in its place. Given a number, it leaves
-    /// that many of its bytes or folders done, where the step is an `Append`, a `Copy` or a `MakeDirs`.
+    /// It fails with this fault. `NotFound` is never made up: `Device` stands in its place. Given a
+    /// number, it leaves that many of its bytes or folders done, where the step is an `Append`, a
+    /// `Copy` or a `MakeDirs`.
     Fail(Fault, Option<usize>),
-    /// An `Append` or a `Write` takes at most so many bytes, and a `Read` gives at most so many, but one where it can.
-    /// Other steps go well.
+    /// An `Append` or a `Write` takes at most so many bytes, and a `Read` gives at most so many,
+    /// but one where it can. Other steps go well.
     Take(usize),
 }

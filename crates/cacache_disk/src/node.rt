@@ -30,7 +30,8 @@ impl Node {
         }
     }
 
-    /// Puts more bytes behind a file's, in place where nobody shares those. Anything else becomes a file of them.
+    /// Puts more bytes behind a file's, in place where nobody shares those. Anything else becomes a
+    /// file of them.
     pub(crate) fn lengthen(&mut self, more: &Bytes) -> Result<(), AllocError>
         ensures ok { OnOk result (self.new ≡ File (bytes_of (Some self.old) ++ more.now)) }
         ensures err { OnErr result (self.new ≡ self.old) }
@@ -40,5 +41,17 @@ impl Node {
         }
         *self = Node::File(Contents::of(more.share()?)?);
         Ok(())
+    }
+}
+
+impl Clone for Node {
+    ghost is_clone = { λ m n. n ≡ m };
+
+    fn clone(&self) -> Result<Node, AllocError> {
+        match self {
+            Node::Folder => Ok(Node::Folder),
+            Node::File(contents) => Ok(Node::File(contents.share()?)),
+            Node::Link(target) => Ok(Node::Link(target.clone()?)),
+        }
     }
 }

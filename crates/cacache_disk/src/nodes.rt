@@ -3,7 +3,8 @@ ghost use Rattle.std.specs.Prelude.{◌≡◌, ◌==◌, ◌++◌, IfOk, OnOk, O
 ghost use Rattle.std.specs.FinMap as map;
 ghost use Rattle.cacache_disk.specs.declared.node.Node.TheVariants.{File};
 ghost use Rattle.cacache_base.specs.Fits.{AreProperNames};
-ghost use Rattle.cacache_disk.specs.Tree.{look, put, cut, bytes_of, listing};
+ghost use Rattle.cacache_disk.specs.Tree.{look, put, cut, listing};
+ghost use Rattle.cacache_disk.specs.Apply.{lengthened};
 
 use crate::contents::Contents;
 use crate::name::ProperNames;
@@ -79,7 +80,7 @@ impl Nodes {
 
     /// Puts more bytes behind what the file at the path holds, in place where nobody shares that.
     pub(crate) fn lengthen(&mut self, path: Path, more: Bytes) -> Result<(), AllocError>
-        ensures ok { OnOk result (self.new ≡ put self.old path (File (bytes_of (look self.old path) ++ more))) }
+        ensures ok { OnOk result (self.new ≡ lengthened self.old path more) }
         ensures err { OnErr result (self.new ≡ self.old) }
     {
         if let Some(node) = self.nodes.get_mut(&path) {
@@ -127,5 +128,16 @@ impl Nodes {
             }
         }
         true
+    }
+}
+
+impl Clone for Nodes {
+    ghost is_clone = { λ t u. u ≡ t };
+
+    fn clone(&self) -> Result<Nodes, AllocError> {
+        Ok(Nodes {
+            alloc: self.alloc,
+            nodes: self.nodes.clone()?,
+        })
     }
 }

@@ -1,5 +1,5 @@
 //! Paths as names from the top folder down.
-ghost use Rattle.std.specs.Prelude.{◌≡◌, ◌+◌, ◌++◌, ◌∷◌, ◌≤◌, ◌<◌, ◌==◌, [], List, Ok, IfOk, IfErr, OnOk, OnErr, length, take, Some, slice_index_or};
+ghost use Rattle.std.specs.Prelude.{◌≡◌, ◌+◌, ◌-◌, ◌++◌, ◌∷◌, ◌≤◌, ◌<◌, ◌==◌, [], List, Ok, IfOk, IfErr, OnOk, OnErr, length, take, Some, slice_index_or};
 ghost use Rattle.cacache_disk.specs.Tree.{is_below, is_child};
 ghost use Rattle.cacache_disk.specs.Stops.{Stops};
 ghost use Rattle.std.specs.Bool.{OnTrue};
@@ -109,6 +109,13 @@ impl Path {
     {
         self.names.push(name)?;
         Ok(())
+    }
+
+    /// One name less at the end.
+    pub(crate) fn pop(&mut self)
+        ensures { self.new ≡ take (length self.old - 1) self.old }
+    {
+        self.names.pop();
     }
 
     /// The first `count` names.

@@ -90,7 +90,8 @@ impl Disk {
         step: &Step<PlainFile, PlainTemp>,
         luck: Luck,
     ) -> Result<Plan, AllocError>
-        ensures ok { IfOk result (λ plan. apply self.now step.now luck ≡ (plan.answer, changed self.now plan.change)) }
+        ensures ok { IfOk result (λ plan.
+            apply self.now step.now luck ≡ (plan.answer, changed self.now plan.change)) }
         ensures fits { IfOk result (λ plan. Fits step.now plan.answer) }
         ensures told { IfOk result (λ plan. is_no_memory plan.answer ≡ false) }
     {

@@ -14,14 +14,6 @@ pub(crate) enum Stop {
     OutOfMemory,
 }
 
-impl From<Fault> for Stop {
-    ghost from_gives = { λ fault made. made ≡ stop.Fault fault };
-
-    fn from(fault: Fault) -> Stop {
-        Stop::Fault(fault)
-    }
-}
-
 impl From<AllocError> for Stop {
     ghost from_gives = { λ _ made. made ≡ stop.OutOfMemory };
 

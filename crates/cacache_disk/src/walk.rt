@@ -1,96 +1,102 @@
 //! The folders on the way of a path.
-ghost use Rattle.std.specs.Prelude.{◌≡◌, [], ◌∷◌, ◌++◌, ◌<◌, ◌≤◌, ◌+◌, IfOk, IfSome, OnOk, OnErr, option_copied, length, slice_index_or, take, drop};
-ghost use Rattle.cacache_disk.specs.Tree.{look, put, cut};
-ghost use Rattle.cacache_disk.specs.Found.{way_fault, dirs_fault, is_in_way};
+ghost use Rattle.std.specs.Prelude.{◌≡◌, IfOk, OnOk, OnErr, length, take, drop};
+ghost use Rattle.cacache_disk.specs.Rooted.{Rooted};
+ghost use Rattle.cacache_disk.specs.Deepest.{IsDeepest, way_past, dirs_past};
 ghost use Rattle.cacache_disk.specs.Apply.{make_some};
+ghost use Rattle.cacache_disk.specs.Plans.{with_file};
 
+use crate::contents::Contents;
 use crate::node::Node;
 use crate::nodes::Nodes;
 use crate::path::Path;
 use cacache_core::errors::Fault;
 use std::alloc::AllocError;
 
+/// Why the folders don't lead on from the deepest node of a path, where so many names are left.
+pub(crate) fn way_past(node: &Node, left: usize) -> Option<Fault>
+    ensures { result ≡ way_past node.now left }
+{
+    match node {
+        _ if left == 0 => None,
+        Node::Folder if left == 1 => None,
+        Node::Folder => Some(Fault::NotFound),
+        Node::File(_) | Node::Link(_) => Some(Fault::NotADirectory),
+    }
+}
+
+/// Why no folders can be made from the deepest node of a path on, where so many names are left.
+pub(crate) fn dirs_past(node: &Node, left: usize) -> Option<Fault>
+    ensures { result ≡ dirs_past node.now left }
+{
+    match node {
+        Node::Folder => None,
+        Node::File(_) | Node::Link(_) if left == 0 => Some(Fault::AlreadyExists),
+        Node::File(_) | Node::Link(_) => Some(Fault::NotADirectory),
+    }
+}
+
 impl Nodes {
-    /// Why the folders above the last name don't lead there.
-    pub(crate) fn way_fault(&self, path: &Path) -> Result<Option<Fault>, AllocError>
-        ensures { IfOk result (λ fault. fault ≡ way_fault self.now [] path.now) }
+    /// The deepest node on a path, and how many of the path's names lead there. A node that stands
+    /// needs one lookup; from a missing one it climbs.
+    pub(crate) fn deepest(&self, path: &Path) -> Result<(usize, &Node), AllocError>
+        requires { Rooted self.now }
+        ensures { IfOk result (λ r. IsDeepest self.now path.now r.0 r.1.now) }
     {
-        if path.is_top() {
-            return Ok(None);
+        if let Some(node) = self.node(path) {
+            return Ok((path.len(), node));
         }
-        let mut above = Path::top(self.alloc());
-        for i in 0..path.len() - 1 {
-            above.push(path.name(i)?)?;
-            match self.node(&above) {
-                None => return Ok(Some(Fault::NotFound)),
-                Some(Node::Folder) => {}
-                Some(Node::File(_)) => return Ok(Some(Fault::NotADirectory)),
-                Some(Node::Link(_)) => return Ok(Some(Fault::NotADirectory)),
-            }
-        }
-        Ok(None)
-    }
-
-    /// Why the folders of a path can't be made.
-    pub(crate) fn dirs_fault(&self, path: &Path) -> Result<Option<Fault>, AllocError>
-        ensures { IfOk result (λ fault. fault ≡ dirs_fault self.now [] path.now) }
-    {
-        let mut above = Path::top(self.alloc());
+        let mut above = path.clone()?;
         for i in 0..path.len() {
-            above.push(path.name(i)?)?;
-            if is_in_way(self.node(&above)) {
-                let last = i + 1 == path.len();
-                return Ok(Some(if last {
-                    Fault::AlreadyExists
-                } else {
-                    Fault::NotADirectory
-                }));
+            above.pop();
+            if let Some(node) = self.node(&above) {
+                return Ok((path.len() - i - 1, node));
             }
         }
-        Ok(None)
+        unreachable!()
     }
 
-    /// Makes up to `most` of the missing folders, from the name at `from` on. Where memory lacks, it makes none.
+    /// Puts a file at its path, if one is given.
+    fn put_last(&mut self, file: Option<(Path, Contents)>) -> Result<(), AllocError>
+        ensures ok { OnOk result (self.new ≡ with_file file self.old) }
+        ensures err { OnErr result (self.new ≡ self.old) }
+    {
+        match file {
+            None => Ok(()),
+            Some((path, bytes)) => self.put(path, Node::File(bytes)),
+        }
+    }
+
+    /// Makes up to `most` of the missing folders, from the name at `from` on, and then puts a file,
+    /// if one is given. Where memory lacks, nothing changes.
     pub(crate) fn make_from(
         &mut self,
         path: &Path,
         from: usize,
         most: usize,
+        file: Option<(Path, Contents)>,
     ) -> Result<(), AllocError>
-        requires { from ≤ length path.now }
-        ensures ok { OnOk result (self.new ≡ make_some self.old (take from path.now) (drop from path.now) most) }
+        ensures ok { OnOk result (self.new
+            ≡ with_file file (make_some self.old (take from path.now) (drop from path.now) most)) }
         ensures err { OnErr result (self.new ≡ self.old) }
     {
-        if from == path.len() {
-            return Ok(());
+        if from >= path.len() {
+            return self.put_last(file);
         }
         let alloc = self.alloc();
         let here = path.front(alloc, from + 1)?;
         if let Some(_) = self.node(&here) {
-            return self.make_from(path, from + 1, most);
+            return self.make_from(path, from + 1, most, file);
         }
         if most == 0 {
-            return Ok(());
+            return self.put_last(file);
         }
         self.put(path.front(alloc, from + 1)?, Node::Folder)?;
-        match self.make_from(path, from + 1, most - 1) {
+        match self.make_from(path, from + 1, most - 1, file) {
             Ok(()) => Ok(()),
             Err(error) => {
                 self.cut(&here);
                 Err(error)
             }
         }
-    }
-}
-
-/// Whether a file or link stands there.
-fn is_in_way(node: Option<&Node>) -> bool
-    ensures { result ≡ is_in_way (option_copied node.entry) }
-{
-    match node {
-        None => false,
-        Some(Node::Folder) => false,
-        Some(Node::File(_)) => true,
-        Some(Node::Link(_)) => true,
     }
 }

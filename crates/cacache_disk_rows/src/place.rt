@@ -2,7 +2,7 @@
 use crate::flaw::{Flaw, let_go};
 use crate::handles::{Handle, handle_in};
 use crate::shown::{shown_answer, shown_item};
-use crate::tree::{disk_of, shown_tree};
+use crate::tree::{disk_of, shown_copy, shown_tree};
 use crate::words::word_of;
 use cacache_base::store::{Answer, PlainAnswer, PlainStep, Store};
 use cacache_core::bytes::Bytes;
@@ -178,6 +178,14 @@ impl Place {
         match self {
             Place::Disk(_) => Err(Flaw::NotRead),
             Place::Store(store) => foreign(alloc, store.plant_folder(path)),
+        }
+    }
+
+    /// What a copy of the disk holds once that is made which a word says.
+    pub(crate) fn copied(&self, alloc: Global, word: &str) -> Result<String, Flaw> {
+        match self {
+            Place::Disk(disk) => shown_copy(alloc, disk, word),
+            Place::Store(_) => Err(Flaw::NotRead),
         }
     }
 

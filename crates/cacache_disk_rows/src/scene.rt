@@ -29,6 +29,7 @@ fn asked(alloc: Global, place: &mut Place, kind: &str, word: &str) -> Result<Str
     match kind {
         "PlantFolder" => place.plant_folder(alloc, path.as_str()),
         "Shared" => place.bytes(alloc, path.as_str()),
+        "Copied" => place.copied(alloc, word),
         _ => match number_of(word) {
             Some(index) => place.logged(alloc, index),
             None => Err(Flaw::NotRead),
@@ -69,7 +70,7 @@ impl Scene {
         } = words;
         match (kind, second) {
             ("Plant", Some(bytes)) => planted(alloc, &mut self.place, first, bytes),
-            ("PlantFolder" | "Shared" | "Logged", None) => {
+            ("PlantFolder" | "Shared" | "Copied" | "Logged", None) => {
                 asked(alloc, &mut self.place, kind, first)
             }
             ("Held", None) => used(alloc, &mut self.held, first),

@@ -154,3 +154,10 @@ pub(crate) fn shown_tree(alloc: Global, disk: &mut Disk) -> Result<String, Alloc
     show_folder(alloc, disk, &mut targets, "", DEPTH, &mut text)?;
     Ok(text)
 }
+
+/// What a copy of a disk holds once that is made which a word says.
+pub(crate) fn shown_copy(alloc: Global, disk: &Disk, word: &str) -> Result<String, Flaw> {
+    let mut copy = disk.clone()?;
+    make(alloc, &mut copy, word)?;
+    Ok(shown_tree(alloc, &mut copy)?)
+}

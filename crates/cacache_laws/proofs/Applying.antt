@@ -12,32 +12,6 @@ use Rattle.cacache_disk.specs.Apply.{apply, plain, unless, is_taking, is_parted,
 use Rattle.cacache_laws.specs.Value.{wide_value}
 use Rattle.cacache_laws.specs.Acts.{Nothing, amount_left, act_of, change}
 
--- ---- what holds of the tree before, and after as much of the step as you like, holds after it
-
-module _ (P : Tree → Type 0) where
-  cond_tree : (b : Bool) (x y : Tree) → P x → P y → P (cond b x y)
-  cond_tree true x y h k = h
-  cond_tree false x y h k = k
-
-  fails_tree : (own : Option Fault) (fault : Fault) (t left : Tree) → P t → P left → P (fails own fault t left).1
-  fails_tree None fault t left h k = k
-  fails_tree (Some own) fault t left h k = h
-
-  left_tree : (t : Tree) (step : PlainStep) (part : Option ℕ) → P t → ((most : Option ℕ) → P (plain t step most).1) → P (left_by t step part)
-  left_tree t step None h k = h
-  left_tree t step (Some part) h k = cond_tree (is_parted step) _ _ (k (Some part)) h
-
-  pub apply_tree : (t : Tree) (step : PlainStep) (luck : Luck) → P t → ((most : Option ℕ) → P (plain t step most).1) → P (apply t step luck).1
-  unfolding apply
-  apply_tree t step Plain h k = k None
-  apply_tree t step (Take most) h k = k (cond (is_taking step) (Some most) None)
-  apply_tree t step (Fail fault part) h k = fails_tree (fault_of (plain t step None).0) fault t (left_by t step part) h (left_tree t step part h k)
-
-  pub unless_tree : {A : Type 0} (r : Result A Fault) (t : Tree) (go : A → PlainAnswer × Tree) → P t → ((a : A) → r ≡ Ok a → P (go a).1)
-      → P (unless r t go).1
-  unless_tree (Ok a) t go h k = k a refl
-  unless_tree (Err fault) t go h k = h
-
 -- ---- the act of a step that is done whole or not at all
 
 -- the value after is the act of the step on the value before

@@ -12,15 +12,18 @@ use Rattle.cacache_disk.specs.Found.{or_fault, dirs_fault, is_in_way, where_no_f
 use Rattle.cacache_disk.specs.Apply.{planted, above_last, make_some, if_missing}
 use Rattle.cacache_disk.proofs.Maps.{same_path-true}
 use Rattle.cacache_laws.specs.Kinds.{PathKind, Elsewhere, path_kind, kind_beside, node_below, is_path_of, IsFor}
-use Rattle.cacache_laws.specs.Value.{blob_in, bucket_in, is_folder, folders_below, value_of_tree}
+use Rattle.cacache_laws.specs.Value.{blob_in, bucket_in, folders_below, value_of_tree}
 use Rattle.cacache_laws.specs.Placed.{Suits, Placed}
-use Rattle.cacache_laws.specs.Rooted.{Rooted, StandsIn}
+use Rattle.cacache_disk.specs.Rooted.{is_folder, Rooted, StandsIn}
 use Rattle.cacache_laws.specs.Opening.{with_files, LieApart, IsOpening}
 use Rattle.cacache_laws.specs.Laws.{FilesOpen}
 use Rattle.cacache_laws.proofs.Apart.{not_true, kind-below, further, inner_used}
-use Rattle.cacache_laws.proofs.Puts.{look-put, node_below-put, same_value, placed_put}
-use Rattle.cacache_laws.proofs.Finding.{no_folder_at, and_then_ok, of_names}
-use Rattle.cacache_laws.proofs.Roots.{put_rooted, make_rooted, or_fault_none, folder_names-snoc, same_self, no_fault, dirs_fault-put}
+use Rattle.cacache_laws.proofs.Puts.{node_below-put, same_value, placed_put}
+use Rattle.cacache_laws.proofs.Finding.{of_names}
+use Rattle.cacache_disk.proofs.Puts.{look-put}
+use Rattle.cacache_disk.proofs.Finding.{no_folder_at, and_then_ok, or_fault_none}
+use Rattle.cacache_disk.proofs.Roots.{look-bare, bare_below, bare_rooted}
+use Rattle.cacache_disk.proofs.Planting.{Ends, empty, last, ends, above_last-snoc, planted_rooted}
 
 -- ---- paths that aren't below the cache's folder
 
@@ -86,69 +89,12 @@ made_apart home t above (name ∷ rest) more count e placed =
     made_at home (above ++ name ∷ []) rest (rest ++ more) t (look t (above ++ name ∷ [])) count (count == 0) next placed
     (λ new count p. made_apart home new (above ++ name ∷ []) rest more count next p)
 
--- what lies deeper stays
-deeper_at : (t : Tree) (p q rest : Names) (here : Option Node) (count : ℕ) (b : Bool) → length p < length q
-    → ((new : Tree) (count : ℕ) → look (make_some new p rest count) q ≡ look new q)
-    → look (make_some (if_missing here (cond b t (put t p Folder)) t) p rest (if_missing here (count - 1) count)) q ≡ look t q
-deeper_at t p q rest None count true l h = h t (count - 1)
-deeper_at t p q rest None count false l h =
-    let apart : same_path q p ≡ false = not_true (same_path q p) (λ s. let same : length q ≡ length p = ap (λ (n : Names). length n) (same_path-true q p s) in omega arith) in
-    h (put t p Folder) (count - 1) ∙ look-put t p Folder q ∙ ap (λ b. cond b (Some Folder) (look t q)) apart
-deeper_at t p q rest (Some node) count b l h = h t count
-
-deeper : (t : Tree) (above rest q : Names) (count : ℕ) → length (above ++ rest) < length q → look (make_some t above rest count) q ≡ look t q
-deeper t above [] q count l = refl
-deeper t above (name ∷ rest) q count l =
-    let shorter : length (above ++ name ∷ []) < length q = omega (arith, l, length-append above (name ∷ rest), length-append above (name ∷ [])) in
-    let same : length ((above ++ name ∷ []) ++ rest) ≡ length (above ++ name ∷ rest) = ap (λ (n : Names). length n) (append_assoc above (name ∷ []) rest) in
-    deeper_at t (above ++ name ∷ []) q rest (look t (above ++ name ∷ [])) count (count == 0) shorter (λ new count. deeper new (above ++ name ∷ []) rest q count (omega (arith, l, same)))
-
--- all folders made, the last of them is there
-full_at : (t : Tree) (p rest : Names) (here : Option Node) (count : ℕ) (b : Bool) → look t p ≡ here → (count == 0) ≡ b → is_in_way here ≡ false
-    → dirs_fault t p rest ≡ None
-    → ((new : Tree) (count : ℕ) → look new p ≡ Some Folder → dirs_fault new p rest ≡ None → length rest ≤ count → look (make_some new p rest count) (p ++ rest) ≡ Some Folder) → length rest + 1 ≤ count
-    → look (make_some (if_missing here (cond b t (put t p Folder)) t) p rest (if_missing here (count - 1) count)) (p ++ rest) ≡ Some Folder
-full_at t p rest None count true e z clear f h l = let none : count ≡ 0 = eqb-true count 0 z in absurd (omega arith)
-full_at t p rest None count false e z clear f h l =
-    h (put t p Folder) (count - 1) (look-put t p Folder p ∙ ap (λ b. cond b (Some Folder) (look t p)) (same_self p)) (dirs_fault-put t p p rest (ap is_in_way e) ∙ f) (omega arith)
-full_at t p rest (Some Folder) count b e z clear f h l = h t count e f (omega arith)
-full_at t p rest (Some (File bytes)) count b e z clear f h l = absurd cc
-full_at t p rest (Some (Link target)) count b e z clear f h l = absurd cc
-
-full : (t : Tree) (above rest : Names) (count : ℕ) → look t above ≡ Some Folder → dirs_fault t above rest ≡ None → length rest ≤ count
-    → look (make_some t above rest count) (above ++ rest) ≡ Some Folder
-full t above [] count is f l = ap (look t) (append-nil above) ∙ is
-full t above (name ∷ rest) count is f l =
-    let g = no_fault (is_in_way (look t (above ++ name ∷ []))) (cond (length rest == 0) AlreadyExists NotADirectory) (dirs_fault t (above ++ name ∷ []) rest) f in
-    let same : (above ++ name ∷ []) ++ rest ≡ above ++ name ∷ rest = append_assoc above (name ∷ []) rest in
-    subst (λ q. look (make_some t above (name ∷ rest) count) q ≡ Some Folder) same
-    (full_at t (above ++ name ∷ []) rest (look t (above ++ name ∷ [])) count (count == 0) refl refl g.0 g.1
-    (λ new count i f l. full new (above ++ name ∷ []) rest count i f l) (omega arith))
-
 -- ---- a file planted apart from the cache
 
-above_last-snoc : (above : Names) (name : List ℕ) → above_last (above ++ name ∷ []) ≡ above
-above_last-snoc above name =
-    let l : length (above ++ name ∷ []) - 1 ≡ length above = omega (arith, length-append above (name ∷ [])) in
-    rw l (take-append_seam above (name ∷ []))
-
--- a list is empty or has a last item
-data Ends (names : Names) : Type 0 where
-  empty : names ≡ [] → Ends names
-  last : (above : Names) (name : List ℕ) → names ≡ above ++ name ∷ [] → Ends names
-
-ends_at : (n : List ℕ) (rest : Names) → Ends rest → Ends (n ∷ rest)
-ends_at n rest (empty e) = last [] n (ap (λ (l : Names). n ∷ l) e)
-ends_at n rest (last above name e) = last (n ∷ above) name (ap (λ (l : Names). n ∷ l) e)
-
-ends : (names : Names) → Ends names
-ends [] = empty refl
-ends (n ∷ rest) = ends_at n rest (ends rest)
-
 module _ (home : Option Names) (t : Tree) (bytes : List ℕ) (placed : Placed home t) (rooted : Rooted t) where
-  -- what stays, and what a further plant needs
+  -- what stays
   Grows : Tree → Type 0
-  Grows new = Placed home new × Rooted new × (value_of_tree home new ≡ value_of_tree home t)
+  Grows new = Placed home new × (value_of_tree home new ≡ value_of_tree home t)
 
   put_apart : (above : Names) (name : List ℕ) → path_kind home (above ++ name ∷ []) ≡ Elsewhere → dirs_fault t [] above ≡ None
       → is_folder (look t (above ++ name ∷ [])) ≡ false
@@ -156,14 +102,8 @@ module _ (home : Option Names) (t : Tree) (bytes : List ℕ) (placed : Placed ho
   unfolding Grows
   put_apart above name e f old =
       let t1 = make_some t [] above (length above) in
-      let made = made_apart home t [] above (name ∷ []) (length above) e placed in
-      let l : length (above ++ name ∷ []) ≡ length above + 1 = omega (arith, length-append above (name ∷ [])) in
-      let stays : look (make_some t [] above (length above)) (above ++ name ∷ []) ≡ look t (above ++ name ∷ []) = deeper t [] above (above ++ name ∷ []) (length above) (omega (arith, l)) in
-      let upper : look (make_some t [] above (length above)) above ≡ Some Folder = full t [] above (length above) rooted.top f (omega arith) in (
+      let made = made_apart home t [] above (name ∷ []) (length above) e placed in (
         placed_put home (make_some t [] above (length above)) (above ++ name ∷ []) (File bytes) (subst (Suits home (Some (File bytes))) (sym e) tt) made.0,
-        put_rooted (make_some t [] above (length above)) (above ++ name ∷ []) (File bytes) (make_rooted t [] above (length above) rooted rooted.top f)
-            (λ a n is. ap (look (make_some t [] above (length above))) (sym (sym (folder_names-snoc above name) ∙ ap folder_names is ∙ folder_names-snoc a n)) ∙ upper)
-            (ap is_folder stays ∙ old),
         outer_put home (make_some t [] above (length above)) (above ++ name ∷ []) (File bytes) (outer home (above ++ name ∷ []) [] (ap (path_kind home) (append-nil (above ++ name ∷ [])) ∙ e)) ∙ made.1,
       )
 
@@ -195,18 +135,9 @@ grown home t new [] opens apart e = let same : t ≡ new = cc in subst (IsOpenin
 grown home t new (file ∷ files) opens apart e =
     let f = and_then_ok (planted t file.0 file.1) (λ new. with_files new files) new e in
     let g = planted_grows home t file.1 opens.placed opens.rooted file.0 f.0 apart.0 f.1 in
-    grown home f.0 new files (record { placed = g.0; rooted = g.1; nothing = g.2 ∙ opens.nothing }) apart.1 f.2
+    grown home f.0 new files (record { placed = g.0; rooted = planted_rooted t file.1 opens.rooted file.0 f.0 f.1; nothing = g.1 ∙ opens.nothing }) apart.1 f.2
 
 -- ---- nothing but the top folder
-
-look-bare : (q : Names) → look bare q ≡ cond (same_path q []) (Some Folder) None
-look-bare q = look-put map.empty [] Folder q ∙ ap (cond (same_path q []) (Some Folder)) (map.get-empty names_cmp q)
-
-bare_below : (above : Names) (name : List ℕ) (rest : Names) → look bare (above ++ name ∷ rest) ≡ None
-bare_below above name rest =
-    let apart : same_path (above ++ name ∷ rest) [] ≡ false
-    = not_true (same_path (above ++ name ∷ rest) []) (λ s. let same : length (above ++ name ∷ rest) ≡ 0 = ap (λ (n : Names). length n) (same_path-true (above ++ name ∷ rest) [] s) in omega (arith, length-append above (name ∷ rest))) in
-    look-bare (above ++ name ∷ rest) ∙ ap (λ b. cond b (Some Folder) None) apart
 
 bare_inner : (home : Option Names) (name : List ℕ) (rest : Names) → node_below home bare (name ∷ rest) ≡ None
 bare_inner None name rest = refl
@@ -229,10 +160,7 @@ bare_at home q false e = tt
 bare_opens : (home : Option Names) → IsOpening home bare
 bare_opens home = record {
   placed = λ q. subst (λ here. Suits home here (path_kind home q)) (sym (look-bare q)) (bare_at home q (same_path q []) refl);
-  rooted = record {
-    top = look-bare [] ∙ ap (λ b. cond b (Some Folder) None) (same_self []);
-    folders = λ above name. subst (StandsIn (look bare above)) (sym (bare_below above name [])) tt;
-  };
+  rooted = bare_rooted;
   nothing = same_value _ _ (λ a. ap blob_in (bare_inner home _ _)) (λ h. ap bucket_in (bare_inner home _ _)) (λ q. bare_folders home q);
 }
 

@@ -6,11 +6,13 @@ use Rattle.cacache_core.specs.Paths.{content_names, bucket_names_of}
 use Rattle.cacache_disk.specs.declared.node.Node.{Node}
 use Rattle.cacache_disk.specs.declared.node.Node.TheVariants.{Folder, File}
 use Rattle.cacache_disk.specs.Tree.{Tree, Names, look, put, cut, same_path}
-use Rattle.cacache_disk.proofs.Maps.{total, same_path-true}
+use Rattle.cacache_disk.specs.Rooted.{is_folder}
+use Rattle.cacache_disk.proofs.Maps.{same_path-true}
+use Rattle.cacache_disk.proofs.Puts.{look-put, look-cut, folders-put, folders-cut}
 use Rattle.cacache_entry.specs.Entry.{Entry}
 use Rattle.cacache_entry.specs.Bucket.{entries_of}
 use Rattle.cacache_laws.specs.Kinds.{PathKind, Content, Bucket, Way, kind_below, path_kind, node_below, is_path_of}
-use Rattle.cacache_laws.specs.Value.{Value, blob_in, bucket_in, is_folder, wide_value}
+use Rattle.cacache_laws.specs.Value.{Value, blob_in, bucket_in, wide_value}
 use Rattle.cacache_laws.specs.Acts.{put_blob, list_of, add_entries, drop_file, set_folder, with_folders}
 use Rattle.cacache_laws.specs.Placed.{Suits, Placed}
 use Rattle.cacache_laws.proofs.Apart.{unseen}
@@ -19,12 +21,6 @@ use Rattle.cacache_laws.proofs.Apart.{unseen}
 pub same_value : (v w : Value) → ((a : Hash) → v.contents a ≡ w.contents a) → ((h : List ℕ) → v.buckets h ≡ w.buckets h)
     → ((q : Names) → v.folders q ≡ w.folders q) → v ≡ w
 same_value v w c b f = λ i. record { contents = λ a. c a i; buckets = λ h. b h i; folders = λ q. f q i }
-
-pub look-put : (t : Tree) (p : Names) (node : Node) (q : Names) → look (put t p node) q ≡ cond (same_path q p) (Some node) (look t q)
-look-put t p node q = map.get-insert total t p node q
-
-pub look-cut : (t : Tree) (p q : Names) → look (cut t p) q ≡ cond (same_path q p) None (look t q)
-look-cut t p q = map.get-remove total t p q
 
 pub node_below-put : (home : Option Names) (t : Tree) (p : Names) (node : Node) (names : Names)
     → node_below home (put t p node) names ≡ cond (is_path_of home names p) (Some node) (node_below home t names)
@@ -52,20 +48,6 @@ put_unseen home t p node names apart = node_below-put home t p node names ∙ ap
 pub cut_unseen : (home : Option Names) (t : Tree) (p names : Names) → (kind_below names ≡ path_kind home p → ⊥)
     → node_below home (cut t p) names ≡ node_below home t names
 cut_unseen home t p names apart = node_below-cut home t p names ∙ ap (λ b. cond b None (node_below home t names)) (unseen home names p apart)
-
--- ---- folders
-
-folder_at : (t : Tree) (p q : Names) (new : Option Node) (b : Bool) → same_path q p ≡ b → is_folder new ≡ false → is_folder (look t p) ≡ false
-    → is_folder (cond b new (look t q)) ≡ is_folder (look t q)
-folder_at t p q new true e fresh old = fresh ∙ sym (ap (λ r. is_folder (look t r)) (same_path-true q p e) ∙ old)
-folder_at t p q new false e fresh old = refl
-
-folders-put : (t : Tree) (p : Names) (node : Node) (q : Names) → is_folder (Some node) ≡ false → is_folder (look t p) ≡ false
-    → is_folder (look (put t p node) q) ≡ is_folder (look t q)
-folders-put t p node q fresh old = ap is_folder (look-put t p node q) ∙ folder_at t p q (Some node) (same_path q p) refl fresh old
-
-pub folders-cut : (t : Tree) (p q : Names) → is_folder (look t p) ≡ false → is_folder (look (cut t p) q) ≡ is_folder (look t q)
-folders-cut t p q old = ap is_folder (look-cut t p q) ∙ folder_at t p q None (same_path q p) refl refl old
 
 -- ---- what may stand at each path
 

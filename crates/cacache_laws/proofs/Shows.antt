@@ -20,7 +20,8 @@ use Rattle.cacache_entry.specs.Entry.{Entry}
 use Rattle.cacache_laws.specs.Kinds.{Content, Bucket, path_kind, is_used}
 use Rattle.cacache_laws.specs.Value.{blob_in, bucket_in, wide_value}
 use Rattle.cacache_laws.specs.Placed.{Suits, Placed}
-use Rattle.cacache_laws.specs.Rooted.{StandsIn, Rooted}
+use Rattle.cacache_disk.specs.Rooted.{Rooted}
+use Rattle.cacache_disk.proofs.Standing.{way_clear}
 use Rattle.cacache_laws.specs.Shows.{link_end, blob_bytes, blob_there, ShowsBucket, ShowsContent, ShowsThere}
 use Rattle.cacache_laws.specs.Laws.{TreesShow}
 use Rattle.cacache_laws.proofs.Apart.{kind-below}
@@ -52,21 +53,6 @@ module _ (Q : PlainAnswer → Type 0) (made_up_too : (fault : Fault) → Q (Fail
   apply_answer t step Plain h = h None
   apply_answer t step (Take most) h = h (cond (is_taking step) (Some most) None)
   apply_answer t step (Fail fault part) h = fails_answer t (left_by t step part) (plain t step None).0 (fault_of (plain t step None).0) fault refl (h None)
-
--- ---- above what stands are folders
-
-upper_folder : (t : Tree) (p rest : Names) (name : List ℕ) (node : Node) → Rooted t → look t (p ++ name ∷ rest) ≡ Some node → look t p ≡ Some Folder
-upper_folder t p [] name node rooted e = subst (StandsIn (look t p)) e (rooted.folders p name)
-upper_folder t p (m ∷ rest) name node rooted e =
-    let next = upper_folder t (p ++ name ∷ []) rest m node rooted (ap (look t) (append_assoc p (name ∷ []) (m ∷ rest)) ∙ e) in
-    subst (StandsIn (look t p)) next (rooted.folders p name)
-
-way_clear : (t : Tree) (p rest : Names) (node : Node) → Rooted t → look t (p ++ rest) ≡ Some node → way_fault t p rest ≡ None
-way_clear t p [] node rooted e = refl
-way_clear t p (name ∷ []) node rooted e = refl
-way_clear t p (name ∷ m ∷ rest) node rooted e =
-    let same = ap (look t) (append_assoc p (name ∷ []) (m ∷ rest)) ∙ e in
-    rw (upper_folder t (p ++ name ∷ []) rest m node rooted same) (way_clear t (p ++ name ∷ []) (m ∷ rest) node rooted same)
 
 -- ---- where a path of the cache leads
 

@@ -24,7 +24,7 @@ use Rattle.cacache_laws.specs.Acts.{list_of, amount_left, folders_left, make_fol
 use Rattle.cacache_laws.specs.Cases.{bucket_after, AppendCases, ContentCases, RemovedBucketsGo, OtherBucketsKeep, FolderCases, KindCases, TreeCases, LinkCases, row_home, row_folder, folders_after}
 use Rattle.cacache_laws.proofs.Apart.{not_true}
 use Rattle.cacache_laws.proofs.Lines.{whole_line, torn_line, append_act, nothing_left_is_nothing}
-use Rattle.cacache_laws.proofs.Roots.{same_self}
+use Rattle.cacache_disk.proofs.Roots.{same_self}
 
 here : {A : Type 0} (p : Names) (x y : A) → cond (same_path p p) x y ≡ x
 here p x y = ap (λ b. cond b x y) (same_self p)

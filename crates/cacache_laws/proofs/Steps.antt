@@ -14,17 +14,21 @@ use Rattle.cacache_disk.specs.declared.node.Node.{Node}
 use Rattle.cacache_disk.specs.declared.node.Node.TheVariants.{Folder, File, Link}
 use Rattle.cacache_core.specs.PathNames.{names_of}
 use Rattle.cacache_disk.specs.Tree.{Tree, Names, look, put, cut, bytes_of}
+use Rattle.cacache_disk.specs.Rooted.{is_folder}
 use Rattle.cacache_disk.specs.Found.{dirs, free, known, kept, replaceable, writable, file_at, linked, removable, emptied, folder}
 use Rattle.cacache_disk.specs.Apply.{apply, plain, unless, taken, made_up, making, make_some}
 use Rattle.cacache_entry.specs.Entry.{piece_of}
 use Rattle.cacache_entry.specs.Bucket.{entries_of}
 use Rattle.cacache_laws.specs.Kinds.{PathKind, Content, Bucket, Temporary, Way, Elsewhere, path_kind, IsFor}
-use Rattle.cacache_laws.specs.Value.{InFile, is_folder, wide_value}
+use Rattle.cacache_laws.specs.Value.{InFile, wide_value}
 use Rattle.cacache_laws.specs.Acts.{Act, Nothing, PutBytes, PutLink, AddEntries, Drop, MakeFolders, DropFolder, put_blob, act_at, act_with, amount_left, folders_left, act_of, change}
 use Rattle.cacache_laws.specs.Placed.{Suits, Placed, Proper}
-use Rattle.cacache_laws.proofs.Puts.{folders-cut, placed_put, placed_cut, put_hidden, cut_hidden, put_content, put_bucket, cut_file, cut_folder}
-use Rattle.cacache_laws.proofs.Finding.{suits, Reaches, found, missing, bucket_reached, unreachable, unmakeable, of_names, free_ok, kept_ok, replaceable_ok, removable_ok, emptied_ok, linked_ok, writable_out}
-use Rattle.cacache_laws.proofs.Applying.{apply_tree, unless_tree, Acted, unless_acted, apply_acted, apply_refused, refused, amount_left-made_up}
+use Rattle.cacache_disk.proofs.Puts.{folders-cut}
+use Rattle.cacache_disk.proofs.Finding.{free_ok, kept_ok, replaceable_ok, removable_ok, emptied_ok}
+use Rattle.cacache_disk.proofs.Kept.{apply_tree, unless_tree}
+use Rattle.cacache_laws.proofs.Puts.{placed_put, placed_cut, put_hidden, cut_hidden, put_content, put_bucket, cut_file, cut_folder}
+use Rattle.cacache_laws.proofs.Finding.{suits, Reaches, found, missing, bucket_reached, unreachable, unmakeable, of_names, linked_ok, writable_out}
+use Rattle.cacache_laws.proofs.Applying.{Acted, unless_acted, apply_acted, apply_refused, refused, amount_left-made_up}
 use Rattle.cacache_laws.proofs.Making.{made, no_dirs_fault}
 use Rattle.cacache_laws.proofs.Lines.{bucket_left}
 

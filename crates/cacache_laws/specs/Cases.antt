@@ -146,7 +146,8 @@ RemovedBucketsGo =
 
 -- the folders of a cache that held none, after a `MakeDirs`
 abbrev pub folders_after : List ℕ → Luck → PlainAnswer → Names → Bool
-folders_after path luck answer = (value_after row_home empty_value (MakeDirs path) luck answer).folders
+folders_after path luck answer =
+    (value_after row_home empty_value (MakeDirs path) luck answer).folders
 
 -- the two folders of a path
 pub record FolderCases (path : List ℕ) (luck : Luck) : Type 0 where

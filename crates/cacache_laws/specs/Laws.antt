@@ -12,7 +12,7 @@ use Rattle.cacache_core.specs.Paths.{bucket_names_of}
 use Rattle.cacache_laws.specs.Kinds.{is_path_of}
 use Rattle.cacache_laws.specs.Value.{Value, wide_value, value_of_tree, cache_part}
 use Rattle.cacache_laws.specs.Acts.{Act, Nothing, Drop, AddEntries, amount_left, act_of, change, list_of}
-use Rattle.cacache_laws.specs.Rooted.{Rooted}
+use Rattle.cacache_disk.specs.Rooted.{Rooted}
 use Rattle.cacache_laws.specs.Placed.{Placed, Proper}
 use Rattle.cacache_laws.specs.Traces.{Move, IsTrace, tree_after, acts}
 use Rattle.cacache_laws.specs.Shows.{ReadsShow}

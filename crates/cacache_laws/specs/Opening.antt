@@ -7,7 +7,7 @@ use Rattle.cacache_disk.specs.Found.{and_then}
 use Rattle.cacache_disk.specs.Apply.{planted}
 use Rattle.cacache_laws.specs.Kinds.{Elsewhere, IsFor}
 use Rattle.cacache_laws.specs.Value.{value_of_tree, empty_value}
-use Rattle.cacache_laws.specs.Rooted.{Rooted}
+use Rattle.cacache_disk.specs.Rooted.{Rooted}
 use Rattle.cacache_laws.specs.Placed.{Placed}
 
 -- the tree with these files put into it, each at its path

@@ -5,6 +5,7 @@ use Rattle.cacache_core.specs.PathNames.{Names}
 use Rattle.cacache_core.specs.Paths.{content_names, bucket_names_of}
 use Rattle.cacache_disk.specs.declared.node.Node.{Node}
 use Rattle.cacache_disk.specs.declared.node.Node.TheVariants.{Folder, File, Link}
+use Rattle.cacache_disk.specs.Rooted.{is_folder}
 use Rattle.cacache_disk.specs.Tree.{Tree, look}
 use Rattle.cacache_entry.specs.Entry.{Entry}
 use Rattle.cacache_entry.specs.Bucket.{entries_of}
@@ -44,13 +45,6 @@ bucket_in None = None
 bucket_in (Some Folder) = None
 bucket_in (Some (File bytes)) = Some (entries_of bytes)
 bucket_in (Some (Link target)) = None
-
--- whether a node is a folder
-abbrev pub is_folder : Option Node → Bool
-is_folder None = false
-is_folder (Some Folder) = true
-is_folder (Some (File bytes)) = false
-is_folder (Some (Link target)) = false
 
 -- the value of a tree with all of its folders, those outside the cache too
 abbrev pub wide_value : Option Names → Tree → Value

@@ -3,7 +3,7 @@ use Rattle.std.specs.Prelude.{◌≡◌}
 use Rattle.cacache_memory.specs.declared.memory.MemStore.TheInside.{Inside}
 use Rattle.cacache_memory.specs.Replay.{tree_of, IsLog}
 
--- each item of the log is what a disk did that was bare at first, and the tree is what the log leads to
+-- the log is of a disk that was bare at first, and the tree is what the log leads to
 pub record IsKept (s : Inside) : Type 0 where
   pub logged : IsLog s.log.items
   pub tree : tree_of s.log.items ≡ s.disk

@@ -22,7 +22,7 @@ after t (Made step answer) = (apply t step Plain).1
 after t (Foreign path bytes) = changed t (planted t path bytes)
 after t (ForeignFolder path) = (apply t (MakeDirs path) Plain).1
 
--- the item can happen on a disk with this tree: a step has the disk's answer, and what is foreign doesn't fail
+-- a step has the disk's answer on this tree, and what is foreign doesn't fail
 abbrev pub Happens : Tree → LogItem → Type 0
 Happens t (Made step answer) = answer ≡ (apply t step Plain).0
 Happens t (Foreign path bytes) = result_err (planted t path bytes) ≡ None

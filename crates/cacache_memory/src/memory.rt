@@ -62,8 +62,10 @@ fn fault_of(answer: &Answer<PlainFile, PlainTemp>) -> Option<Fault>
 
 /// Makes the missing folders of the path, or gives the fault of that.
 fn make_folders(disk: &mut Disk, path: Text) -> Result<Option<Fault>, AllocError>
-    ensures fault { IfOk result (λ fault. fault ≡ fault_in (apply disk.old (MakeDirs path) Plain).0) }
-    ensures made { IfOk result (λ fault. IfNone fault (apply disk.old (MakeDirs path) Plain ≡ (Done, disk.new))) }
+    ensures fault { IfOk result (λ fault.
+        fault ≡ fault_in (apply disk.old (MakeDirs path) Plain).0) }
+    ensures made { IfOk result (λ fault.
+        IfNone fault (apply disk.old (MakeDirs path) Plain ≡ (Done, disk.new))) }
     ensures failed { IfOk result (λ fault. OnSome fault (disk.new ≡ disk.old)) }
     ensures err { OnErr result (disk.new ≡ disk.old) }
 {
@@ -76,8 +78,8 @@ fn make_folders(disk: &mut Disk, path: Text) -> Result<Option<Fault>, AllocError
     Ok(fault)
 }
 
-/// A disk in memory, and the log of all that happened on it, which is kept for good. Each step is applied with
-/// plain luck. Contracts see the log, which the disk's tree follows from.
+/// A disk in memory, and the log of all that happened on it, which is kept for good. Each step is
+/// applied with plain luck. Contracts see the log, which the disk's tree follows from.
 #[derive(Drop)]
 pub struct MemStore {
     alloc: Global,
@@ -110,8 +112,8 @@ impl MemStore {
         })
     }
 
-    /// All that happened so far, oldest first. Each item is what a disk did that had nothing but the top folder
-    /// at first.
+    /// All that happened so far, oldest first. Each item is what a disk did that had nothing but
+    /// the top folder at first.
     pub fn log(&self) -> &[LogItem]
         ensures same { result.now ≡ self.now }
         ensures replayable { IsLog self.now }
@@ -119,14 +121,15 @@ impl MemStore {
         self.log.as_slice()
     }
 
-    /// Puts a file with these bytes at the path as somebody else would, in place of a file or link there, and makes
-    /// the folders above it that are missing.
+    /// Puts a file with these bytes at the path as somebody else would, in place of a file or link
+    /// there, and makes the folders above it that are missing.
     ///
     /// `IoError` says why that can't be. On any error nothing happened.
     pub fn plant(&mut self, path: &str, bytes: &[u8]) -> errors::Result<()>
         ensures ok { OnOk result (self.new ≡ self.old ++ Foreign path.now bytes.now ∷ []) }
         ensures err { OnErr result (self.new ≡ self.old) }
-        ensures earned { IsEarned (result_err (planted (tree_of self.old) path.now bytes.now)) result }
+        ensures earned { IsEarned
+            (result_err (planted (tree_of self.old) path.now bytes.now)) result }
     {
         let path = Text::from_str(self.alloc, path)?;
         let bytes = Bytes::new(self.alloc, Vec::from_slice(self.alloc, bytes)?)?;
@@ -146,7 +149,8 @@ impl MemStore {
     pub fn plant_folder(&mut self, path: &str) -> errors::Result<()>
         ensures ok { OnOk result (self.new ≡ self.old ++ ForeignFolder path.now ∷ []) }
         ensures err { OnErr result (self.new ≡ self.old) }
-        ensures earned { IsEarned (fault_in (apply (tree_of self.old) (MakeDirs path.now) Plain).0) result }
+        ensures earned { IsEarned
+            (fault_in (apply (tree_of self.old) (MakeDirs path.now) Plain).0) result }
     {
         let path = Text::from_str(self.alloc, path)?;
         make_room(&mut self.log)?;
@@ -159,10 +163,11 @@ impl MemStore {
         }
     }
 
-    /// The bytes that reading the whole file at the path gives, which are copied once, or None where that fails.
-    /// It isn't logged. The only error is `OutOfMemory`.
+    /// The bytes that reading the whole file at the path gives, which are copied once, or None where
+    /// that fails. It isn't logged. The only error is `OutOfMemory`.
     pub fn bytes(&self, path: &str) -> errors::Result<Option<Vec<u8>>>
-        ensures ok { IfOk result (λ found. option_map (λ v. v.items) found ≡ shown (tree_of self.now) path.now) }
+        ensures ok { IfOk result (λ found.
+            option_map (λ v. v.items) found ≡ shown (tree_of self.now) path.now) }
         ensures err { IfErr result (λ error. error ≡ OutOfMemory) }
     {
         match self.disk.shared(path)? {

@@ -27,10 +27,7 @@ impl Disk {
         let names = self.end_at(path.as_str(), Wanted::NoFolder)?;
         let count = taken(most, bytes);
         let more = bytes.share()?.front(count);
-        Ok(Plan {
-            answer: Answer::Took(count),
-            change: Change::Append(names, more),
-        })
+        Ok(Plan::of(Answer::Took(count), Change::Append(names, more)))
     }
 
     pub(crate) fn read_all(&self, path: &Text, most: Option<usize>) -> Result<Plan, Stop>
@@ -38,10 +35,7 @@ impl Disk {
         ensures err { IfErr result (Refuses self.now (ReadAll path.now) most) }
     {
         let bytes = self.file_at(path.as_str(), Fault::IsADirectory)?.bytes()?;
-        Ok(Plan {
-            answer: Answer::Bytes(bytes),
-            change: Change::Nothing,
-        })
+        Ok(Plan::of(Answer::Bytes(bytes), Change::Nothing))
     }
 
     pub(crate) fn opened(&self, path: &Text, most: Option<usize>) -> Result<Plan, Stop>
@@ -53,10 +47,7 @@ impl Disk {
             left: bytes.len(),
             bytes: Some(bytes),
         };
-        Ok(Plan {
-            answer: Answer::File(file),
-            change: Change::Nothing,
-        })
+        Ok(Plan::of(Answer::File(file), Change::Nothing))
     }
 
     pub(crate) fn size(&self, path: &Text, most: Option<usize>) -> Result<Plan, Stop>
@@ -64,10 +55,7 @@ impl Disk {
         ensures err { IfErr result (Refuses self.now (Size path.now) most) }
     {
         let count = self.file_at(path.as_str(), Fault::IsADirectory)?.len();
-        Ok(Plan {
-            answer: Answer::Length(count as u64),
-            change: Change::Nothing,
-        })
+        Ok(Plan::of(Answer::Length(count as u64), Change::Nothing))
     }
 
     #[tactic(auto, unfolding(crate::specs::Found::found))]
@@ -80,10 +68,7 @@ impl Disk {
             Err(Stop::Fault(Fault::NotFound | Fault::NotADirectory)) => false,
             Err(stop) => return Err(stop),
         };
-        Ok(Plan {
-            answer: Answer::There(is),
-            change: Change::Nothing,
-        })
+        Ok(Plan::of(Answer::There(is), Change::Nothing))
     }
 
     #[tactic(auto, unfolding(crate::specs::Found::removable))]
@@ -92,9 +77,6 @@ impl Disk {
         ensures err { IfErr result (Refuses self.now (RemoveFile path.now) most) }
     {
         let names = self.at(path.as_str(), Wanted::FileOrLink)?;
-        Ok(Plan {
-            answer: Answer::Done,
-            change: Change::Remove(names),
-        })
+        Ok(Plan::of(Answer::Done, Change::Remove(names)))
     }
 }

@@ -23,16 +23,15 @@ fn making(most: Option<usize>, names: &Path) -> usize
 }
 
 impl Disk {
+    #[tactic(auto, unfolding(crate::specs::Found::dirs))]
     pub(crate) fn make_dirs(&self, path: &Text, most: Option<usize>) -> Result<Plan, Stop>
         ensures ok { IfOk result (IsPlan self.now (MakeDirs path.now) most) }
         ensures err { IfErr result (Refuses self.now (MakeDirs path.now) most) }
     {
-        let names = self.dirs(path.as_str())?;
+        let names = Path::of(self.nodes().alloc(), path.as_str())?;
+        let from = self.made_from(&names)?;
         let count = making(most, &names);
-        Ok(Plan {
-            answer: Answer::Done,
-            change: Change::MakeFolders(names, count),
-        })
+        Ok(Plan::of(Answer::Done, Change::MakeFolders(names, from, count, None)))
     }
 
     #[tactic(auto, unfolding(crate::specs::Found::folder))]
@@ -42,10 +41,7 @@ impl Disk {
     {
         let names = self.at(path.as_str(), Wanted::Folder)?;
         let listing = self.nodes().listing(&names)?;
-        Ok(Plan {
-            answer: Answer::Names(listing),
-            change: Change::Nothing,
-        })
+        Ok(Plan::of(Answer::Names(listing), Change::Nothing))
     }
 
     pub(crate) fn remove_dir(&self, path: &Text, most: Option<usize>) -> Result<Plan, Stop>
@@ -53,9 +49,6 @@ impl Disk {
         ensures err { IfErr result (Refuses self.now (RemoveDir path.now) most) }
     {
         let names = self.emptied(path.as_str())?;
-        Ok(Plan {
-            answer: Answer::Done,
-            change: Change::Remove(names),
-        })
+        Ok(Plan::of(Answer::Done, Change::Remove(names)))
     }
 }

@@ -55,7 +55,8 @@ fn temp_of(path: &Text, bytes: Bytes) -> Result<PlainTemp, AllocError>
 /// What an open file has left behind the first `count` of these bytes.
 fn rest_of(bytes: &Bytes, count: usize) -> Result<PlainFile, AllocError>
     requires { count ≤ length bytes.now }
-    ensures { IfOk result (λ r. r ≡ record { left = length bytes.now - count; bytes = Some (drop count bytes.now) }) }
+    ensures { IfOk result (λ rest.
+        rest ≡ record { left = length bytes.now - count; bytes = Some (drop count bytes.now) }) }
 {
     Ok(PlainFile {
         left: bytes.len() - count,
@@ -72,10 +73,7 @@ impl Disk {
         let names = self.at(path.as_str(), Wanted::Nothing)?;
         let contents = Contents::new(self.nodes().alloc())?;
         let temp = temp_of(path, contents.bytes()?)?;
-        Ok(Plan {
-            answer: Answer::Temp(temp),
-            change: Change::Put(names, Node::File(contents)),
-        })
+        Ok(Plan::of(Answer::Temp(temp), Change::Put(names, Node::File(contents))))
     }
 
     pub(crate) fn write(
@@ -93,10 +91,7 @@ impl Disk {
         let count = taken(most, bytes);
         let all = joined(self.nodes().alloc(), old, bytes, count)?;
         let grown = temp_of(&temp.path, all)?;
-        Ok(Plan {
-            answer: Answer::Wrote(grown, count),
-            change: Change::Nothing,
-        })
+        Ok(Plan::of(Answer::Wrote(grown, count), Change::Nothing))
     }
 
     #[tactic(auto, unfolding(crate::specs::Found::replaceable))]
@@ -115,10 +110,7 @@ impl Disk {
         let from = self.kept(temp.path.as_str())?;
         let to = self.at(path.as_str(), Wanted::NoFolder)?;
         let contents = Contents::of(bytes.share()?)?;
-        Ok(Plan {
-            answer: Answer::Done,
-            change: Change::Move(from, to, contents),
-        })
+        Ok(Plan::of(Answer::Done, Change::Move(from, to, contents)))
     }
 
     pub(crate) fn read(
@@ -139,9 +131,6 @@ impl Disk {
         let count = readable(most, size).min(bytes.len());
         let rest = rest_of(bytes, count)?;
         let given = bytes.share()?.front(count);
-        Ok(Plan {
-            answer: Answer::Got(rest, given),
-            change: Change::Nothing,
-        })
+        Ok(Plan::of(Answer::Got(rest, given), Change::Nothing))
     }
 }

@@ -27,10 +27,7 @@ impl Disk {
     {
         let names = self.at(path.as_str(), Wanted::Nothing)?;
         let target = target.clone()?;
-        Ok(Plan {
-            answer: Answer::Done,
-            change: Change::Put(names, Node::Link(target)),
-        })
+        Ok(Plan::of(Answer::Done, Change::Put(names, Node::Link(target))))
     }
 
     #[tactic(auto, unfolding(crate::specs::Found::writable))]
@@ -43,10 +40,7 @@ impl Disk {
         let all = bytes.len();
         let count = taken(most, &bytes);
         let copied = Contents::of(bytes.front(count))?;
-        Ok(Plan {
-            answer: Answer::Took(all),
-            change: Change::Put(names, Node::File(copied)),
-        })
+        Ok(Plan::of(Answer::Took(all), Change::Put(names, Node::File(copied))))
     }
 
     #[tactic(auto, unfolding(crate::specs::Found::free))]
@@ -56,10 +50,7 @@ impl Disk {
     {
         let names = self.at(to.as_str(), Wanted::Nothing)?;
         let contents = self.file_at(from.as_str(), Fault::IsADirectory)?.share()?;
-        Ok(Plan {
-            answer: Answer::Done,
-            change: Change::Put(names, Node::File(contents)),
-        })
+        Ok(Plan::of(Answer::Done, Change::Put(names, Node::File(contents))))
     }
 
     #[tactic(auto, unfolding(crate::specs::Found::free))]
@@ -74,9 +65,6 @@ impl Disk {
     {
         let names = self.at(to.as_str(), Wanted::Nothing)?;
         let node = self.linked(from.as_str())?;
-        Ok(Plan {
-            answer: Answer::Done,
-            change: Change::Put(names, node),
-        })
+        Ok(Plan::of(Answer::Done, Change::Put(names, node)))
     }
 }
