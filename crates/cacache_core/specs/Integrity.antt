@@ -24,7 +24,8 @@ is_of a h = rank h.algorithm == rank a
 -- the hashes, strongest algorithm first and each algorithm's in their order
 abbrev pub strongest_first : List Hash → List Hash
 strongest_first hs =
-    filter (is_of Sha512) hs ++ filter (is_of Sha384) hs ++ filter (is_of Sha256) hs ++ filter (is_of Sha1) hs
+    filter (is_of Sha512) hs ++ filter (is_of Sha384) hs
+    ++ filter (is_of Sha256) hs ++ filter (is_of Sha1) hs
 
 -- a hash holds three bytes or more
 pub record IsHash (h : Hash) : Type 0 where

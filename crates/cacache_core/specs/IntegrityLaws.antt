@@ -13,7 +13,7 @@ ListsFindsHashes = (hashes : List Hash) (h : Hash) → (lists hashes h ≡ true)
 abbrev pub MeetsFindsBytes : Type 0
 MeetsFindsBytes = (i : List Hash) (b : List ℕ) → (meets i b ≡ true) ↔ Meets i b
 
--- one integrity matches another exactly where they share a digest of the other's strongest algorithm
+-- one integrity matches another exactly if they share a digest of the other's strongest algorithm
 abbrev pub MatchingFindsShared : Type 0
 MatchingFindsShared =
     (i j : List Hash) (a : Algorithm)

@@ -40,9 +40,11 @@ pub same_hash-Decides : (h g : Hash) → Decides (same_hash h g) (h ≡ g)
 same_hash-Decides h g = (
   λ e.
       let parts = both _ _ e in
-      ap₂ (λ a d. record { algorithm = a; «digest» = d }) (same_rank _ _ ((unsigned_Decides _ _).0 parts.0))
+      ap₂ (λ a d. record { algorithm = a; «digest» = d })
+      (same_rank _ _ ((unsigned_Decides _ _).0 parts.0))
       ((bytes_decides h.digest g.digest).0 parts.1),
-  λ e. ap₂ (λ (a b : Bool). a && b) ((unsigned_Decides _ _).1 (ap (λ (x : Hash). rank x.algorithm) e))
+  λ e. ap₂ (λ (a b : Bool). a && b)
+      ((unsigned_Decides _ _).1 (ap (λ (x : Hash). rank x.algorithm) e))
       ((bytes_decides h.digest g.digest).1 (ap (λ (x : Hash). x.digest) e)),
 )
 

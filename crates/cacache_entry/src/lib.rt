@@ -8,6 +8,7 @@ mod parse;
 mod read;
 mod search;
 mod write;
+mod written;
 
 pub use laws::{bucket_laws, entry_laws, lookup_laws};
 pub use metadata::{Metadata, SerializableMetadata};

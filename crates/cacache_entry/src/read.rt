@@ -8,6 +8,7 @@ ghost use Rattle.cacache_entry.specs.View.{entry_view};
 
 use crate::metadata::SerializableMetadata;
 use crate::parse::read_entry;
+use crate::written::written_entry;
 use cacache_core::errors;
 use memchr::memchr;
 use sha2::{Digest, Sha256};
@@ -61,11 +62,21 @@ fn first(bytes: &[u8], byte: u8) -> Option<usize>
     memchr(byte, bytes)
 }
 
-/// The entry that a piece is.
+/// The entry that a piece is. Most pieces are as `line` writes them, and the others are read as JSON.
 pub(crate) fn piece_entry(
     alloc: Global,
     piece: &[u8],
 ) -> Result<Option<SerializableMetadata>, AllocError>
+    ensures { IfOk result (λ o. option_map entry_view o ≡ entry_of_piece piece.now) }
+{
+    if let Some(entry) = written_entry(alloc, piece)? {
+        return Ok(Some(entry));
+    }
+    read_piece(alloc, piece)
+}
+
+/// The same, whatever the spelling.
+fn read_piece(alloc: Global, piece: &[u8]) -> Result<Option<SerializableMetadata>, AllocError>
     ensures { IfOk result (λ o. option_map entry_view o ≡ entry_of_piece piece.now) }
 {
     let Ok(text) = std::str::from_utf8(piece) else {

@@ -48,7 +48,7 @@ pub fn line(alloc: Global, entry: &SerializableMetadata) -> errors::Result<Vec<u
 }
 
 /// Why an entry can't be written.
-fn cause_of(entry: &SerializableMetadata) -> Option<SerdeCause>
+pub(crate) fn cause_of(entry: &SerializableMetadata) -> Option<SerdeCause>
     ensures { result ≡ cause_of_entry (entry_view entry.now) }
 {
     if u64::try_from(entry.time).is_err() {
@@ -70,7 +70,10 @@ fn refusal(alloc: Global, key: &str) -> Result<Text, AllocError>
 }
 
 /// The line of an entry that has no cause against it. The text is written behind room for its digest.
-fn fitting_line(alloc: Global, entry: &SerializableMetadata) -> Result<Vec<u8>, AllocError>
+pub(crate) fn fitting_line(
+    alloc: Global,
+    entry: &SerializableMetadata,
+) -> Result<Vec<u8>, AllocError>
     requires { cause_of_entry (entry_view entry.now) ≡ None }
     ensures line { IfOk result (λ bytes. bytes.items ≡ line_of (entry_view entry.now)) }
     ensures entry { OnOk result (IsEntry (entry_view entry.now)) }

@@ -6,7 +6,7 @@ use Rattle.cacache_entry.specs.Bucket.{cut, CutsAt}
 use Rattle.cacache_entry.specs.View.{entry_view}
 use Rattle.std.proofs.lemmas.Bool.{true≢false}
 use Rattle.cacache_entry.proofs.Pieces.{entry_of_piece-not_utf8, entry_of_piece-more, entry_of_piece-wrong, entry_of_piece-read}
-use Rattle.cacache_entry.proofs.read.piece_entry.Goals as goal
+use Rattle.cacache_entry.proofs.read.read_piece.Goals as goal
 
 pub returns-in_default : goal.returns-in_default
 returns-in_default c = entry_of_piece-not_utf8 c.args.piece.now c.in_default.ensures.cases.0
