@@ -9,3 +9,5 @@ pub mod Keys
 pub mod Causes
 pub mod Rows
 pub mod Sound
+pub mod Verifying
+pub mod Going

@@ -1,4 +1,5 @@
--- A call's `IoError` has a cause: one of its own steps failed so, was short or took nothing, or a walk stumbled.
+-- A call's `IoError` has a cause: one of its own steps failed so, was short or took nothing, or a
+-- walk stumbled.
 use Rattle.std.specs.Prelude.{◌≡◌, ◌⊎◌, ◌<◌, [], ◌∷◌, length}
 use Rattle.cacache_core.specs.declared.errors.Fault.{Fault}
 use Rattle.cacache_core.specs.declared.errors.Fault.TheVariants as faults

@@ -1,5 +1,5 @@
--- What the steps of a call do to contents and buckets, and the cases of a commit: nothing; its content; or its content
--- and then its entry.
+-- What the steps of a call do to contents and buckets, and the cases of a commit: nothing; its
+-- content; or its content and then its entry.
 use Rattle.std.specs.Prelude.{◌≡◌, ◌⊎◌, ◌≤◌, ℕ, List, [], ◌∷◌, Option, None, Some, Result, Ok, Err, Bool, true, false, length}
 use Rattle.cacache_base.specs.declared.store.answer.Answer.TheVariants as answers
 use Rattle.cacache_base.specs.declared.store.step.Step.TheVariants as steps
@@ -83,7 +83,7 @@ abbrev pub Inserts : Insertion → List Effect → Reply → Type 0
 Inserts i effects r =
     DoesNothing effects r ⊎ Sends (bucket_path i.cache i.entry.key) (bucket_line i) effects r
 
--- once the content is there: with a key the entry follows, and where it doesn't, the commit is refused
+-- once the content is there: with a key the entry follows; where it doesn't, the commit is refused
 abbrev pub Indexes : Commit → Option (List ℕ) → List Effect → Reply → Type 0
 Indexes c None effects r = effects ≡ []
 Indexes c (Some key) effects r = Inserts (insertion_of c key) effects r

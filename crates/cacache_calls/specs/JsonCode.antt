@@ -24,7 +24,9 @@ join-split (negative z) = refl
 join-split (float x) = refl
 
 abbrev pub num_code : Coded Num
-num_code = code_by (ℕ ⊎ (ℤ ⊎ Float)) (coded⊎ coded_ℕ (coded⊎ coded_ℤ coded_float)) split join join-split
+num_code =
+    code_by (ℕ ⊎ (ℤ ⊎ Float)) (coded⊎ coded_ℕ (coded⊎ coded_ℤ coded_float))
+    split join join-split
 
 -- ---- values
 
@@ -79,7 +81,8 @@ mutual
 
   same_items : (x y : Items) → items_tree x ≡ items_tree y → x ≡ y
   same_items no_items no_items p = refl
-  same_items (item d ds) (item e es) p = λ i. item (same_data d e (ap head p) i) (same_items ds es (ap tail p) i)
+  same_items (item d ds) (item e es) p =
+      λ i. item (same_data d e (ap head p) i) (same_items ds es (ap tail p) i)
   same_items no_items (item e es) p = absurd (subst IsCons (sym p) tt)
   same_items (item d ds) no_items p = absurd (subst IsCons p tt)
 

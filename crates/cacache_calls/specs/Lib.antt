@@ -1,6 +1,7 @@
 pub mod JsonCode
 pub mod Places
 pub mod Answers
+pub mod Seen
 pub mod State
 pub mod Common
 pub mod Inserting
@@ -15,6 +16,7 @@ pub mod Table
 pub mod Runs
 pub mod Promises
 pub mod Replies
+pub mod Verifying
 pub mod Effects
 pub mod Listing
 pub mod Causes

@@ -54,7 +54,7 @@ AddsTooDeep (x ∷ xs) ys =
     ((x ≡ too_deep) × AddsTooDeep xs ys)
     ⊎ ((rest : List Item) × (ys ≡ x ∷ rest) × AddsTooDeep xs rest)
 
--- a listing that isn't past the most items answers what its steps gave; it is refused out of memory alone
+-- a listing that isn't past the most items answers what its steps gave; out of memory alone refuses it
 abbrev pub ListsGiven : List Item → Reply → Type 0
 ListsGiven items (Listed list) = (most < length list) ⊎ AddsTooDeep list items
 ListsGiven items (Refused e) = e ≡ OutOfMemory

@@ -56,7 +56,7 @@ ReadsMeeting i (Read bytes) = Meets i bytes
 ReadsMeeting i (Refused e) = Unit {0}
 ReadsMeeting i r = ⊥
 
--- what a commit answers: with a key the expected integrity, where there is one, and else the computed one
+-- what a commit answers: with a key the expected integrity, if there is one, and else the computed one
 abbrev pub answered : List Hash → Option (List Hash) → Option (List ℕ) → List Hash
 answered computed expected None = computed
 answered computed expected (Some key) = given_or computed expected
@@ -64,7 +64,8 @@ answered computed expected (Some key) = given_or computed expected
 -- what was said of the content holds
 pub record Suits (c : Commit) : Type 0 where
   pub integrity :
-      (expected : List Hash) → c.options.integrity ≡ Some expected → matches expected c.computed ≡ true
+      (expected : List Hash) → c.options.integrity ≡ Some expected
+      → matches expected c.computed ≡ true
   pub size : (wanted : ℕ) → c.options.size ≡ Some wanted → wanted ≡ c.count
 
 -- no integrity but this one, and it only where P holds
@@ -99,7 +100,7 @@ Copies verified (Copied n) = (m : ℕ) → verified ≡ Some m → n ≡ m
 Copies verified (Refused e) = Unit {0}
 Copies verified r = ⊥
 
--- an export is made only of bytes that were read and meet the integrity, and a copy answers their count
+-- an export is made only of bytes that were read and meet the integrity; a copy answers their count
 abbrev pub MadeOf : List Hash → List ℕ → Reply → Type 0
 MadeOf i bytes (Copied n) =
     (more : List ℕ) × Meets i (bytes ++ more) × (n ≡ length (bytes ++ more))

@@ -136,4 +136,5 @@ abbrev pub GetsMeet : Type 0
 GetsMeet =
     (site : Site) (key : List ℕ) (moves : Moves) (bytes : List ℕ)
     → Runs (opening site (commands.Get key)) moves (Read bytes)
-    → (t : PlainAnswer) × (more : Moves) × Begins site.cache key t more moves × MeetsFound key t bytes
+    → (t : PlainAnswer) × (more : Moves)
+    × Begins site.cache key t more moves × MeetsFound key t bytes

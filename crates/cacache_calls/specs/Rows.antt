@@ -196,7 +196,8 @@ NoLsRow =
 -- the folders of a cache with one content and one entry
 abbrev pub cache_names : List Name
 cache_names =
-    name (codes "tmp") Folder ∷ name (codes "content-v2") Folder ∷ name (codes "index-v5") Folder ∷ []
+    name (codes "tmp") Folder ∷ name (codes "content-v2") Folder
+    ∷ name (codes "index-v5") Folder ∷ []
 
 -- so many steps with this answer
 abbrev pub times : ℕ → PlainAnswer → List PlainAnswer → List PlainAnswer
@@ -222,7 +223,8 @@ PlainFileRow =
 abbrev pub DeepRow : Type 0
 DeepRow =
     (site : Site)
-    → Replies site commands.Clear (times 17 (one_name Folder) []) (Refused (IoError faults.TooDeep []))
+    → Replies site commands.Clear (times 17 (one_name Folder) [])
+    (Refused (IoError faults.TooDeep []))
 
 -- ---- all of them
 

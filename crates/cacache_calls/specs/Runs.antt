@@ -10,6 +10,7 @@ use Rattle.cacache_base.specs.Fits.{Fits}
 use Rattle.cacache_calls.specs.declared.reply.Reply.{Reply}
 use Rattle.cacache_calls.specs.declared.reply.Reply.TheVariants.{Listed, Refused}
 use Rattle.cacache_calls.specs.State.{State, doing, creating, writing, persisting, linking, confirming, appending, looking, reading, asking, sizing, opening_file, hashing, copying, walking, over, Item, Visit, enter, read_bucket, remove_file, remove_folder, Task, visit, stumble}
+use Rattle.cacache_calls.specs.Common.{ends_with}
 use Rattle.cacache_calls.specs.Table.{wants, after}
 
 -- steps with their answers
@@ -22,6 +23,11 @@ abbrev pub Runs : State → Moves → Reply → Type 0
 Runs s [] r = (s ≡ over r) ⊎ (r ≡ Refused OutOfMemory)
 Runs s (m ∷ moves) r = (wants s ≡ Some m.0) × Fits m.0 m.1 × Runs (after s m.1) moves r
 
+-- The moves take a call from the first state to the second.
+abbrev pub Goes : State → Moves → State → Type 0
+Goes s [] t = s ≡ t
+Goes s (m ∷ moves) t = (wants s ≡ Some m.0) × Fits m.0 m.1 × Goes (after s m.1) moves t
+
 -- a log that is kept gains just these moves
 abbrev pub Gains : Option (List LogItem) → Option (List LogItem) → Moves → Type 0
 Gains old new moves = new ≡ option_map (λ log. log ++ map (λ m. Made m.0 m.1) moves) old
@@ -29,6 +35,10 @@ Gains old new moves = new ≡ option_map (λ log. log ++ map (λ m. Made m.0 m.1
 -- the log gained a run from this state with this reply
 abbrev pub Ran : State → Reply → Option (List LogItem) → Option (List LogItem) → Type 0
 Ran s r old new = (moves : Moves) × Runs s moves r × Gains old new moves
+
+-- the log gained moves from the first state to the second
+abbrev pub Gone : State → State → Option (List LogItem) → Option (List LogItem) → Type 0
+Gone s t old new = (moves : Moves) × Goes s moves t × Gains old new moves
 
 -- ---- replies without messages, of which no contract speaks
 
@@ -45,6 +55,10 @@ abbrev pub plain_reply : Reply → Reply
 plain_reply (Listed items) = Listed (map plain_item items)
 plain_reply (Refused error) = Refused (without_message error)
 plain_reply reply = reply
+
+-- the call is over with this error, or out of memory ended it
+abbrev pub EndsAs : Error → State → Type 0
+EndsAs e s = (s ≡ ends_with (without_message e)) ⊎ (e ≡ OutOfMemory)
 
 -- ---- a bound on the steps that are still to come
 

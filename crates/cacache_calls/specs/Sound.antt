@@ -161,6 +161,7 @@ StepsAllowed =
 -- a sound state stays sound under any fitting answer
 abbrev pub StaysSound : Type 0
 StaysSound =
-    (site : Site) (apart outside : List ℕ → Bool) (s : State) (step : PlainStep) (answer : PlainAnswer)
+    (site : Site) (apart outside : List ℕ → Bool)
+    (s : State) (step : PlainStep) (answer : PlainAnswer)
     → Sound site apart outside s → wants s ≡ Some step → Fits step answer
     → Sound site apart outside (after s answer)

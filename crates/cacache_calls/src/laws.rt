@@ -7,6 +7,7 @@ ghost use Rattle.cacache_calls.specs.Replies.{FindsShown, GetsShown, ReadsShown,
 ghost use Rattle.cacache_calls.specs.Rows.{Rows};
 ghost use Rattle.cacache_calls.specs.Runs.{WantsUntilOver, EffortFalls, MemoryEnds};
 ghost use Rattle.cacache_calls.specs.Sound.{BeginsSound, StepsAllowed, StaysSound};
+ghost use Rattle.cacache_calls.specs.Verifying.{ExportsVerify, LinksReadWhole};
 
 /// The call of a state wants a step until it is over, and it ends: each fitting answer lowers the bound on the steps
 /// to come, and out of memory ends it at once.
@@ -17,10 +18,13 @@ pub fn run_laws()
 {}
 
 /// What every reply of a call keeps, whatever its store answered: its kind is the command's, bytes that were read meet
-/// their integrity, and no integrity is answered but the one that was computed or given.
+/// their integrity, no integrity is answered but the one that was computed or given, a checked export verified what it
+/// opened, and a link read its whole target.
 pub fn promise_laws()
     ensures states { StatesPromise }
     ensures calls { CallsAnswer }
+    ensures exports { ExportsVerify }
+    ensures links { LinksReadWhole }
 {}
 
 /// What a call answers is a function of what its own steps were shown.

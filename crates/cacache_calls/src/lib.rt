@@ -1,7 +1,7 @@
 //! All calls on a cache as one table of states: the step that each state wants, and where an answer takes it.
 #![tactic(auto)]
 
-mod answers;
+pub mod answers;
 mod command;
 mod json;
 mod laws;

@@ -9,7 +9,7 @@ use Rattle.cacache_core.proofs.Meeting.{meets_finds}
 use Rattle.cacache_calls.specs.declared.reply.Reply.TheVariants.{Read}
 use Rattle.cacache_calls.specs.Reading.{checked}
 use Rattle.cacache_calls.specs.State.{Content, over}
-use Rattle.cacache_jobs.specs.Standing.{EndsAs}
+use Rattle.cacache_calls.specs.Runs.{EndsAs}
 
 -- bytes that meet the integrity are answered
 pub checked_met : (k : Content) (b : List ℕ) → Meets k.integrity b → checked k b ≡ over (Read b)

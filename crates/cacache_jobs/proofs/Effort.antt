@@ -47,7 +47,7 @@ module _ {T : Type 0} (temp : T → PlainTemp) where
   stage_effort_is (stages.Hashing h size) step s e w = read_effort e.0 e.4 e.1 step s e.5 w
   stage_effort_is (stages.Copying from to verified) step s e w = ap effort e
   stage_effort_is (stages.Linking c target) step s e w = ap effort e
-  stage_effort_is (stages.Walking walk v) step s e w = ap effort e
+  stage_effort_is (stages.Walking walk v) step s e w = ap effort e.1
 
 -- a job that stands in a state has its bound
 pub phase_effort_is : {F T : Type 0} (file : F → PlainFile) (temp : T → PlainTemp) (p : Phase F T) (s : State) → PhaseAt file temp p s → phase_effort file temp p ≡ effort s

@@ -3,9 +3,7 @@ pub mod Effort
 pub mod Running
 pub mod Calling
 pub mod Hashed
-pub mod Listed
 pub mod Verified
-pub mod Walks
 pub mod Refusing
 pub mod Matching
 pub mod Writing

@@ -10,7 +10,7 @@ use Rattle.cacache_core.specs.Texts.{read_integrity}
 use Rattle.cacache_entry.specs.View.{IsRefusal}
 use Rattle.cacache_calls.specs.State.{Insertion}
 use Rattle.cacache_calls.specs.Inserting.{insert, no_integrity, refused_cause}
-use Rattle.cacache_jobs.specs.Standing.{EndsAs}
+use Rattle.cacache_calls.specs.Runs.{EndsAs}
 
 -- an entry that is refused ends the call so
 pub refusal_ends : (j : Insertion) (e : Error) → IsRefusal j.entry e → EndsAs e (insert j)

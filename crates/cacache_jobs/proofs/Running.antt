@@ -16,6 +16,7 @@ use Rattle.cacache_calls.specs.Table.{wants, after}
 use Rattle.cacache_calls.specs.Runs.{Moves, Runs, Gains, Ran, effort}
 use Rattle.cacache_calls.proofs.Effort.{falls}
 use Rattle.cacache_calls.proofs.Memory.{no_memory_after}
+use Rattle.cacache_calls.proofs.Going.{answer_cases, gains_one, no_gain}
 use Rattle.cacache_jobs.specs.declared.phase.Phase.{Phase}
 use Rattle.cacache_jobs.specs.declared.phase.Phase.TheVariants as phases
 use Rattle.cacache_jobs.specs.declared.job.Standing.{Standing}
@@ -24,10 +25,6 @@ use Rattle.cacache_jobs.specs.Standing.{PhaseAt}
 use Rattle.cacache_jobs.specs.Jobs.{IdleAt, OutAt, LostMemory, GoesOnTo}
 use Rattle.cacache_jobs.specs.Effort.{standing_effort}
 use Rattle.cacache_jobs.proofs.Effort.{phase_effort_is}
-
--- an move of the log
-abbrev made : PlainStep × PlainAnswer → LogItem
-made move = Made move.0 move.1
 
 -- the steps so far lead from the first state to this one
 pub record Reached (s0 : State) (old new : Option (List LogItem)) (s : State) : Type 0 where
@@ -46,28 +43,9 @@ pub memory_lost : (s : State) (moves : Moves) (r : Reply) → Runs s moves r →
 memory_lost s [] r h = inr refl
 memory_lost s (move ∷ moves) r h = (h.0, h.1, memory_lost (after s move.1) moves r h.2)
 
-answer_cases : (t : PlainAnswer) → ((b : PlainStep) × (t ≡ answers.NoMemory b)) ⊎ (is_no_memory t ≡ false)
-answer_cases (answers.NoMemory b) = inl (b, refl)
-answer_cases answers.Done = inr refl
-answer_cases (answers.Temp t) = inr refl
-answer_cases (answers.Wrote t n) = inr refl
-answer_cases (answers.Took n) = inr refl
-answer_cases (answers.Bytes b) = inr refl
-answer_cases (answers.File f) = inr refl
-answer_cases (answers.Got f b) = inr refl
-answer_cases (answers.There there) = inr refl
-answer_cases (answers.Length n) = inr refl
-answer_cases (answers.Names names) = inr refl
-answer_cases (answers.Failed fault) = inr refl
-
 -- a call that is over out of memory
 stops : {s0 : State} {old new : Option (List LogItem)} {s : State} → Reached s0 old new s → Reached s0 old new (over (Refused OutOfMemory))
 stops {s = s} x = record { moves = x.moves; gains = x.gains; goes = λ more r h. x.goes more r (memory_runs s more r h) }
-
-gains_one : (old new : Option (List LogItem)) (moves : Moves) (move : PlainStep × PlainAnswer) → Gains old new moves → Gains old (option_map (λ log. log ++ made move ∷ []) new) (moves ++ move ∷ [])
-gains_one None new moves move e = rw e refl
-gains_one (Some log) new moves move e =
-    rw e (ap Some (append_assoc log (map made moves) (made move ∷ []) ∙ ap (λ more. log ++ more) (sym (map-append made moves (move ∷ [])))))
 
 -- one step more
 steps : {s0 : State} {old new next : Option (List LogItem)} {s : State} (a : PlainStep) (t : PlainAnswer) → Reached s0 old new s → wants s ≡ Some a → Fits a t → Logs new next a t → Reached s0 old next (after s t)
@@ -76,7 +54,7 @@ steps {s0} {old} {new} {next} {s} a t x w fits logs =
       | inl p ↦ rw p.1 (rw (no_memory_after s a p.0 w) (stops {s = s} (let e : next ≡ new = rw p.1 at logs in rw e x)))
       | inr n ↦ record {
         moves = x.moves ++ (a, t) ∷ [];
-        gains = let e : next ≡ option_map (λ log. log ++ made (a, t) ∷ []) new = rw n at logs in rw e (gains_one old new x.moves (a, t) x.gains);
+        gains = let e : next ≡ option_map (λ log. log ++ Made a t ∷ []) new = rw n at logs in rw e (gains_one old new x.moves (a, t) x.gains);
         goes = λ more r h. rw append_assoc (x.goes ((a, t) ∷ more) r (w, fits, h));
       }
     ]
@@ -144,10 +122,6 @@ module _ {F T : Type 0} (file : F → PlainFile) (temp : T → PlainTemp) where
 -- a run of a call that is over
 pub ended : {s0 : State} {old new : Option (List LogItem)} {s : State} (r : Reply) → Reached s0 old new s → s ≡ over r → Ran s0 r old new
 ended r x e = (x.moves ++ [], x.goes [] r (inl e), simp append-nil x.gains)
-
-no_gain : (log : Option (List LogItem)) → Gains log log []
-no_gain None = refl
-no_gain (Some moves) = ap Some (sym (append-nil moves))
 
 pub start : (s : State) (log : Option (List LogItem)) → Reached s log log s
 start s log = record { moves = []; gains = no_gain log; goes = λ more r h. h }

@@ -9,7 +9,7 @@ use Rattle.cacache_core.proofs.Meeting.{meets_finds}
 use Rattle.cacache_calls.specs.declared.command.Export.{Export}
 use Rattle.cacache_calls.specs.Exporting.{verified, export_content}
 use Rattle.cacache_calls.specs.State.{Content}
-use Rattle.cacache_jobs.specs.Standing.{EndsAs}
+use Rattle.cacache_calls.specs.Runs.{EndsAs}
 
 -- bytes that meet the integrity are exported
 pub verified_met : (k : Content) (e : Export) (b : List ℕ) → Meets k.integrity b → verified k e b ≡ export_content k e (Some (length b))

@@ -5,7 +5,7 @@ use Rattle.cacache_base.specs.declared.store.plain.PlainTemp.{PlainTemp}
 use Rattle.cacache_base.specs.Plain.{PlainStep, plain_step}
 use Rattle.cacache_base.specs.declared.store.step.Step.TheVariants as steps
 use Rattle.cacache_calls.specs.Runs.{weight, weights}
-use Rattle.cacache_jobs.specs.Standing.{visit_of, pending}
+use Rattle.cacache_walks.specs.Standing.{visit_of, pending}
 use Rattle.cacache_jobs.specs.declared.stage.Then.{Then}
 use Rattle.cacache_jobs.specs.declared.stage.Then.TheVariants as thens
 use Rattle.cacache_jobs.specs.declared.stage.Stage.{Stage}

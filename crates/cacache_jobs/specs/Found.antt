@@ -1,25 +1,51 @@
--- What the bytes that a read by key answers are verified against.
-use Rattle.std.specs.Prelude.{List, Option, ℕ}
+-- What the bytes of a read by key are verified against, and what exports and links read first.
+use Rattle.std.specs.Prelude.{◌≡◌, List, Option, ℕ, true}
 use Rattle.cacache_base.specs.declared.store.log.LogItem.{LogItem}
 use Rattle.cacache_base.specs.Plain.{PlainAnswer}
 use Rattle.cacache_calls.specs.declared.command.Command.{Command}
-use Rattle.cacache_calls.specs.declared.command.Command.TheVariants.{Get}
+use Rattle.cacache_calls.specs.declared.command.Command.TheVariants.{Get, Link, Export}
+use Rattle.cacache_calls.specs.declared.command.Source.{Source}
 use Rattle.cacache_calls.specs.declared.reply.Reply.{Reply}
 use Rattle.cacache_calls.specs.declared.reply.Reply.TheVariants.{Read}
 use Rattle.cacache_calls.specs.Replies.{Begins, MeetsFound}
 use Rattle.cacache_calls.specs.Runs.{Moves, Gains}
+use Rattle.cacache_calls.specs.Linking.{target_of}
+use Rattle.cacache_calls.specs.State.{Site, Target}
+use Rattle.cacache_calls.specs.Verifying.{Verifies, LinksWhole, UnlessRefused}
 
--- the moves begin with a read of the key's bucket, and the bytes meet the integrity that the lookup in it gives
+-- the moves begin with a read of the key's bucket; the bytes meet the integrity of the lookup in it
 abbrev pub BeginsFound : List ℕ → List ℕ → List ℕ → Moves → Type 0
 BeginsFound cache key bytes moves =
     (t : PlainAnswer) × (more : Moves) × Begins cache key t more moves × MeetsFound key t bytes
 
 -- a log that is kept gained such moves
-abbrev pub ReadsFound : List ℕ → List ℕ → List ℕ → Option (List LogItem) → Option (List LogItem) → Type 0
+abbrev pub ReadsFound :
+    List ℕ → List ℕ → List ℕ → Option (List LogItem) → Option (List LogItem) → Type 0
 ReadsFound cache key bytes old new =
     (moves : Moves) × Gains old new moves × BeginsFound cache key bytes moves
 
 -- so does a call by key that answers bytes
-abbrev pub FindsBytes : List ℕ → Command → Reply → Option (List LogItem) → Option (List LogItem) → Type 0
+abbrev pub FindsBytes :
+    List ℕ → Command → Reply → Option (List LogItem) → Option (List LogItem) → Type 0
 FindsBytes cache (Get key) (Read bytes) old new = ReadsFound cache key bytes old new
 FindsBytes cache command reply old new = Unit {0}
+
+-- a log that is kept gained moves that verify what is exported
+abbrev pub Verified :
+    List ℕ → Source → Reply → Option (List LogItem) → Option (List LogItem) → Type 0
+Verified cache source reply old new =
+    (moves : Moves) × Gains old new moves × Verifies cache source moves reply
+
+-- a log that is kept gained moves that read the whole target
+abbrev pub Linked : Target → Reply → Option (List LogItem) → Option (List LogItem) → Type 0
+Linked target reply old new =
+    (moves : Moves) × Gains old new moves × LinksWhole target moves reply
+
+-- unless it was refused, a checked export verified what it opened, and a link read its target
+abbrev pub ReadsFirst :
+    Site → Command → Reply → Option (List LogItem) → Option (List LogItem) → Type 0
+ReadsFirst site (Export source e) reply old new =
+    e.checked ≡ true → UnlessRefused (Verified site.cache source reply old new) reply
+ReadsFirst site (Link link) reply old new =
+    UnlessRefused (Linked (target_of site link) reply old new) reply
+ReadsFirst site command reply old new = Unit {0}

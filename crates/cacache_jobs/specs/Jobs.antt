@@ -21,7 +21,8 @@ use Rattle.cacache_jobs.specs.Standing.{IsAt, PhaseAt}
 -- ---- of a standing
 
 -- no step is out, and the call is in this state
-abbrev pub IdleAt : {F T : Type 0} → (F → PlainFile) → (T → PlainTemp) → Standing F T → State → Type 0
+abbrev pub IdleAt :
+    {F T : Type 0} → (F → PlainFile) → (T → PlainTemp) → Standing F T → State → Type 0
 IdleAt file temp (standings.At phase) s = PhaseAt file temp phase s
 IdleAt file temp standing s = ⊥
 
@@ -36,10 +37,12 @@ LostMemory (phases.Over reply) = plain_reply reply ≡ Refused OutOfMemory
 LostMemory phase = ⊥
 
 -- the call goes on to this state, unless memory was refused
-abbrev pub PhaseGoesTo : {F T : Type 0} → (F → PlainFile) → (T → PlainTemp) → Phase F T → State → Type 0
+abbrev pub PhaseGoesTo :
+    {F T : Type 0} → (F → PlainFile) → (T → PlainTemp) → Phase F T → State → Type 0
 PhaseGoesTo file temp phase s = PhaseAt file temp phase s ⊎ LostMemory phase
 
-abbrev pub GoesOnTo : {F T : Type 0} → (F → PlainFile) → (T → PlainTemp) → Standing F T → State → Type 0
+abbrev pub GoesOnTo :
+    {F T : Type 0} → (F → PlainFile) → (T → PlainTemp) → Standing F T → State → Type 0
 GoesOnTo file temp (standings.At phase) s = PhaseGoesTo file temp phase s
 GoesOnTo file temp standing s = ⊥
 
@@ -90,11 +93,13 @@ is_step (next.Step step) = true
 is_step (next.Over reply) = false
 
 -- what a job hands out in this state, and how it stands then
-abbrev pub HandsOut : {F T : Type 0} → (F → PlainFile) → (T → PlainTemp) → Next F T → Job F T → State → Type 0
+abbrev pub HandsOut :
+    {F T : Type 0} → (F → PlainFile) → (T → PlainTemp) → Next F T → Job F T → State → Type 0
 HandsOut file temp (next.Step step) job s = HasOut temp job s (plain_step file temp step)
 HandsOut file temp (next.Over reply) job s = s ≡ over (plain_reply reply)
 
--- what is told of a reply in this state: it is the reply of a call that is over, and the call of none wants a step
+-- what is told of a reply in this state: some reply is that of a call that is over, and where there is
+-- none the call wants a step
 abbrev pub Tells : Option Reply → State → Type 0
 Tells (Some reply) s = s ≡ over (plain_reply reply)
 Tells None s = (step : PlainStep) × (wants s ≡ Some step)

@@ -1,7 +1,6 @@
 -- Which state of the table a job stands in.
-use Rattle.std.specs.Prelude.{◌≡◌, ◌⊎◌, ℕ, List, Some, Result, Ok, Err, length, string_bytes, [], map, reverse}
+use Rattle.std.specs.Prelude.{◌≡◌, ℕ, List, Some, Result, Ok, Err, length, string_bytes, []}
 use Rattle.cacache_core.specs.declared.errors.Error.{Error}
-use Rattle.cacache_core.specs.declared.errors.Error.TheVariants.{OutOfMemory}
 use Rattle.cacache_core.specs.Hashers.{Holds, algorithm_of}
 use Rattle.cacache_core.specs.Pieces.{Compares}
 use Rattle.cacache_base.specs.declared.store.plain.PlainFile.{PlainFile}
@@ -9,13 +8,13 @@ use Rattle.cacache_base.specs.declared.store.plain.PlainTemp.{PlainTemp}
 use Rattle.cacache_base.specs.Plain.{PlainStep, plain_step}
 use Rattle.cacache_calls.specs.Places.{content_path, bucket_path}
 use Rattle.cacache_calls.specs.State as states
-use Rattle.cacache_calls.specs.State.{State, doing, creating, writing, persisting, confirming, appending, looking, reading, asking, sizing, opening_file, hashing, copying, linking, walking, over, Errand, to_report, to_read, to_export, to_remove, to_verify, to_link, enter, read_bucket, remove_file, remove_folder, visit, stumble}
-use Rattle.cacache_calls.specs.Common.{ends_with}
+use Rattle.cacache_calls.specs.State.{State, doing, creating, writing, persisting, confirming, appending, looking, reading, asking, sizing, opening_file, hashing, copying, linking, over, Errand, to_report, to_read, to_export, to_remove, to_verify, to_link}
 use Rattle.cacache_calls.specs.Inserting.{bucket_line}
 use Rattle.cacache_calls.specs.Removing.{remove_bucket}
-use Rattle.cacache_calls.specs.Runs.{without_message, plain_item, plain_reply}
+use Rattle.cacache_calls.specs.Runs.{plain_reply, EndsAs}
 use Rattle.cacache_calls.specs.declared.reply.Reply.TheVariants.{Done}
 use Rattle.cacache_calls.specs.Table.{wants}
+use Rattle.cacache_walks.specs.Standing.{WalksAt}
 use Rattle.cacache_jobs.specs.declared.storing.Commit.{Commit}
 use Rattle.cacache_jobs.specs.declared.inserting.Insertion.{Insertion}
 use Rattle.cacache_jobs.specs.declared.looking.Aim.{Aim}
@@ -25,11 +24,6 @@ use Rattle.cacache_jobs.specs.declared.reading.Content.{Content}
 use Rattle.cacache_jobs.specs.declared.linking.Target.{Target}
 use Rattle.cacache_jobs.specs.declared.hashing.Hashing.{Hashing}
 use Rattle.cacache_jobs.specs.declared.hashing.Hashing.TheVariants as hashings
-use Rattle.cacache_jobs.specs.declared.walking.Visit.{Visit}
-use Rattle.cacache_jobs.specs.declared.walking.Visit.TheVariants as visits
-use Rattle.cacache_jobs.specs.declared.walking.Task.{Task}
-use Rattle.cacache_jobs.specs.declared.walking.Task.TheVariants as tasks
-use Rattle.cacache_jobs.specs.declared.walking.Walk.{Walk}
 use Rattle.cacache_jobs.specs.declared.stage.Then.{Then}
 use Rattle.cacache_jobs.specs.declared.stage.Then.TheVariants as thens
 use Rattle.cacache_jobs.specs.declared.stage.Stage.{Stage}
@@ -84,23 +78,6 @@ Hashes (hashings.Link hasher target) h bytes =
     (h ≡ to_link (target_of target)) × Holds hasher bytes
     × (algorithm_of hasher ≡ target.options.algorithm)
 
-abbrev pub visit_of : Visit → states.Visit
-visit_of (visits.Enter path level) = enter path level
-visit_of (visits.ReadBucket path) = read_bucket path
-visit_of (visits.RemoveFile path) = remove_file path
-visit_of (visits.RemoveFolder path) = remove_folder path
-
-abbrev pub task_of : Task → states.Task
-task_of (tasks.Visit v) = visit (visit_of v)
-task_of (tasks.Stumble fault) = stumble fault
-
--- the tasks of a stack: the table has the next one first, and the stack has it last
-abbrev pub pending : List Task → List states.Task
-pending stack = reverse (map task_of stack)
-
-abbrev pub walk_of : Walk → states.Walk
-walk_of w = record { clears = w.clears; items = map plain_item w.items.items; left = w.left }
-
 -- ---- of a stage
 
 -- what follows an errand; the path of the next step is kept
@@ -139,12 +116,13 @@ StageAt temp (stages.Hashing h size) s =
     × (size ≡ length bytes) × (file : PlainFile) × (s ≡ hashing purpose file bytes)
 StageAt temp (stages.Copying from to verified) s = s ≡ copying from to verified
 StageAt temp (stages.Linking c target) s = s ≡ linking (commit_of c) target
-StageAt temp (stages.Walking w v) s = s ≡ walking (walk_of w) (visit_of v) (pending w.todo.items)
+StageAt temp (stages.Walking w v) s = WalksAt [] w (Some v) s
 
 -- ---- of a phase
 
 -- the call is at this stage, and wants this step
-pub record IsAt {T : Type 0} (temp : T → PlainTemp) (stage : Stage T) (step : PlainStep) (s : State) : Type 0 where
+pub record IsAt {T : Type 0} (temp : T → PlainTemp) (stage : Stage T) (step : PlainStep)
+    (s : State) : Type 0 where
   pub state : StageAt temp stage s
   pub wanted : wants s ≡ Some step
 
@@ -153,11 +131,8 @@ abbrev pub PhaseAt : {F T : Type 0} → (F → PlainFile) → (T → PlainTemp) 
 PhaseAt file temp (phases.Wanting stage step) s = IsAt temp stage (plain_step file temp step) s
 PhaseAt file temp (phases.Over reply) s = s ≡ over (plain_reply reply)
 
--- the call is over with this error, or out of memory ended it
-abbrev pub EndsAs : Error → State → Type 0
-EndsAs e s = (s ≡ ends_with (without_message e)) ⊎ (e ≡ OutOfMemory)
-
 -- the call goes on to this state, or out of memory ended it
-abbrev pub Leads : {F T : Type 0} → (F → PlainFile) → (T → PlainTemp) → Result (Phase F T) Error → State → Type 0
+abbrev pub Leads :
+    {F T : Type 0} → (F → PlainFile) → (T → PlainTemp) → Result (Phase F T) Error → State → Type 0
 Leads file temp (Ok phase) s = PhaseAt file temp phase s
 Leads file temp (Err e) s = EndsAs e s

@@ -6,16 +6,16 @@ ghost use Rattle.cacache_calls.specs.Places.{content_path as content_path_of};
 ghost use Rattle.cacache_calls.specs.Exporting.{verified as verified_of};
 ghost use Rattle.cacache_core.specs.Pieces.{Compares};
 ghost use Rattle.cacache_calls.specs.State.{Content as Named, Hashing as Purpose, opening_file, hashing as hashing_state, to_verify};
-ghost use Rattle.cacache_jobs.specs.Seen.{seen_by, got_as};
+ghost use Rattle.cacache_calls.specs.Seen.{seen_by, got_as};
 ghost use Rattle.cacache_jobs.specs.Standing.{Leads, Hashes, content_of};
 
-use crate::answers::Got;
 use crate::linking::Target;
 use crate::phase::{Phase, refused};
 use crate::reading::Content;
 use crate::stage::Stage;
 use crate::{exporting, messages};
 use cacache_base::store::{FileHandle, Step, TempHandle};
+use cacache_calls::answers::Got;
 use cacache_calls::{Export, Refusal};
 use cacache_core::errors::{self, Error};
 use cacache_core::hasher::Hasher;

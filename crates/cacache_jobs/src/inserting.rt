@@ -6,9 +6,9 @@ ghost use Rattle.cacache_calls.specs.Inserting.{insert as insert_of, insertion a
 ghost use Rattle.cacache_calls.specs.Places.{bucket_path};
 ghost use Rattle.cacache_calls.specs.State.{Insertion as Inserted, appending};
 ghost use Rattle.cacache_entry.specs.View.{entry_view};
-ghost use Rattle.cacache_calls.specs.Runs.{plain_reply};
+ghost use Rattle.cacache_calls.specs.Runs.{plain_reply, EndsAs};
 ghost use Rattle.cacache_jobs.specs.Entries.{entry_with, into_bucket};
-ghost use Rattle.cacache_jobs.specs.Standing.{EndsAs, Leads, PhaseAt, Inserts};
+ghost use Rattle.cacache_jobs.specs.Standing.{Leads, PhaseAt, Inserts};
 
 use crate::messages;
 use crate::phase::{Phase, refused};

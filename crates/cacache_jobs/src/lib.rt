@@ -1,15 +1,12 @@
 //! A call on a cache as a job: the step that it wants, and where an answer takes it.
 #![tactic(auto)]
 
-mod answers;
 mod comparing;
-mod entering;
 mod exporting;
 mod hashing;
 mod inserting;
 mod job;
 mod linking;
-mod listing;
 mod looking;
 mod messages;
 mod opening;

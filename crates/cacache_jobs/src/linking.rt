@@ -144,7 +144,8 @@ pub(crate) fn start<F: FileHandle, T: TempHandle>(
     link: Link,
 ) -> errors::Result<Phase<F, T>>
     ensures { (number : ℕ)
-        → Leads F.seen T.seen result (sizing (link_target (site_of cache.now base.now number) link)) }
+        → Leads F.seen T.seen result
+        (sizing (link_target (site_of cache.now base.now number) link)) }
 {
     let Link {
         key,

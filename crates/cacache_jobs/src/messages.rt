@@ -137,21 +137,3 @@ pub(crate) fn making_links(alloc: Global, commit: &Commit) -> Result<Text, Alloc
         "Failed to create destination directory for linked cache file, at {folder}"
     )?))
 }
-
-pub(crate) fn clearing_folder(alloc: Global, path: &Text) -> Result<Text, AllocError> {
-    Ok(Text::new(format!(in alloc;
-        "Failed to read directory contents while clearing cache, at {path}"
-    )?))
-}
-
-pub(crate) fn clearing(alloc: Global, cache: &Text) -> Result<Text, AllocError> {
-    Ok(Text::new(format!(in alloc; "Failed to clear cache at {cache}")?))
-}
-
-pub(crate) fn listing_folder(alloc: Global, path: &Text) -> Result<Text, AllocError> {
-    Ok(Text::new(format!(in alloc; "Error while walking cache index directory at {path}")?))
-}
-
-pub(crate) fn listing_bucket(alloc: Global, path: &Text) -> Result<Text, AllocError> {
-    Ok(Text::new(format!(in alloc; "Error getting bucket entries from {path}")?))
-}

@@ -1,8 +1,10 @@
 //! Where calls begin.
-ghost use Rattle.std.specs.Prelude.{ℕ, List};
-ghost use Rattle.cacache_calls.specs.State.{looking as looking_state};
+ghost use Rattle.std.specs.Prelude.{ℕ, List, true, false, codes};
+ghost use Rattle.cacache_core.specs.Paths.{join as join_of};
+ghost use Rattle.cacache_calls.specs.State.{looking as looking_state, reading as reading_state, asking as asking_state};
 ghost use Rattle.cacache_calls.specs.Table.{opening};
-ghost use Rattle.cacache_calls.specs.declared.command.Command.TheVariants.{Export as ExportCall};
+ghost use Rattle.cacache_calls.specs.Walking.{walk};
+ghost use Rattle.cacache_calls.specs.declared.command.Command.TheVariants as commands;
 ghost use Rattle.cacache_jobs.specs.Opening.{site_of};
 ghost use Rattle.cacache_jobs.specs.Standing.{Leads, aim_of};
 
@@ -13,6 +15,7 @@ use crate::{exporting, inserting, linking, looking, reading, removing, storing, 
 use cacache_base::store::{FileHandle, TempHandle};
 use cacache_calls::{Command, Export, Source};
 use cacache_core::errors;
+use cacache_core::integrity::Integrity;
 use cacache_core::paths::join;
 use cacache_core::text::Text;
 use std::alloc::Global;
@@ -31,6 +34,46 @@ fn look<F: FileHandle, T: TempHandle>(
     looking::start(alloc, Lookup { cache, key, aim })
 }
 
+/// Where a read of a content begins.
+fn read<F: FileHandle, T: TempHandle>(
+    alloc: Global,
+    cache: &str,
+    integrity: Integrity,
+) -> errors::Result<Phase<F, T>>
+    ensures { Leads F.seen T.seen result
+        (reading_state (record { cache = cache.now; integrity = integrity })) }
+{
+    let cache = Text::from_str(alloc, cache)?;
+    reading::start(alloc, Content { cache, integrity })
+}
+
+/// Where the question begins whether a content is there.
+fn ask<F: FileHandle, T: TempHandle>(
+    alloc: Global,
+    cache: &str,
+    integrity: Integrity,
+) -> errors::Result<Phase<F, T>>
+    ensures { Leads F.seen T.seen result
+        (asking_state (record { cache = cache.now; integrity = integrity })) }
+{
+    let cache = Text::from_str(alloc, cache)?;
+    reading::ask(alloc, Content { cache, integrity })
+}
+
+/// Where a listing begins.
+fn list<F: FileHandle, T: TempHandle>(alloc: Global, cache: &str) -> errors::Result<Phase<F, T>>
+    ensures { Leads F.seen T.seen result (walk false (join_of cache.now (codes "index-v5"))) }
+{
+    walking::start(alloc, false, join(alloc, cache, "index-v5")?)
+}
+
+/// Where a clearing begins.
+fn clear<F: FileHandle, T: TempHandle>(alloc: Global, cache: &str) -> errors::Result<Phase<F, T>>
+    ensures { Leads F.seen T.seen result (walk true cache.now) }
+{
+    walking::start(alloc, true, Text::from_str(alloc, cache)?)
+}
+
 /// Where an export begins.
 fn begin_export<F: FileHandle, T: TempHandle>(
     alloc: Global,
@@ -39,7 +82,7 @@ fn begin_export<F: FileHandle, T: TempHandle>(
     export: Export,
 ) -> errors::Result<Phase<F, T>>
     ensures { (base : List ℕ) (number : ℕ) → Leads F.seen T.seen result
-        (opening (site_of cache.now base number) (ExportCall source export)) }
+        (opening (site_of cache.now base number) (commands.Export source export)) }
 {
     match source {
         Source::Key(key) => look(alloc, cache, key, Aim::Export(export)),
@@ -67,18 +110,12 @@ pub(crate) fn open<F: FileHandle, T: TempHandle>(
         Command::Find(key) => look(alloc, cache, key, Aim::Report),
         Command::Get(key) => look(alloc, cache, key, Aim::Read),
         Command::RemoveFully(key) => look(alloc, cache, key, Aim::Remove),
-        Command::GetHash(integrity) => {
-            let cache = Text::from_str(alloc, cache)?;
-            reading::start(alloc, Content { cache, integrity })
-        }
-        Command::Exists(integrity) => {
-            let cache = Text::from_str(alloc, cache)?;
-            reading::ask(alloc, Content { cache, integrity })
-        }
+        Command::GetHash(integrity) => read(alloc, cache, integrity),
+        Command::Exists(integrity) => ask(alloc, cache, integrity),
         Command::RemoveHash(integrity) => removing::remove_content(alloc, cache, &integrity),
         Command::Link(link) => linking::start(alloc, cache, base, link),
         Command::Export(source, export) => begin_export(alloc, cache, source, export),
-        Command::Ls => walking::start(alloc, false, join(alloc, cache, "index-v5")?),
-        Command::Clear => walking::start(alloc, true, Text::from_str(alloc, cache)?),
+        Command::Ls => list(alloc, cache),
+        Command::Clear => clear(alloc, cache),
     }
 }

@@ -1,6 +1,6 @@
 //! Where a call is while no step of it is out.
 ghost use Rattle.cacache_calls.specs.Common.{refuse, fails};
-ghost use Rattle.cacache_jobs.specs.Standing.{EndsAs};
+ghost use Rattle.cacache_calls.specs.Runs.{EndsAs};
 
 use crate::stage::Stage;
 use cacache_base::store::Step;

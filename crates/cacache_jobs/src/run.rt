@@ -6,7 +6,7 @@ ghost use Rattle.cacache_calls.specs.Runs.{Ran, plain_reply};
 ghost use Rattle.cacache_calls.specs.State.{State};
 ghost use Rattle.cacache_calls.specs.Table.{opening};
 ghost use Rattle.cacache_calls.specs.declared.reply.Reply.TheVariants.{Refused};
-ghost use Rattle.cacache_jobs.specs.Found.{FindsBytes};
+ghost use Rattle.cacache_jobs.specs.Found.{FindsBytes, ReadsFirst};
 ghost use Rattle.cacache_jobs.specs.Jobs.{Stands};
 ghost use Rattle.cacache_jobs.specs.Opening.{site_of};
 
@@ -35,9 +35,9 @@ pub fn drive<S: Store>(store: &mut S, job: Job<S::File, S::Temp>) -> Reply
 }
 
 /// Makes a call on a cache from its beginning to its end. The reply is that of a run of the call, and where the store
-/// keeps its log, that run is what the log gained; over every store the reply is as the command promises, and bytes that
-/// were read by key meet the integrity that the call's own read of the bucket gives. The clock, the numbers and the base
-/// folder stay as they were.
+/// keeps its log, that run is what the log gained; over every store the reply is as the command promises, bytes that were
+/// read by key meet the integrity that the call's own read of the bucket gives, a checked export verified the bytes of the
+/// file that it opened, and a link read its whole target. The clock, the numbers and the base folder stay as they were.
 pub fn call<S: Store, C, N>(
     env: &mut Env<S, C, N>,
     cache: &str,
@@ -48,6 +48,8 @@ pub fn call<S: Store, C, N>(
         (plain_reply result) (S.log env.old.store) (S.log env.new.store) }
     ensures found { FindsBytes cache.now command (plain_reply result)
         (S.log env.old.store) (S.log env.new.store) }
+    ensures read_first { ReadsFirst (site_of cache.now env.old.base number) command
+        (plain_reply result) (S.log env.old.store) (S.log env.new.store) }
     ensures promised { Answers (site_of cache.now env.old.base number) command
         (plain_reply result) }
 

@@ -5,9 +5,6 @@ ghost use Rattle.cacache_calls.specs.State.{State};
 ghost use Rattle.cacache_calls.specs.Table.{after};
 ghost use Rattle.cacache_jobs.specs.Standing.{Leads, StageAt, ThenAt};
 
-use crate::answers::{
-    bytes_of, done_of, file_of, got_of, length_of, taken_of, temp_of, there_of, written_of,
-};
 use crate::hashing::Hashing;
 use crate::inserting::Insertion;
 use crate::linking::Target;
@@ -15,15 +12,18 @@ use crate::looking::Lookup;
 use crate::phase::{Phase, refused};
 use crate::reading::Content;
 use crate::storing::Commit;
-use crate::walking::{Visit, Walk};
 use crate::{
     exporting, hashing, inserting, linking, looking, messages, reading, removing, storing, walking,
 };
 use cacache_base::store::{Answer, FileHandle, TempHandle};
+use cacache_calls::answers::{
+    bytes_of, done_of, file_of, got_of, length_of, taken_of, temp_of, there_of, written_of,
+};
 use cacache_calls::{Refusal, Reply};
 use cacache_core::bytes::Bytes;
 use cacache_core::errors::{self, Fault};
 use cacache_core::text::Text;
+use cacache_walks::{Visit, Walk};
 use std::alloc::{AllocError, Global};
 
 /// What a call does last, by the paths that its message names.

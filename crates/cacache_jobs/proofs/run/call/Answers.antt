@@ -4,7 +4,7 @@ use Rattle.cacache_calls.specs.State.{Site}
 use Rattle.cacache_calls.proofs.Promises.{calls_answer}
 use Rattle.cacache_jobs.specs.Opening.{site_of}
 use Rattle.cacache_jobs.proofs.Running.{memory_lost, ran_from, turn_stands}
-use Rattle.cacache_jobs.proofs.Calling.{finds_bytes}
+use Rattle.cacache_jobs.proofs.Calling.{finds_bytes, reads_first}
 use Rattle.cacache_jobs.proofs.run.call.Goals as goal
 
 pub drive-requires : goal.drive-requires
@@ -20,6 +20,11 @@ pub returns-clause-found : goal.returns-clause-found
 returns-clause-found g c =
     let site : Site = site_of c.args.cache.now c.args.env.now.base c.args.number in
     finds_bytes site c.args.command _ _ _ (returns-clause-ran g c)
+
+pub returns-clause-read_first : goal.returns-clause-read_first
+returns-clause-read_first g c =
+    let site : Site = site_of c.args.cache.now c.args.env.now.base c.args.number in
+    reads_first site c.args.command _ _ _ (returns-clause-ran g c)
 
 pub returns-clause-promised : goal.returns-clause-promised
 returns-clause-promised g c =

@@ -7,7 +7,7 @@ use Rattle.cacache_entry.specs.View.{entry_view}
 use Rattle.cacache_entry.specs.declared.metadata.SerializableMetadata.{SerializableMetadata}
 use Rattle.cacache_entry.specs.Bucket.{entries_of}
 use Rattle.cacache_calls.specs.Walking.{once, items_in}
-use Rattle.cacache_jobs.specs.Listed.{keys_in, lookups, added_at}
+use Rattle.cacache_walks.specs.Listed.{keys_in, lookups, added_at}
 
 -- the keys of entries are those of what they stand for
 pub keys_in_view : (es : List SerializableMetadata) → map (λ (e : Entry). e.key) (map entry_view es) ≡ keys_in es

@@ -5,7 +5,7 @@ ghost use Rattle.cacache_core.specs.declared.errors.Error.TheVariants.{OutOfMemo
 ghost use Rattle.cacache_entry.specs.Bucket.{entries_of};
 ghost use Rattle.cacache_calls.specs.Runs.{plain_item};
 ghost use Rattle.cacache_calls.specs.Walking.{items_in};
-ghost use Rattle.cacache_jobs.specs.Listed.{keys_in, added_at};
+ghost use Rattle.cacache_walks.specs.Listed.{keys_in, added_at};
 
 use cacache_calls::Found;
 use cacache_core::errors::{self, Error};

@@ -1,7 +1,7 @@
 use Rattle.std.proofs.Common.{◌≡◌, bytes_eq, length}
 use Rattle.std.specs.List.{list_any}
-use Rattle.cacache_jobs.specs.Listed.{keys_in}
-use Rattle.cacache_jobs.proofs.listing.has_key.Given as goal
+use Rattle.cacache_walks.specs.Listed.{keys_in}
+use Rattle.cacache_walks.proofs.bucket.has_key.Given as goal
 
 abbrev pub invariant-loop-entry : goal.invariant-loop-entry
 invariant-loop-entry l = list_any (bytes_eq l.key) (keys_in l.rest) ≡ list_any (bytes_eq l.key) (keys_in l.entries)

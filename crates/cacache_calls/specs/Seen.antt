@@ -3,8 +3,8 @@ use Rattle.std.specs.Prelude.{ℕ, List, Result, Ok, Err}
 use Rattle.cacache_base.specs.declared.store.plain.PlainFile.{PlainFile}
 use Rattle.cacache_base.specs.declared.store.plain.PlainTemp.{PlainTemp}
 use Rattle.cacache_calls.specs.declared.answers.Refusal.{Refusal}
-use Rattle.cacache_jobs.specs.declared.answers.Written.{Written}
-use Rattle.cacache_jobs.specs.declared.answers.Got.{Got}
+use Rattle.cacache_calls.specs.declared.answers.Written.{Written}
+use Rattle.cacache_calls.specs.declared.answers.Got.{Got}
 
 -- a result whose value is seen so
 abbrev pub seen_by : {X Y : Type 0} → (X → Y) → Result X Refusal → Result Y Refusal

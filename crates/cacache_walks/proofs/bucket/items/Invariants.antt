@@ -2,8 +2,8 @@ use Rattle.std.proofs.Common.{◌≡◌, ◌++◌, map, length}
 use Rattle.cacache_entry.specs.Bucket.{entries_of}
 use Rattle.cacache_calls.specs.Runs.{plain_item}
 use Rattle.cacache_calls.specs.Walking.{once, items_in}
-use Rattle.cacache_jobs.specs.Listed.{keys_in, lookups}
-use Rattle.cacache_jobs.proofs.listing.items.Given as goal
+use Rattle.cacache_walks.specs.Listed.{keys_in, lookups}
+use Rattle.cacache_walks.proofs.bucket.items.Given as goal
 
 abbrev pub invariant-loop-entry : goal.invariant-loop-entry
 invariant-loop-entry l =

@@ -1,5 +1,5 @@
-use Rattle.cacache_jobs.proofs.Listed.{all_items}
-use Rattle.cacache_jobs.proofs.listing.items.Goals as goal
+use Rattle.cacache_walks.proofs.Listed.{all_items}
+use Rattle.cacache_walks.proofs.bucket.items.Goals as goal
 
 pub loop-entry-init : goal.loop-entry-init
 loop-entry-init c =

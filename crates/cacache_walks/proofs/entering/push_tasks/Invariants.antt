@@ -1,7 +1,7 @@
 use Rattle.std.proofs.Common.{◌≡◌, ◌++◌, ◌≤◌, length, drop}
 use Rattle.cacache_calls.specs.Walking.{tasks_of}
-use Rattle.cacache_jobs.specs.Standing.{pending}
-use Rattle.cacache_jobs.proofs.entering.push_tasks.Given as goal
+use Rattle.cacache_walks.specs.Standing.{pending}
+use Rattle.cacache_walks.proofs.entering.push_tasks.Given as goal
 
 abbrev pub invariant-loop-left : goal.invariant-loop-left
 invariant-loop-left l = record {

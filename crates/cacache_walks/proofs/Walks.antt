@@ -1,0 +1,16 @@
+-- How the stack of a walk stands for the table's list of tasks, and how its items grow.
+use Rattle.std.proofs.Common.{◌≡◌, List, [], ◌∷◌, ◌++◌, map, sym, ◌∙◌, ap, append_assoc}
+use Rattle.std.proofs.lemmas.List.{map-append, reverse-append}
+use Rattle.cacache_calls.specs.State.{Item}
+use Rattle.cacache_calls.specs.Runs.{plain_item}
+use Rattle.cacache_walks.specs.declared.visit.Task.{Task}
+use Rattle.cacache_walks.specs.Standing.{task_of, pending}
+
+-- a task that is put on the stack comes first
+pub pending_push : (stack : List Task) (t : Task) → pending (stack ++ t ∷ []) ≡ task_of t ∷ pending stack
+pending_push stack t = rw (map-append task_of stack (t ∷ [])) (reverse-append (map task_of stack) (task_of t ∷ []))
+
+-- more items come after those that were there
+pub taken_more : (taken xs ys : List Item) → taken ++ map plain_item (xs ++ ys) ≡ (taken ++ map plain_item xs) ++ map plain_item ys
+taken_more taken xs ys =
+    ap (λ (zs : List Item). taken ++ zs) (map-append plain_item xs ys) ∙ sym (append_assoc taken (map plain_item xs) (map plain_item ys))

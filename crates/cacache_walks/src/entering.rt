@@ -1,0 +1,147 @@
+//! The names of a folder that a walk enters, and the tasks that they bring.
+ghost use Rattle.std.specs.Prelude.{◌≡◌, ◌++◌, List, OnOk};
+ghost use Rattle.cacache_calls.specs.Common.{go_on};
+ghost use Rattle.cacache_calls.specs.State.{Item};
+ghost use Rattle.cacache_calls.specs.Walking.{walk_on as walk_on_of, miss as miss_of, entered as entered_of, task_of as table_task, tasks_of, leaving};
+ghost use Rattle.cacache_walks.specs.Standing.{Counts, WalkLeads, task_of, pending, walk_of};
+
+use crate::messages;
+use crate::visit::{Task, Visit};
+use crate::walk::Walk;
+use cacache_base::store::{Kind, Listing, Name};
+use cacache_calls::Refusal;
+use cacache_core::errors::{self, Fault};
+use cacache_core::paths::join;
+use cacache_core::text::Text;
+use std::alloc::{AllocError, Global};
+
+/// Folders below this level aren't entered.
+const DEEPEST: u8 = 16;
+
+/// The task that a name in a folder of this level brings, by its path. Links are never followed.
+fn task_at(clears: bool, level: u8, path: Text, kind: Kind) -> Task
+    ensures { task_of result ≡ table_task clears level path kind }
+{
+    match kind {
+        Kind::Folder => {
+            if level < DEEPEST {
+                return Task::Visit(Visit::Enter(path, level + 1));
+            }
+            Task::Stumble(Fault::TooDeep)
+        }
+        Kind::File => {
+            if !clears {
+                return Task::Visit(Visit::ReadBucket(path));
+            }
+            if level == 0 {
+                return Task::Stumble(Fault::NotADirectory);
+            }
+            Task::Visit(Visit::RemoveFile(path))
+        }
+        Kind::Link => {
+            if clears {
+                return Task::Visit(Visit::RemoveFile(path));
+            }
+            Task::Visit(Visit::ReadBucket(path))
+        }
+    }
+}
+
+/// Puts the tasks of a folder's names on the stack, so that the first comes first.
+#[tactic(auto, using(crate::proofs::Walks::pending_push))]
+fn push_tasks(
+    alloc: Global,
+    todo: &mut Vec<Task>,
+    clears: bool,
+    level: u8,
+    folder: &str,
+    names: &[Name],
+) -> Result<(), AllocError>
+    ensures { OnOk result (pending todo.new.items
+        ≡ tasks_of clears level folder.now names.now ++ pending todo.old.items) }
+{
+    let mut left = names.len();
+    while left > 0 {
+        left -= 1;
+        let name = &names[left];
+        let path = join(alloc, folder, name.name.as_str())?;
+        todo.push(task_at(clears, level, path, name.kind))?;
+    }
+    Ok(())
+}
+
+/// Puts the removal of the folder on the stack, where a clearing leaves one that isn't the top one.
+#[tactic(auto, using(crate::proofs::Walks::pending_push))]
+fn push_leaving(
+    todo: &mut Vec<Task>,
+    clears: bool,
+    level: u8,
+    folder: &Text,
+) -> Result<(), AllocError>
+    ensures { OnOk result (pending todo.new.items
+        ≡ leaving clears level folder.now ++ pending todo.old.items) }
+{
+    if clears && level != 0 {
+        let path = folder.clone()?;
+        todo.push(Task::Visit(Visit::RemoveFolder(path)))?;
+    }
+    Ok(())
+}
+
+impl Walk {
+    /// The names of a folder: their tasks come before those that were to do.
+    fn entered(
+        &mut self,
+        alloc: Global,
+        folder: Text,
+        level: u8,
+        names: Listing,
+    ) -> errors::Result<Option<Visit>>
+        ensures { (taken : List Item) → Counts taken self.old
+            → WalkLeads taken result self.new
+            (entered_of (walk_of taken self.old) folder level (pending self.old.todo.items) names) }
+    {
+        let count = names.as_slice().len() as u64;
+        if count > self.left {
+            self.end_too_deep(alloc)?;
+            return Ok(None);
+        }
+        self.left -= count;
+        push_leaving(&mut self.todo, self.clears, level, &folder)?;
+        push_tasks(
+            alloc,
+            &mut self.todo,
+            self.clears,
+            level,
+            folder.as_str(),
+            names.as_slice(),
+        )?;
+        self.walk_on(alloc)
+    }
+
+    /// After a folder was to be listed.
+    pub(crate) fn named(
+        &mut self,
+        alloc: Global,
+        folder: Text,
+        level: u8,
+        names: Result<Listing, Refusal>,
+    ) -> errors::Result<Option<Visit>>
+        ensures { (taken : List Item) → Counts taken self.old
+            → WalkLeads taken result self.new (go_on names
+            (miss_of (walk_of taken self.old) (walk_on_of (pending self.old.todo.items)))
+            (entered_of (walk_of taken self.old) folder level (pending self.old.todo.items))) }
+    {
+        match names {
+            Ok(names) => self.entered(alloc, folder, level, names),
+            Err(refusal) => {
+                let message = if self.clears && level == 0 {
+                    messages::clearing_folder(alloc, &self.top)
+                } else {
+                    self.message(alloc)
+                };
+                self.missed(alloc, refusal, message)
+            }
+        }
+    }
+}

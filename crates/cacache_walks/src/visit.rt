@@ -1,0 +1,47 @@
+//! What a walk does next.
+ghost use Rattle.std.specs.Prelude.{◌≡◌, IfOk};
+ghost use Rattle.cacache_base.specs.Plain.{plain_step};
+ghost use Rattle.cacache_calls.specs.Walking.{visit_step};
+ghost use Rattle.cacache_walks.specs.Standing.{visit_of};
+
+use cacache_base::store::{FileHandle, Step, TempHandle};
+use cacache_core::errors::Fault;
+use cacache_core::text::Text;
+use std::alloc::AllocError;
+
+/// One step of a walk, by its path.
+#[derive(Drop)]
+pub enum Visit {
+    /// Lists a folder, which lies at this level; that of the walk's own folder is 0.
+    Enter(Text, u8),
+    /// Reads a bucket.
+    ReadBucket(Text),
+    /// Removes a file or a link.
+    RemoveFile(Text),
+    /// Removes a folder, which is empty by then.
+    RemoveFolder(Text),
+}
+
+/// What a walk has still to do.
+#[derive(Drop)]
+pub enum Task {
+    /// It makes this visit.
+    Visit(Visit),
+    /// It stumbles over something, which takes no step.
+    Stumble(Fault),
+}
+
+impl Visit {
+    /// The step of the visit.
+    pub fn step<F: FileHandle, T: TempHandle>(&self) -> Result<Step<F, T>, AllocError>
+        ensures { IfOk result (λ step.
+            plain_step F.seen T.seen step ≡ visit_step (visit_of self.now)) }
+    {
+        match self {
+            Visit::Enter(path, _) => Ok(Step::ReadDir(path.clone()?)),
+            Visit::ReadBucket(path) => Ok(Step::ReadAll(path.clone()?)),
+            Visit::RemoveFile(path) => Ok(Step::RemoveFile(path.clone()?)),
+            Visit::RemoveFolder(path) => Ok(Step::RemoveDir(path.clone()?)),
+        }
+    }
+}

@@ -1,0 +1,276 @@
+//! A walk, which makes one visit after another.
+ghost use Rattle.std.specs.Prelude.{◌≡◌, ◌+◌, List, [], OnOk, IfOk, IfErr, length, map, Some};
+ghost use Rattle.cacache_base.specs.Plain.{plain_answer};
+ghost use Rattle.cacache_calls.specs.Common.{go_on, refuse};
+ghost use Rattle.cacache_calls.specs.Runs.{plain_item, plain_reply, EndsAs};
+ghost use Rattle.cacache_calls.specs.State.{State, Item, Walk as TableWalk, over};
+ghost use Rattle.cacache_calls.specs.Walking.{walk as walk_from, give as give_of, walk_on as walk_on_of, walk_ends, too_many as too_many_of, miss as miss_of, unread_bucket, listed as listed_of, after_visit};
+ghost use Rattle.cacache_walks.specs.Standing.{Counts, WalksAt, WalkLeads, WalkGives, visit_of, pending, walk_of};
+
+use crate::visit::{Task, Visit};
+use crate::{bucket, messages};
+use cacache_base::store::{Answer, FileHandle, TempHandle};
+use cacache_calls::answers::{bytes_of, done_of, names_of};
+use cacache_calls::{Found, Items, Refusal, Reply};
+use cacache_core::bytes::Bytes;
+use cacache_core::errors::{self, Error, Fault};
+use cacache_core::text::Text;
+use std::alloc::{AllocError, Global};
+
+/// A walk through all folders below one.
+pub struct Walk {
+    /// Whether it removes what it finds; otherwise it lists.
+    pub clears: bool,
+    /// Its own folder.
+    pub top: Text,
+    /// What it listed, and nobody took yet.
+    pub items: Vec<Result<Found, Error>>,
+    /// How many names it may still take.
+    pub left: u64,
+    /// How many items it may still give.
+    pub room: u64,
+    /// What is still to do; the last comes first.
+    pub todo: Vec<Task>,
+}
+
+// Written out, so that it is a call of its own: whoever lets a walk go has a proof that doesn't go through its fields.
+impl Drop for Walk {
+    fn drop(self) {
+        let Walk {
+            clears: _,
+            top: _top,
+            items: _items,
+            left: _,
+            room: _,
+            todo: _todo,
+        } = self;
+    }
+}
+
+/// A walk takes at most so many names, and gives at most so many items.
+const MOST: u64 = 0x8000_0000_0000_0000;
+
+impl Walk {
+    /// A walk through this folder, and its first visit.
+    pub fn new(alloc: Global, clears: bool, top: Text) -> Result<(Walk, Visit), AllocError>
+        ensures stands { IfOk result (λ w. WalksAt [] w.0 (Some w.1) (walk_from clears top)) }
+        ensures empty { IfOk result (λ w. w.0.items.items ≡ []) }
+    {
+        let visit = Visit::Enter(top.clone()?, 0);
+        let walk = Walk {
+            clears,
+            top,
+            items: Vec::new(alloc),
+            left: MOST,
+            room: MOST,
+            todo: Vec::new(alloc),
+        };
+        Ok((walk, visit))
+    }
+
+    /// What a walk answers that is over.
+    pub fn into_reply(self) -> Reply
+        ensures { over (plain_reply result) ≡ walk_ends (walk_of [] self) }
+    {
+        let Walk {
+            clears,
+            top: _top,
+            items,
+            left: _,
+            room: _,
+            todo: _todo,
+        } = self;
+        if clears {
+            return Reply::Done;
+        }
+        Reply::Listed(Items::new(items))
+    }
+
+    /// What a fault is told as, wherever the walk is, at a step that isn't a bucket's.
+    pub(crate) fn message(&self, alloc: Global) -> Result<Text, AllocError> {
+        if self.clears {
+            return messages::clearing(alloc, &self.top);
+        }
+        messages::listing_folder(alloc, &self.top)
+    }
+
+    /// Past the most a walk ends; the last item of a listing says so.
+    #[tactic(auto, using(crate::proofs::Walks::taken_more))]
+    pub(crate) fn end_too_deep(&mut self, alloc: Global) -> errors::Result<()>
+        ensures ends { OnOk result ((taken : List Item)
+            → too_many_of (walk_of taken self.old) ≡ walk_ends (walk_of taken self.new)) }
+        ensures fails { IfErr result (λ e. (taken : List Item)
+            → EndsAs e (too_many_of (walk_of taken self.old))) }
+        ensures one_more { OnOk result
+            (length self.new.items.items ≡ length self.old.items.items + 1) }
+        ensures todo { OnOk result (self.new.todo.items ≡ self.old.todo.items) }
+    {
+        let error = Error::IoError(Fault::TooDeep, self.message(alloc)?);
+        if self.clears {
+            return Err(error);
+        }
+        self.items.push(Err(error))?;
+        Ok(())
+    }
+
+    /// Whether a walk goes on with more items: past the most it ends.
+    fn give(&mut self, alloc: Global, items: Vec<Result<Found, Error>>) -> errors::Result<bool>
+        ensures gives { (taken : List Item) → Counts taken self.old → (next : TableWalk → State)
+            → WalkGives taken result self.new next
+            (give_of (walk_of taken self.old) (map plain_item items.items) next) }
+        ensures todo { OnOk result (self.new.todo.items ≡ self.old.todo.items) }
+    {
+        let mut items = items;
+        let count = items.len() as u64;
+        if count <= self.room {
+            self.items.append(&mut items)?;
+            self.room -= count;
+            return Ok(true);
+        }
+        items.truncate(self.room as usize);
+        self.items.append(&mut items)?;
+        match self.end_too_deep(alloc) {
+            Ok(()) => Ok(false),
+            Err(error) => Err(error),
+        }
+    }
+
+    /// Whether a walk goes on after a fault: a clearing ends with it, a listing gives it as an item.
+    fn miss(
+        &mut self,
+        alloc: Global,
+        fault: Fault,
+        message: Result<Text, AllocError>,
+    ) -> errors::Result<bool>
+        ensures gives { (taken : List Item) → Counts taken self.old → (next : TableWalk → State)
+            → WalkGives taken result self.new next
+            (miss_of (walk_of taken self.old) next fault) }
+        ensures todo { OnOk result (self.new.todo.items ≡ self.old.todo.items) }
+    {
+        let error = Error::IoError(fault, message?);
+        if self.clears {
+            return Err(error);
+        }
+        let mut items = Vec::with_capacity(alloc, 1)?;
+        items.push(Err(error))?;
+        self.give(alloc, items)
+    }
+
+    /// Goes on to the next task that wants a step.
+    pub(crate) fn walk_on(&mut self, alloc: Global) -> errors::Result<Option<Visit>>
+        ensures { (taken : List Item) → Counts taken self.old
+            → WalkLeads taken result self.new
+            (walk_on_of (pending self.old.todo.items) (walk_of taken self.old)) }
+    {
+        while let Some(task) = self.todo.pop() {
+            match task {
+                Task::Visit(visit) => return Ok(Some(visit)),
+                Task::Stumble(fault) => {
+                    let message = self.message(alloc);
+                    match self.miss(alloc, fault, message) {
+                        Ok(true) => {}
+                        Ok(false) => return Ok(None),
+                        Err(error) => return Err(error),
+                    }
+                }
+            }
+        }
+        Ok(None)
+    }
+
+    /// After a refused step.
+    pub(crate) fn missed(
+        &mut self,
+        alloc: Global,
+        refusal: Refusal,
+        message: Result<Text, AllocError>,
+    ) -> errors::Result<Option<Visit>>
+        ensures { (taken : List Item) → Counts taken self.old
+            → WalkLeads taken result self.new (refuse refusal
+            (miss_of (walk_of taken self.old) (walk_on_of (pending self.old.todo.items)))) }
+    {
+        match refusal {
+            Refusal::Fault(fault) => {
+                if self.miss(alloc, fault, message)? {
+                    return self.walk_on(alloc);
+                }
+                Ok(None)
+            }
+            Refusal::Memory => Err(Error::OutOfMemory),
+        }
+    }
+
+    /// The bytes of a bucket: their items are listed.
+    fn listed(&mut self, alloc: Global, bytes: Bytes) -> errors::Result<Option<Visit>>
+        ensures { (taken : List Item) → Counts taken self.old
+            → WalkLeads taken result self.new
+            (listed_of (walk_of taken self.old) (pending self.old.todo.items) bytes) }
+    {
+        let items = bucket::items(alloc, bytes.as_slice())?;
+        if self.give(alloc, items)? {
+            return self.walk_on(alloc);
+        }
+        Ok(None)
+    }
+
+    /// After a bucket was to be read; one that isn't there is an empty one.
+    fn read(
+        &mut self,
+        alloc: Global,
+        bucket: Text,
+        bytes: Result<Bytes, Refusal>,
+    ) -> errors::Result<Option<Visit>>
+        ensures { (taken : List Item) → Counts taken self.old
+            → WalkLeads taken result self.new
+            (go_on bytes (unread_bucket (walk_of taken self.old) (pending self.old.todo.items))
+            (listed_of (walk_of taken self.old) (pending self.old.todo.items))) }
+    {
+        match bytes {
+            Ok(bytes) => self.listed(alloc, bytes),
+            Err(Refusal::Fault(Fault::NotFound)) => self.walk_on(alloc),
+            Err(refusal) => {
+                let message = messages::listing_bucket(alloc, &bucket);
+                self.missed(alloc, refusal, message)
+            }
+        }
+    }
+
+    /// After a file or a folder was to be removed.
+    fn removed(&mut self, alloc: Global, done: Result<(), Refusal>) -> errors::Result<Option<Visit>>
+        ensures { (taken : List Item) → Counts taken self.old
+            → WalkLeads taken result self.new
+            (go_on done
+            (miss_of (walk_of taken self.old) (walk_on_of (pending self.old.todo.items)))
+            (λ _. walk_on_of (pending self.old.todo.items) (walk_of taken self.old))) }
+    {
+        match done {
+            Ok(()) => self.walk_on(alloc),
+            Err(refusal) => {
+                let message = messages::clearing(alloc, &self.top);
+                self.missed(alloc, refusal, message)
+            }
+        }
+    }
+
+    /// Goes on with the answer to a visit's step: to the next visit, or to none where the walk is over.
+    ///
+    /// A fault ends a clearing as `IoError`; a listing gives it as an item and goes on.
+    pub fn resume<F: FileHandle, T: TempHandle>(
+        &mut self,
+        alloc: Global,
+        visit: Visit,
+        answer: Answer<F, T>,
+    ) -> errors::Result<Option<Visit>>
+        ensures { (taken : List Item) → Counts taken self.old
+            → WalkLeads taken result self.new
+            (after_visit (walk_of taken self.old) (visit_of visit) (pending self.old.todo.items)
+            (plain_answer F.seen T.seen answer)) }
+    {
+        match visit {
+            Visit::Enter(folder, level) => self.named(alloc, folder, level, names_of(answer)),
+            Visit::ReadBucket(bucket) => self.read(alloc, bucket, bytes_of(answer)),
+            Visit::RemoveFile(_path) => self.removed(alloc, done_of(answer)),
+            Visit::RemoveFolder(_path) => self.removed(alloc, done_of(answer)),
+        }
+    }
+}
