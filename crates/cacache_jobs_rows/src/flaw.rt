@@ -6,8 +6,10 @@ use std::alloc::AllocError;
 pub(crate) enum Flaw {
     /// It isn't written as a row is.
     NotRead,
-    /// An answer is of another kind than the step, or there are more answers than steps.
+    /// An answer doesn't fit its step, or there are more answers than steps.
     OtherAnswer,
+    /// There are fewer answers than steps.
+    NoAnswer,
     /// Memory for its texts was refused.
     NoMemory,
 }
@@ -18,6 +20,7 @@ impl Flaw {
         match self {
             Flaw::NotRead => "not read",
             Flaw::OtherAnswer => "answers that no step wants",
+            Flaw::NoAnswer => "a step that no answer is left for",
             Flaw::NoMemory => "no memory to read it",
         }
     }

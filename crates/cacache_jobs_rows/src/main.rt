@@ -2,15 +2,19 @@
 //!
 //!     CALL | ANSWERS | STEPS | REPLY
 //!
-//! A row holds if the call, given these answers one by one, asks for these steps and replies so. The rows of a group
-//! that hold are counted, and each other row is printed with what was wanted and what came.
+//! A row holds if the call, made on a store that gives these answers one by one, replies so, and these steps are those
+//! of the store's log and, behind them, the one that memory was refused to. A store can't give an answer that doesn't fit
+//! its step, and this one lists no folder; such rows are tried on the job alone. The rows of a group that hold are
+//! counted, and each other row is printed with what was wanted and what came.
 #![tactic(auto)]
 
 mod commands;
+mod fitting;
 mod flaw;
 mod names;
 mod replies;
 mod row;
+mod script;
 mod steps;
 mod tally;
 mod told;

@@ -6,12 +6,14 @@ use crate::commands::command_of;
 use crate::flaw::{Flaw, let_go};
 use crate::replies::shown_reply;
 use crate::row::Row;
+use crate::script::{Script, add};
 use crate::steps::shown_step;
 use crate::told::answer_of;
 use crate::words::{is_nothing, written_out};
+use cacache_base::env::Env;
 use cacache_base::store::{PlainFile, PlainTemp};
-use cacache_jobs::{Job, Next};
-use std::alloc::{AllocError, Global};
+use cacache_jobs::{Job, Next, call};
+use std::alloc::Global;
 
 /// Where the cache of each row is.
 const CACHE: &str = "/c";
@@ -22,24 +24,15 @@ const BASE: &str = "/b";
 /// The number of the temporary file.
 const NUMBER: u64 = 1;
 
-/// What a job hands out last: its reply, or a step that no answer is left for.
-fn ended(alloc: Global, next: &Next<PlainFile, PlainTemp>) -> Result<String, AllocError> {
-    match next {
-        Next::Over(reply) => shown_reply(alloc, reply),
-        Next::Step(step) => {
-            let shown = shown_step(alloc, step)?;
-            format!(in alloc; "wants {shown}")
-        }
-    }
-}
-
-/// One step more of those that were asked for.
-fn add(steps: &mut String, step: &str) -> Result<(), Flaw> {
-    if !steps.is_empty() {
-        steps.push_str("; ")?;
-    }
-    steps.push_str(step)?;
-    Ok(())
+/// The steps and the reply of the call, made on a store.
+fn over_store(alloc: Global, row: Row<'_>) -> Result<String, Flaw> {
+    let command = command_of(alloc, row.call)?;
+    let script = Script::new(alloc, row.answers)?;
+    let mut env = Env::new(alloc, script, (), (), BASE)?;
+    let reply = call(&mut env, CACHE, command, NUMBER);
+    let came = env.store.came(&reply);
+    let_go(reply);
+    came
 }
 
 /// One turn: the job's step, with this answer.
@@ -67,8 +60,23 @@ fn turned(
     }
 }
 
-/// The steps that the call of a row asks for, and its reply.
-pub(crate) fn came(alloc: Global, row: Row<'_>) -> Result<String, Flaw> {
+/// The reply that a job hands out last.
+fn ended(alloc: Global, next: Next<PlainFile, PlainTemp>) -> Result<String, Flaw> {
+    match next {
+        Next::Over(reply) => {
+            let shown = shown_reply(alloc, &reply);
+            let_go(reply);
+            Ok(shown?)
+        }
+        Next::Step(step) => {
+            let_go(step);
+            Err(Flaw::NoAnswer)
+        }
+    }
+}
+
+/// The steps and the reply of the job alone, which takes any answers.
+fn by_hand(alloc: Global, row: Row<'_>) -> Result<String, Flaw> {
     let command = command_of(alloc, row.call)?;
     let mut job = Job::new(alloc, CACHE, BASE, command, NUMBER);
     let mut steps = String::new(alloc);
@@ -77,13 +85,15 @@ pub(crate) fn came(alloc: Global, row: Row<'_>) -> Result<String, Flaw> {
             job = turned(alloc, job, &mut steps, words.trim())?;
         }
     }
-    if steps.is_empty() {
-        add(&mut steps, "-")?;
-    }
-    let next = job.next();
-    let last = ended(alloc, &next);
-    let_go(next);
-    let last = last?;
-    let came = format!(in alloc; "{steps} | {last}")?;
+    let reply = ended(alloc, job.next())?;
+    Ok(format!(in alloc; "{steps} | {reply}")?)
+}
+
+/// The steps that the call of a row asks for, and its reply.
+pub(crate) fn came(alloc: Global, row: Row<'_>) -> Result<String, Flaw> {
+    let came = match over_store(alloc, row) {
+        Err(Flaw::OtherAnswer) => by_hand(alloc, row)?,
+        came => came?,
+    };
     Ok(written_out(alloc, came.as_str())?)
 }

@@ -1,5 +1,7 @@
 //! Words as texts, bytes and numbers: `-` stands for nothing, `\n` for a line feed and `\t` for a tab.
+use crate::flaw::Flaw;
 use cacache_core::bytes::Bytes;
+use cacache_core::errors::Fault;
 use cacache_core::text::Text;
 use std::alloc::{AllocError, Global};
 
@@ -31,6 +33,25 @@ pub(crate) fn bytes_of(alloc: Global, word: &str) -> Result<Bytes, AllocError> {
 /// The number that a word spells.
 pub(crate) fn number_of(word: &str) -> Option<usize> {
     word.parse::<usize>().ok()
+}
+
+/// The number of an answer.
+pub(crate) fn count_of(word: &str) -> Result<usize, Flaw> {
+    match number_of(word) {
+        Some(count) => Ok(count),
+        None => Err(Flaw::NotRead),
+    }
+}
+
+/// The fault of a name.
+pub(crate) fn fault_of(name: &str) -> Result<Fault, Flaw> {
+    match name {
+        "NotFound" => Ok(Fault::NotFound),
+        "AlreadyExists" => Ok(Fault::AlreadyExists),
+        "NotADirectory" => Ok(Fault::NotADirectory),
+        "Device" => Ok(Fault::Device),
+        _ => Err(Flaw::NotRead),
+    }
 }
 
 /// Bytes as a word.

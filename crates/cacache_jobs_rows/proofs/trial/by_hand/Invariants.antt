@@ -1,6 +1,6 @@
 use Rattle.std.specs.Prelude.{IsTrue}
 use Rattle.cacache_jobs.specs.Jobs.{can_go_on}
-use Rattle.cacache_jobs_rows.proofs.trial.came.Given as goal
+use Rattle.cacache_jobs_rows.proofs.trial.by_hand.Given as goal
 
 -- no step is out
 abbrev pub invariant-loop-words : goal.invariant-loop-words
