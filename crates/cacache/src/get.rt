@@ -1,4 +1,4 @@
-//! Calls that read.
+//! Calls that read and export.
 ghost use Rattle.std.specs.Prelude.{◌≡◌, IfOk, IfErr};
 ghost use Rattle.cacache_core.specs.declared.errors.Error.TheVariants.{OutOfMemory};
 ghost use Rattle.cacache_core.specs.Integrity.{Meets};
@@ -7,7 +7,7 @@ ghost use Rattle.cacache_calls.specs.declared.reply.Reply.TheVariants.{Read, Exi
 ghost use Rattle.cacache_calls.specs.Promises.{Answers};
 ghost use Rattle.cacache_jobs.specs.Found.{FindsBytes, ReadsFound};
 ghost use Rattle.cacache_jobs.specs.Opening.{site_of};
-ghost use Rattle.cacache_put.specs.Replies.{reply_of, looked_up};
+ghost use Rattle.cacache_put.specs.Replies.{reply_of};
 ghost use Rattle.cacache_put.specs.Writes.{Calls};
 ghost use Rattle.cacache.specs.Reads.{IsReading, bytes_read};
 
@@ -17,9 +17,13 @@ use cacache_calls::{Command, Reply};
 use cacache_core::errors::Result;
 use cacache_core::integrity::Integrity;
 use cacache_core::text::Text;
-use cacache_entry::Metadata;
+pub use cacache_export::{
+    copy_hash_sync, copy_hash_unchecked_sync, copy_sync, copy_unchecked_sync, hard_link_hash_sync,
+    hard_link_hash_unchecked_sync, hard_link_sync, hard_link_unchecked_sync, reflink_hash_sync,
+    reflink_hash_unchecked_sync, reflink_sync, reflink_unchecked_sync,
+};
 use cacache_jobs::call;
-use cacache_put::index::find;
+pub use cacache_put::index::find as metadata_sync;
 
 /// Makes a call that reads bytes.
 fn read<S: Store, C, N>(env: &mut Env<S, C, N>, cache: &str, command: Command) -> Result<Vec<u8>>
@@ -71,18 +75,6 @@ pub fn read_hash_sync<S: Store, C: Clock, N: Names>(
 {
     let command = Command::GetHash(sri.clone()?);
     read(env, cache, command)
-}
-
-/// What the index has of the key. This is `index::find`; `exists_sync` says whether the content is there.
-pub fn metadata_sync<S: Store, C: Clock, N: Names>(
-    env: &mut Env<S, C, N>,
-    cache: &str,
-    key: &str,
-) -> Result<Option<Metadata>>
-    ensures ran { Calls S.log env.old env.new cache.now (commands.Find key.now)
-        (reply_of looked_up result) }
-{
-    find(env, cache, key)
 }
 
 /// Whether the content of the integrity is there. Whether it meets the integrity isn't asked.

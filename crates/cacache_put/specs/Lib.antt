@@ -1,3 +1,4 @@
 pub mod Options
 pub mod Replies
 pub mod Writes
+pub mod Links

@@ -54,19 +54,24 @@ module _ {S C N : Type 0} (log : S → Option (List LogItem)) where
       Steps old new cache 0 command reply × (new.clock ≡ old.clock) × (new.names ≡ old.names)
 
   -- so it did with a number that was asked for once, and no moment
-  abbrev pub RunsNumbered : (N → Option (List ℕ)) → Env S C N → Env S C N → List ℕ → Command → Reply → Type 0
+  abbrev pub RunsNumbered :
+      (N → Option (List ℕ)) → Env S C N → Env S C N → List ℕ → Command → Reply → Type 0
   RunsNumbered numbers old new cache command reply =
       (number : ℕ) × AddsAnswer (numbers old.names) (numbers new.names) number
       × Steps old new cache number command reply × (new.clock ≡ old.clock)
 
   -- so it did with a moment, and no number
-  abbrev pub RunsTimed : (C → Option (List ℕ)) → Option ℕ → Env S C N → Env S C N → List ℕ → (ℕ → Command) → Reply → Type 0
+  abbrev pub RunsTimed :
+      (C → Option (List ℕ)) → Option ℕ → Env S C N → Env S C N → List ℕ
+      → (ℕ → Command) → Reply → Type 0
   RunsTimed moments time old new cache command reply =
       (moment : ℕ) × HasMoment moments time old.clock new.clock moment
       × Steps old new cache 0 (command moment) reply × (new.names ≡ old.names)
 
   -- so it did with a put, of a moment and a number that were asked for once each
-  abbrev pub RunsPut : (C → Option (List ℕ)) → (N → Option (List ℕ)) → Env S C N → Env S C N → List ℕ → (ℕ → Put) → Reply → Type 0
+  abbrev pub RunsPut :
+      (C → Option (List ℕ)) → (N → Option (List ℕ)) → Env S C N → Env S C N → List ℕ
+      → (ℕ → Put) → Reply → Type 0
   RunsPut moments numbers old new cache put reply =
       (moment number : ℕ)
       × AddsAnswer (moments old.clock) (moments new.clock) moment

@@ -1,7 +1,8 @@
-//! Calls that write: bytes into a cache, entries into its index, and removals.
+//! Calls that write: bytes and links into a cache, entries into its index, and removals.
 #![tactic(auto)]
 
 pub mod index;
+pub mod linkto;
 mod moment;
 pub mod opts;
 pub mod put;

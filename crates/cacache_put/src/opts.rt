@@ -152,33 +152,13 @@ impl Default for WriteOpts {
     }
 }
 
-/// A copy of an integrity that may be absent.
-fn copy_integrity(integrity: &Option<Integrity>) -> Result<Option<Integrity>, AllocError>
-    ensures { IfOk result (λ copy. copy ≡ integrity.now) }
-{
-    match integrity {
-        Some(integrity) => Ok(Some(integrity.clone()?)),
-        None => Ok(None),
-    }
-}
-
-/// A copy of bytes that may be absent.
-fn copy_bytes(bytes: &Option<Vec<u8>>) -> Result<Option<Vec<u8>>, AllocError>
-    ensures { IfOk result (λ copy. option_map (λ v. v.items) copy ≡ option_map (λ v. v.items) bytes.now) }
-{
-    match bytes {
-        Some(bytes) => Ok(Some(bytes.clone()?)),
-        None => Ok(None),
-    }
-}
-
 impl Clone for WriteOpts {
     ghost is_clone = { λ opts copy. copy ≡ opts };
 
     fn clone(&self) -> Result<WriteOpts, AllocError> {
-        let integrity = copy_integrity(&self.integrity)?;
+        let integrity = self.integrity.clone()?;
         let metadata = self.metadata.clone()?;
-        let raw_metadata = copy_bytes(&self.raw_metadata)?;
+        let raw_metadata = self.raw_metadata.clone()?;
         Ok(WriteOpts {
             algorithm: self.algorithm,
             size: self.size,

@@ -20,7 +20,7 @@ use serde_json::Value;
 use std::alloc::{AllocError, Global};
 
 /// Options of a command that say no more than the algorithm.
-fn blank(algorithm: Algorithm) -> Options
+pub(crate) fn blank(algorithm: Algorithm) -> Options
     ensures { result ≡ blank algorithm }
 {
     Options {

@@ -13,18 +13,6 @@ use cacache_core::errors::Result;
 use cacache_core::integrity::Integrity;
 use cacache_core::text::Text;
 
-/// Removes the key from the index, by a tombstone; the content stays. This is `index::delete`.
-pub fn remove_sync<S: Store, C: Clock, N: Names>(
-    env: &mut Env<S, C, N>,
-    cache: &str,
-    key: &str,
-) -> Result<()>
-    ensures ran { RunsTimed S.log C.given None env.old env.new cache.now
-        (λ moment. commands.Delete (delete_of key.now moment)) (reply_of says_done result) }
-{
-    delete(env, cache, key)
-}
-
 /// Removes the content of the integrity; entries that name it stay.
 ///
 /// `IoError` says that the content couldn't be removed, as where there is none. Then nothing changed.
@@ -48,6 +36,17 @@ fn remove_fully<S: Store, C, N>(env: &mut Env<S, C, N>, cache: &str, key: &str) 
 {
     let command = Command::RemoveFully(Text::from_str(env.alloc, key)?);
     done(env, cache, command)
+}
+
+/// Removes all that lies in the cache folder, which stays. A link is removed and not followed.
+///
+/// `IoError` says which step failed; then what was removed before that step is gone. A plain file that lies directly in
+/// the cache folder fails with `NotADirectory`, and a folder more than sixteen levels below it with `TooDeep`. A cache
+/// without a folder fails with `NotFound`. `OutOfMemory` may come after any step.
+pub fn clear_sync<S: Store, C: Clock, N: Names>(env: &mut Env<S, C, N>, cache: &str) -> Result<()>
+    ensures ran { Calls S.log env.old env.new cache.now commands.Clear (reply_of says_done result) }
+{
+    done(env, cache, Command::Clear)
 }
 
 /// How a key is removed: by a tombstone, or fully. Contracts see whether it is fully.
@@ -75,7 +74,7 @@ impl RemoveOpts {
     }
 
     /// Removes the key. Fully, the content that its lookup finds goes first, if there is one, and then the key's bucket;
-    /// other keys that share either lose it too. Else this is `remove_sync`.
+    /// other keys that share either lose it too. Else this is `index::delete`.
     ///
     /// `IoError` says which step failed; a content that couldn't be removed keeps its bucket, and a key without a bucket
     /// fails with `NotFound`. By a tombstone, errors are those of `index::insert`.
@@ -94,7 +93,7 @@ impl RemoveOpts {
         if self.remove_fully {
             remove_fully(env, cache, key)
         } else {
-            remove_sync(env, cache, key)
+            delete(env, cache, key)
         }
     }
 }

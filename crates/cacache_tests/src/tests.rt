@@ -1,9 +1,12 @@
 //! The calls over real folders and over a disk in memory: the same answers, and the steps that lead to them.
 mod answers;
 mod calls;
+mod clearing;
 mod committed;
 mod damage;
+mod exports;
 mod index;
+mod links;
 mod options;
 mod readme;
 mod removed;

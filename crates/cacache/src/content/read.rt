@@ -1,4 +1,4 @@
-//! What is there of a content.
+//! What is there of a content, and its exports.
 ghost use Rattle.std.specs.Prelude.{◌≡◌, IfOk, IfErr, IfSome};
 ghost use Rattle.cacache_core.specs.declared.errors.Error.TheVariants.{OutOfMemory};
 ghost use Rattle.cacache_calls.specs.declared.command.Command.TheVariants as commands;
@@ -11,6 +11,11 @@ use cacache_base::env::{Clock, Env, Names};
 use cacache_base::store::Store;
 use cacache_core::errors::Result;
 use cacache_core::integrity::Integrity;
+pub use cacache_export::{
+    copy_hash_sync as copy, copy_hash_unchecked_sync as copy_unchecked,
+    hard_link_hash_sync as hard_link, hard_link_hash_unchecked_sync as hard_link_unchecked,
+    reflink_hash_sync as reflink, reflink_hash_unchecked_sync as reflink_unchecked,
+};
 
 /// The integrity again, if its content is there. Whether that meets the integrity isn't asked.
 ///

@@ -36,6 +36,7 @@ pub enum Call {
     Remove,
     /// Removes by options: fully, or not.
     RemoveBy(bool),
+    Clear,
     /// The data is an integrity's text.
     By(Hashed),
 }
@@ -88,6 +89,7 @@ fn line<S: Store>(
             let opts = RemoveOpts::new().remove_fully(fully);
             done(alloc, opts.remove_sync(env, cache, key))
         }
+        Call::Clear => done(alloc, cacache::clear_sync(env, cache)),
         Call::By(call) => line_by(env, cache, call, key, data),
     }
 }

@@ -1,0 +1,9 @@
+use Rattle.std.proofs.Common.{None}
+use Rattle.cacache_put.proofs.Links.{links_hold}
+use Rattle.cacache_put.proofs.linkto.link_to_hash_sync.Goals as goal
+
+pub returns-clause-whole : goal.returns-clause-whole
+returns-clause-whole g c =
+    links_hold c.args.cache.now c.args.env.now.base None c.args.target.now 0
+    (g.S.Store.log c.args.env.now.store) (g.S.Store.log c.linked.new.env.store)
+    c.linked.result c.linked.ensures.linked

@@ -1,0 +1,92 @@
+//! Calls that make a content of a link to a file.
+ghost use Rattle.std.specs.Prelude.{◌≡◌, None, Some, IfOk};
+ghost use Rattle.cacache_core.specs.declared.integrity.algorithm.Algorithm.TheVariants.{Sha256};
+ghost use Rattle.cacache_calls.specs.declared.command.Command.TheVariants as commands;
+ghost use Rattle.cacache_calls.specs.declared.reply.Reply.TheVariants.{Stored};
+ghost use Rattle.cacache_calls.specs.Linking.{based, target_of};
+ghost use Rattle.cacache_jobs.specs.Found.{Linked};
+ghost use Rattle.cacache_jobs.specs.Opening.{site_of};
+ghost use Rattle.cacache_put.specs.Links.{link_to, HoldsTarget};
+ghost use Rattle.cacache_put.specs.Replies.{reply_of};
+ghost use Rattle.cacache_put.specs.Writes.{Calls, RunsTimed};
+
+use crate::moment::moment;
+use crate::put::blank;
+use cacache_base::env::{Clock, Env, Names};
+use cacache_base::store::Store;
+use cacache_calls::{Command, Link, Reply};
+use cacache_core::errors::Result;
+use cacache_core::integrity::{Algorithm, Integrity};
+use cacache_core::text::Text;
+use cacache_jobs::call;
+
+/// Makes the call of a link to the target.
+fn linked<S: Store, C, N>(
+    env: &mut Env<S, C, N>,
+    cache: &str,
+    key: Option<Text>,
+    target: &str,
+    moment: u128,
+) -> Result<Integrity>
+    ensures linked { IfOk result (λ i. Linked
+        (target_of (site_of cache.now env.old.base 0) (link_to key target.now moment))
+        (Stored i) (S.log env.old.store) (S.log env.new.store)) }
+    ensures ran { Calls S.log env.old env.new cache.now
+        (commands.Link (link_to key target.now moment)) (reply_of Stored result) }
+{
+    let target = Text::from_str(env.alloc, target)?;
+    let options = blank(Algorithm::Sha256);
+    let link = Link {
+        key,
+        target,
+        moment,
+        options,
+    };
+    match call(env, cache, Command::Link(link), 0) {
+        Reply::Stored(integrity) => Ok(integrity),
+        Reply::Refused(error) => Err(error),
+        _ => unreachable!(),
+    }
+}
+
+/// Makes a link to the target the content of its bytes, under the key, and answers their SHA-256 integrity. The target is
+/// read to its end first; one without a `/` in front starts at the base folder of `env`. The entry has the clock's
+/// moment, which is asked once, before the first step.
+///
+/// `IoError` says which step failed, or took only a part of the line. `SizeMismatch` where the target gave more or fewer
+/// bytes than its size. Then the link may have been made or not, and the bucket may end in a beginning of the line,
+/// perhaps all of it. `OutOfMemory` may come after any step.
+pub fn link_to_sync<S: Store, C: Clock, N: Names>(
+    env: &mut Env<S, C, N>,
+    cache: &str,
+    key: &str,
+    target: &str,
+) -> Result<Integrity>
+    ensures whole { IfOk result (λ i. HoldsTarget (based env.old.base target.now) i
+        (S.log env.old.store) (S.log env.new.store)) }
+    ensures ran { RunsTimed S.log C.given None env.old env.new cache.now
+        (λ moment. commands.Link (link_to (Some key.now) target.now moment))
+        (reply_of Stored result) }
+{
+    let moment = moment(&mut env.clock, None);
+    let key = Some(Text::from_str(env.alloc, key)?);
+    linked(env, cache, key, target, moment)
+}
+
+/// Makes a link to the target the content of its bytes, without a key, and answers their SHA-256 integrity. The target is
+/// read to its end first; one without a `/` in front starts at the base folder of `env`.
+///
+/// `IoError` says which step failed. `SizeMismatch` where the target gave more or fewer bytes than its size. Then the
+/// link may have been made or not; no bucket changes. `OutOfMemory` may come after any step.
+pub fn link_to_hash_sync<S: Store, C: Clock, N: Names>(
+    env: &mut Env<S, C, N>,
+    cache: &str,
+    target: &str,
+) -> Result<Integrity>
+    ensures whole { IfOk result (λ i. HoldsTarget (based env.old.base target.now) i
+        (S.log env.old.store) (S.log env.new.store)) }
+    ensures ran { Calls S.log env.old env.new cache.now
+        (commands.Link (link_to None target.now 0)) (reply_of Stored result) }
+{
+    linked(env, cache, None, target, 0)
+}
