@@ -1,13 +1,9 @@
 //! Stores bytes in a cache and reads them back.
 #![tactic(auto)]
 
-mod program;
-#[cfg(test)]
-mod tests;
-
 use cacache::env::{Env, ProcessNames, SystemClock};
 use cacache::store::FolderStore;
-use program::{run, without_words};
+use cacache_program::{run, without_words};
 use std::io::{self, Write};
 use std::process::ExitCode;
 

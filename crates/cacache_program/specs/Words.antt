@@ -1,0 +1,38 @@
+-- The words of a command line.
+use Rattle.std.specs.Prelude.{◌≡◌, ◌≢◌, ℕ, List, [], ◌∷◌, Option, None, Some, IfNone, IfSome, MatchOption, String, string_bytes, codes}
+
+-- a command's name, its cache and its key, if there is one
+pub record Asked : Type 0 where
+  pub name : List ℕ
+  pub cache : List ℕ
+  pub key : Option (List ℕ)
+
+-- what asks for nothing
+abbrev pub nothing_asked : Asked
+nothing_asked = record { name = []; cache = []; key = None }
+
+-- two words are a name and a cache, three also a key; any other count asks for nothing
+abbrev pub asked_of : {A : Type 0} → List (String A) → Asked
+asked_of [] = nothing_asked
+asked_of (a ∷ []) = nothing_asked
+asked_of (a ∷ b ∷ []) = record { name = string_bytes a; cache = string_bytes b; key = None }
+asked_of (a ∷ b ∷ c ∷ []) =
+    record { name = string_bytes a; cache = string_bytes b; key = Some (string_bytes c) }
+asked_of (a ∷ b ∷ c ∷ d ∷ more) = nothing_asked
+
+-- if that name is asked for with a cache and a key, P holds of these
+abbrev pub Keyed : Asked → List ℕ → (List ℕ → List ℕ → Type 0) → Type 0
+Keyed a name P = IfSome a.key (λ key. a.name ≡ name → P a.cache key)
+
+-- if that name is asked for with a cache alone, P holds of it
+abbrev pub Unkeyed : Asked → List ℕ → (List ℕ → Type 0) → Type 0
+Unkeyed a name P = IfNone a.key (a.name ≡ name → P a.cache)
+
+-- the name is none that goes with a cache and a key
+abbrev pub IsNoKeyed : List ℕ → Type 0
+IsNoKeyed name =
+    (name ≢ codes "write") × (name ≢ codes "read") × (name ≢ codes "find") × (name ≢ codes "remove")
+
+-- what is asked for is nothing that the program knows
+abbrev pub IsWrong : Asked → Type 0
+IsWrong a = MatchOption a.key (a.name ≢ codes "clear") (λ key. IsNoKeyed a.name)

@@ -1,0 +1,13 @@
+//! What the program `cacache` does with its words and its streams, over any store. Each word has a file of its own.
+#![tactic(auto)]
+
+mod clearing;
+mod entries;
+mod finding;
+mod output;
+mod program;
+mod reading;
+mod removing;
+mod writing;
+
+pub use program::{USAGE, run, without_words};

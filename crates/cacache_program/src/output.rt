@@ -1,0 +1,72 @@
+//! What goes to the output and to the errors.
+ghost use Rattle.std.specs.Prelude.{◌≡◌, ◌≤◌, IfSome, IfNone, true, false, [], length, take};
+ghost use Rattle.std.specs.Io.KnownBytes.{Appends};
+ghost use Rattle.cacache_program.specs.Output.{AppendsPart, PutsOut};
+
+use cacache::errors::Error;
+use std::io::{ErrorKind, Write};
+
+/// Prints a call's error on a line of its own, and returns the status of a failed call.
+pub(crate) fn call_failed<E: Write>(errors: &mut E, error: &Error) -> u8
+    ensures { result ≡ 1 }
+{
+    let _ = writeln!(errors, "{error}");
+    1
+}
+
+/// Prints that a stream failed, and returns the status of a failed call.
+pub(crate) fn stream_failed<E: Write>(errors: &mut E, message: &[u8]) -> u8
+    ensures { result ≡ 1 }
+{
+    let _ = errors.write_all(message);
+    1
+}
+
+/// Writes some of the bytes, and returns how many: 0 if the write was interrupted. None if the output
+/// failed.
+#[tactic(auto, using(crate::proofs::Appending::kept_appends))]
+fn write_some<W: Write>(output: &mut W, bytes: &[u8]) -> Option<usize>
+    ensures count { IfSome result (λ count. count ≤ length bytes.now) }
+    ensures some { IfSome result (λ count.
+        Appends (W.contents output.old) (W.contents output.new) (take count bytes.now)) }
+    ensures none { IfNone result (Appends (W.contents output.old) (W.contents output.new) []) }
+{
+    match output.write(bytes) {
+        Ok(0) => None,
+        Ok(count) => Some(count),
+        Err(error) if error.kind() == ErrorKind::Interrupted => Some(0),
+        Err(_) => None,
+    }
+}
+
+/// Writes the bytes, and returns whether the output took them all. If not, it has a beginning of them.
+#[tactic(auto, using(crate::proofs::Appending::appends_more, crate::proofs::Appending::appends_no_more))]
+fn write_whole<W: Write>(output: &mut W, bytes: &[u8]) -> bool
+    ensures whole { result ≡ true →
+        Appends (W.contents output.old) (W.contents output.new) bytes.now }
+    ensures part { result ≡ false →
+        AppendsPart (W.contents output.old) (W.contents output.new) bytes.now }
+{
+    let mut written = 0;
+    for _ in 0..u64::MAX {
+        if written == bytes.len() {
+            break;
+        }
+        let Some(count) = write_some(output, &bytes[written..]) else {
+            return false;
+        };
+        written += count;
+    }
+    written == bytes.len()
+}
+
+/// Prints the bytes, and returns the status.
+pub(crate) fn put_out<W: Write, E: Write>(output: &mut W, bytes: &[u8], errors: &mut E) -> u8
+    ensures put { PutsOut bytes.now (W.contents output.old) (W.contents output.new) result }
+    ensures quiet { result ≡ 0 → errors.new ≡ errors.old }
+{
+    if write_whole(output, bytes) {
+        return 0;
+    }
+    stream_failed(errors, b"output failed\n")
+}

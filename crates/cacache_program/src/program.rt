@@ -1,0 +1,97 @@
+//! What the program does with its words.
+ghost use Rattle.std.specs.Prelude.{◌≡◌, ◌≢◌, ◌≤◌, codes, option_map};
+ghost use Rattle.std.specs.IoError.{error_kind};
+ghost use Rattle.cacache_program.specs.Words.{asked_of, Keyed, Unkeyed, IsWrong};
+ghost use Rattle.cacache_program.specs.Writing.{Writes};
+ghost use Rattle.cacache_program.specs.Reading.{Reads};
+ghost use Rattle.cacache_program.specs.Finding.{Finds};
+ghost use Rattle.cacache_program.specs.Removing.{Removes};
+ghost use Rattle.cacache_program.specs.Clearing.{Clears};
+
+use crate::clearing::clear;
+use crate::finding::find;
+use crate::output::stream_failed;
+use crate::reading::read;
+use crate::removing::remove;
+use crate::writing::write;
+use cacache::env::{Clock, Env, Names};
+use cacache::store::Store;
+use std::io::{self, ErrorKind, Read, Write};
+
+/// What the program says to wrong words.
+pub const USAGE: &str =
+    "usage: cacache write|read|find|remove CACHE KEY | ls|clear CACHE | storm THREADS KEYS\n";
+
+/// Prints the usage, and returns the status of wrong words.
+fn misused<E: Write>(errors: &mut E) -> u8
+    ensures { result ≡ 2 }
+{
+    let _ = errors.write_all(USAGE.as_bytes());
+    2
+}
+
+/// The name, the cache and the key that the words give; an empty name where there are fewer or more.
+fn asked(words: &[String]) -> (&str, &str, Option<&str>)
+    ensures { asked_of words.now ≡ record {
+      name = result.0.now;
+      cache = result.1.now;
+      key = option_map (λ k. k.now) result.2;
+    } }
+{
+    match words {
+        [word, cache] => (word.as_str(), cache.as_str(), None),
+        [word, cache, key] => (word.as_str(), cache.as_str(), Some(key.as_str())),
+        _ => ("", "", None),
+    }
+}
+
+/// Does what the words say, and returns the status: 0, or 1 if the call or a stream failed, which
+/// is printed on `errors`, or 2 for wrong words. A failed write to `errors` changes no status.
+///
+/// If the input fails, nothing is stored. If the output fails, what was stored stays.
+pub fn run<S: Store, C: Clock, N: Names, R: Read, W: Write, E: Write>(
+    env: &mut Env<S, C, N>,
+    words: &[String],
+    input: &mut R,
+    output: &mut W,
+    errors: &mut E,
+) -> u8
+    ensures status { result ≤ 2 }
+    ensures wrong { IsWrong (asked_of words.now) → result ≡ 2 }
+    ensures nothing_done { result ≡ 2 → (env.new ≡ env.old) × (output.new ≡ output.old) }
+    ensures quiet { result ≡ 0 → errors.new ≡ errors.old }
+    ensures writes { Keyed (asked_of words.now) (codes "write") (λ cache key.
+        Writes S.log C.given N.given cache key (R.remaining input.old)
+        env.old env.new (W.contents output.old) (W.contents output.new) result) }
+    ensures reads { Keyed (asked_of words.now) (codes "read") (λ cache key.
+        Reads S.log cache key env.old env.new
+        (W.contents output.old) (W.contents output.new) result) }
+    ensures finds { Keyed (asked_of words.now) (codes "find") (λ cache key.
+        Finds S.log cache key env.old env.new
+        (W.contents output.old) (W.contents output.new) result) }
+    ensures removes { Keyed (asked_of words.now) (codes "remove") (λ cache key.
+        Removes S.log C.given cache key env.old env.new result × (output.new ≡ output.old)) }
+    ensures clears { Unkeyed (asked_of words.now) (codes "clear") (λ cache.
+        Clears S.log cache env.old env.new result × (output.new ≡ output.old)) }
+{
+    match asked(words) {
+        ("write", cache, Some(key)) => write(env, cache, key, input, output, errors),
+        ("read", cache, Some(key)) => read(env, cache, key, output, errors),
+        ("find", cache, Some(key)) => find(env, cache, key, output, errors),
+        ("remove", cache, Some(key)) => remove(env, cache, key, errors),
+        ("clear", cache, None) => clear(env, cache, errors),
+        _ => misused(errors),
+    }
+}
+
+/// Prints why the words of the command line can't be had, and returns the status: 1 if memory ran
+/// out, and 2 if a word isn't UTF-8.
+pub fn without_words<E: Write>(error: &io::Error, errors: &mut E) -> u8
+    ensures memory { error_kind error.now ≡ ErrorKind.OutOfMemory → result ≡ 1 }
+    ensures wrong { error_kind error.now ≢ ErrorKind.OutOfMemory → result ≡ 2 }
+{
+    if error.kind() == ErrorKind::OutOfMemory {
+        return stream_failed(errors, b"out of memory\n");
+    }
+    misused(errors)
+}

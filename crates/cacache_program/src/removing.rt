@@ -1,0 +1,24 @@
+//! The word `remove`.
+ghost use Rattle.std.specs.Prelude.{◌≡◌};
+ghost use Rattle.cacache_program.specs.Removing.{Removes};
+
+use crate::output::call_failed;
+use cacache::env::{Clock, Env, Names};
+use cacache::store::Store;
+use std::io::Write;
+
+/// Removes the key, and prints nothing.
+pub(crate) fn remove<S: Store, C: Clock, N: Names, E: Write>(
+    env: &mut Env<S, C, N>,
+    cache: &str,
+    key: &str,
+    errors: &mut E,
+) -> u8
+    ensures does { Removes S.log C.given cache.now key.now env.old env.new result }
+    ensures quiet { result ≡ 0 → errors.new ≡ errors.old }
+{
+    match cacache::remove_sync(env, cache, key) {
+        Ok(()) => 0,
+        Err(error) => call_failed(errors, &error),
+    }
+}

@@ -1,0 +1,52 @@
+//! The word `write`.
+ghost use Rattle.std.specs.Prelude.{◌≡◌, ◌++◌, ◌∷◌, []};
+ghost use Rattle.cacache.specs.Integrities.{text_of};
+ghost use Rattle.cacache_program.specs.Output.{PutsOut};
+ghost use Rattle.cacache_program.specs.Writing.{Writes};
+
+use crate::output::{call_failed, put_out, stream_failed};
+use cacache::Integrity;
+use cacache::env::{Clock, Env, Names};
+use cacache::store::Store;
+use std::alloc::Global;
+use std::io::{Read, Write};
+
+/// Prints the integrity's text and a line feed, and returns the status.
+fn print<W: Write, E: Write>(
+    alloc: Global,
+    integrity: &Integrity,
+    output: &mut W,
+    errors: &mut E,
+) -> u8
+    ensures put { PutsOut (text_of integrity.now ++ 10 ∷ [])
+        (W.contents output.old) (W.contents output.new) result }
+    ensures quiet { result ≡ 0 → errors.new ≡ errors.old }
+{
+    match format!(in alloc; "{integrity}\n") {
+        Ok(line) => put_out(output, line.as_bytes(), errors),
+        Err(_) => stream_failed(errors, b"out of memory\n"),
+    }
+}
+
+/// Stores all that the input gives under the key, and prints the integrity and a line feed.
+pub(crate) fn write<S: Store, C: Clock, N: Names, R: Read, W: Write, E: Write>(
+    env: &mut Env<S, C, N>,
+    cache: &str,
+    key: &str,
+    input: &mut R,
+    output: &mut W,
+    errors: &mut E,
+) -> u8
+    ensures does { Writes S.log C.given N.given cache.now key.now (R.remaining input.old)
+        env.old env.new (W.contents output.old) (W.contents output.new) result }
+    ensures quiet { result ≡ 0 → errors.new ≡ errors.old }
+{
+    let mut data = Vec::new(env.alloc);
+    if input.read_to_end(&mut data).is_err() {
+        return stream_failed(errors, b"input failed\n");
+    }
+    match cacache::write_vec_sync(env, cache, key, data) {
+        Ok(integrity) => print(env.alloc, &integrity, output, errors),
+        Err(error) => call_failed(errors, &error),
+    }
+}

@@ -1,0 +1,101 @@
+//! What a row does: it runs the program, or looks at its start without words.
+use crate::flaw::Flaw;
+use crate::row::Row;
+use crate::streams::{Input, Output};
+use crate::words::{bytes_of, cut, word_of, words_of};
+use cacache::env::{Clock, CountNames, Env};
+use cacache::store::Store;
+use cacache_program::{run, without_words};
+use std::alloc::{AllocError, Global};
+use std::io::{self, ErrorKind};
+
+/// A clock that stands still.
+#[derive(Drop)]
+pub(crate) struct FixedClock(pub(crate) u64);
+
+impl Clock for FixedClock {
+    fn now(&mut self) -> u64 {
+        self.0
+    }
+}
+
+/// Room for more than any row prints.
+const AMPLE: usize = 1_000_000;
+
+/// A run of the program.
+#[derive(Clone, Copy)]
+struct Run<'a> {
+    words: &'a str,
+    is_torn: bool,
+    room: usize,
+}
+
+/// The run that an act asks for: `torn ..` for an input that fails at its end, `full N ..` for an output with room for N
+/// bytes.
+fn run_of(act: &str) -> Option<Run<'_>> {
+    let whole = Run {
+        words: act,
+        is_torn: false,
+        room: AMPLE,
+    };
+    match cut(act) {
+        ("torn", words) => Some(Run {
+            words,
+            is_torn: true,
+            room: AMPLE,
+        }),
+        ("full", rest) => {
+            let (room, words) = cut(rest);
+            let room = room.parse::<usize>().ok()?;
+            Some(Run {
+                words,
+                is_torn: false,
+                room,
+            })
+        }
+        _ => Some(whole),
+    }
+}
+
+/// A status, an output and errors, as a row says them.
+fn told(alloc: Global, status: u8, output: &[u8], errors: &[u8]) -> Result<String, AllocError> {
+    let output = word_of(alloc, output)?;
+    let errors = word_of(alloc, errors)?;
+    format!(in alloc; "{status} | {output} | {errors}")
+}
+
+/// What a run of the program gives.
+pub(crate) fn ran<S: Store>(
+    env: &mut Env<S, FixedClock, CountNames>,
+    row: Row<'_>,
+) -> Result<String, Flaw> {
+    let alloc = env.alloc;
+    let Some(asked) = run_of(row.act) else {
+        return Err(Flaw::NotRead);
+    };
+    let words = words_of(alloc, asked.words)?;
+    let given = bytes_of(alloc, row.input)?;
+    let mut input = Input {
+        bytes: &given,
+        is_torn: asked.is_torn,
+    };
+    let mut output = Output {
+        room: asked.room,
+        taken: Vec::new(alloc),
+    };
+    let mut errors = Vec::new(alloc);
+    let status = run(env, &words, &mut input, &mut output, &mut errors);
+    Ok(told(alloc, status, &output.taken, &errors)?)
+}
+
+/// What is told where the words can't be had, since memory ran out or a word isn't UTF-8.
+pub(crate) fn without(alloc: Global, why: &str) -> Result<String, Flaw> {
+    let kind = match why {
+        "memory" => ErrorKind::OutOfMemory,
+        "UTF-8" => ErrorKind::InvalidData,
+        _ => return Err(Flaw::NotRead),
+    };
+    let mut errors = Vec::new(alloc);
+    let status = without_words(&io::Error::from(kind), &mut errors);
+    Ok(told(alloc, status, b"", &errors)?)
+}

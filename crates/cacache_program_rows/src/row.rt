@@ -1,0 +1,18 @@
+//! The columns of a row.
+
+/// The three columns of a row.
+#[derive(Clone, Copy)]
+pub(crate) struct Row<'a> {
+    pub(crate) act: &'a str,
+    /// What the program is given to read, or what a file is to hold.
+    pub(crate) input: &'a str,
+    /// The status, the output and the errors; or what a file holds.
+    pub(crate) wanted: &'a str,
+}
+
+/// The columns of a line.
+pub(crate) fn row_of(line: &str) -> Option<Row<'_>> {
+    let (act, rest) = line.split_once(" | ")?;
+    let (input, wanted) = rest.split_once(" | ")?;
+    Some(Row { act, input, wanted })
+}

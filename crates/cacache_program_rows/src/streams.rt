@@ -1,0 +1,49 @@
+//! Streams that fail.
+use std::io::{self, ErrorKind, Read, Write};
+
+/// An input that gives its bytes one by one and then fails, or ends.
+#[derive(Drop)]
+pub(crate) struct Input<'a> {
+    pub(crate) bytes: &'a [u8],
+    pub(crate) is_torn: bool,
+}
+
+impl Read for Input<'_> {
+    fn read(&mut self, buf: &mut [u8]) -> io::Result<usize> {
+        let Some(place) = buf.first_mut() else {
+            return Ok(0);
+        };
+        match self.bytes.split_first() {
+            Some((byte, rest)) => {
+                *place = *byte;
+                self.bytes = rest;
+                Ok(1)
+            }
+            None if self.is_torn => Err(io::Error::from(ErrorKind::BrokenPipe)),
+            None => Ok(0),
+        }
+    }
+}
+
+/// An output that has room for so many bytes and then fails.
+#[derive(Drop)]
+pub(crate) struct Output {
+    pub(crate) room: usize,
+    pub(crate) taken: Vec<u8>,
+}
+
+impl Write for Output {
+    fn write(&mut self, buf: &[u8]) -> io::Result<usize> {
+        let count = buf.len().min(self.room);
+        if count == 0 && !buf.is_empty() {
+            return Err(io::Error::from(ErrorKind::StorageFull));
+        }
+        self.taken.extend_from_slice(&buf[..count])?;
+        self.room -= count;
+        Ok(count)
+    }
+
+    fn flush(&mut self) -> io::Result<()> {
+        Ok(())
+    }
+}
