@@ -11,6 +11,7 @@ pub mod index;
 pub mod integrity;
 pub mod jobs;
 pub mod linkto;
+pub mod ls;
 pub mod put;
 pub mod rm;
 pub mod store;
@@ -26,6 +27,7 @@ pub use get::{
 pub use index::{Metadata, RemoveOpts};
 pub use integrity::{Algorithm, Integrity};
 pub use linkto::{link_to_hash_sync, link_to_sync};
+pub use ls::list_sync;
 pub use put::{
     WriteOpts, write_hash_sync, write_hash_sync_with_algo, write_sync, write_sync_with_algo,
     write_vec_sync,
