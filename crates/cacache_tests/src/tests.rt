@@ -7,6 +7,7 @@ mod damage;
 mod exports;
 mod index;
 mod links;
+mod listing;
 mod options;
 mod readme;
 mod removed;

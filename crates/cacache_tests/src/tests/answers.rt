@@ -1,5 +1,10 @@
 //! Lines that tell answers.
+ghost use Rattle.std.specs.Prelude.{IfOk};
+ghost use Rattle.cacache.specs.Listings.{IsListing};
+
 use cacache::errors::Error;
+use cacache::ls::Ls;
+use cacache::store::Store;
 use cacache::{Integrity, Metadata};
 use std::alloc::Global;
 use std::test::Fail;
@@ -70,4 +75,36 @@ pub fn found(alloc: Global, answer: Result<Option<Metadata>, Error>) -> Result<S
         Ok(None) => Ok(String::from_str(alloc, "none")?),
         Err(error) => refused(alloc, &error),
     }
+}
+
+/// A line on an item of a listing.
+fn item(alloc: Global, item: Result<Metadata, Error>) -> Result<String, Fail> {
+    match item {
+        Ok(found) => entry(alloc, &found),
+        Err(error) => refused(alloc, &error),
+    }
+}
+
+/// A line on a listing: its items in the order of their lines, each with a semicolon behind it.
+pub fn listed<S: Store, C, N>(
+    alloc: Global,
+    answer: Result<Ls<S, C, N>, Error>,
+) -> Result<String, Fail>
+    requires { IfOk answer (λ ls. IsListing S.log ls) }
+{
+    let items = match answer {
+        Ok(items) => items,
+        Err(error) => return refused(alloc, &error),
+    };
+    let mut lines = Vec::new(alloc);
+    for found in items {
+        lines.push(item(alloc, found)?)?;
+    }
+    lines.sort()?;
+    let mut line = String::new(alloc);
+    for item in &lines {
+        line.push_str(item.as_str())?;
+        line.push_str("; ")?;
+    }
+    Ok(line)
 }

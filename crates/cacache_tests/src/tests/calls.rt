@@ -1,10 +1,10 @@
 //! Rows of calls.
-use crate::tests::answers::{done, found, has, read, stored, there};
+use crate::tests::answers::{done, found, has, listed, read, stored, there};
 use crate::tests::{FixedClock, at, on};
 use cacache::content::read::has_content;
 use cacache::content::rm::rm;
 use cacache::env::{CountNames, Env};
-use cacache::index::{delete, find, insert};
+use cacache::index::{delete, find, insert, ls};
 use cacache::store::{MemStore, Store};
 use cacache::{Integrity, RemoveOpts, WriteOpts};
 use std::alloc::Global;
@@ -37,6 +37,10 @@ pub enum Call {
     /// Removes by options: fully, or not.
     RemoveBy(bool),
     Clear,
+    /// Lists by `index::ls`.
+    List,
+    /// Lists by `list_sync`.
+    ListSync,
     /// The data is an integrity's text.
     By(Hashed),
 }
@@ -90,6 +94,8 @@ fn line<S: Store>(
             done(alloc, opts.remove_sync(env, cache, key))
         }
         Call::Clear => done(alloc, cacache::clear_sync(env, cache)),
+        Call::List => listed(alloc, ls(env, cache)),
+        Call::ListSync => listed(alloc, cacache::list_sync(env, cache)),
         Call::By(call) => line_by(env, cache, call, key, data),
     }
 }

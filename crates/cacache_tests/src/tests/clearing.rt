@@ -12,14 +12,17 @@ const SRI: &str = "sha256-wLgRSoCdlLVI4/CYtLdrFYno6mKX3HlbE3ffLJkFU4U=";
 
 const STORED: &str = "stored sha256-wLgRSoCdlLVI4/CYtLdrFYno6mKX3HlbE3ffLJkFU4U=";
 
+const FOUND: &str = "key sha256-wLgRSoCdlLVI4/CYtLdrFYno6mKX3HlbE3ffLJkFU4U= 1000 7 null None; ";
+
 /// A cache is cleared, and used again.
-const ROWS: [Row<'static>; 10] = [
+const ROWS: [Row<'static>; 11] = [
     (Call::Clear, "", "", "IoError NotFound"),
     (Call::Write, "key", "my-data", STORED),
     (Call::Clear, "", "", "done"),
     (Call::Metadata, "key", "", "none"),
     (Call::By(Hashed::Exists), "", SRI, "false"),
     (Call::By(Hashed::Read), "", SRI, "IoError NotFound"),
+    (Call::List, "", "", "IoError NotFound; "),
     (Call::Clear, "", "", "done"),
     (Call::Write, "key", "my-data", STORED),
     (Call::By(Hashed::Exists), "", SRI, "true"),
@@ -118,6 +121,7 @@ fn steps_after_put(alloc: Global, row: Row) -> Result<usize, Fail> {
 #[test]
 fn walks_take_a_step_a_visit(rt: HostRuntime) -> Result<(), Fail> {
     let rows = [
+        ((Call::List, "", "", FOUND), 4),
         ((Call::RemoveBy(true), "key", "", "done"), 3),
         ((Call::Clear, "", "", "done"), 19),
     ];
