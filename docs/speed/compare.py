@@ -16,9 +16,11 @@ import time
 MIB = 64
 KEYS, SIZE = 2000, 1024
 DEPTHS = [(100, 1000), (1000, 100), (10000, 10)]
-SMALL = ["put", "get", "put-again", "get-hash", "find", "exists"]
-# Blocks of SHA-256 in an operation on 1 KiB: 17 of the content where it is hashed, and 3 of the line's text where there is one.
-BLOCKS = {"put": 20, "get": 20, "put-again": 20, "get-hash": 17, "find": 3, "exists": 0}
+SMALL = ["put", "get", "put-again", "get-hash", "find", "remove", "exists"]
+LISTED = [1000, 100000]
+# Blocks of SHA-256 in an operation on 1 KiB: 17 of the content where it is hashed, and 3 of the line's text where there is one
+# (2 of a tombstone's).
+BLOCKS = {"put": 20, "get": 20, "put-again": 20, "get-hash": 17, "find": 3, "remove": 2, "exists": 0, "ls": 3}
 
 figures = {}  # name -> list of (ns by the clock, ns of the processor)
 peaks = {}  # name -> KiB
@@ -42,15 +44,24 @@ def run(name, words, per=1, stdin=None, stdout=subprocess.DEVNULL):
 
 def run_small(bench, floor, at):
     for kind in SMALL:
-        # get, get-hash, find and exists read what put wrote; put-again writes first what it needs
+        # get, get-hash, find and exists read what put wrote; put-again and remove write first what they need
         folder = {"get": "put", "get-hash": "put", "find": "put", "exists": "put"}.get(kind, kind)
         more = [str(SIZE)] if kind.startswith("put") else []
         for who, program in (("ours", bench), ("floor", floor)):
             run(f"{kind} {who}", [program, kind, f"{at}/{folder}-{who}", str(KEYS)] + more, KEYS)
 
 
+def run_listing(bench, floor, at):
+    for keys in LISTED:
+        for who, program in (("ours", bench), ("floor", floor)):
+            folder = f"{at}/listed-{keys}-{who}"
+            subprocess.run([program, "put", folder, str(keys), "8"], check=True, capture_output=True)
+            run(f"ls {keys} {who}", [program, "ls", folder, str(keys)], keys)
+            shutil.rmtree(folder)
+
+
 def run_large(bench, at):
-    for kind in ["put-large", "get-large"]:
+    for kind in ["put-large", "get-large", "reader", "copy", "writer"]:
         run("digest", [bench, "digest", str(MIB)])
         run(kind, [bench, kind, f"{at}/large", str(MIB)])
 
@@ -99,8 +110,13 @@ def tell():
         ours, floor = f"{kind} ours", f"{kind} floor"
         with_digests = median(ours) / (median(floor) + BLOCKS[kind] * block)
         print(f"  {kind:10} ours {median(ours) / 1e3:6.2f}  floor {median(floor) / 1e3:6.2f}  by the clock {ratio(ours, floor)}  by the processor {ratio(ours, floor, 1)}  over floor and digests {with_digests:.2f}")
+    print("ls, us an entry")
+    for keys in LISTED:
+        ours, floor = f"ls {keys} ours", f"ls {keys} floor"
+        with_digests = median(ours) / (median(floor) + BLOCKS["ls"] * block)
+        print(f"  {keys:7} entries  ours {median(ours) / 1e3:6.2f}  floor {median(floor) / 1e3:6.2f}  by the clock {ratio(ours, floor)}  by the processor {ratio(ours, floor, 1)}  over floor and digests {with_digests:.2f}")
     print(f"{MIB} MiB, ms; over the digest")
-    for kind in [name for name in figures if name == "digest" or "large" in name or "<" in name or ">" in name]:
+    for kind in [name for name in figures if name in ("digest", "reader", "copy", "writer") or "large" in name or "<" in name or ">" in name]:
         print(f"  {kind:16} {median(kind) / 1e6:7.1f}  {ratio(kind, 'digest')}  peak memory {peaks[kind] / 1024 / MIB:.2f} times the content")
     print(f"get-deep, ns a byte of the bucket; the digest alone {block / 64:.2f}")
     for depth, bytes_ in buckets.items():
@@ -121,6 +137,7 @@ def main():
             at = f"{root}/{turn}"
             os.mkdir(at)
             run_small(bench, floor, at)
+            run_listing(bench, floor, at)
             run_large(bench, at)
             run_deep(bench, at)
             run_program(bench, program, at)

@@ -1,6 +1,7 @@
-// The system calls of one put or get of the cache, and nothing else: no digest, no entry, no allocation.
-// floor put|put-again|get|get-hash|find|exists FOLDER N [BYTES]; prints "ns PER_OPERATION" on standard error. Built with: gcc -O2 -o floor floor.c
+// The system calls of one put, get, listing or removal of the cache, and nothing else: no digest, no entry, no allocation.
+// floor put|put-again|get|get-hash|find|ls|remove|exists FOLDER N [BYTES]; prints "ns PER_OPERATION" on standard error. Built with: gcc -O2 -o floor floor.c
 #define _GNU_SOURCE
+#include <dirent.h>
 #include <errno.h>
 #include <fcntl.h>
 #include <stdint.h>
@@ -8,12 +9,13 @@
 #include <stdlib.h>
 #include <string.h>
 #include <sys/stat.h>
+#include <sys/syscall.h>
 #include <time.h>
 #include <unistd.h>
 
 static char buffer[1 << 20];
 static char line[512];
-static char tmp_folder[4096], tmp_path[4096], content[4096], bucket[4096];
+static char tmp_folder[4096], tmp_path[4096], content[4096], bucket[4096], index_folder[4096];
 static size_t content_start, bucket_start, tmp_start;
 static const char digits[] = "0123456789abcdef";
 
@@ -47,6 +49,12 @@ static size_t name_at(char *path, size_t at, uint64_t number, uint64_t kind, int
 
 static void make_dir(const char *path) {
     if (mkdir(path, 0777) != 0 && errno != EEXIST) fail(path);
+}
+
+static void append(const char *path, size_t size) {
+    int fd = open(path, O_WRONLY | O_APPEND | O_CREAT | O_NOCTTY | O_CLOEXEC, 0666);
+    if (fd < 0 || write(fd, line, size) != (ssize_t)size) fail(path);
+    close(fd);
 }
 
 static void make_missing(char *path) {
@@ -89,9 +97,16 @@ static void put(uint64_t number, size_t bytes) {
     if (rename(tmp_path, content) != 0) fail(content);
     close(fd);
     make_dirs(bucket, bucket_end);
-    fd = open(bucket, O_WRONLY | O_APPEND | O_CREAT | O_NOCTTY | O_CLOEXEC, 0666);
-    if (fd < 0 || write(fd, line, line_size) != (ssize_t)line_size) fail(bucket);
-    close(fd);
+    append(bucket, line_size);
+}
+
+// Appends what a tombstone takes.
+static void remove_key(uint64_t number) {
+    size_t bucket_end = name_at(bucket, bucket_start, number, 1, 20);
+    size_t line_size = 164;
+    for (uint64_t n = number; n >= 10; n /= 10) line_size++;
+    make_dirs(bucket, bucket_end);
+    append(bucket, line_size);
 }
 
 static void read_all(const char *path) {
@@ -125,6 +140,31 @@ static void find(uint64_t number) {
     read_all(bucket);
 }
 
+// Reads each file below the folder that ends at `end` of the path, and asks for each name's kind, which the kit's
+// `DirEntry::file_type` does too. A level has names of its own.
+static void list(char *path, size_t end, int level) {
+    static char names[4][1 << 15];
+    int fd = open(path, O_RDONLY | O_DIRECTORY | O_NOCTTY | O_CLOEXEC);
+    if (fd < 0 || level > 3) fail(path);
+    for (;;) {
+        long size = syscall(SYS_getdents64, fd, names[level], sizeof names[level]);
+        if (size < 0) fail(path);
+        if (size == 0) break;
+        for (long at = 0; at < size;) {
+            struct dirent64 *found = (struct dirent64 *)(names[level] + at);
+            at += found->d_reclen;
+            if (found->d_name[0] == '.') continue;
+            size_t more = sprintf(path + end, "/%s", found->d_name);
+            struct statx kind;
+            if (statx(AT_FDCWD, path, AT_SYMLINK_NOFOLLOW, STATX_ALL, &kind) != 0) fail(path);
+            if (S_ISDIR(kind.stx_mode)) list(path, end + more, level + 1);
+            else read_all(path);
+        }
+        path[end] = 0;
+    }
+    close(fd);
+}
+
 static void exists(uint64_t number) {
     struct statx found;
     name_at(content, content_start, number, 0, 32);
@@ -133,7 +173,7 @@ static void exists(uint64_t number) {
 
 int main(int count, char **words) {
     if (count < 4) {
-        fprintf(stderr, "usage: floor put|put-again FOLDER N BYTES | get|get-hash|find|exists FOLDER N\n");
+        fprintf(stderr, "usage: floor put|put-again FOLDER N BYTES | get|get-hash|find|ls|remove|exists FOLDER N\n");
         return 2;
     }
     const char *kind = words[1], *cache = words[2];
@@ -144,10 +184,12 @@ int main(int count, char **words) {
     tmp_start = sprintf(tmp_path, "%s/tmp/.tmp", cache);
     content_start = sprintf(content, "%s/content-v2/sha256/", cache);
     bucket_start = sprintf(bucket, "%s/index-v5/", cache);
+    sprintf(index_folder, "%s/index-v5", cache);
     int again = strcmp(kind, "put-again") == 0, putting = again || strcmp(kind, "put") == 0;
     int asking = strcmp(kind, "exists") == 0, hash = strcmp(kind, "get-hash") == 0;
-    int finding = strcmp(kind, "find") == 0;
-    if (again)
+    int finding = strcmp(kind, "find") == 0, listing = strcmp(kind, "ls") == 0;
+    int removing = strcmp(kind, "remove") == 0;
+    if (again || removing)
         for (uint64_t i = 0; i < n; i++) put(i, bytes);
     if (hash || asking)
         for (uint64_t i = 0; i < n; i++) get(i);
@@ -159,6 +201,10 @@ int main(int count, char **words) {
         for (uint64_t i = 0; i < n; i++) get_hash(i);
     else if (finding)
         for (uint64_t i = 0; i < n; i++) find(i);
+    else if (listing)
+        list(index_folder, strlen(index_folder), 0);
+    else if (removing)
+        for (uint64_t i = 0; i < n; i++) remove_key(i);
     else if (asking)
         for (uint64_t i = 0; i < n; i++) exists(i);
     else

@@ -15,6 +15,7 @@ use Rattle.cacache_calls.specs.Replies.{there_reply}
 use Rattle.cacache_calls.specs.Runs.{Ran, without_message}
 use Rattle.cacache_calls.specs.State.{Site}
 use Rattle.cacache_calls.specs.Table.{opening}
+use Rattle.cacache_calls.proofs.Memory.{memory_said}
 use Rattle.cacache_calls.proofs.Replies.{exists_shown}
 
 -- bytes that meet an integrity are bytes
@@ -28,16 +29,7 @@ meeting_reads i (Listed items) m = absurd m
 meeting_reads i Done m = absurd m
 meeting_reads i (Refused error) m = tt
 
--- an error without its message is the same want of memory
-memory_said : (e : Error) → Refused (without_message e) ≡ Refused OutOfMemory → e ≡ OutOfMemory
-memory_said (EntryNotFound cache key) said = absurd cc
-memory_said (SizeMismatch wanted actual) said = absurd cc
-memory_said (IoError fault message) said = absurd cc
-memory_said (SerdeError cause message) said = absurd cc
-memory_said (IntegrityError fault) said = absurd cc
-memory_said OutOfMemory said = refl
-
--- a question is refused for want of memory alone
+-- a question is refused out of memory alone
 asked : (a : Result Bool Refusal) (e : Error) → Refused (without_message e) ≡ there_reply a → e ≡ OutOfMemory
 asked (Ok there) e said = absurd cc
 asked (Err (refusals.Fault fault)) e said = absurd cc

@@ -14,6 +14,7 @@ ghost use Rattle.cacache.specs.Reads.{IsReading, bytes_read};
 use cacache_base::env::{Clock, Env, Names};
 use cacache_base::store::Store;
 use cacache_calls::{Command, Reply};
+pub use cacache_content::reader::SyncReader;
 use cacache_core::errors::Result;
 use cacache_core::integrity::Integrity;
 use cacache_core::text::Text;

@@ -1,10 +1,13 @@
 //! Runs the calls of a cache in bulk over real folders or in memory, and tells how long one takes.
 #![tactic(auto)]
 
+mod index;
 mod measure;
+mod pieces;
 mod program;
 mod steps;
 mod work;
+mod writer;
 
 use cacache::env::{Env, ProcessNames, SystemClock};
 use cacache::store::{FolderStore, MemStore, Store};

@@ -1,6 +1,9 @@
 //! Does work in bulk.
+use crate::index::{find_keys, list, remove_keys};
+use crate::pieces::{copy_pieces, read_pieces};
 use crate::steps::{append_lines, count_entries, write_pieces};
 use crate::work::{Kind, Work};
+use crate::writer::write_content;
 use cacache::env::{Clock, Env, Names};
 use cacache::store::Store;
 use cacache::{Integrity, Result};
@@ -13,7 +16,8 @@ const DEEP: &str = "deep";
 /// The key of the one large content.
 const LARGE: &str = "large";
 
-fn key_of(alloc: Global, number: u64) -> std::result::Result<String, AllocError> {
+/// The key of a number.
+pub(crate) fn key_of(alloc: Global, number: u64) -> std::result::Result<String, AllocError> {
     format!(in alloc; "key-{number}")
 }
 
@@ -28,7 +32,7 @@ fn number_content(content: &mut Vec<u8>, number: u64) {
 fn size_of(work: Work<'_>) -> u64 {
     match work.kind {
         Kind::Put | Kind::PutAgain => work.second,
-        Kind::GetDeep | Kind::MemoryPut | Kind::MemoryList => 8,
+        Kind::GetDeep | Kind::Remove | Kind::MemoryPut | Kind::MemoryList => 8,
         Kind::PutLarge | Kind::Digest => work.first.saturating_mul(1024 * 1024),
         _ => 0,
     }
@@ -171,29 +175,6 @@ fn get_hashes<S: Store, C: Clock, N: Names>(
     Ok(())
 }
 
-fn find<S: Store, C: Clock, N: Names>(
-    env: &mut Env<S, C, N>,
-    cache: &str,
-    key: &str,
-) -> Result<()> {
-    match cacache::index::find(env, cache, key) {
-        Ok(_) => Ok(()),
-        Err(error) => Err(error),
-    }
-}
-
-fn find_keys<S: Store, C: Clock, N: Names>(
-    env: &mut Env<S, C, N>,
-    cache: &str,
-    count: u64,
-) -> Result<()> {
-    for number in 0..count {
-        let key = key_of(env.alloc, number)?;
-        find(env, cache, key.as_str())?;
-    }
-    Ok(())
-}
-
 fn ask_contents<S: Store, C: Clock, N: Names>(
     env: &mut Env<S, C, N>,
     cache: &str,
@@ -219,7 +200,9 @@ pub fn prepare<S: Store, C: Clock, N: Names>(
     content: &mut Vec<u8>,
 ) -> Result<Vec<Integrity>> {
     match work.kind {
-        Kind::PutAgain | Kind::MemoryList => put_keys(env, work.cache, work.first, content)?,
+        Kind::PutAgain | Kind::Remove | Kind::MemoryList => put_keys(
+            env, work.cache, work.first, content,
+        )?,
         Kind::GetDeep => put_deep(env, work.cache, work.first, content)?,
         Kind::GetHash | Kind::Exists => return integrities_of(env, work.cache, work.first),
         _ => {}
@@ -239,6 +222,8 @@ fn call<S: Store, C: Clock, N: Names>(
         Kind::GetHash => get_hashes(env, work.cache, integrities)?,
         Kind::GetDeep => get_deep(env, work.cache, work.second)?,
         Kind::Find => find_keys(env, work.cache, work.first)?,
+        Kind::Ls => return list(env, work.cache),
+        Kind::Remove => remove_keys(env, work.cache, work.first)?,
         Kind::Exists => ask_contents(env, work.cache, integrities)?,
         Kind::PutLarge => put_large(env, work.cache, content)?,
         Kind::GetLarge => get(env, work.cache, LARGE)?,
@@ -263,6 +248,9 @@ pub fn perform<S: Store, C: Clock, N: Names>(
         Kind::MemoryList => count_entries(env.alloc, &mut env.store, work.cache),
         Kind::MemoryAppend => append_lines(env.alloc, &mut env.store, work.first),
         Kind::MemoryPieces => write_pieces(env.alloc, &mut env.store, work.first),
+        Kind::Writer => write_content(env, work.cache, work.first),
+        Kind::Reader => read_pieces(env, work.cache, LARGE),
+        Kind::Copy => copy_pieces(env, work.cache, LARGE),
         _ => call(env, work, content, integrities).ok(),
     }
 }

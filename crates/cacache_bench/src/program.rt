@@ -12,7 +12,7 @@ use std::time::{Clock as SystemTimes, Instant};
 
 /// What the program says to wrong words.
 pub const USAGE: &str =
-    "usage: cacache_bench put|put-again CACHE N BYTES | get|get-hash|find|exists CACHE N | get-deep CACHE DEPTH N | put-large|get-large CACHE MIB | digest MIB | memory-put|memory-list KEYS | memory-append N | memory-pieces MIB\n";
+    "usage: cacache_bench put|put-again CACHE N BYTES | get|get-hash|find|ls|remove|exists CACHE N | get-deep CACHE DEPTH N | put-large|get-large|reader|copy|writer CACHE MIB | digest MIB | memory-put|memory-list KEYS | memory-append N | memory-pieces MIB\n";
 
 /// The nanoseconds that one operation took, the clock read around all of them; None where anything failed.
 fn timed<R: SystemTimes, S: Store, C: Clock, N: Names>(

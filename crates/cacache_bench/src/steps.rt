@@ -76,7 +76,7 @@ pub fn append_lines<S: Store>(alloc: Global, store: &mut S, count: u64) -> Optio
 }
 
 /// Writes the piece so many times.
-fn write_all<W: Write>(file: &mut W, piece: &[u8], count: u64) -> bool {
+pub fn write_all<W: Write>(file: &mut W, piece: &[u8], count: u64) -> bool {
     for _ in 0..count {
         if file.write_all(piece).is_err() {
             return false;

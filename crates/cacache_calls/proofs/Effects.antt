@@ -1,5 +1,5 @@
 -- The steps of a commit do nothing; or put its content; or put its content and then send its entry.
-use Rattle.std.proofs.Common.{◌≡◌, ◌⊎◌, inl, inr, ℕ, ◌==◌, List, [], ◌∷◌, Option, Some, None, Bool, true, false, nat_le, Result, Ok, Err, refl, length, drop}
+use Rattle.std.proofs.Common.{◌≡◌, ◌⊎◌, inl, inr, ℕ, ◌+◌, ◌<◌, ◌^◌, ◌==◌, List, [], ◌∷◌, Option, Some, None, Bool, true, false, nat_le, Result, Ok, Err, refl, sym, subst, length, length-append, drop, arith}
 use Rattle.std.proofs.lemmas.Bool.{leb-true}
 use Rattle.cacache_core.specs.declared.errors.Fault.{Fault}
 use Rattle.cacache_core.specs.declared.errors.Fault.TheVariants as faults
@@ -11,6 +11,8 @@ use Rattle.cacache_core.specs.declared.integrity.digest.Hash.{Hash}
 use Rattle.cacache_base.specs.declared.store.plain.PlainTemp.{PlainTemp}
 use Rattle.cacache_base.specs.declared.store.plain.PlainFile.{PlainFile}
 use Rattle.cacache_base.specs.declared.store.answer.Answer.TheVariants as answers
+use Rattle.cacache_base.specs.declared.store.step.Step.TheVariants as steps
+use Rattle.cacache_base.specs.Fits.{Fits}
 use Rattle.cacache_base.specs.Plain.{PlainStep, PlainAnswer}
 use Rattle.cacache_calls.specs.declared.answers.Refusal.{Refusal}
 use Rattle.cacache_calls.specs.declared.answers.Refusal.TheVariants as refusals
@@ -28,7 +30,7 @@ use Rattle.cacache_calls.specs.Common.{ends_with, fails, go_on, errand_step}
 use Rattle.cacache_calls.specs.Inserting.{insertion, deletion, unless_refused, refused_cause, bucket_line, after_append}
 use Rattle.cacache_calls.specs.Storing.{insertion_of, indexed, sized, matches, compared, placed, write_rest, after_write, after_confirm, commit_of}
 use Rattle.cacache_calls.specs.Linking.{target_of, after_size, commit_for, after_read}
-use Rattle.cacache_calls.specs.Table.{wants, after, opening}
+use Rattle.cacache_calls.specs.Table.{piece, wants, after, opening}
 use Rattle.cacache_calls.specs.Runs.{Moves, Runs}
 use Rattle.cacache_calls.proofs.Branches.{cond_leads, go_on_leads}
 use Rattle.cacache_calls.specs.Effects.{Effect, stored, sent, if_done, if_there, effect, effects_of, IsRefused, DoesNothing, TookAll, Sends, Inserts, Indexes, Commits, Links, OnlyChanges}
@@ -44,7 +46,7 @@ Does (confirming c fault) effects r = Commits c effects r
 Does (appending i) effects r = (DoesNothing effects r) ⊎ Sends (bucket_path i.cache i.entry.key) (bucket_line i) effects r
 Does (sizing t) effects r = Links t effects r
 Does (opening_file (to_link t)) effects r = Links t effects r
-Does (hashing (to_link t) file bytes) effects r = Links t effects r
+Does (hashing (to_link t) file bytes) effects r = (file.left + length bytes < 2 ^ 64) → Links t effects r
 Does (over reply) effects r = (effects ≡ []) × ((r ≡ reply) ⊎ (r ≡ Refused OutOfMemory))
 Does s effects r = Unit {0}
 
@@ -60,14 +62,15 @@ module _ (c : Commit) (effects : List Effect) (r : Reply) where
 
   -- ---- once the content is there
 
-  inserts : (key : List ℕ) (cause : Option SerdeCause) → Does (unless_refused (insertion_of c key) cause) effects r → Indexes c (Some key) effects r
-  inserts key None (inl h) = inl h
-  inserts key None (inr h) = h
-  inserts key (Some cause) h = inl (refused (SerdeError cause []) effects r h)
+  inserts : (key : List ℕ) (cause : Option SerdeCause) → refused_cause (insertion_of c key) ≡ cause → Does (unless_refused (insertion_of c key) cause) effects r → Indexes c (Some key) effects r
+  inserts key None e (inl h) = inl h
+  inserts key None e (inr (inl h)) = inl h
+  inserts key None e (inr (inr h)) = inr (e, h)
+  inserts key (Some cause) e h = inl (refused (SerdeError cause []) effects r h)
 
   by_key : (key : Option (List ℕ)) → Does (indexed c key) effects r → Indexes c key effects r
   by_key None h = h.0
-  by_key (Some key) h = inserts key (refused_cause (insertion_of c key)) h
+  by_key (Some key) h = inserts key (refused_cause (insertion_of c key)) refl h
 
   by_size : (size : Option ℕ) → Does (sized c size) effects r → Indexes c c.key effects r
   by_size None h = by_key c.key h
@@ -125,13 +128,24 @@ appends i t effects r h = let k = refused (IoError faults.Device []) effects r h
 
 -- ---- links
 
-links_hashed : (t : Target) (bytes : List ℕ) (effects : List Effect) (r : Reply) → Commits (commit_for t bytes) effects r → Links t effects r
-links_hashed t bytes effects r h = inr (bytes, h)
+links_on : (t : Target) (bytes : List ℕ) (effects : List Effect) (r : Reply) (file : PlainFile) (more : List ℕ) → file.left + length more + length bytes < 2 ^ 64
+    → Does (after_read (to_link t) bytes (file, more)) effects r → Links t effects r
+links_on t bytes effects r file [] bound (inl h) = inl h
+links_on t bytes effects r file [] bound (inr h) = inr (bytes, omega (arith, bound), h)
+links_on t bytes effects r file (b ∷ bs) bound h = h (omega (arith, bound, length-append bytes (b ∷ bs)))
 
-links_on : (t : Target) (bytes : List ℕ) (effects : List Effect) (r : Reply) (file : PlainFile) (more : List ℕ) → Does (after_read (to_link t) bytes (file, more)) effects r → Links t effects r
-links_on t bytes effects r file [] (inl h) = inl h
-links_on t bytes effects r file [] (inr h) = links_hashed t bytes effects r h
-links_on t bytes effects r file (b ∷ bs) h = h
+links_opened : (t : Target) (a : PlainAnswer) (effects : List Effect) (r : Reply) → Fits (steps.Open t.path) a → Does (go_on (file_in a) fails (λ file. hashing (to_link t) file [])) effects r → Links t effects r
+links_opened t (answers.File file) effects r fits h = h (omega (arith, fits))
+links_opened t (answers.Failed fault) effects r fits h = inl (refused (IoError fault []) effects r h)
+links_opened t (answers.NoMemory step) effects r fits h = inl (refused OutOfMemory effects r h)
+links_opened t other effects r fits h = absurd fits
+
+links_read : (t : Target) (file : PlainFile) (bytes : List ℕ) (a : PlainAnswer) (effects : List Effect) (r : Reply) → Fits (steps.Read file piece) a
+    → Does (go_on (got_in a) fails (after_read (to_link t) bytes)) effects r → file.left + length bytes < 2 ^ 64 → Links t effects r
+links_read t file bytes (answers.Got rest more) effects r fits h bound = links_on t bytes effects r rest more (omega (arith, fits.1, bound)) h
+links_read t file bytes (answers.Failed fault) effects r fits h bound = inl (refused (IoError fault []) effects r h)
+links_read t file bytes (answers.NoMemory step) effects r fits h bound = inl (refused OutOfMemory effects r h)
+links_read t file bytes other effects r fits h bound = absurd fits
 
 module _ (t : Target) (effects : List Effect) (r : Reply) where
   links_go_on : {X : Type 0} (a : Result X Refusal) (next : X → State) → ((x : X) → Does (next x) effects r → Links t effects r) → Does (go_on a fails next) effects r → Links t effects r
@@ -150,7 +164,7 @@ memory_does (confirming c fault) = inl (refl, tt)
 memory_does (appending i) = inl (refl, tt)
 memory_does (sizing t) = inl (refl, tt)
 memory_does (opening_file (to_link t)) = inl (refl, tt)
-memory_does (hashing (to_link t) file bytes) = inl (refl, tt)
+memory_does (hashing (to_link t) file bytes) = λ bound. inl (refl, tt)
 memory_does (over reply) = (refl, inr refl)
 memory_does s = tt
 
@@ -170,26 +184,31 @@ abbrev with_effect : Option PlainStep → PlainAnswer → List Effect → List E
 with_effect None t effects = effects
 with_effect (Some step) t effects = effect step t effects
 
-effects_before : (s : State) (t : PlainAnswer) (effects : List Effect) (r : Reply) → Does (after s t) effects r → Does s (with_effect (wants s) t effects) r
-effects_before (doing (make_folder path) s) t effects r = made s (done_in t) effects r
-effects_before (creating number c rest) t effects r = commits_go_on c effects r (temp_in t) (λ file. write_rest c file rest) (λ file. writes_rest c effects r file rest)
-effects_before (writing c file rest) t effects r = commits_go_on c effects r (written_in t) (after_write c rest) (writes c effects r rest)
-effects_before (persisting c file) t effects r = puts c effects r (done_in t)
-effects_before (linking c target) t effects r = puts c effects r (done_in t)
-effects_before (confirming c fault) t effects r = confirms c effects r fault (there_in t)
-effects_before (appending i) t effects r = λ h. inr (sends i t effects r h)
-effects_before (sizing target) t effects r = links_go_on target effects r (length_in t) (after_size target) (λ n h. h)
-effects_before (opening_file (to_link target)) t effects r = links_go_on target effects r (file_in t) (λ file. hashing (to_link target) file []) (λ file h. h)
-effects_before (hashing (to_link target) file bytes) t effects r = links_go_on target effects r (got_in t) (after_read (to_link target) bytes) (λ got. links_on target bytes effects r got.0 got.1)
-effects_before (over reply) t effects r = λ h. h
-effects_before s t effects r = λ h. tt
+-- an answer that fits the step that a state wants
+abbrev FitsWanted : Option PlainStep → PlainAnswer → Type 0
+FitsWanted None t = Unit {0}
+FitsWanted (Some step) t = Fits step t
+
+effects_before : (s : State) (t : PlainAnswer) (effects : List Effect) (r : Reply) → FitsWanted (wants s) t → Does (after s t) effects r → Does s (with_effect (wants s) t effects) r
+effects_before (doing (make_folder path) s) t effects r fits = made s (done_in t) effects r
+effects_before (creating number c rest) t effects r fits = commits_go_on c effects r (temp_in t) (λ file. write_rest c file rest) (λ file. writes_rest c effects r file rest)
+effects_before (writing c file rest) t effects r fits = commits_go_on c effects r (written_in t) (after_write c rest) (writes c effects r rest)
+effects_before (persisting c file) t effects r fits = puts c effects r (done_in t)
+effects_before (linking c target) t effects r fits = puts c effects r (done_in t)
+effects_before (confirming c fault) t effects r fits = confirms c effects r fault (there_in t)
+effects_before (appending i) t effects r fits = λ h. inr (sends i t effects r h)
+effects_before (sizing target) t effects r fits = links_go_on target effects r (length_in t) (after_size target) (λ n h. h)
+effects_before (opening_file (to_link target)) t effects r fits = links_opened target t effects r fits
+effects_before (hashing (to_link target) file bytes) t effects r fits = links_read target file bytes t effects r fits
+effects_before (over reply) t effects r fits = λ h. h
+effects_before s t effects r fits = λ h. tt
 
 -- every run leaves the effects of its first state
 runs_do : (s : State) (moves : Moves) (r : Reply) → Runs s moves r → Does s (effects_of moves) r
 runs_do s [] r (inl e) = rw e (refl, inl refl)
 runs_do s [] r (inr e) = rw e (memory_does s)
 runs_do s (m ∷ moves) r run =
-    let h = effects_before s m.1 (effects_of moves) r (runs_do (after s m.1) moves r run.2) in
+    let h = effects_before s m.1 (effects_of moves) r (subst (λ o. FitsWanted o m.1) (sym run.0) run.1) (runs_do (after s m.1) moves r run.2) in
     rw run.0 at h
 
 pub puts_commit : (site : Site) (p : Put) (moves : Moves) (r : Reply) → Runs (opening site (commands.Put p)) moves r → Commits (commit_of site.cache p) (effects_of moves) r
@@ -200,20 +219,21 @@ links_commit site l moves r run = runs_do (opening site (commands.Link l)) moves
 
 -- ---- insertions and deletions
 
-entry_does : (i : Insertion) (cause : Option SerdeCause) (effects : List Effect) (r : Reply) → Does (unless_refused i cause) effects r → Inserts i effects r
-entry_does i None effects r (inl h) = inl h
-entry_does i None effects r (inr h) = h
-entry_does i (Some cause) effects r h = inl (refused (SerdeError cause []) effects r h)
+entry_does : (i : Insertion) (cause : Option SerdeCause) (effects : List Effect) (r : Reply) → refused_cause i ≡ cause → Does (unless_refused i cause) effects r → Inserts i effects r
+entry_does i None effects r e (inl h) = inl h
+entry_does i None effects r e (inr (inl h)) = inl h
+entry_does i None effects r e (inr (inr h)) = inr (e, h)
+entry_does i (Some cause) effects r e h = inl (refused (SerdeError cause []) effects r h)
 
 pub inserts_send : (site : Site) (i : Insert) (moves : Moves) (r : Reply) → Runs (opening site (commands.Insert i)) moves r → Inserts (insertion site.cache i) (effects_of moves) r
 inserts_send site i moves r run =
     let e : Insertion = insertion site.cache i in
-    entry_does e (refused_cause e) (effects_of moves) r (runs_do (opening site (commands.Insert i)) moves r run)
+    entry_does e (refused_cause e) (effects_of moves) r refl (runs_do (opening site (commands.Insert i)) moves r run)
 
 pub deletes_send : (site : Site) (d : Delete) (moves : Moves) (r : Reply) → Runs (opening site (commands.Delete d)) moves r → Inserts (deletion site.cache d) (effects_of moves) r
 deletes_send site d moves r run =
     let e : Insertion = deletion site.cache d in
-    entry_does e (refused_cause e) (effects_of moves) r (runs_do (opening site (commands.Delete d)) moves r run)
+    entry_does e (refused_cause e) (effects_of moves) r refl (runs_do (opening site (commands.Delete d)) moves r run)
 
 -- ---- errands
 

@@ -44,15 +44,15 @@ pub no_gain : (log : Option (List LogItem)) → Gains log log []
 no_gain None = refl
 no_gain (Some moves) = ap Some (sym (append-nil moves))
 
-goes_on : (s : State) (moves : Moves) (u : State) (a : PlainStep) (t : PlainAnswer) → Goes s moves u → wants u ≡ Some a → Fits a t → Goes s (moves ++ (a, t) ∷ []) (after u t)
+pub goes_on : (s : State) (moves : Moves) (u : State) (a : PlainStep) (t : PlainAnswer) → Goes s moves u → wants u ≡ Some a → Fits a t → Goes s (moves ++ (a, t) ∷ []) (after u t)
 goes_on s [] u a t g w fits = (ap wants g ∙ w, fits, ap (λ (x : State). after x t) g)
 goes_on s (m ∷ moves) u a t g w fits = (g.0, g.1, goes_on (after s m.1) moves u a t g.2 w fits)
 
-goes_over : (s : State) (moves : Moves) (r : Reply) → Goes s moves (over r) → Runs s moves r
+pub goes_over : (s : State) (moves : Moves) (r : Reply) → Goes s moves (over r) → Runs s moves r
 goes_over s [] r g = inl g
 goes_over s (m ∷ moves) r g = (g.0, g.1, goes_over (after s m.1) moves r g.2)
 
-goes_lost : (s : State) (moves : Moves) (u : State) → Goes s moves u → Runs s moves (Refused OutOfMemory)
+pub goes_lost : (s : State) (moves : Moves) (u : State) → Goes s moves u → Runs s moves (Refused OutOfMemory)
 goes_lost s [] u g = inr refl
 goes_lost s (m ∷ moves) u g = (g.0, g.1, goes_lost (after s m.1) moves u g.2)
 

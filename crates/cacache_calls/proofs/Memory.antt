@@ -1,10 +1,12 @@
 -- Out of memory ends every call, and nothing else leaves a call without a step.
 use Rattle.std.proofs.Common.{◌≡◌, Some, None, refl}
-use Rattle.cacache_core.specs.declared.errors.Error.TheVariants.{OutOfMemory}
+use Rattle.cacache_core.specs.declared.errors.Error.{Error}
+use Rattle.cacache_core.specs.declared.errors.Error.TheVariants.{EntryNotFound, SizeMismatch, IoError, SerdeError, IntegrityError, OutOfMemory}
 use Rattle.cacache_base.specs.declared.store.answer.Answer.TheVariants as answers
 use Rattle.cacache_base.specs.Plain.{PlainStep}
 use Rattle.cacache_calls.specs.declared.reply.Reply.{Reply}
 use Rattle.cacache_calls.specs.declared.reply.Reply.TheVariants.{Refused}
+use Rattle.cacache_calls.specs.Runs.{without_message}
 use Rattle.cacache_calls.specs.State.{State, walking, over, enter, read_bucket, remove_file, remove_folder}
 use Rattle.cacache_calls.specs.Table.{wants, after}
 
@@ -19,3 +21,12 @@ no_memory_after s a b e = refl
 pub wants_until_over : (s : State) → wants s ≡ None → (reply : Reply) × (s ≡ over reply)
 wants_until_over (over reply) e = (reply, refl)
 wants_until_over s e = absurd cc
+
+-- an error without its message says out of memory only where the error does
+pub memory_said : (e : Error) → Refused (without_message e) ≡ Refused OutOfMemory → e ≡ OutOfMemory
+memory_said (EntryNotFound cache key) said = absurd cc
+memory_said (SizeMismatch wanted actual) said = absurd cc
+memory_said (IoError fault message) said = absurd cc
+memory_said (SerdeError cause message) said = absurd cc
+memory_said (IntegrityError fault) said = absurd cc
+memory_said OutOfMemory said = refl

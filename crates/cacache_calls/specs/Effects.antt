@@ -1,6 +1,6 @@
 -- What the steps of a call do to contents and buckets, and the cases of a commit: nothing; its
 -- content; or its content and then its entry.
-use Rattle.std.specs.Prelude.{◌≡◌, ◌⊎◌, ◌≤◌, ℕ, List, [], ◌∷◌, Option, None, Some, Result, Ok, Err, Bool, true, false, length}
+use Rattle.std.specs.Prelude.{◌≡◌, ◌⊎◌, ◌≤◌, ◌<◌, ◌^◌, ℕ, List, [], ◌∷◌, Option, None, Some, Result, Ok, Err, Bool, true, false, length}
 use Rattle.cacache_base.specs.declared.store.answer.Answer.TheVariants as answers
 use Rattle.cacache_base.specs.declared.store.step.Step.TheVariants as steps
 use Rattle.cacache_base.specs.Plain.{PlainStep, PlainAnswer}
@@ -16,7 +16,7 @@ use Rattle.cacache_calls.specs.Answers.{done_in, there_in}
 use Rattle.cacache_calls.specs.Places.{content_path, bucket_path}
 use Rattle.cacache_calls.specs.State.{Site, Commit, Insertion, Target, Errand}
 use Rattle.cacache_calls.specs.Common.{errand_step}
-use Rattle.cacache_calls.specs.Inserting.{bucket_line, insertion, deletion}
+use Rattle.cacache_calls.specs.Inserting.{bucket_line, refused_cause, insertion, deletion}
 use Rattle.cacache_calls.specs.Storing.{insertion_of, commit_of}
 use Rattle.cacache_calls.specs.Linking.{commit_for, target_of}
 use Rattle.cacache_calls.specs.Table.{opening}
@@ -78,10 +78,11 @@ abbrev pub Sends : List ℕ → List ℕ → List Effect → Reply → Type 0
 Sends path line effects r =
     (t : PlainAnswer) × (effects ≡ sent path line t ∷ []) × (IsRefused r ⊎ TookAll line t)
 
--- an insertion sends its line, or is refused before
+-- an insertion whose entry can be written sends its line, or is refused before
 abbrev pub Inserts : Insertion → List Effect → Reply → Type 0
 Inserts i effects r =
-    DoesNothing effects r ⊎ Sends (bucket_path i.cache i.entry.key) (bucket_line i) effects r
+    DoesNothing effects r
+    ⊎ ((refused_cause i ≡ None) × Sends (bucket_path i.cache i.entry.key) (bucket_line i) effects r)
 
 -- once the content is there: with a key the entry follows; where it doesn't, the commit is refused
 abbrev pub Indexes : Commit → Option (List ℕ) → List Effect → Reply → Type 0
@@ -98,7 +99,8 @@ Commits c effects r =
 -- a link's commit is that of the bytes that were read
 abbrev pub Links : Target → List Effect → Reply → Type 0
 Links t effects r =
-    DoesNothing effects r ⊎ ((bytes : List ℕ) × Commits (commit_for t bytes) effects r)
+    DoesNothing effects r
+    ⊎ ((bytes : List ℕ) × (length bytes < 2 ^ 64) × Commits (commit_for t bytes) effects r)
 
 -- ---- laws
 

@@ -1,25 +1,24 @@
 -- In the order of paths, what lies below a folder stands together behind it.
-use Rattle.std.proofs.Common.{◌≡◌, ℕ, Bool, true, false, cond, List, [], ◌∷◌, ◌++◌, length, take, filter, refl, sym, ap, subst, ◌∙◌}
-use Rattle.std.specs.Prelude.{◌&&◌, not, Option, None, Some, map as keys_of}
+use Rattle.std.proofs.Common.{◌≡◌, ℕ, Bool, true, false, List, [], ◌∷◌, refl, sym, ap, ◌∙◌}
+use Rattle.std.specs.Prelude.{None, map as keys_of}
 use Rattle.std.specs.List.{AllByRecursion, filter_map}
 use Rattle.std.specs.List.Sorted.{IsStrictlySortedBy}
 use Rattle.std.specs.Bool.{nat_eq}
 use Rattle.std.specs.declared.cmp.Ordering.{Ordering}
 use Rattle.std.specs.declared.cmp.Ordering.TheVariants.{Less, Equal, Greater}
 use Rattle.std.specs.declared.ops.Bound.TheVariants.{Included, Unbounded}
-use Rattle.std.specs.Ordering.{nat_cmp, is_le, ordering_then, ordering_reverse}
+use Rattle.std.specs.Ordering.{nat_cmp, is_le, ordering_reverse}
 use Rattle.std.specs.Cmp.{eq_by_cmp_equiv}
 use Rattle.std.specs.Cmp.Lexicographic.{pointwise, slice_cmp, bytes_decides}
 use Rattle.std.specs.FinMap.{nat_cmp-IsAntisymmetric, slice_cmp-IsAntisymmetric}
 use Rattle.std.proofs.lemmas.Bool.{and_parts, and_right}
 use Rattle.std.proofs.lemmas.Cmp.{nat_list_cmp_total}
 use Rattle.std.specs.BTreeMap.Range.{entries_between}
-use Rattle.cacache_base.specs.declared.store.answer.Name.{Name}
 use Rattle.cacache_disk.specs.declared.node.Node.{Node}
 use Rattle.std.specs.FinMap as map
 use Rattle.std.specs.BTreeMap as btree
 use Rattle.std.specs.BTreeMap.{BTreeMap}
-use Rattle.cacache_disk.specs.Tree.{Tree, Names, names_cmp, is_below, is_child, child_of, listing}
+use Rattle.cacache_disk.specs.Tree.{Tree, Names, names_cmp, is_below, child_of, listing}
 use Rattle.cacache_disk.proofs.Maps.{is_eq_true, entries_map}
 
 name_itself : (a : List ℕ) → slice_cmp nat_cmp a a ≡ Equal

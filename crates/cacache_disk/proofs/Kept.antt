@@ -17,9 +17,9 @@ use Rattle.cacache_disk.specs.declared.luck.Luck.TheVariants.{Plain, Fail, Take}
 use Rattle.cacache_disk.specs.declared.node.Node.{Node}
 use Rattle.cacache_disk.specs.declared.node.Node.TheVariants.{Folder, File, Link}
 use Rattle.cacache_core.specs.PathNames.{names_of}
-use Rattle.cacache_disk.specs.Tree.{Tree, Names, look, put, cut, names_cmp, same_path, listing, child_of, is_child, kind_of}
+use Rattle.cacache_disk.specs.Tree.{Tree, Names, look, put, names_cmp, same_path, listing, child_of, is_child, kind_of}
 use Rattle.cacache_disk.specs.Found.{and_then, or_fault, through, way_fault, place, standing, followed, leads, on_link, where_no_folder, where_there, writable, free, known, kept, replaceable, file_at, linked, removable, emptied, folder, dirs, dirs_fault}
-use Rattle.cacache_disk.specs.Apply.{apply, plain, unless, make_some, making, is_taking, is_parted, fails, fault_of, left_by}
+use Rattle.cacache_disk.specs.Apply.{apply, plain, unless, making, is_taking, is_parted, fails, fault_of, left_by}
 use Rattle.cacache_disk.specs.Rooted.{is_folder, Rooted}
 use Rattle.cacache_disk.proofs.Maps.{same_path-true}
 use Rattle.cacache_disk.proofs.NameLemmas.{names_proper}

@@ -1,12 +1,12 @@
 -- The nodes as a finite map.
-use Rattle.std.proofs.Common.{◌≡◌, ℕ, Bool, true, false, cond, List, [], ◌∷◌, ◌++◌, refl, sym, ap, subst, ◌∙◌}
-use Rattle.std.specs.Prelude.{◌&&◌, T, Option, None, Some, IsSome, map as keys_of}
-use Rattle.std.specs.List.{AllByRecursion, filter_map}
+use Rattle.std.proofs.Common.{◌≡◌, Bool, true, false, cond, List, [], ◌∷◌, refl, sym, ap, ◌∙◌}
+use Rattle.std.specs.Prelude.{◌&&◌, T, None, Some, IsSome, map as keys_of}
+use Rattle.std.specs.List.{AllByRecursion}
 use Rattle.std.specs.List.Sorted.{IsStrictlySortedBy}
 use Rattle.std.specs.FinMap.Entries.{below_all}
 use Rattle.std.specs.declared.cmp.Ordering.{Ordering}
 use Rattle.std.specs.declared.cmp.Ordering.TheVariants.{Less, Equal, Greater}
-use Rattle.std.specs.Ordering.{eq_by_cmp, is_eq, nat_cmp}
+use Rattle.std.specs.Ordering.{eq_by_cmp, is_eq}
 use Rattle.std.specs.Cmp.{IsTotalOrder, eq_by_cmp_equiv}
 use Rattle.std.proofs.lemmas.Cmp.{nat_list_cmp_total, lists_total}
 use Rattle.std.specs.FinMap as map
@@ -15,8 +15,7 @@ use Rattle.std.specs.BTreeMap as btree
 use Rattle.std.specs.BTreeMap.{BTreeMap, is_at}
 use Rattle.std.specs.Map.{lookup}
 use Rattle.cacache_disk.specs.declared.node.Node.{Node}
-use Rattle.cacache_disk.specs.Tree.{Tree, Names, names_cmp, same_path, child_of, listing}
-use Rattle.cacache_base.specs.declared.store.answer.Name.{Name}
+use Rattle.cacache_disk.specs.Tree.{Tree, Names, names_cmp, same_path}
 
 pub total : IsTotalOrder names_cmp
 total = lists_total nat_list_cmp_total

@@ -1,5 +1,5 @@
 -- What luck makes of a plan.
-use Rattle.std.proofs.Common.{◌≡◌, ◌∙◌, ℕ, Bool, true, false, cond, List, refl, ap}
+use Rattle.std.proofs.Common.{◌≡◌, ◌∙◌, ℕ, Bool, true, false, cond, refl, ap}
 use Rattle.std.specs.Prelude.{Option, None, Some, Result, Ok, Err}
 use Rattle.cacache_core.specs.declared.errors.Fault.{Fault}
 use Rattle.cacache_core.specs.declared.errors.Fault.TheVariants.{InvalidInput}
@@ -7,7 +7,6 @@ use Rattle.cacache_base.specs.declared.store.answer.Answer.TheVariants.{Failed}
 use Rattle.cacache_base.specs.declared.store.step.Step.TheVariants.{MakeDirs, CreateTemp, Write, Persist, Append, ReadAll, Open, Read, Size, Exists, Symlink, Copy, Reflink, HardLink, ReadDir, RemoveFile, RemoveDir}
 use Rattle.cacache_base.specs.Fits.{Fits}
 use Rattle.cacache_base.specs.Plain.{PlainStep, PlainAnswer}
-use Rattle.cacache_disk.specs.declared.change.Change.{Change}
 use Rattle.cacache_disk.specs.declared.change.Change.TheVariants as change
 use Rattle.cacache_disk.specs.declared.change.Plan.{Plan}
 use Rattle.cacache_disk.specs.declared.luck.Luck.{Luck}

@@ -1,14 +1,12 @@
 -- What the deepest node on a path says of the whole path.
-use Rattle.std.proofs.Common.{◌≡◌, ◌<◌, ◌≤◌, ◌+◌, ◌-◌, ◌==◌, ℕ, zero, suc, true, false, cond, List, [], ◌∷◌, ◌++◌, Option, None, Some, Ok, length, take, drop, refl, sym, ap, subst, ◌∙◌, arith, append-nil, append_assoc}
+use Rattle.std.proofs.Common.{◌≡◌, ◌<◌, ◌+◌, ◌-◌, ℕ, suc, List, [], ◌∷◌, ◌++◌, Option, None, Some, Ok, length, take, drop, refl, sym, ap, subst, ◌∙◌, arith, append-nil, append_assoc}
 use Rattle.std.proofs.lemmas.List.{take-append-drop, length-drop, take-take, length-take-le}
-use Rattle.cacache_core.specs.declared.errors.Fault.{Fault}
-use Rattle.cacache_core.specs.declared.errors.Fault.TheVariants.{NotFound, AlreadyExists, NotADirectory}
 use Rattle.cacache_disk.specs.declared.node.Node.{Node}
 use Rattle.cacache_disk.specs.declared.node.Node.TheVariants.{Folder, File, Link}
 use Rattle.cacache_disk.specs.Tree.{Tree, Names, look}
 use Rattle.cacache_core.specs.PathNames.{names_of}
-use Rattle.cacache_disk.specs.Found.{way_fault, through, dirs_fault, is_in_way, place, or_fault}
-use Rattle.cacache_disk.specs.Apply.{make_some, if_missing}
+use Rattle.cacache_disk.specs.Found.{way_fault, through, dirs_fault, place, or_fault}
+use Rattle.cacache_disk.specs.Apply.{make_some}
 use Rattle.cacache_disk.specs.Rooted.{Rooted, StandsIn}
 use Rattle.cacache_disk.proofs.Walks.{drop_here, front_next}
 use Rattle.cacache_disk.specs.Deepest.{IsMissing, IsDeepest, way_past, dirs_past, MakesFrom}

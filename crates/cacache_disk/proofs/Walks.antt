@@ -1,12 +1,11 @@
 -- The folders of a path, one by one.
-use Rattle.std.proofs.Common.{◌≡◌, ◌<◌, ◌≤◌, ◌+◌, ◌-◌, ◌==◌, ℕ, true, false, cond, List, [], ◌∷◌, ◌++◌, length, get_or, take, drop, refl, sym, ap, ◌∙◌, arith, drop-cons, add-one, length-drop, suc}
+use Rattle.std.proofs.Common.{◌≡◌, ◌<◌, ◌≤◌, ◌+◌, ◌-◌, ◌==◌, ℕ, false, cond, List, [], ◌∷◌, ◌++◌, length, get_or, take, drop, refl, sym, ap, ◌∙◌, arith, drop-cons, add-one, suc}
 use Rattle.std.proofs.lemmas.List.{take_more, drop_all}
 use Rattle.std.proofs.lemmas.Bool.Decides.{nat_tests}
 use Rattle.std.specs.Prelude.{Option, None, Some}
 use Rattle.cacache_disk.specs.declared.node.Node.{Node}
 use Rattle.cacache_disk.specs.declared.node.Node.TheVariants.{Folder}
 use Rattle.cacache_disk.specs.Tree.{Tree, Names, look, put}
-use Rattle.cacache_disk.specs.Found.{way_fault, through}
 use Rattle.cacache_disk.specs.Apply.{make_some, if_missing}
 
 pub drop_here : (path : Names) (i : ℕ) (d : List ℕ) → i < length path → drop i path ≡ get_or path i d ∷ drop (i + 1) path

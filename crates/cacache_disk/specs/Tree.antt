@@ -1,5 +1,5 @@
 -- A disk's tree: the node at each path. The top folder stands at the empty list of names.
-use Rattle.std.specs.Prelude.{ℕ, Bool, if◌then◌else◌, List, [], ◌∷◌, ◌++◌, Option, None, Some, length, ◌==◌, ◌+◌, ◌&&◌, take, slice_index_or}
+use Rattle.std.specs.Prelude.{ℕ, Bool, if◌then◌else◌, List, [], Option, None, Some, length, ◌==◌, ◌+◌, ◌&&◌, take, slice_index_or}
 use Rattle.std.specs.FinMap as map
 use Rattle.std.specs.declared.cmp.Ordering.{Ordering}
 use Rattle.std.specs.Ordering.{nat_cmp, eq_by_cmp}

@@ -1,4 +1,6 @@
 //! The columns of a row, and the words of a step.
+use cacache_rows::Flaw;
+use cacache_rows::words::column;
 
 /// The five columns of a row.
 #[derive(Clone, Copy)]
@@ -13,15 +15,15 @@ pub(crate) struct Row<'a> {
 }
 
 /// The columns of a line, where it has five.
-pub(crate) fn row_of(line: &str) -> Option<Row<'_>> {
-    let (before, rest) = line.split_once(" | ")?;
-    let (luck, rest) = rest.split_once(" | ")?;
-    let (step, rest) = rest.split_once(" | ")?;
-    let (answer, after) = rest.split_once(" | ")?;
+pub(crate) fn row_of(line: &str) -> Result<Row<'_>, Flaw> {
+    let (before, rest) = column(line)?;
+    let (luck, rest) = column(rest)?;
+    let (step, rest) = column(rest)?;
+    let (answer, after) = column(rest)?;
     if after.contains('|') {
-        return None;
+        return Err(Flaw::NotRead);
     }
-    Some(Row {
+    Ok(Row {
         before,
         luck,
         step,
@@ -39,19 +41,14 @@ pub(crate) struct Words<'a> {
 }
 
 /// The words of a step, where there are two or three.
-pub(crate) fn words_of(step: &str) -> Option<Words<'_>> {
-    let (kind, rest) = step.split_once(' ')?;
-    match rest.split_once(' ') {
-        None => Some(Words {
-            kind,
-            first: rest,
-            second: None,
-        }),
-        Some((_, second)) if second.contains(' ') => None,
-        Some((first, second)) => Some(Words {
+pub(crate) fn words_of(step: &str) -> Result<Words<'_>, Flaw> {
+    let mut words = step.split(' ');
+    match (words.next(), words.next(), words.next(), words.next()) {
+        (Some(kind), Some(first), second, None) => Ok(Words {
             kind,
             first,
-            second: Some(second),
+            second,
         }),
+        _ => Err(Flaw::NotRead),
     }
 }

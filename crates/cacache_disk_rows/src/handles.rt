@@ -1,10 +1,11 @@
 //! Open and temporary files as words: `3=abc` is an open file with three bytes left, `t=ab` a temporary file at `t`, `?` stands
 //! for bytes that aren't known, and `held` for the handle of the last answer that had one.
-use crate::flaw::{Flaw, let_go};
 use crate::shown::{shown_file, shown_temp};
-use crate::words::{bytes_of, number_of, text_of, word_of};
+use crate::words::{bytes_of, text_of};
 use cacache_base::store::{Answer, PlainAnswer, PlainFile, PlainTemp};
 use cacache_core::bytes::Bytes;
+use cacache_rows::words::{number_of, word_of};
+use cacache_rows::{Flaw, let_go};
 use std::alloc::{AllocError, Global};
 use std::io::{Read, Write};
 
@@ -45,9 +46,7 @@ fn new_file(alloc: Global, word: &str) -> Result<PlainFile, Flaw> {
     let Some((left, bytes)) = word.split_once('=') else {
         return Err(Flaw::NotRead);
     };
-    let Some(left) = number_of(left) else {
-        return Err(Flaw::NotRead);
-    };
+    let left = number_of(left)?;
     let bytes = known_of(alloc, bytes)?;
     Ok(PlainFile { left, bytes })
 }
@@ -113,10 +112,7 @@ fn drained(alloc: Global, file: &mut PlainFile, size: usize) -> Result<String, A
 /// Reads or writes through the held handle itself, with no step.
 pub(crate) fn used(alloc: Global, held: &mut Option<Handle>, word: &str) -> Result<String, Flaw> {
     match held {
-        Some(Handle::File(file)) => match number_of(word) {
-            Some(size) => Ok(drained(alloc, file, size)?),
-            None => Err(Flaw::NotRead),
-        },
+        Some(Handle::File(file)) => Ok(drained(alloc, file, number_of(word)?)?),
         Some(Handle::Temp(temp)) => Ok(written(alloc, temp, word.as_bytes())?),
         None => Err(Flaw::NotRead),
     }

@@ -1,37 +1,37 @@
 //! Lucks as words: `Plain`, `Take 2`, `Fail Device`, or `Fail Device 2` where a part is left done.
-use crate::words::number_of;
 use cacache_core::errors::Fault;
 use cacache_disk::Luck;
+use cacache_rows::Flaw;
+use cacache_rows::words::{cut, number_of};
 
 /// The fault of a name.
-fn fault_of(name: &str) -> Option<Fault> {
+fn fault_of(name: &str) -> Result<Fault, Flaw> {
     match name {
-        "NotFound" => Some(Fault::NotFound),
-        "AlreadyExists" => Some(Fault::AlreadyExists),
-        "Unsupported" => Some(Fault::Unsupported),
-        "Closed" => Some(Fault::Closed),
-        "Device" => Some(Fault::Device),
-        _ => None,
+        "NotFound" => Ok(Fault::NotFound),
+        "AlreadyExists" => Ok(Fault::AlreadyExists),
+        "Unsupported" => Ok(Fault::Unsupported),
+        "Closed" => Ok(Fault::Closed),
+        "Device" => Ok(Fault::Device),
+        _ => Err(Flaw::NotRead),
     }
 }
 
 /// The fault that a text says, and how much is left done.
-fn failing(text: &str) -> Option<Luck> {
-    match text.split_once(' ') {
-        None => Some(Luck::Fail(fault_of(text)?, None)),
-        Some((name, part)) => {
-            let part = number_of(part)?;
-            Some(Luck::Fail(fault_of(name)?, Some(part)))
-        }
+fn failing(text: &str) -> Result<Luck, Flaw> {
+    let (name, part) = cut(text);
+    let fault = fault_of(name)?;
+    if part.is_empty() {
+        return Ok(Luck::Fail(fault, None));
     }
+    Ok(Luck::Fail(fault, Some(number_of(part)?)))
 }
 
 /// The luck that a text says.
-pub(crate) fn luck_of(text: &str) -> Option<Luck> {
-    match text.split_once(' ') {
-        None if text == "Plain" => Some(Luck::Plain),
-        Some(("Take", most)) => Some(Luck::Take(number_of(most)?)),
-        Some(("Fail", rest)) => failing(rest),
-        _ => None,
+pub(crate) fn luck_of(text: &str) -> Result<Luck, Flaw> {
+    match cut(text) {
+        ("Plain", "") => Ok(Luck::Plain),
+        ("Take", most) => Ok(Luck::Take(number_of(most)?)),
+        ("Fail", rest) => failing(rest),
+        _ => Err(Flaw::NotRead),
     }
 }

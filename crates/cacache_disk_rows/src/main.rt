@@ -7,33 +7,19 @@
 #![tactic(auto)]
 
 mod columns;
-mod flaw;
 mod handles;
 mod lucks;
 mod place;
 mod scene;
 mod shown;
 mod steps;
-mod tally;
 mod tree;
 mod words;
 
-use std::io;
+use cacache_rows::run;
+use scene::Stage;
 use std::process::ExitCode;
-use tally::Tally;
-
-/// Tries all rows, and tells whether they hold.
-fn all_hold(rt: &HostRuntime) -> io::Result<bool> {
-    let mut tally = Tally::new(rt.alloc());
-    for line in rt.lines(rt.alloc()) {
-        tally.take(rt, line?.as_str())?;
-    }
-    tally.end(rt)
-}
 
 fn main(rt: HostRuntime) -> ExitCode {
-    match all_hold(&rt) {
-        Ok(true) => ExitCode::from(0),
-        _ => ExitCode::from(1),
-    }
+    run(&rt, &mut Stage::new(rt.alloc()))
 }

@@ -1,14 +1,14 @@
 //! Where rows are tried: a disk, or a store with its log.
-use crate::flaw::{Flaw, let_go};
 use crate::handles::{Handle, handle_in};
 use crate::shown::{shown_answer, shown_item};
 use crate::tree::{disk_of, shown_copy, shown_tree};
-use crate::words::word_of;
 use cacache_base::store::{Answer, PlainAnswer, PlainStep, Store};
 use cacache_core::bytes::Bytes;
 use cacache_core::errors::Error;
 use cacache_disk::{Disk, Luck};
 use cacache_memory::MemStore;
+use cacache_rows::words::word_of;
+use cacache_rows::{Flaw, let_go};
 use std::alloc::{AllocError, Global};
 
 /// A disk, or a store with its log.

@@ -1,12 +1,13 @@
 //! One row after another, on a place of its own or on the one before.
 use crate::columns::{Row, Words, row_of, words_of};
-use crate::flaw::{Flaw, set};
 use crate::handles::{Handle, used};
 use crate::lucks::luck_of;
 use crate::place::{Heard, Place, is_plain};
 use crate::steps::step_of;
-use crate::words::{bytes_of, number_of, text_of};
+use crate::words::{bytes_of, text_of};
 use cacache_disk::Luck;
+use cacache_rows::words::{number_of, written_out};
+use cacache_rows::{Flaw, Outcome, Trial, set};
 use std::alloc::{AllocError, Global};
 
 /// A place, and the handle of the last answer that had one.
@@ -16,13 +17,6 @@ pub(crate) struct Scene {
     held: Option<Handle>,
 }
 
-/// What a row wants, and what came.
-#[derive(Drop)]
-pub(crate) struct Came {
-    pub(crate) wanted: String,
-    pub(crate) got: String,
-}
-
 /// What somebody else does, or what is asked with no step, on one word.
 fn asked(alloc: Global, place: &mut Place, kind: &str, word: &str) -> Result<String, Flaw> {
     let path = text_of(alloc, word)?;
@@ -30,10 +24,7 @@ fn asked(alloc: Global, place: &mut Place, kind: &str, word: &str) -> Result<Str
         "PlantFolder" => place.plant_folder(alloc, path.as_str()),
         "Shared" => place.bytes(alloc, path.as_str()),
         "Copied" => place.copied(alloc, word),
-        _ => match number_of(word) {
-            Some(index) => place.logged(alloc, index),
-            None => Err(Flaw::NotRead),
-        },
+        _ => place.logged(alloc, number_of(word)?),
     }
 }
 
@@ -82,37 +73,33 @@ impl Scene {
     fn refused(&mut self, alloc: Global, before: &str) -> Result<String, Flaw> {
         let after = self.place.shown(alloc)?;
         Err(if after.as_str() == before {
-            Flaw::Refused
+            Flaw::Told("memory was refused, and nothing changed")
         } else {
-            Flaw::Changed
+            Flaw::Told("memory was refused, but something changed")
         })
     }
 
     /// Tries a row: what it wants, and what came.
-    fn compared(&mut self, alloc: Global, row: Row<'_>) -> Result<Came, Flaw> {
-        let Some(words) = words_of(row.step) else {
-            return Err(Flaw::NotRead);
-        };
-        let Some(luck) = luck_of(row.luck) else {
-            return Err(Flaw::NotRead);
-        };
+    fn compared(&mut self, alloc: Global, row: Row<'_>) -> Result<Outcome, Flaw> {
+        let words = words_of(row.step)?;
+        let luck = luck_of(row.luck)?;
         let before = self.place.shown(alloc)?;
         let answer = match self.came(alloc, words, luck) {
             Err(Flaw::Refused) => self.refused(alloc, before.as_str())?,
             came => came?,
         };
         let after = self.place.shown(alloc)?;
-        Ok(Came {
+        Ok(Outcome {
             wanted: wanted(alloc, row, before.as_str())?,
             got: got(alloc, before.as_str(), answer.as_str(), after.as_str())?,
         })
     }
 }
 
-/// What came, with a NUL as `\0`.
+/// What came.
 fn got(alloc: Global, before: &str, answer: &str, after: &str) -> Result<String, AllocError> {
     let text = format!(in alloc; "{before} | {answer} | {after}")?;
-    text.replace(alloc, "\0", "\\0")
+    written_out(alloc, text.as_str())
 }
 
 /// What a row wants, where this stood before it.
@@ -131,25 +118,42 @@ fn wanted(alloc: Global, row: Row<'_>, before: &str) -> Result<String, AllocErro
     format!(in alloc; "{before} | {answer} | {after}")
 }
 
-/// Makes the place that a row begins with.
-fn opened(alloc: Global, scene: &mut Option<Scene>, before: &str) -> Result<(), Flaw> {
-    if before == "then" {
-        return Ok(());
-    }
-    set(scene, None);
-    let place = Place::new(alloc, before)?;
-    set(scene, Some(Scene { place, held: None }));
-    Ok(())
+/// The scene on which rows are tried, if one is open.
+#[derive(Drop)]
+pub(crate) struct Stage {
+    alloc: Global,
+    scene: Option<Scene>,
 }
 
-/// What a line wants, and what came.
-pub(crate) fn tried(alloc: Global, scene: &mut Option<Scene>, line: &str) -> Result<Came, Flaw> {
-    let Some(row) = row_of(line) else {
-        return Err(Flaw::NotRead);
-    };
-    opened(alloc, scene, row.before)?;
-    match scene {
-        Some(scene) => scene.compared(alloc, row),
-        None => Err(Flaw::NotRead),
+impl Stage {
+    /// A stage with no scene.
+    pub(crate) fn new(alloc: Global) -> Stage {
+        Stage { alloc, scene: None }
+    }
+
+    /// Opens the scene that a row begins with.
+    fn open(&mut self, before: &str) -> Result<(), Flaw> {
+        if before == "then" {
+            return Ok(());
+        }
+        set(&mut self.scene, None);
+        let place = Place::new(self.alloc, before)?;
+        set(&mut self.scene, Some(Scene { place, held: None }));
+        Ok(())
+    }
+}
+
+impl Trial for Stage {
+    fn begin(&mut self) {
+        set(&mut self.scene, None);
+    }
+
+    fn outcome(&mut self, row: &str) -> Result<Outcome, Flaw> {
+        let row = row_of(row)?;
+        self.open(row.before)?;
+        match &mut self.scene {
+            Some(scene) => scene.compared(self.alloc, row),
+            None => Err(Flaw::NotRead),
+        }
     }
 }

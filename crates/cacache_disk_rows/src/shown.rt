@@ -1,10 +1,10 @@
 //! Answers and what a log keeps as texts, in the words of rows.
-use crate::words::word_of;
 use cacache_base::store::{
     Answer, Listing, LogItem, Name, PlainAnswer, PlainFile, PlainStep, PlainTemp, Step,
 };
 use cacache_core::bytes::Bytes;
 use cacache_core::text::Text;
+use cacache_rows::words::word_of;
 use std::alloc::{AllocError, Global};
 
 /// Bytes as a word: `?` where they aren't known.

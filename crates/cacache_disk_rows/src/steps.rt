@@ -1,100 +1,40 @@
 //! Steps as words: the kind, and what it needs, as `Append f ab`.
 use crate::columns::Words;
-use crate::flaw::Flaw;
 use crate::handles::{Handle, file_of, temp_of};
-use crate::words::{bytes_of, number_of, text_of};
+use crate::words::{bytes_of, text_of};
 use cacache_base::store::{PlainStep, Step};
-use cacache_core::text::Text;
+use cacache_rows::Flaw;
+use cacache_rows::words::number_of;
 use std::alloc::Global;
-
-/// The kinds of step on one path.
-#[derive(Clone, Copy)]
-enum OnPath {
-    MakeDirs,
-    CreateTemp,
-    ReadAll,
-    Open,
-    Size,
-    Exists,
-    ReadDir,
-    RemoveFile,
-    RemoveDir,
-}
-
-/// The kinds of step on two paths.
-#[derive(Clone, Copy)]
-enum OnPaths {
-    Symlink,
-    Copy,
-    Reflink,
-    HardLink,
-}
-
-/// A kind of step on one path by its name.
-fn path_kind(name: &str) -> Result<OnPath, Flaw> {
-    match name {
-        "MakeDirs" => Ok(OnPath::MakeDirs),
-        "CreateTemp" => Ok(OnPath::CreateTemp),
-        "ReadAll" => Ok(OnPath::ReadAll),
-        "Open" => Ok(OnPath::Open),
-        "Size" => Ok(OnPath::Size),
-        "Exists" => Ok(OnPath::Exists),
-        "ReadDir" => Ok(OnPath::ReadDir),
-        "RemoveFile" => Ok(OnPath::RemoveFile),
-        "RemoveDir" => Ok(OnPath::RemoveDir),
-        _ => Err(Flaw::NotRead),
-    }
-}
-
-/// A kind of step on two paths by its name.
-fn paths_kind(name: &str) -> Result<OnPaths, Flaw> {
-    match name {
-        "Symlink" => Ok(OnPaths::Symlink),
-        "Copy" => Ok(OnPaths::Copy),
-        "Reflink" => Ok(OnPaths::Reflink),
-        "HardLink" => Ok(OnPaths::HardLink),
-        _ => Err(Flaw::NotRead),
-    }
-}
-
-/// A step on one path.
-fn on_path(kind: OnPath, path: Text) -> PlainStep {
-    match kind {
-        OnPath::MakeDirs => Step::MakeDirs(path),
-        OnPath::CreateTemp => Step::CreateTemp(path),
-        OnPath::ReadAll => Step::ReadAll(path),
-        OnPath::Open => Step::Open(path),
-        OnPath::Size => Step::Size(path),
-        OnPath::Exists => Step::Exists(path),
-        OnPath::ReadDir => Step::ReadDir(path),
-        OnPath::RemoveFile => Step::RemoveFile(path),
-        OnPath::RemoveDir => Step::RemoveDir(path),
-    }
-}
-
-/// A step on two paths.
-fn on_paths(kind: OnPaths, first: Text, second: Text) -> PlainStep {
-    match kind {
-        OnPaths::Symlink => Step::Symlink(first, second),
-        OnPaths::Copy => Step::Copy(first, second),
-        OnPaths::Reflink => Step::Reflink(first, second),
-        OnPaths::HardLink => Step::HardLink(first, second),
-    }
-}
 
 /// A step on one path, by words.
 fn one_path(alloc: Global, kind: &str, path: &str) -> Result<PlainStep, Flaw> {
-    let kind = path_kind(kind)?;
     let path = text_of(alloc, path)?;
-    Ok(on_path(kind, path))
+    match kind {
+        "MakeDirs" => Ok(Step::MakeDirs(path)),
+        "CreateTemp" => Ok(Step::CreateTemp(path)),
+        "ReadAll" => Ok(Step::ReadAll(path)),
+        "Open" => Ok(Step::Open(path)),
+        "Size" => Ok(Step::Size(path)),
+        "Exists" => Ok(Step::Exists(path)),
+        "ReadDir" => Ok(Step::ReadDir(path)),
+        "RemoveFile" => Ok(Step::RemoveFile(path)),
+        "RemoveDir" => Ok(Step::RemoveDir(path)),
+        _ => Err(Flaw::NotRead),
+    }
 }
 
 /// A step on two paths, by words.
 fn two_paths(alloc: Global, kind: &str, first: &str, second: &str) -> Result<PlainStep, Flaw> {
-    let kind = paths_kind(kind)?;
     let first = text_of(alloc, first)?;
     let second = text_of(alloc, second)?;
-    Ok(on_paths(kind, first, second))
+    match kind {
+        "Symlink" => Ok(Step::Symlink(first, second)),
+        "Copy" => Ok(Step::Copy(first, second)),
+        "Reflink" => Ok(Step::Reflink(first, second)),
+        "HardLink" => Ok(Step::HardLink(first, second)),
+        _ => Err(Flaw::NotRead),
+    }
 }
 
 /// A write, by words.
@@ -128,9 +68,7 @@ fn reading(
     file: &str,
     size: &str,
 ) -> Result<PlainStep, Flaw> {
-    let Some(size) = number_of(size) else {
-        return Err(Flaw::NotRead);
-    };
+    let size = number_of(size)?;
     let file = file_of(alloc, held, file)?;
     Ok(Step::Read(file, size))
 }

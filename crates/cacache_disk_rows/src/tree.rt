@@ -1,8 +1,9 @@
 //! A disk as words: `a/` is a folder, `f=x` a file and `l->f` a link, folders before what stands in them.
-use crate::flaw::{Flaw, let_go};
-use crate::words::{bytes_of, text_of, word_of};
+use crate::words::{bytes_of, text_of};
 use cacache_base::store::{Answer, Kind, Listing, PlainAnswer, PlainStep, Step};
 use cacache_disk::{Disk, Luck};
+use cacache_rows::words::word_of;
+use cacache_rows::{Flaw, let_go};
 use std::alloc::{AllocError, Global};
 
 /// How deep folders are shown.

@@ -114,6 +114,17 @@ impl<F: FileHandle, T: TempHandle> Job<F, T> {
         }
     }
 
+    /// A call that is at this phase; with an error it is over.
+    pub(crate) fn at(alloc: Global, phase: errors::Result<Phase<F, T>>) -> Job<F, T>
+        ensures stands { (s : State) → Leads F.seen T.seen phase s
+            → GoesTo F.seen T.seen result s }
+    {
+        Job {
+            alloc,
+            standing: Standing::At(settled(phase)),
+        }
+    }
+
     /// The step that the call wants, or its reply. Takes no memory.
     pub fn next(&mut self) -> Next<F, T>
         requires { IsTrue (can_go_on self.old) }

@@ -1,6 +1,7 @@
 //! A call on a cache as a job: the step that it wants, and where an answer takes it.
 #![tactic(auto)]
 
+mod committing;
 mod comparing;
 mod exporting;
 mod hashing;
@@ -14,10 +15,17 @@ mod phase;
 mod places;
 mod reading;
 mod removing;
+mod resuming;
 mod run;
 mod stage;
 mod storing;
 mod walking;
 
+pub use committing::commit_from;
 pub use job::{Job, Next};
+pub use linking::based;
+pub use phase::refused;
+pub use places::{content_path, temp_folder, temp_path};
+pub use resuming::link_from;
 pub use run::{call, drive};
+pub use storing::Commit;

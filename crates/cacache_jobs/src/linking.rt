@@ -119,15 +119,26 @@ impl Target {
             → Leads F.seen T.seen result (link_of (commit_for (target_of self) bytes) self.path) }
     {
         let (commit, target) = self.into_commit(computed, count);
-        let place = content_place(alloc, commit.cache.as_str(), &commit.computed)?;
-        let Place { folder, path } = place;
-        let stage = Stage::Doing(Then::Symlink(commit, target, path));
-        Ok(Phase::Wanting(stage, Step::MakeDirs(folder)))
+        link(alloc, commit, target)
     }
 }
 
+/// The target was read to its end, and is to be the content that the commit says: makes the content's folder.
+pub(crate) fn link<F: FileHandle, T: TempHandle>(
+    alloc: Global,
+    commit: Commit,
+    target: Text,
+) -> errors::Result<Phase<F, T>>
+    ensures { Leads F.seen T.seen result (link_of (commit_of commit) target) }
+{
+    let place = content_place(alloc, commit.cache.as_str(), &commit.computed)?;
+    let Place { folder, path } = place;
+    let stage = Stage::Doing(Then::Symlink(commit, target, path));
+    Ok(Phase::Wanting(stage, Step::MakeDirs(folder)))
+}
+
 /// A target that doesn't begin with `/` starts at the base folder.
-fn based(alloc: Global, base: &str, target: Text) -> Result<Text, AllocError>
+pub fn based(alloc: Global, base: &str, target: Text) -> Result<Text, AllocError>
     ensures { IfOk result (λ path. path ≡ based_of base.now target) }
 {
     match target.as_str().as_bytes() {

@@ -18,7 +18,7 @@ pub enum Phase<F, T> {
 }
 
 /// The error of a call whose step was refused; a fault comes with the message.
-pub(crate) fn refused(refusal: Refusal, message: Result<Text, AllocError>) -> Error
+pub fn refused(refusal: Refusal, message: Result<Text, AllocError>) -> Error
     ensures { EndsAs result (refuse refusal fails) }
 {
     match refusal {

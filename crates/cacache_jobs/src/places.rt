@@ -9,7 +9,7 @@ use std::alloc::{AllocError, Global};
 
 /// The folder of temporary files.
 #[tactic(auto, unfolding(cacache_calls::specs::Places::temp_folder))]
-pub(crate) fn temp_folder(alloc: Global, cache: &str) -> Result<Text, AllocError>
+pub fn temp_folder(alloc: Global, cache: &str) -> Result<Text, AllocError>
     ensures { IfOk result (λ path. path ≡ temp_folder_of cache.now) }
 {
     paths::join(alloc, cache, "tmp")
@@ -17,7 +17,7 @@ pub(crate) fn temp_folder(alloc: Global, cache: &str) -> Result<Text, AllocError
 
 /// The path of the temporary file of a number.
 #[tactic(auto, unfolding(cacache_calls::specs::Places::temp_path))]
-pub(crate) fn temp_path(alloc: Global, cache: &str, number: u64) -> Result<Text, AllocError>
+pub fn temp_path(alloc: Global, cache: &str, number: u64) -> Result<Text, AllocError>
     ensures { IfOk result (λ path. path ≡ temp_path_of cache.now number) }
 {
     let Place { folder: _, path } = paths::temp_place(alloc, cache, number)?;
@@ -26,11 +26,7 @@ pub(crate) fn temp_path(alloc: Global, cache: &str, number: u64) -> Result<Text,
 
 /// The path of an integrity's content.
 #[tactic(auto, unfolding(cacache_calls::specs::Places::content_path))]
-pub(crate) fn content_path(
-    alloc: Global,
-    cache: &str,
-    integrity: &Integrity,
-) -> Result<Text, AllocError>
+pub fn content_path(alloc: Global, cache: &str, integrity: &Integrity) -> Result<Text, AllocError>
     ensures { IfOk result (λ path. path ≡ content_path_of cache.now integrity.now) }
 {
     let _address = integrity.address();

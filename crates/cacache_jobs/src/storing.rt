@@ -5,7 +5,7 @@ ghost use Rattle.cacache_core.specs.declared.errors.Error.TheVariants.{OutOfMemo
 ghost use Rattle.cacache_calls.specs.Common.{go_on, fails};
 ghost use Rattle.cacache_calls.specs.Places.{content_path as content_path_of};
 ghost use Rattle.cacache_calls.specs.State.{Site, creating, persisting, confirming};
-ghost use Rattle.cacache_calls.specs.Storing.{write_rest as write_rest_of, placed as placed_of, indexed, after_write, after_confirm, commit_of as put_commit, store as store_of};
+ghost use Rattle.cacache_calls.specs.Storing.{persist as persist_of, write_rest as write_rest_of, placed as placed_of, indexed, after_write, after_confirm, commit_of as put_commit, store as store_of};
 ghost use Rattle.cacache_calls.specs.Seen.{seen_by, written_as};
 ghost use Rattle.cacache_jobs.specs.Standing.{Leads, PhaseAt, commit_of};
 
@@ -120,6 +120,22 @@ pub(crate) fn create<F: FileHandle, T: TempHandle>(
     Ok(Phase::Wanting(Stage::Creating(commit, rest), Step::CreateTemp(path)))
 }
 
+/// The temporary file has all its bytes: makes the content's folder.
+pub(crate) fn fill_place<F: FileHandle, T: TempHandle>(
+    alloc: Global,
+    commit: Commit,
+    file: T,
+) -> errors::Result<Phase<F, T>>
+    ensures { Leads F.seen T.seen result (persist_of (commit_of commit) (T.seen file)) }
+{
+    let place = content_place(alloc, commit.cache.as_str(), &commit.computed)?;
+    let Place { folder, path } = place;
+    Ok(Phase::Wanting(
+        Stage::Doing(Then::Persist(commit, file, path)),
+        Step::MakeDirs(folder),
+    ))
+}
+
 /// Writes what is left of the bytes, or goes on to the content's folder.
 fn write_rest<F: FileHandle, T: TempHandle>(
     alloc: Global,
@@ -130,12 +146,7 @@ fn write_rest<F: FileHandle, T: TempHandle>(
     ensures { Leads F.seen T.seen result (write_rest_of (commit_of commit) (T.seen file) rest) }
 {
     if rest.is_empty() {
-        let place = content_place(alloc, commit.cache.as_str(), &commit.computed)?;
-        let Place { folder, path } = place;
-        return Ok(Phase::Wanting(
-            Stage::Doing(Then::Persist(commit, file, path)),
-            Step::MakeDirs(folder),
-        ));
+        return fill_place(alloc, commit, file);
     }
     let shared = rest.share()?;
     Ok(Phase::Wanting(Stage::Writing(commit, rest), Step::Write(file, shared)))

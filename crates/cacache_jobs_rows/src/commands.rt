@@ -1,9 +1,10 @@
 //! Calls as words, as `put k hello 5 -`: the kind, the key, and what it needs.
-use crate::flaw::{Flaw, let_go};
-use crate::words::{bytes_of, cut, is_nothing, number_of, text_of};
+use crate::words::bytes_of;
 use cacache_calls::{Command, Delete, Export, How, Insert, Json, Link, Options, Put, Source};
 use cacache_core::integrity::{Algorithm, Integrity};
 use cacache_core::text::Text;
+use cacache_rows::words::{cut, is_nothing, number_of};
+use cacache_rows::{Flaw, let_go};
 use serde_json::Value;
 use std::alloc::Global;
 
@@ -27,10 +28,7 @@ fn size_of(word: &str) -> Result<Option<usize>, Flaw> {
     if is_nothing(word) {
         return Ok(None);
     }
-    match number_of(word) {
-        Some(size) => Ok(Some(size)),
-        None => Err(Flaw::NotRead),
-    }
+    Ok(Some(number_of(word)?))
 }
 
 /// The integrity that a word gives, if any.
@@ -60,7 +58,7 @@ fn key_of(alloc: Global, word: &str) -> Result<Option<Text>, Flaw> {
     if is_nothing(word) {
         return Ok(None);
     }
-    Ok(Some(text_of(alloc, word)?))
+    Ok(Some(Text::from_str(alloc, word)?))
 }
 
 /// A put: the key, the bytes, the size and the integrity.
@@ -83,7 +81,7 @@ fn link_of(alloc: Global, words: &str) -> Result<Command, Flaw> {
     let (key, rest) = cut(words);
     let (target, rest) = cut(rest);
     let key = key_of(alloc, key)?;
-    let target = text_of(alloc, target)?;
+    let target = Text::from_str(alloc, target)?;
     let options = options_of(alloc, rest)?;
     Ok(Command::Link(Link {
         key,
@@ -96,7 +94,7 @@ fn link_of(alloc: Global, words: &str) -> Result<Command, Flaw> {
 /// An insertion: the key, the size and the integrity.
 fn insert_of(alloc: Global, words: &str) -> Result<Command, Flaw> {
     let (key, rest) = cut(words);
-    let key = text_of(alloc, key)?;
+    let key = Text::from_str(alloc, key)?;
     let options = options_of(alloc, rest)?;
     Ok(Command::Insert(Insert {
         key,
@@ -116,7 +114,7 @@ fn delete_of(key: Text) -> Command {
 /// What an export names: `key k`, or `hash` with an integrity.
 fn source_of(alloc: Global, kind: &str, word: &str) -> Result<Source, Flaw> {
     match kind {
-        "key" => Ok(Source::Key(text_of(alloc, word)?)),
+        "key" => Ok(Source::Key(Text::from_str(alloc, word)?)),
         "hash" => Ok(Source::Hash(integrity_of(alloc, word)?)),
         _ => Err(Flaw::NotRead),
     }
@@ -128,14 +126,14 @@ fn export_of(alloc: Global, how: How, words: &str) -> Result<Command, Flaw> {
     let (kind, rest) = cut(rest);
     let (name, to) = cut(rest);
     let source = source_of(alloc, kind, name)?;
-    let to = text_of(alloc, to)?;
+    let to = Text::from_str(alloc, to)?;
     let checked = checked == "checked";
     Ok(Command::Export(source, Export { how, checked, to }))
 }
 
 /// A call on a key alone.
 fn on_key(alloc: Global, kind: &str, word: &str) -> Result<Command, Flaw> {
-    let key = text_of(alloc, word)?;
+    let key = Text::from_str(alloc, word)?;
     match kind {
         "delete" => Ok(delete_of(key)),
         "find" => Ok(Command::Find(key)),

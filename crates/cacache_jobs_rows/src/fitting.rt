@@ -2,11 +2,12 @@
 ghost use Rattle.std.specs.Prelude.{◌≡◌, ◌≤◌, false, None, IfOk};
 ghost use Rattle.cacache_base.specs.Fits.{Fits, is_no_memory};
 
-use crate::flaw::{Flaw, let_go};
-use crate::words::{bytes_of, count_of, cut, fault_of};
+use crate::words::{bytes_of, fault_of};
 use cacache_base::store::{Answer, PlainAnswer, PlainFile, PlainStep, PlainTemp, Step};
 use cacache_core::bytes::Bytes;
 use cacache_core::text::Text;
+use cacache_rows::words::{cut, number_of};
+use cacache_rows::{Flaw, let_go};
 use std::alloc::{AllocError, Global};
 
 /// An answer, and a copy of it.
@@ -31,7 +32,7 @@ fn behind<'a>(wanted: &str, words: &'a str) -> Result<&'a str, Flaw> {
     if kind == wanted {
         Ok(rest)
     } else {
-        Err(Flaw::OtherAnswer)
+        Err(Flaw::Unfit)
     }
 }
 
@@ -39,11 +40,11 @@ fn behind<'a>(wanted: &str, words: &'a str) -> Result<&'a str, Flaw> {
 fn count_within(wanted: &str, words: &str, most: usize) -> Result<usize, Flaw>
     ensures { IfOk result (λ count. count ≤ most) }
 {
-    let count = count_of(behind(wanted, words)?)?;
+    let count = number_of(behind(wanted, words)?)?;
     if count <= most {
         Ok(count)
     } else {
-        Err(Flaw::OtherAnswer)
+        Err(Flaw::Unfit)
     }
 }
 
@@ -115,7 +116,7 @@ fn got(alloc: Global, file: &PlainFile, max: usize, words: &str) -> Result<Told,
     let (bytes, again) = two_of(alloc, "Got", words)?;
     let count = bytes.len();
     if count > max || count > file.left {
-        return Err(Flaw::OtherAnswer);
+        return Err(Flaw::Unfit);
     }
     let left = file.left - count;
     Ok(Told {
@@ -134,7 +135,7 @@ fn on_bytes(alloc: Global, step: &PlainStep, words: &str) -> Result<Told, Flaw>
         Step::CreateTemp(path) => created(path, words),
         Step::Write(temp, bytes) => wrote(temp, bytes, words),
         Step::Open(_) => {
-            let left = count_of(behind("File", words)?)?;
+            let left = number_of(behind("File", words)?)?;
             Ok(Told {
                 answer: Answer::File(PlainFile { left, bytes: None }),
                 copy: Answer::File(PlainFile { left, bytes: None }),
@@ -155,7 +156,7 @@ fn on_bytes(alloc: Global, step: &PlainStep, words: &str) -> Result<Told, Flaw>
                 copy: Answer::Took(count),
             })
         }
-        _ => Err(Flaw::OtherAnswer),
+        _ => Err(Flaw::Unfit),
     }
 }
 
@@ -181,14 +182,14 @@ pub(crate) fn fitting(alloc: Global, step: &PlainStep, words: &str) -> Result<To
             })
         }
         Step::Size(_) => {
-            let count = count_of(behind("Length", words)?)? as u64;
+            let count = number_of(behind("Length", words)?)? as u64;
             Ok(Told {
                 answer: Answer::Length(count),
                 copy: Answer::Length(count),
             })
         }
         Step::Copy(_, _) => {
-            let count = count_of(behind("Took", words)?)?;
+            let count = number_of(behind("Took", words)?)?;
             Ok(Told {
                 answer: Answer::Took(count),
                 copy: Answer::Took(count),

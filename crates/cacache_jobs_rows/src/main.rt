@@ -10,33 +10,19 @@
 
 mod commands;
 mod fitting;
-mod flaw;
-mod names;
 mod replies;
 mod row;
 mod script;
 mod steps;
-mod tally;
 mod told;
 mod trial;
 mod words;
 
-use std::io;
+use cacache_rows::run;
 use std::process::ExitCode;
-use tally::Tally;
-
-/// Tries all rows, and tells whether they hold.
-fn all_hold(rt: &HostRuntime) -> io::Result<bool> {
-    let mut tally = Tally::new(rt.alloc());
-    for line in rt.lines(rt.alloc()) {
-        tally.take(rt, line?.as_str())?;
-    }
-    tally.end(rt)
-}
+use trial::Calls;
 
 fn main(rt: HostRuntime) -> ExitCode {
-    match all_hold(&rt) {
-        Ok(true) => ExitCode::from(0),
-        _ => ExitCode::from(1),
-    }
+    let alloc = rt.alloc();
+    run(&rt, &mut Calls { alloc })
 }

@@ -1,7 +1,7 @@
 //! Replies as texts, in the words of rows.
-use crate::words::word_of;
 use cacache_calls::{Found, Items, Reply};
 use cacache_core::errors::Error;
+use cacache_rows::words::word_of;
 use std::alloc::{AllocError, Global};
 
 /// What a lookup found: the key, the integrity, the time and the size.

@@ -1,4 +1,6 @@
 //! The columns of a row.
+use cacache_rows::Flaw;
+use cacache_rows::words::column;
 
 /// The four columns of a row.
 #[derive(Clone, Copy)]
@@ -11,10 +13,10 @@ pub(crate) struct Row<'a> {
 }
 
 /// The columns of a line.
-pub(crate) fn row_of(line: &str) -> Option<Row<'_>> {
-    let (call, rest) = line.split_once(" | ")?;
-    let (answers, wanted) = rest.split_once(" | ")?;
-    Some(Row {
+pub(crate) fn row_of(line: &str) -> Result<Row<'_>, Flaw> {
+    let (call, rest) = column(line)?;
+    let (answers, wanted) = column(rest)?;
+    Ok(Row {
         call,
         answers,
         wanted,

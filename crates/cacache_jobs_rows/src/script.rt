@@ -3,13 +3,16 @@ ghost use Rattle.std.specs.Prelude.{◌≡◌, ◌∷◌, ◌++◌, ◌<◌, [],
 ghost use Rattle.cacache_base.specs.Fits.{Fits, Logs, is_no_memory};
 
 use crate::fitting::{Told, fitting};
-use crate::flaw::{Flaw, let_go};
 use crate::replies::shown_reply;
 use crate::steps::shown_step;
-use crate::words::is_nothing;
 use cacache_base::store::{Answer, LogItem, PlainAnswer, PlainFile, PlainStep, PlainTemp, Store};
 use cacache_calls::Reply;
+use cacache_rows::words::is_nothing;
+use cacache_rows::{Flaw, let_go};
 use std::alloc::{AllocError, Global};
+
+/// There are fewer answers than steps.
+pub(crate) const NO_ANSWER: Flaw = Flaw::Told("a step that no answer is left for");
 
 /// A store that answers by a script: one text for each step.
 #[derive(Drop)]
@@ -76,7 +79,7 @@ impl Script {
         ensures log { self.new.log ≡ self.old.log }
     {
         let Some(words) = self.answers.pop() else {
-            self.flaw = Some(Flaw::NoAnswer);
+            self.flaw = Some(NO_ANSWER);
             return None;
         };
         if words.as_str() == "NoMemory" {
@@ -110,7 +113,7 @@ impl Script {
             return Err(flaw);
         }
         if !self.answers.is_empty() {
-            return Err(Flaw::OtherAnswer);
+            return Err(Flaw::Unfit);
         }
         let mut steps = String::new(self.alloc);
         for item in &self.log {

@@ -1,7 +1,7 @@
 //! Steps as texts, in the words of rows; handles are left out.
-use crate::words::word_of;
 use cacache_base::store::{PlainStep, Step};
 use cacache_core::text::Text;
+use cacache_rows::words::word_of;
 use std::alloc::{AllocError, Global};
 
 /// A step on one path, by its kind and the path; None for the others.

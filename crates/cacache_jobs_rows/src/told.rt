@@ -1,14 +1,15 @@
 //! Answers as words, as `Wrote 3`: the kind, and what it says. They needn't fit the step.
 use crate::fitting::fitting;
-use crate::flaw::{Flaw, let_go};
-use crate::words::{count_of, cut, text_of};
 use cacache_base::store::{Answer, Kind, Listing, Name, PlainAnswer, PlainStep};
+use cacache_core::text::Text;
+use cacache_rows::words::{cut, number_of};
+use cacache_rows::{Flaw, let_go};
 use std::alloc::{AllocError, Global};
 
 /// One name of a folder, as `Folder:a`.
 fn name_of(alloc: Global, word: &str) -> Result<Name, AllocError> {
     let (kind, name) = word.split_once(':').unwrap_or(("File", word));
-    let name = text_of(alloc, name)?;
+    let name = Text::from_str(alloc, name)?;
     let kind = match kind {
         "Folder" => Kind::Folder,
         "Link" => Kind::Link,
@@ -33,7 +34,7 @@ fn other_of(alloc: Global, words: &str) -> Result<PlainAnswer, Flaw> {
     let (kind, rest) = cut(words);
     match kind {
         "Done" => Ok(Answer::Done),
-        "Took" => Ok(Answer::Took(count_of(rest)?)),
+        "Took" => Ok(Answer::Took(number_of(rest)?)),
         "There" => Ok(Answer::There(rest == "yes")),
         "Names" => Ok(Answer::Names(names_of(alloc, rest)?)),
         _ => Err(Flaw::NotRead),
@@ -49,7 +50,7 @@ pub(crate) fn answer_of(alloc: Global, step: PlainStep, words: &str) -> Result<P
     let_go(step);
     match told {
         Ok(told) => Ok(told.into_answer()),
-        Err(Flaw::OtherAnswer) => other_of(alloc, words),
+        Err(Flaw::Unfit) => other_of(alloc, words),
         Err(flaw) => Err(flaw),
     }
 }

@@ -3,16 +3,16 @@ ghost use Rattle.std.specs.Prelude.{IsTrue, IfOk};
 ghost use Rattle.cacache_jobs.specs.Jobs.{can_go_on};
 
 use crate::commands::command_of;
-use crate::flaw::{Flaw, let_go};
 use crate::replies::shown_reply;
-use crate::row::Row;
-use crate::script::{Script, add};
+use crate::row::{Row, row_of};
+use crate::script::{NO_ANSWER, Script, add};
 use crate::steps::shown_step;
 use crate::told::answer_of;
-use crate::words::{is_nothing, written_out};
 use cacache_base::env::Env;
 use cacache_base::store::{PlainFile, PlainTemp};
 use cacache_jobs::{Job, Next, call};
+use cacache_rows::words::{is_nothing, written_out};
+use cacache_rows::{Flaw, Outcome, Trial, let_go};
 use std::alloc::Global;
 
 /// Where the cache of each row is.
@@ -49,7 +49,7 @@ fn turned(
     match job.next() {
         Next::Over(reply) => {
             let_go(reply);
-            Err(Flaw::OtherAnswer)
+            Err(Flaw::Unfit)
         }
         Next::Step(step) => {
             let shown = shown_step(alloc, &step)?;
@@ -70,7 +70,7 @@ fn ended(alloc: Global, next: Next<PlainFile, PlainTemp>) -> Result<String, Flaw
         }
         Next::Step(step) => {
             let_go(step);
-            Err(Flaw::NoAnswer)
+            Err(NO_ANSWER)
         }
     }
 }
@@ -90,10 +90,26 @@ fn by_hand(alloc: Global, row: Row<'_>) -> Result<String, Flaw> {
 }
 
 /// The steps that the call of a row asks for, and its reply.
-pub(crate) fn came(alloc: Global, row: Row<'_>) -> Result<String, Flaw> {
+fn came(alloc: Global, row: Row<'_>) -> Result<String, Flaw> {
     let came = match over_store(alloc, row) {
-        Err(Flaw::OtherAnswer) => by_hand(alloc, row)?,
+        Err(Flaw::Unfit) => by_hand(alloc, row)?,
         came => came?,
     };
     Ok(written_out(alloc, came.as_str())?)
+}
+
+/// Tries each row on a call of its own.
+#[derive(Drop)]
+pub(crate) struct Calls {
+    pub(crate) alloc: Global,
+}
+
+impl Trial for Calls {
+    fn outcome(&mut self, row: &str) -> Result<Outcome, Flaw> {
+        let row = row_of(row)?;
+        Ok(Outcome {
+            wanted: String::from_str(self.alloc, row.wanted)?,
+            got: came(self.alloc, row)?,
+        })
+    }
 }

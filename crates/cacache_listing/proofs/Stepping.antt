@@ -14,21 +14,12 @@ use Rattle.cacache_calls.specs.Walking.{visit_step, walk_ends, most}
 use Rattle.cacache_calls.proofs.Effort.{falls}
 use Rattle.cacache_calls.proofs.Going.{answer_cases, gone_on, gone_over, gone_lost, unmoved}
 use Rattle.cacache_calls.proofs.Listing.{lists_shown}
-use Rattle.cacache_calls.proofs.Memory.{no_memory_after}
+use Rattle.cacache_calls.proofs.Memory.{no_memory_after, memory_said}
 use Rattle.cacache_calls.proofs.Promises.{calls_answer}
 use Rattle.cacache_walks.specs.declared.visit.Visit.{Visit}
 use Rattle.cacache_walks.specs.declared.walk.Walk.{Walk}
 use Rattle.cacache_walks.specs.Standing.{Bounds, WalksAt, WalkLeads, visit_of, walk_of}
 use Rattle.cacache_listing.specs.Listing.{Lists, listing, steps_left, items_left}
-
--- an error without its message is the same want of memory
-pub memory_said : (e : Error) → Refused (without_message e) ≡ Refused OutOfMemory → e ≡ OutOfMemory
-memory_said (EntryNotFound cache key) said = absurd cc
-memory_said (SizeMismatch wanted actual) said = absurd cc
-memory_said (IoError fault message) said = absurd cc
-memory_said (SerdeError cause message) said = absurd cc
-memory_said (IntegrityError fault) said = absurd cc
-memory_said OutOfMemory said = refl
 
 module _ (cache : List ℕ) (old new : Option (List LogItem)) where
   abbrev site : Site

@@ -6,3 +6,5 @@ pub mod Reading
 pub mod Finding
 pub mod Removing
 pub mod Clearing
+pub mod Listing
+pub mod Lines

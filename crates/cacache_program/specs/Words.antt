@@ -28,6 +28,10 @@ Keyed a name P = IfSome a.key (λ key. a.name ≡ name → P a.cache key)
 abbrev pub Unkeyed : Asked → List ℕ → (List ℕ → Type 0) → Type 0
 Unkeyed a name P = IfNone a.key (a.name ≡ name → P a.cache)
 
+-- the name is none that goes with a cache alone
+abbrev pub IsNoUnkeyed : List ℕ → Type 0
+IsNoUnkeyed name = (name ≢ codes "ls") × (name ≢ codes "clear")
+
 -- the name is none that goes with a cache and a key
 abbrev pub IsNoKeyed : List ℕ → Type 0
 IsNoKeyed name =
@@ -35,4 +39,4 @@ IsNoKeyed name =
 
 -- what is asked for is nothing that the program knows
 abbrev pub IsWrong : Asked → Type 0
-IsWrong a = MatchOption a.key (a.name ≢ codes "clear") (λ key. IsNoKeyed a.name)
+IsWrong a = MatchOption a.key (IsNoUnkeyed a.name) (λ key. IsNoKeyed a.name)

@@ -4,6 +4,8 @@
 mod clearing;
 mod entries;
 mod finding;
+mod lines;
+mod listing;
 mod output;
 mod program;
 mod reading;

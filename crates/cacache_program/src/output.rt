@@ -41,7 +41,7 @@ fn write_some<W: Write>(output: &mut W, bytes: &[u8]) -> Option<usize>
 
 /// Writes the bytes, and returns whether the output took them all. If not, it has a beginning of them.
 #[tactic(auto, using(crate::proofs::Appending::appends_more, crate::proofs::Appending::appends_no_more))]
-fn write_whole<W: Write>(output: &mut W, bytes: &[u8]) -> bool
+pub(crate) fn write_whole<W: Write>(output: &mut W, bytes: &[u8]) -> bool
     ensures whole { result ≡ true →
         Appends (W.contents output.old) (W.contents output.new) bytes.now }
     ensures part { result ≡ false →

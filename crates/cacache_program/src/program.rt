@@ -7,9 +7,11 @@ ghost use Rattle.cacache_program.specs.Reading.{Reads};
 ghost use Rattle.cacache_program.specs.Finding.{Finds};
 ghost use Rattle.cacache_program.specs.Removing.{Removes};
 ghost use Rattle.cacache_program.specs.Clearing.{Clears};
+ghost use Rattle.cacache_program.specs.Listing.{Lists};
 
 use crate::clearing::clear;
 use crate::finding::find;
+use crate::listing::ls;
 use crate::output::stream_failed;
 use crate::reading::read;
 use crate::removing::remove;
@@ -73,6 +75,9 @@ pub fn run<S: Store, C: Clock, N: Names, R: Read, W: Write, E: Write>(
         Removes S.log C.given cache key env.old env.new result × (output.new ≡ output.old)) }
     ensures clears { Unkeyed (asked_of words.now) (codes "clear") (λ cache.
         Clears S.log cache env.old env.new result × (output.new ≡ output.old)) }
+    ensures lists { Unkeyed (asked_of words.now) (codes "ls") (λ cache.
+        Lists S.log cache env.old env.new
+        (W.contents output.old) (W.contents output.new) result) }
 {
     match asked(words) {
         ("write", cache, Some(key)) => write(env, cache, key, input, output, errors),
@@ -80,6 +85,7 @@ pub fn run<S: Store, C: Clock, N: Names, R: Read, W: Write, E: Write>(
         ("find", cache, Some(key)) => find(env, cache, key, output, errors),
         ("remove", cache, Some(key)) => remove(env, cache, key, errors),
         ("clear", cache, None) => clear(env, cache, errors),
+        ("ls", cache, None) => ls(env, cache, output, errors),
         _ => misused(errors),
     }
 }

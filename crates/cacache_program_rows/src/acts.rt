@@ -1,11 +1,12 @@
 //! What a row does: it runs the program, or looks at its start without words.
-use crate::flaw::Flaw;
 use crate::row::Row;
 use crate::streams::{Input, Output};
-use crate::words::{bytes_of, cut, word_of, words_of};
+use crate::words::{bytes_of, shown, words_of};
 use cacache::env::{Clock, CountNames, Env};
 use cacache::store::Store;
 use cacache_program::{run, without_words};
+use cacache_rows::Flaw;
+use cacache_rows::words::{cut, number_of};
 use std::alloc::{AllocError, Global};
 use std::io::{self, ErrorKind};
 
@@ -32,35 +33,26 @@ struct Run<'a> {
 
 /// The run that an act asks for: `torn ..` for an input that fails at its end, `full N ..` for an output with room for N
 /// bytes.
-fn run_of(act: &str) -> Option<Run<'_>> {
-    let whole = Run {
-        words: act,
-        is_torn: false,
-        room: AMPLE,
-    };
-    match cut(act) {
-        ("torn", words) => Some(Run {
-            words,
-            is_torn: true,
-            room: AMPLE,
-        }),
+fn run_of(act: &str) -> Result<Run<'_>, Flaw> {
+    let (words, is_torn, room) = match cut(act) {
+        ("torn", words) => (words, true, AMPLE),
         ("full", rest) => {
             let (room, words) = cut(rest);
-            let room = room.parse::<usize>().ok()?;
-            Some(Run {
-                words,
-                is_torn: false,
-                room,
-            })
+            (words, false, number_of(room)?)
         }
-        _ => Some(whole),
-    }
+        _ => (act, false, AMPLE),
+    };
+    Ok(Run {
+        words,
+        is_torn,
+        room,
+    })
 }
 
 /// A status, an output and errors, as a row says them.
 fn told(alloc: Global, status: u8, output: &[u8], errors: &[u8]) -> Result<String, AllocError> {
-    let output = word_of(alloc, output)?;
-    let errors = word_of(alloc, errors)?;
+    let output = shown(alloc, output)?;
+    let errors = shown(alloc, errors)?;
     format!(in alloc; "{status} | {output} | {errors}")
 }
 
@@ -70,9 +62,7 @@ pub(crate) fn ran<S: Store>(
     row: Row<'_>,
 ) -> Result<String, Flaw> {
     let alloc = env.alloc;
-    let Some(asked) = run_of(row.act) else {
-        return Err(Flaw::NotRead);
-    };
+    let asked = run_of(row.act)?;
     let words = words_of(alloc, asked.words)?;
     let given = bytes_of(alloc, row.input)?;
     let mut input = Input {

@@ -8,31 +8,18 @@
 #![tactic(auto)]
 
 mod acts;
-mod flaw;
 mod places;
 mod row;
 mod streams;
-mod tally;
 mod words;
 
+use cacache_rows::run;
 use places::Places;
-use std::io;
 use std::process::ExitCode;
-use tally::Tally;
-
-/// Tries all rows, and tells whether they hold.
-fn all_hold(rt: &HostRuntime) -> io::Result<bool> {
-    let mut places = Places::new(rt)?;
-    let mut tally = Tally::new(rt.alloc());
-    for line in rt.lines(rt.alloc()) {
-        tally.take(rt, &mut places, line?.as_str())?;
-    }
-    tally.end(rt)
-}
 
 fn main(rt: HostRuntime) -> ExitCode {
-    match all_hold(&rt) {
-        Ok(true) => ExitCode::from(0),
-        _ => ExitCode::from(1),
+    match Places::new(&rt) {
+        Ok(mut places) => run(&rt, &mut places),
+        Err(_) => ExitCode::from(1),
     }
 }

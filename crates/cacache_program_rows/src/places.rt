@@ -1,10 +1,11 @@
 //! The places at which rows are tried: a disk in memory and real folders.
 use crate::acts::{FixedClock, ran, without};
-use crate::flaw::Flaw;
 use crate::row::{Row, row_of};
-use crate::words::{bytes_of, cut, word_of};
+use crate::words::{bytes_of, shown};
 use cacache::env::{CountNames, Env};
 use cacache::store::{FolderStore, MemStore};
+use cacache_rows::words::cut;
+use cacache_rows::{Flaw, Outcome, Trial};
 use std::alloc::{AllocError, Global};
 use std::fs;
 
@@ -19,18 +20,10 @@ pub(crate) struct Places {
     folders: Env<FolderStore<HostRuntime>, FixedClock, CountNames>,
 }
 
-/// What a row wants, and what came.
-#[derive(Drop)]
-pub(crate) struct Outcome {
-    pub(crate) wanted: String,
-    pub(crate) in_memory: String,
-    pub(crate) in_folders: String,
-}
-
 /// What a file holds, as a row says it.
-fn shown(alloc: Global, held: Option<Vec<u8>>) -> Result<String, AllocError> {
+fn file(alloc: Global, held: Option<Vec<u8>>) -> Result<String, AllocError> {
     match held {
-        Some(bytes) => word_of(alloc, &bytes),
+        Some(bytes) => shown(alloc, &bytes),
         None => String::from_str(alloc, "no file"),
     }
 }
@@ -70,7 +63,7 @@ impl Places {
                 let bytes = bytes_of(alloc, row.input)?;
                 done(alloc, self.memory.store.plant(path, &bytes).is_ok())?
             }
-            ("holds", path) => shown(alloc, self.memory.store.bytes(path).ok().flatten())?,
+            ("holds", path) => file(alloc, self.memory.store.bytes(path).ok().flatten())?,
             ("without", why) => without(alloc, why)?,
             _ => ran(&mut self.memory, row)?,
         })
@@ -84,21 +77,29 @@ impl Places {
                 let bytes = bytes_of(alloc, row.input)?;
                 done(alloc, fs::write(&self.rt, path, &bytes).is_ok())?
             }
-            ("holds", path) => shown(alloc, fs::read(&self.rt, path).ok())?,
+            ("holds", path) => file(alloc, fs::read(&self.rt, path).ok())?,
             ("without", why) => without(alloc, why)?,
             _ => ran(&mut self.folders, row)?,
         })
     }
 
-    /// Tries a row.
-    pub(crate) fn outcome_of(&mut self, line: &str) -> Result<Outcome, Flaw> {
-        let Some(row) = row_of(line) else {
-            return Err(Flaw::NotRead);
-        };
+    /// What the row's act gives at both places.
+    fn at_both(&mut self, row: Row<'_>) -> Result<String, Flaw> {
+        let in_memory = self.in_memory(row)?;
+        let in_folders = self.in_folders(row)?;
+        if in_memory == in_folders {
+            return Ok(in_memory);
+        }
+        Ok(format!(in self.rt.alloc(); "{in_memory}, but in folders {in_folders}")?)
+    }
+}
+
+impl Trial for Places {
+    fn outcome(&mut self, row: &str) -> Result<Outcome, Flaw> {
+        let row = row_of(row)?;
         Ok(Outcome {
             wanted: String::from_str(self.rt.alloc(), row.wanted)?,
-            in_memory: self.in_memory(row)?,
-            in_folders: self.in_folders(row)?,
+            got: self.at_both(row)?,
         })
     }
 }

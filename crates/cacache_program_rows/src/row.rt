@@ -1,4 +1,6 @@
 //! The columns of a row.
+use cacache_rows::Flaw;
+use cacache_rows::words::column;
 
 /// The three columns of a row.
 #[derive(Clone, Copy)]
@@ -11,8 +13,8 @@ pub(crate) struct Row<'a> {
 }
 
 /// The columns of a line.
-pub(crate) fn row_of(line: &str) -> Option<Row<'_>> {
-    let (act, rest) = line.split_once(" | ")?;
-    let (input, wanted) = rest.split_once(" | ")?;
-    Some(Row { act, input, wanted })
+pub(crate) fn row_of(line: &str) -> Result<Row<'_>, Flaw> {
+    let (act, rest) = column(line)?;
+    let (input, wanted) = column(rest)?;
+    Ok(Row { act, input, wanted })
 }

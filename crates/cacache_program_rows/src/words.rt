@@ -1,10 +1,6 @@
-//! Words as bytes: `-` stands for nothing, `\n` for a line feed and `\t` for a tab.
+//! The program's words, and bytes as words.
+use cacache_rows::words::{string_of, word_of, written_out};
 use std::alloc::{AllocError, Global};
-
-/// The first word of a text, and what follows it.
-pub(crate) fn cut(text: &str) -> (&str, &str) {
-    text.split_once(' ').unwrap_or((text, ""))
-}
 
 /// The words of a text.
 pub(crate) fn words_of(alloc: Global, text: &str) -> Result<Vec<String>, AllocError> {
@@ -19,20 +15,10 @@ pub(crate) fn words_of(alloc: Global, text: &str) -> Result<Vec<String>, AllocEr
 
 /// The bytes of a word.
 pub(crate) fn bytes_of(alloc: Global, word: &str) -> Result<Vec<u8>, AllocError> {
-    if word == "-" {
-        return Ok(Vec::new(alloc));
-    }
-    let lines = word.replace(alloc, "\\n", "\n")?;
-    let text = lines.replace(alloc, "\\t", "\t")?;
-    Ok(text.into_bytes())
+    Ok(string_of(alloc, word)?.into_bytes())
 }
 
 /// Bytes as a word.
-pub(crate) fn word_of(alloc: Global, bytes: &[u8]) -> Result<String, AllocError> {
-    if bytes.is_empty() {
-        return String::from_str(alloc, "-");
-    }
-    let text = str::from_utf8(bytes).unwrap_or("?");
-    let text = text.replace(alloc, "\n", "\\n")?;
-    text.replace(alloc, "\t", "\\t")
+pub(crate) fn shown(alloc: Global, bytes: &[u8]) -> Result<String, AllocError> {
+    written_out(alloc, word_of(bytes))
 }

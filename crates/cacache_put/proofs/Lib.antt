@@ -1,1 +1,2 @@
 mod Links
+mod Linkers

@@ -2,3 +2,6 @@ pub mod Options
 pub mod Replies
 pub mod Writes
 pub mod Links
+pub mod Linkers
+pub mod Rest
+pub mod Writers

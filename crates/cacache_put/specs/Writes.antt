@@ -41,6 +41,12 @@ abbrev pub HasMoment : {C : Type 0} → (C → Option (List ℕ)) → Option ℕ
 HasMoment moments None old new moment = AddsAnswer (moments old) (moments new) moment
 HasMoment moments (Some time) old new moment = (new ≡ old) × (moment ≡ time)
 
+-- the moment of a commit: without a key the clock isn't asked
+abbrev pub MomentOf :
+    {C : Type 0} → (C → Option (List ℕ)) → Option (List ℕ) → Option ℕ → C → C → ℕ → Type 0
+MomentOf moments None time old new moment = (new ≡ old) × (moment ≡ 0)
+MomentOf moments (Some key) time old new moment = HasMoment moments time old new moment
+
 module _ {S C N : Type 0} (log : S → Option (List LogItem)) where
   -- the log gained a run of the command with this reply, and the base folder stayed
   abbrev pub Steps : Env S C N → Env S C N → List ℕ → ℕ → Command → Reply → Type 0

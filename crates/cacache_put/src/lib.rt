@@ -2,9 +2,14 @@
 #![tactic(auto)]
 
 pub mod index;
+mod linked;
+pub mod linker;
+mod linking;
 pub mod linkto;
 mod moment;
 pub mod opts;
 pub mod put;
 mod replies;
+mod rest;
 pub mod rm;
+pub mod writer;

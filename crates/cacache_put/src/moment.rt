@@ -1,7 +1,8 @@
 //! The moments of entries.
-ghost use Rattle.cacache_put.specs.Writes.{HasMoment};
+ghost use Rattle.cacache_put.specs.Writes.{HasMoment, MomentOf};
 
 use cacache_base::env::Clock;
+use cacache_core::text::Text;
 
 /// The moment that was set; where none was, the clock is asked for it, once.
 pub(crate) fn moment<C: Clock>(clock: &mut C, time: Option<u128>) -> u128
@@ -10,5 +11,15 @@ pub(crate) fn moment<C: Clock>(clock: &mut C, time: Option<u128>) -> u128
     match time {
         Some(time) => time,
         None => u128::from(clock.now()),
+    }
+}
+
+/// The moment of a commit: without a key there is no entry, and the clock isn't asked.
+pub(crate) fn moment_of<C: Clock>(clock: &mut C, key: &Option<Text>, time: Option<u128>) -> u128
+    ensures { MomentOf C.given key.now time clock.old clock.new result }
+{
+    match key {
+        Some(_) => moment(clock, time),
+        None => 0,
     }
 }

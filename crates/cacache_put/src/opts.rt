@@ -1,11 +1,17 @@
 //! What a writer may say of a content and of its entry.
-ghost use Rattle.std.specs.Prelude.{◌≡◌, Some, IfOk, option_map};
+ghost use Rattle.std.specs.Prelude.{◌≡◌, None, Some, IfOk, option_map};
 ghost use Rattle.serde_json.specs.View.{view};
 ghost use Rattle.cacache_put.specs.Options.{nothing_said, options_of};
+ghost use Rattle.cacache_put.specs.Writers.{Opens};
 
+use crate::writer::{SyncWriter, open_writer};
+use cacache_base::env::{Clock, Env, Names};
+use cacache_base::store::Store;
 use cacache_calls::{Json, Options};
 use cacache_core::bytes::Bytes;
+use cacache_core::errors;
 use cacache_core::integrity::{Algorithm, Integrity};
+use cacache_core::text::Text;
 use serde_json::Value;
 use std::alloc::{AllocError, Global};
 use std::marker::Model;
@@ -115,6 +121,39 @@ impl WriteOpts {
         ensures { result ≡ self.now.time }
     {
         self.time
+    }
+
+    /// Opens a writer that commits under the key, with these options. A number is asked once, before the first step. The
+    /// size that was set is compared at the commit.
+    ///
+    /// `IoError` says which step failed. Contents and index stay as they were; folders may have been made.
+    pub fn open_sync<S: Store, C: Clock, N: Names>(
+        self,
+        env: &mut Env<S, C, N>,
+        cache: &str,
+        key: &str,
+    ) -> errors::Result<SyncWriter<S::Temp>>
+        ensures opens { Opens S.Temp.seen S.log N.given env.old env.new cache.now (Some key.now)
+            self result }
+    {
+        let number = env.names.fresh();
+        let key = Some(Text::from_str(env.alloc, key)?);
+        open_writer(env.alloc, &mut env.store, cache, number, key, self)
+    }
+
+    /// Opens a writer that commits without a key, with these options. A number is asked once, before the first step.
+    ///
+    /// Errors are those of `open_sync`.
+    pub fn open_hash_sync<S: Store, C: Clock, N: Names>(
+        self,
+        env: &mut Env<S, C, N>,
+        cache: &str,
+    ) -> errors::Result<SyncWriter<S::Temp>>
+        ensures opens { Opens S.Temp.seen S.log N.given env.old env.new cache.now None
+            self result }
+    {
+        let number = env.names.fresh();
+        open_writer(env.alloc, &mut env.store, cache, number, None, self)
     }
 
     /// The options of a command.

@@ -1,4 +1,4 @@
-//! What is there of a content, and its exports.
+//! What is there of a content, its bytes at once or in pieces, and its exports.
 ghost use Rattle.std.specs.Prelude.{◌≡◌, IfOk, IfErr, IfSome};
 ghost use Rattle.cacache_core.specs.declared.errors.Error.TheVariants.{OutOfMemory};
 ghost use Rattle.cacache_calls.specs.declared.command.Command.TheVariants as commands;
@@ -7,8 +7,10 @@ ghost use Rattle.cacache_put.specs.Writes.{Calls};
 ghost use Rattle.cacache.specs.Reads.{has};
 
 use crate::get::exists_sync;
+pub use crate::get::read_hash_sync as read;
 use cacache_base::env::{Clock, Env, Names};
 use cacache_base::store::Store;
+pub use cacache_content::reader::{SyncReader as Reader, open};
 use cacache_core::errors::Result;
 use cacache_core::integrity::Integrity;
 pub use cacache_export::{

@@ -1,4 +1,4 @@
-use Rattle.std.proofs.Common.{◌≡◌, ◌∙◌, ap, sym, arith}
+use Rattle.std.proofs.Common.{◌∙◌, ap, sym, arith}
 use Rattle.std.specs.Prelude.{Some, option_copied}
 use Rattle.cacache_disk.specs.Tree.{look}
 use Rattle.cacache_disk.specs.Found.{standing}

@@ -1,7 +1,5 @@
-use Rattle.std.proofs.Common.{◌≡◌, ◌∙◌, sym, ap, subst}
-use Rattle.cacache_base.specs.Fits.{Fits, is_no_memory}
-use Rattle.cacache_disk.specs.Apply.{apply}
-use Rattle.cacache_disk.specs.Plans.{IsPlan, Refuses, changed}
+use Rattle.std.proofs.Common.{subst}
+use Rattle.cacache_disk.specs.Plans.{IsPlan, changed}
 use Rattle.cacache_disk.proofs.Outcomes.{lucky, lucky_fits, unlucky}
 use Rattle.cacache_disk.proofs.Told.{told_answer}
 use Rattle.cacache_disk.proofs.disk.Disk.outcome.Goals as goal

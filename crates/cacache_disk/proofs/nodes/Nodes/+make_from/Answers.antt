@@ -1,5 +1,4 @@
-use Rattle.std.proofs.Common.{◌≡◌, ◌∙◌, sym, ap, arith, take, drop, refl, ◌+◌, ◌-◌}
-use Rattle.std.specs.Prelude.{None, Some, option_copied}
+use Rattle.std.proofs.Common.{◌∙◌, sym, ap, arith, take, drop, ◌+◌, ◌-◌}
 use Rattle.cacache_disk.specs.declared.node.Node.TheVariants.{Folder}
 use Rattle.cacache_disk.specs.Apply.{make_some}
 use Rattle.cacache_disk.specs.Plans.{with_file}

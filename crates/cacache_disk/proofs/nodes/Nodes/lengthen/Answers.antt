@@ -1,8 +1,8 @@
-use Rattle.std.proofs.Common.{◌≡◌, ◌∙◌, ◌++◌, refl, sym, ap, subst}
-use Rattle.std.specs.Prelude.{Result, Ok, Err, OnOk, OnErr, Some, None, IsSome}
+use Rattle.std.proofs.Common.{◌∙◌, ◌++◌, refl, sym, ap, subst}
+use Rattle.std.specs.Prelude.{Result, Ok, Err, OnOk, OnErr, Some, IsSome}
 use Rattle.std.specs.FinMap as map
 use Rattle.cacache_disk.specs.declared.node.Node.TheVariants.{File}
-use Rattle.cacache_disk.specs.Tree.{look, put, bytes_of}
+use Rattle.cacache_disk.specs.Tree.{put, bytes_of}
 use Rattle.cacache_disk.proofs.Maps.{get_map, written_map, put_same}
 use Rattle.cacache_disk.proofs.nodes.Nodes.lengthen.Goals as goal
 

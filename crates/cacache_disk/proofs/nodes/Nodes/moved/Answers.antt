@@ -1,4 +1,4 @@
-use Rattle.std.proofs.Common.{◌≡◌, ◌∙◌, sym, ap}
+use Rattle.std.proofs.Common.{◌∙◌, sym, ap}
 use Rattle.cacache_disk.specs.declared.node.Node.TheVariants.{File}
 use Rattle.cacache_disk.specs.Tree.{cut}
 use Rattle.cacache_disk.proofs.Puts.{cut-put_apart, put-cut_same, eq-false, eq-true}

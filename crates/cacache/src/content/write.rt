@@ -1,0 +1,2 @@
+//! Writers of contents.
+pub use cacache_content::writer::Writer;

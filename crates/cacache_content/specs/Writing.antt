@@ -1,0 +1,123 @@
+-- Contents that are written in pieces: how they open, what they took and what their commit is.
+use Rattle.std.specs.Prelude.{◌≡◌, ◌⊎◌, ◌^◌, ◌-◌, ℕ, List, [], Option, None, Result, Ok, Err, min, length, take}
+use Rattle.serde_json.specs.Data.{null}
+use Rattle.cacache_core.specs.declared.errors.Error.{Error}
+use Rattle.cacache_core.specs.declared.integrity.algorithm.Algorithm.{Algorithm}
+use Rattle.cacache_core.specs.declared.integrity.digest.Hash.{Hash}
+use Rattle.cacache_core.specs.Hashers.{Holds, algorithm_of}
+use Rattle.cacache_core.specs.Integrity.{integrity_under}
+use Rattle.cacache_base.specs.declared.store.answer.Answer.TheVariants as answers
+use Rattle.cacache_base.specs.declared.store.log.LogItem.{LogItem}
+use Rattle.cacache_base.specs.declared.store.plain.PlainTemp.{PlainTemp}
+use Rattle.cacache_base.specs.declared.store.step.Step.TheVariants as steps
+use Rattle.cacache_base.specs.Plain.{PlainStep}
+use Rattle.cacache_calls.specs.declared.command.Options.{Options}
+use Rattle.cacache_calls.specs.declared.reply.Reply.{Reply}
+use Rattle.cacache_calls.specs.declared.reply.Reply.TheVariants.{Stored, Refused}
+use Rattle.cacache_calls.specs.Places.{temp_folder, temp_path}
+use Rattle.cacache_calls.specs.Runs.{Ran, without_message}
+use Rattle.cacache_calls.specs.State.{Commit}
+use Rattle.cacache_calls.specs.Storing.{persist}
+use Rattle.cacache_content.specs.declared.writer.Writer.{Writer}
+use Rattle.cacache_content.specs.Stepping.{Does, FailsAt}
+
+-- ---- bytes in pieces
+
+-- how many bytes are counted: a count of 2^64 - 1 stays there
+abbrev pub counted : List ℕ → ℕ
+counted bytes = min (length bytes) (2 ^ 64 - 1)
+
+-- the writer took these bytes so far
+abbrev pub HasTaken : {T : Type 0} → Writer T → List ℕ → Type 0
+HasTaken w bytes = Holds w.hasher bytes × (w.count ≡ counted bytes)
+
+-- what a write took: the front of the buffer, and nothing where it failed
+abbrev pub taken : {E : Type 0} → Result ℕ E → List ℕ → List ℕ
+taken (Ok n) buf = take n buf
+taken (Err e) buf = []
+
+-- the writer is still one of the same cache, temporary file and algorithm
+abbrev pub GoesOn : {T : Type 0} → (T → PlainTemp) → Writer T → Writer T → Type 0
+GoesOn temp old new =
+    (new.cache ≡ old.cache) × (new.path ≡ old.path)
+    × (algorithm_of new.hasher ≡ algorithm_of old.hasher)
+    × ((temp new.file).path ≡ (temp old.file).path)
+
+-- ---- the opening: before and after
+
+-- the steps that an opening makes
+abbrev pub make_folder : List ℕ → PlainStep
+make_folder cache = steps.MakeDirs (temp_folder cache)
+
+abbrev pub make_file : List ℕ → ℕ → PlainStep
+make_file cache number = steps.CreateTemp (temp_path cache number)
+
+-- a writer of this cache, file and algorithm that took nothing yet
+pub record IsFresh {T : Type 0} (cache : List ℕ) (number : ℕ) (a : Algorithm) (w : Writer T)
+    : Type 0 where
+  pub cache_is : w.cache ≡ cache
+  pub path_is : w.path ≡ temp_path cache number
+  pub algorithm_is : algorithm_of w.hasher ≡ a
+  pub empty : HasTaken w []
+
+module _ (cache : List ℕ) (number : ℕ) where
+  -- the folder was made, and then the file
+  abbrev pub Makes : PlainTemp → Option (List LogItem) → Option (List LogItem) → Type 0
+  Makes file old new =
+      (mid : Option (List LogItem)) × Does (make_folder cache) answers.Done old mid
+      × Does (make_file cache number) (answers.Temp file) mid new
+
+  -- the folder wasn't made, or it was and the file wasn't
+  abbrev pub FailsToMake : Error → Option (List LogItem) → Option (List LogItem) → Type 0
+  FailsToMake e old new =
+      FailsAt (make_folder cache) e old new
+      ⊎ ((mid : Option (List LogItem)) × Does (make_folder cache) answers.Done old mid
+      × FailsAt (make_file cache number) e mid new)
+
+  -- a writer that took nothing yet, or why there is none
+  abbrev pub Opens :
+      {T : Type 0} → (T → PlainTemp) → Algorithm → Result (Writer T) Error
+      → Option (List LogItem) → Option (List LogItem) → Type 0
+  Opens temp a (Ok w) old new = IsFresh cache number a w × Makes (temp w.file) old new
+  Opens temp a (Err e) old new = FailsToMake e old new
+
+-- ---- the end
+
+-- the result of a commit as the reply that it stands for
+abbrev pub stored_as : Result (List Hash) Error → Reply
+stored_as (Ok i) = Stored i
+stored_as (Err e) = Refused (without_message e)
+
+-- the commit of a writer that took these bytes
+abbrev pub commit_of :
+    {T : Type 0} → Writer T → List ℕ → Option (List ℕ) → ℕ → Options → Commit
+commit_of w bytes key moment options = record {
+  cache = w.cache;
+  key = key;
+  computed = integrity_under (algorithm_of w.hasher) bytes;
+  count = counted bytes;
+  moment = moment;
+  options = options;
+}
+
+-- the writer's file became the content of the commit, and the call went on from there
+abbrev pub Ends :
+    {T : Type 0} → (T → PlainTemp) → Writer T → Commit → Reply
+    → Option (List LogItem) → Option (List LogItem) → Type 0
+Ends temp w c reply old new = Ran (persist c (temp w.file)) reply old new
+
+-- the temporary file was removed, or why not
+abbrev pub Removes :
+    List ℕ → Result (Unit {0}) Error → Option (List LogItem) → Option (List LogItem) → Type 0
+Removes path (Ok done) old new = Does (steps.RemoveFile path) answers.Done old new
+Removes path (Err e) old new = FailsAt (steps.RemoveFile path) e old new
+
+-- the commit of a writer without a key, of which nothing was said
+abbrev pub unkeyed : {T : Type 0} → Writer T → List ℕ → Commit
+unkeyed w bytes = commit_of w bytes None 0 (record {
+  algorithm = algorithm_of w.hasher;
+  size = None;
+  integrity = None;
+  metadata = null;
+  raw_metadata = None;
+})

@@ -1,0 +1,155 @@
+//! Contents that are read in pieces, and checked by what was read.
+ghost use Rattle.std.specs.Prelude.{◌≡◌, ◌++◌, ℕ, List, Some, IsOk, IfOk, IfErr, length};
+ghost use Rattle.std.specs.Io.{ReadsAtMost};
+ghost use Rattle.std.specs.Io.KnownBytes.{ReadConsumes};
+ghost use Rattle.cacache_core.specs.declared.integrity.digest.Hash.{Hash};
+ghost use Rattle.cacache_core.specs.Integrity.{Meets, strongest, actual};
+ghost use Rattle.cacache_core.specs.Refusals.{IsCheckFailure};
+ghost use Rattle.cacache_base.specs.Handles.{LeftFalls};
+ghost use Rattle.cacache_content.specs.Reading.{HasRead, OpensHash, OpensKey, given};
+
+use cacache_base::env::{Clock, Env, Names};
+use cacache_base::store::{OpenedFile, Step, Store};
+use cacache_calls::answers::file_of;
+use cacache_calls::{Command, Found, Reply};
+use cacache_core::errors::{Error, Result};
+use cacache_core::integrity::{Algorithm, Integrity, IntegrityChecker};
+use cacache_core::text::Text;
+use cacache_jobs::{call, content_path, refused};
+use std::alloc::{AllocError, Global};
+use std::io;
+use std::io::Read;
+
+/// An open content, read in pieces. It gives the bytes of the file that was opened, in order, also where the content was
+/// replaced or removed since. Each byte is hashed once.
+#[derive(Drop)]
+pub struct SyncReader<F> {
+    alloc: Global,
+    file: F,
+    checker: IntegrityChecker,
+}
+
+/// Why the content's file wasn't opened.
+fn message(alloc: Global, cache: &str, sri: &Integrity) -> std::result::Result<Text, AllocError> {
+    let path = content_path(alloc, cache, sri)?;
+    Ok(Text::new(format!(in alloc; "Failed to open reader to {path}")?))
+}
+
+/// Opens the content of the integrity. What is read is checked against it.
+///
+/// `IoError` says that the content couldn't be opened. Nothing changes.
+pub fn open<S: Store, C: Clock, N: Names>(
+    env: &mut Env<S, C, N>,
+    cache: &str,
+    sri: Integrity,
+) -> Result<SyncReader<S::File>>
+    ensures opens { OpensHash S.File.seen cache.now sri result
+        (S.log env.old.store) (S.log env.new.store) }
+    ensures clock { env.new.clock ≡ env.old.clock }
+    ensures names { env.new.names ≡ env.old.names }
+    ensures base { env.new.base ≡ env.old.base }
+{
+    let alloc = env.alloc;
+    let path = content_path(alloc, cache, &sri)?;
+    match file_of(env.store.step(Step::Open(path))) {
+        Ok(file) => {
+            let checker = IntegrityChecker::new(sri);
+            Ok(SyncReader {
+                alloc,
+                file,
+                checker,
+            })
+        }
+        Err(refusal) => Err(refused(refusal, message(alloc, cache, &sri))),
+    }
+}
+
+/// The integrity that a lookup found.
+fn integrity_of(found: Found) -> Integrity
+    ensures { result ≡ found.integrity }
+{
+    found.into_metadata().integrity
+}
+
+impl<F: OpenedFile> SyncReader<F> {
+    /// Opens the content that a lookup of the key finds. What is read is checked against the integrity that the lookup
+    /// gives.
+    ///
+    /// `EntryNotFound` where that lookup is none, `IoError` says which step failed. Nothing changes.
+    pub fn open<S: Store<File = F>, C: Clock, N: Names>(
+        env: &mut Env<S, C, N>,
+        cache: &str,
+        key: &str,
+    ) -> Result<SyncReader<F>>
+        ensures opens { OpensKey F.seen cache.now env.old.base key.now result
+            (S.log env.old.store) (S.log env.new.store) }
+        ensures clock { env.new.clock ≡ env.old.clock }
+        ensures names { env.new.names ≡ env.old.names }
+        ensures base { env.new.base ≡ env.old.base }
+    {
+        let named = Text::from_str(env.alloc, key)?;
+        match call(env, cache, Command::Find(named), 0) {
+            Reply::LookedUp(Some(found)) => open(env, cache, integrity_of(found)),
+            Reply::LookedUp(None) => {
+                let cache = Text::from_str(env.alloc, cache)?;
+                Err(Error::EntryNotFound(cache, Text::from_str(env.alloc, key)?))
+            }
+            Reply::Refused(error) => Err(error),
+            _ => unreachable!(),
+        }
+    }
+
+    /// What `open` of this module does: opens the content of the integrity.
+    pub fn open_hash<S: Store<File = F>, C: Clock, N: Names>(
+        env: &mut Env<S, C, N>,
+        cache: &str,
+        sri: Integrity,
+    ) -> Result<SyncReader<F>>
+        ensures opens { OpensHash F.seen cache.now sri result
+            (S.log env.old.store) (S.log env.new.store) }
+        ensures clock { env.new.clock ≡ env.old.clock }
+        ensures names { env.new.names ≡ env.old.names }
+        ensures base { env.new.base ≡ env.old.base }
+    {
+        open(env, cache, sri)
+    }
+
+    /// Whether the bytes that were read so far meet the integrity that the reader was opened with: Ok of its strongest
+    /// algorithm. What wasn't read counts for nothing, so read to the end first. Only the error takes memory.
+    ///
+    /// `IntegrityError` has that integrity and the one of the bytes that were read.
+    pub fn check(self) -> Result<Algorithm>
+        ensures ok { (i : List Hash) (bytes : List ℕ) → HasRead self i bytes
+            → IfOk result (λ a. Meets i bytes × (strongest i ≡ Some a)) }
+        ensures met { (i : List Hash) (bytes : List ℕ) → HasRead self i bytes
+            → Meets i bytes → IsOk result }
+        ensures err { (i : List Hash) (bytes : List ℕ) → HasRead self i bytes
+            → IfErr result (IsCheckFailure i (actual i bytes)) }
+    {
+        let SyncReader {
+            alloc,
+            file: _file,
+            checker,
+        } = self;
+        checker.result(alloc)
+    }
+}
+
+impl<F: OpenedFile> Read for SyncReader<F> {
+    ghost remaining = { λ reader. (F.seen reader.file).bytes };
+
+    /// Reads some bytes into the front of `buf` and returns how many: none only at the end of the content, or if `buf` is
+    /// empty. After an error the reader stands where it stood, and may go on.
+    fn read(&mut self, buf: &mut [u8]) -> io::Result<usize>
+        ensures bound { ReadsAtMost result buf.new }
+        ensures bytes { ReadConsumes (F.seen self.old.file).bytes (F.seen self.new.file).bytes
+            result buf.new }
+        ensures left { LeftFalls (F.seen self.old.file).left (F.seen self.new.file).left result }
+        ensures so_far { (i : List Hash) (bytes : List ℕ) → HasRead self.old i bytes
+            → HasRead self.new i (bytes ++ given result buf.new) }
+    {
+        let count = self.file.read_some(buf)?;
+        self.checker.input(&buf[..count]);
+        Ok(count)
+    }
+}

@@ -1,0 +1,242 @@
+//! Contents that are written in pieces, to a temporary file that a commit moves to its place.
+ghost use Rattle.std.specs.Prelude.{◌≡◌, ◌++◌, ℕ, List, None, IfOk, IfErr};
+ghost use Rattle.std.specs.Io.{WritesAtMost};
+ghost use Rattle.std.specs.Io.KnownBytes.{WriteAppends};
+ghost use Rattle.cacache_core.specs.Hashers.{algorithm_of};
+ghost use Rattle.cacache_core.specs.Integrity.{integrity_under};
+ghost use Rattle.cacache_base.specs.declared.store.answer.Answer.TheVariants.{Done};
+ghost use Rattle.cacache_base.specs.Given.{AddsAnswer};
+ghost use Rattle.cacache_calls.specs.Promises.{Stores};
+ghost use Rattle.cacache_content.specs.Stepping.{Does, FailsAt};
+ghost use Rattle.cacache_content.specs.Writing.{HasTaken, GoesOn, Opens, Ends, Removes, taken, make_folder as making_folder, make_file as making_file, commit_of, stored_as, unkeyed};
+
+use cacache_base::env::{Clock, Env, Names};
+use cacache_base::store::{Step, Store, TempFile};
+use cacache_calls::answers::{done_of, temp_of};
+use cacache_calls::{Json, Options, Reply};
+use cacache_core::errors::Result;
+use cacache_core::hasher::Hasher;
+use cacache_core::integrity::{Algorithm, Integrity};
+use cacache_core::text::Text;
+use cacache_jobs::{Commit, commit_from, refused, temp_folder, temp_path};
+use serde_json::Value;
+use std::alloc::{AllocError, Global};
+use std::io;
+use std::io::Write;
+
+/// A content that is being written. Its bytes go to a temporary file as they come, and each is hashed once; `close`
+/// makes the file the content. A writer that is dropped leaves its file for `clear_sync`.
+#[derive(Drop)]
+pub struct Writer<T> {
+    cache: Text,
+    /// Where the temporary file is.
+    path: Text,
+    file: T,
+    hasher: Hasher,
+    /// How many bytes the file took; 2^64 - 1 stays as it is.
+    count: usize,
+}
+
+/// A message that ends with the folder of temporary files.
+fn about_folder(alloc: Global, cache: &str, words: &str) -> std::result::Result<Text, AllocError> {
+    let folder = temp_folder(alloc, cache)?;
+    Ok(Text::new(format!(in alloc; "{words} {folder}")?))
+}
+
+/// Makes the folder of temporary files.
+fn make_folder<S: Store>(alloc: Global, store: &mut S, cache: &str) -> Result<()>
+    ensures made { IfOk result
+        (λ _. Does (making_folder cache.now) Done (S.log store.old) (S.log store.new)) }
+    ensures err { IfErr result
+        (λ e. FailsAt (making_folder cache.now) e (S.log store.old) (S.log store.new)) }
+{
+    let folder = temp_folder(alloc, cache)?;
+    match done_of(store.step(Step::MakeDirs(folder))) {
+        Ok(()) => Ok(()),
+        Err(refusal) => {
+            let words = "Failed to create cache directory for temporary files, at";
+            Err(refused(refusal, about_folder(alloc, cache, words)))
+        }
+    }
+}
+
+/// Opens a writer with a temporary file of this number.
+///
+/// `IoError` says which step failed. Contents and index stay as they were; folders may have been made.
+pub fn open<S: Store>(
+    alloc: Global,
+    store: &mut S,
+    cache: &str,
+    algorithm: Algorithm,
+    number: u64,
+) -> Result<Writer<S::Temp>>
+    ensures { Opens cache.now number S.Temp.seen algorithm result
+        (S.log store.old) (S.log store.new) }
+{
+    let cache = Text::from_str(alloc, cache)?;
+    let path = temp_path(alloc, cache.as_str(), number)?;
+    let named = path.clone()?;
+    make_folder(alloc, store, cache.as_str())?;
+    match temp_of(store.step(Step::CreateTemp(named))) {
+        Ok(file) => Ok(Writer {
+            cache,
+            path,
+            file,
+            hasher: Hasher::new(algorithm),
+            count: 0,
+        }),
+        Err(refusal) => {
+            let words = "Failed to create temp file while initializing a writer, inside";
+            Err(refused(refusal, about_folder(alloc, cache.as_str(), words)))
+        }
+    }
+}
+
+/// Makes the writer's file a content, compares what was said of it, and with a key adds its entry.
+///
+/// `IntegrityError`, `SizeMismatch` and `SerdeError` leave the content there, without an entry. `IoError` says which step
+/// failed, or took only a part of the line. `OutOfMemory` may come after any step.
+pub fn commit<S: Store, C, N>(
+    env: &mut Env<S, C, N>,
+    writer: Writer<S::Temp>,
+    key: Option<Text>,
+    moment: u128,
+    options: Options,
+) -> Result<Integrity>
+    ensures stored { (bytes : List ℕ) → HasTaken writer bytes
+        → Stores (commit_of writer bytes key moment options) (stored_as result) }
+    ensures ran { (bytes : List ℕ) → HasTaken writer bytes
+        → Ends S.Temp.seen writer (commit_of writer bytes key moment options) (stored_as result)
+        (S.log env.old.store) (S.log env.new.store) }
+    ensures clock { env.new.clock ≡ env.old.clock }
+    ensures names { env.new.names ≡ env.old.names }
+    ensures base { env.new.base ≡ env.old.base }
+{
+    let Writer {
+        cache,
+        path: _path,
+        file,
+        hasher,
+        count,
+    } = writer;
+    let computed = hasher.result(env.alloc)?;
+    let commit = Commit {
+        cache,
+        key,
+        computed,
+        count,
+        moment,
+        options,
+    };
+    match commit_from(env, commit, file) {
+        Reply::Stored(integrity) => Ok(integrity),
+        Reply::Refused(error) => Err(error),
+        _ => unreachable!(),
+    }
+}
+
+/// Removes the writer's file.
+///
+/// `IoError` says that it couldn't be removed. Contents and index stay as they were.
+pub fn abandon<S: Store>(alloc: Global, store: &mut S, writer: Writer<S::Temp>) -> Result<()>
+    ensures { Removes writer.path result (S.log store.old) (S.log store.new) }
+{
+    let Writer {
+        cache: _cache,
+        path,
+        file: _file,
+        hasher: _hasher,
+        count: _,
+    } = writer;
+    let named = path.clone()?;
+    match done_of(store.step(Step::RemoveFile(named))) {
+        Ok(()) => Ok(()),
+        Err(refusal) => {
+            let message = removing(alloc, &path);
+            Err(refused(refusal, message))
+        }
+    }
+}
+
+/// The file at the path wasn't removed.
+fn removing(alloc: Global, path: &Text) -> std::result::Result<Text, AllocError> {
+    Ok(Text::new(format!(in alloc; "Failed to remove temp file {path}")?))
+}
+
+impl<T: TempFile> Writer<T> {
+    /// Opens a writer of a content without a key. A number is asked once, before the first step. `size` has no effect.
+    ///
+    /// `IoError` says which step failed. Contents and index stay as they were; folders may have been made.
+    pub fn new<S: Store<Temp = T>, C: Clock, N: Names>(
+        env: &mut Env<S, C, N>,
+        cache: &str,
+        algo: Algorithm,
+        size: Option<usize>,
+    ) -> Result<Writer<T>>
+        ensures opens { (number : ℕ)
+            × AddsAnswer (N.given env.old.names) (N.given env.new.names) number
+            × Opens cache.now number T.seen algo result
+            (S.log env.old.store) (S.log env.new.store) }
+        ensures clock { env.new.clock ≡ env.old.clock }
+        ensures base { env.new.base ≡ env.old.base }
+    {
+        let _size = size;
+        let number = env.names.fresh();
+        open(env.alloc, &mut env.store, cache, algo, number)
+    }
+
+    /// Makes the file the content of its bytes, and answers their integrity.
+    ///
+    /// `IoError` says which step failed. Then the content may have been stored or not; no bucket changes. `OutOfMemory`
+    /// may come after any step.
+    pub fn close<S: Store<Temp = T>, C: Clock, N: Names>(
+        self,
+        env: &mut Env<S, C, N>,
+    ) -> Result<Integrity>
+        ensures stored { (bytes : List ℕ) → HasTaken self bytes
+            → IfOk result (λ i. i ≡ integrity_under (algorithm_of self.hasher) bytes) }
+        ensures ran { (bytes : List ℕ) → HasTaken self bytes
+            → Ends T.seen self (unkeyed self bytes) (stored_as result)
+            (S.log env.old.store) (S.log env.new.store) }
+        ensures clock { env.new.clock ≡ env.old.clock }
+        ensures names { env.new.names ≡ env.old.names }
+        ensures base { env.new.base ≡ env.old.base }
+    {
+        let options = Options {
+            algorithm: self.hasher.algorithm(),
+            size: None,
+            integrity: None,
+            metadata: Json::new(Value::Null),
+            raw_metadata: None,
+        };
+        commit(env, self, None, 0, options)
+    }
+}
+
+impl<T: TempFile> Write for Writer<T> {
+    ghost contents = { λ writer. (T.seen writer.file).bytes };
+
+    /// Hands some bytes from the front of `buf` to the file, and returns how many it took. After an error none was
+    /// taken, and the writer goes on.
+    fn write(&mut self, buf: &[u8]) -> io::Result<usize>
+        ensures bound { WritesAtMost result buf.now }
+        ensures bytes { WriteAppends (T.seen self.old.file).bytes (T.seen self.new.file).bytes
+            result buf.now }
+        ensures takes { (bytes : List ℕ) → HasTaken self.old bytes
+            → HasTaken self.new (bytes ++ taken result buf.now) }
+        ensures goes_on { GoesOn T.seen self.old self.new }
+    {
+        let count = self.file.write_some(buf)?;
+        self.hasher.update(&buf[..count]);
+        self.count = self.count.saturating_add(count);
+        Ok(count)
+    }
+
+    /// Does nothing: each write goes to the file itself.
+    fn flush(&mut self) -> io::Result<()>
+        ensures bytes { (T.seen self.new.file).bytes ≡ (T.seen self.old.file).bytes }
+        ensures same { self.new ≡ self.old }
+    {
+        Ok(())
+    }
+}

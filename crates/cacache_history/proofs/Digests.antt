@@ -1,0 +1,59 @@
+-- A computed digest is a hash.
+use Rattle.std.proofs.Common.{ℕ, zero, suc, List, [], ◌∷◌, take, arith, slice_index}
+use Rattle.std.specs.Int.{w32, w64, to_be_bytes}
+use Rattle.base64.specs.GeneralPurpose.{IsBytes}
+use Rattle.sha2.specs.Sha256 as small
+use Rattle.sha2.specs.Sha512 as large
+use Rattle.sha2.proofs.Facts256.{length-sha256}
+use Rattle.sha2.proofs.Facts512.{length-sha384, length-sha512}
+use Rattle.cacache_core.specs.declared.integrity.algorithm.Algorithm.{Algorithm}
+use Rattle.cacache_core.specs.declared.integrity.algorithm.Algorithm.TheVariants.{Sha1, Sha256, Sha384, Sha512}
+use Rattle.cacache_core.specs.Digests.{digest}
+use Rattle.cacache_core.specs.Integrity.{IsHash, hash_of}
+use Rattle.cacache_core.proofs.Decoded.{bytes_append}
+use Rattle.cacache_core.proofs.PathLemmas.{sha1_bytes, keys_have_digests}
+use Rattle.cacache_core.proofs.ProperNames.{be_bytes}
+
+word_bytes : (n : ℕ) → IsBytes (to_be_bytes w32 n)
+word_bytes n zero = omega arith
+word_bytes n (suc zero) = omega arith
+word_bytes n (suc (suc zero)) = omega arith
+word_bytes n (suc (suc (suc zero))) = omega arith
+word_bytes n (suc (suc (suc (suc i)))) = omega arith
+
+small_bytes : (h : List ℕ) (n : ℕ) → IsBytes (small.digest_bytes h n)
+unfolding small.digest_bytes
+small_bytes h zero i = omega arith
+small_bytes h (suc n) i =
+    bytes_append (small.digest_bytes h n) (to_be_bytes w32 (slice_index h n)) (small_bytes h n) (word_bytes (slice_index h n)) i
+
+large_bytes : (h : List ℕ) (n : ℕ) → IsBytes (large.digest_bytes h n)
+unfolding large.digest_bytes
+large_bytes h zero i = omega arith
+large_bytes h (suc n) i =
+    bytes_append (large.digest_bytes h n) (to_be_bytes w64 (slice_index h n)) (large_bytes h n) (be_bytes (slice_index h n)) i
+
+take_bytes : (n : ℕ) (bs : List ℕ) → IsBytes bs → IsBytes (take n bs)
+take_bytes zero bs h i = omega arith
+take_bytes (suc n) [] h i = omega arith
+take_bytes (suc n) (b ∷ bs) h zero = h zero
+take_bytes (suc n) (b ∷ bs) h (suc i) = take_bytes n bs (λ k. h (suc k)) i
+
+sha256_bytes : (m : List ℕ) → IsBytes (small.sha256 m)
+unfolding small.sha256
+sha256_bytes m = small_bytes (small.final_hash small.initial_hash_256 m) 8
+
+sha384_bytes : (m : List ℕ) → IsBytes (large.sha384 m)
+unfolding large.sha384
+sha384_bytes m = take_bytes 48 _ (large_bytes (large.final_hash large.initial_hash_384 m) 8)
+
+sha512_bytes : (m : List ℕ) → IsBytes (large.sha512 m)
+unfolding large.sha512
+sha512_bytes m = large_bytes (large.final_hash large.initial_hash_512 m) 8
+
+-- the digest of bytes under any algorithm
+pub digest_hash : (a : Algorithm) (m : List ℕ) → IsHash (hash_of a (digest a m))
+digest_hash Sha1 m = record { bytes = sha1_bytes m; long_enough = omega (arith, (keys_have_digests m).size) }
+digest_hash Sha256 m = record { bytes = sha256_bytes m; long_enough = omega (arith, length-sha256 m) }
+digest_hash Sha384 m = record { bytes = sha384_bytes m; long_enough = omega (arith, length-sha384 m) }
+digest_hash Sha512 m = record { bytes = sha512_bytes m; long_enough = omega (arith, length-sha512 m) }

@@ -1,0 +1,15 @@
+pub mod Digests
+pub mod Proper
+pub mod Spelled
+pub mod Formed
+pub mod Carrying
+pub mod Holding
+pub mod Values
+pub mod Runs
+pub mod Reading
+pub mod Opening
+pub mod Exporting
+pub mod Replies
+pub mod Deeds
+pub mod Commits
+pub mod Righted

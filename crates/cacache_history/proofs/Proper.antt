@@ -1,0 +1,135 @@
+-- Each step that a sound call may make is proper.
+use Rattle.std.proofs.Common.{◌≡◌, inl, inr, ℕ, Bool, true, false, ◌&&◌, ◌||◌, cond, List, [], ◌∷◌, Option, None, Some, Result, Ok, Err, bytes_eq, refl, sym, subst}
+use Rattle.std.specs.Prelude.{IfOk}
+use Rattle.cacache_core.specs.declared.errors.Fault.{Fault}
+use Rattle.cacache_core.specs.declared.integrity.algorithm.Algorithm.{Algorithm}
+use Rattle.cacache_core.specs.Digests.{digest}
+use Rattle.cacache_core.specs.Integrity.{hash_of, integrity_under}
+use Rattle.cacache_core.specs.PathNames.{Names, names_of, home_of}
+use Rattle.cacache_core.proofs.PathLemmas.{keys_have_digests}
+use Rattle.cacache_base.specs.declared.store.step.Step.TheVariants as steps
+use Rattle.cacache_base.specs.Plain.{PlainStep}
+use Rattle.cacache_disk.proofs.Maps.{same_path-true}
+use Rattle.cacache_entry.proofs.Causes.{Fits-no_cause}
+use Rattle.cacache_calls.specs.Places.{temp_path, temp_folder, content_path, content_folder, bucket_path, bucket_folder}
+use Rattle.cacache_calls.specs.State.{State}
+use Rattle.cacache_calls.specs.Table.{wants}
+use Rattle.cacache_calls.specs.Sound as calls
+use Rattle.cacache_calls.proofs.Sound.{steps_allowed}
+use Rattle.cacache_laws.specs.Kinds.{Content, Bucket, Temporary, Way, Elsewhere, kind_beside, path_kind, IsFor}
+use Rattle.cacache_laws.specs.Placed.{IsLine, Proper}
+use Rattle.cacache_laws.specs.Opening.{LieApart}
+use Rattle.cacache_laws.proofs.Paths.{paths_are_for, folders_are_ways}
+use Rattle.cacache_history.specs.Setup.{Setup, site_of, home, are_apart, apart_from_home, apart_from_files, may_take, may_export, same_place, is_among, is_outside}
+use Rattle.cacache_history.proofs.Digests.{digest_hash}
+
+-- ---- exports and links
+
+and_first : (a b : Bool) → (a && b) ≡ true → a ≡ true
+and_first true b e = refl
+and_first false b e = absurd cc
+
+beside_apart : (folder path : Names) → are_apart folder path ≡ true → kind_beside folder path ≡ Elsewhere
+beside_apart [] path e = absurd cc
+beside_apart (n ∷ ns) [] e = absurd cc
+beside_apart (n ∷ ns) (m ∷ ms) e = by (bytes_eq n m) (beside_apart ns ms) e
+  where
+    by : (b : Bool) → (are_apart ns ms ≡ true → kind_beside ns ms ≡ Elsewhere) → cond b (are_apart ns ms) true ≡ true → cond b (kind_beside ns ms) Elsewhere ≡ Elsewhere
+    by true rest is = rest is
+    by false rest is = refl
+
+home_apart : (h : Option Names) (path : Names) → apart_from_home h path ≡ true → path_kind h path ≡ Elsewhere
+home_apart None path e = refl
+home_apart (Some folder) path e = beside_apart folder path e
+
+taken_elsewhere : (s : Setup) (r : Result Names Fault) → may_take s r ≡ true → IfOk r (λ path. path_kind (home s) path ≡ Elsewhere)
+taken_elsewhere s (Ok path) e = home_apart (home s) path (and_first (apart_from_home (home s) path) (apart_from_files s.outside path) e)
+taken_elsewhere s (Err fault) e = tt
+
+export_elsewhere : (s : Setup) (path : List ℕ) → may_export s path ≡ true → IsFor (home s) Elsewhere path
+export_elsewhere s path e = taken_elsewhere s (names_of path) e
+
+same_kind : (h : Option Names) (a b : Result Names Fault) → same_place a b ≡ true
+    → IfOk a (λ path. path_kind h path ≡ Elsewhere) → IfOk b (λ path. path_kind h path ≡ Elsewhere)
+same_kind h (Ok a) (Ok b) e k = subst (λ p. path_kind h p ≡ Elsewhere) (same_path-true a b e) k
+same_kind h (Ok a) (Err fault) e k = tt
+same_kind h (Err fault) b e k = absurd cc
+
+among_elsewhere : (h : Option Names) (files : List (List ℕ × List ℕ)) (path : List ℕ) → LieApart h files → is_among files path ≡ true → IsFor h Elsewhere path
+among_elsewhere h [] path apart e = absurd cc
+among_elsewhere h (file ∷ files) path apart e = by (same_place (names_of file.0) (names_of path)) refl (among_elsewhere h files path apart.1) e
+  where
+    by : (b : Bool) → same_place (names_of file.0) (names_of path) ≡ b → (is_among files path ≡ true → IsFor h Elsewhere path) → (b || is_among files path) ≡ true → IsFor h Elsewhere path
+    by true here rest is = same_kind h (names_of file.0) (names_of path) here apart.0
+    by false here rest is = rest is
+
+-- ---- places
+
+module _ (cache : List ℕ) where
+  temp_for : (n : ℕ) → IsFor (home_of cache) Temporary (temp_path cache n)
+  unfolding temp_path
+  temp_for n = (paths_are_for cache).temporary n
+
+  temps_for : IsFor (home_of cache) Way (temp_folder cache)
+  unfolding temp_folder
+  temps_for = (folders_are_ways cache).temporary 0
+
+  content_for : (a : Algorithm) (bytes : List ℕ) → IsFor (home_of cache) Content (content_path cache (integrity_under a bytes))
+  unfolding content_path
+  content_for a bytes = (paths_are_for cache).content (hash_of a (digest a bytes)) (digest_hash a bytes)
+
+  contents_for : (a : Algorithm) (bytes : List ℕ) → IsFor (home_of cache) Way (content_folder cache (integrity_under a bytes))
+  unfolding content_folder
+  contents_for a bytes = (folders_are_ways cache).content (hash_of a (digest a bytes)) (digest_hash a bytes)
+
+  bucket_for : (key : List ℕ) → IsFor (home_of cache) Bucket (bucket_path cache key)
+  unfolding bucket_path
+  bucket_for key = (paths_are_for cache).bucket _ (keys_have_digests key)
+
+  buckets_for : (key : List ℕ) → IsFor (home_of cache) Way (bucket_folder cache key)
+  unfolding bucket_folder
+  buckets_for key = (folders_are_ways cache).bucket _ (keys_have_digests key)
+
+-- ---- steps
+
+module _ (s : Setup) (n : ℕ) (apart : LieApart (home s) s.outside) where
+  folder_for : (p : List ℕ) → calls.IsFolder (site_of s n) p → IsFor (home s) Way p
+  folder_for p (inl e) = subst (IsFor (home s) Way) (sym e) (temps_for s.cache)
+  folder_for p (inr (inl c)) = subst (IsFor (home s) Way) (sym c.2) (contents_for s.cache c.0 c.1)
+  folder_for p (inr (inr b)) = subst (IsFor (home s) Way) (sym b.1) (buckets_for s.cache b.0)
+
+  content_of : (p : List ℕ) → calls.IsContent (site_of s n) p → IsFor (home s) Content p
+  content_of p c = subst (IsFor (home s) Content) (sym c.2) (content_for s.cache c.0 c.1)
+
+  temp_of : (p : List ℕ) → p ≡ temp_path s.cache n → IsFor (home s) Temporary p
+  temp_of p e = subst (IsFor (home s) Temporary) (sym e) (temp_for s.cache n)
+
+  line_of : (p line : List ℕ) → calls.IsLine (site_of s n) p line → IsFor (home s) Bucket p × IsLine line
+  line_of p line l = (
+    subst (IsFor (home s) Bucket) (sym l.3) (bucket_for s.cache l.0.key),
+    record { entry = l.0; formed = l.1; fits = Fits-no_cause l.0 l.1 l.2; same = l.4 },
+  )
+
+  allowed_proper : (step : PlainStep) → calls.Allowed (site_of s n) (may_export s) (is_outside s) step → Proper (home s) step
+  allowed_proper (steps.MakeDirs p) a = folder_for p a
+  allowed_proper (steps.CreateTemp p) a = temp_of p a
+  allowed_proper (steps.Write file bytes) a = tt
+  allowed_proper (steps.Persist file p) a = (temp_of file.path a.0, content_of p a.1)
+  allowed_proper (steps.Append p line) a = line_of p line a
+  allowed_proper (steps.Symlink target p) a = (content_of p a.1, among_elsewhere (home s) s.outside target apart a.0)
+  allowed_proper (steps.Copy p q) a = export_elsewhere s q a
+  allowed_proper (steps.Reflink p q) a = export_elsewhere s q a
+  allowed_proper (steps.HardLink p q) a = export_elsewhere s q a
+  allowed_proper (steps.ReadAll p) a = tt
+  allowed_proper (steps.Open p) a = tt
+  allowed_proper (steps.Read f max) a = tt
+  allowed_proper (steps.Exists p) a = tt
+  allowed_proper (steps.Size p) a = tt
+  allowed_proper (steps.ReadDir p) a = tt
+  allowed_proper (steps.RemoveFile p) a = tt
+  allowed_proper (steps.RemoveDir p) a = tt
+
+  -- the step that a sound state wants
+  pub sound_proper : (state : State) (step : PlainStep) → calls.Sound (site_of s n) (may_export s) (is_outside s) state
+      → wants state ≡ Some step → Proper (home s) step
+  sound_proper state step sound w = allowed_proper step (steps_allowed (site_of s n) (may_export s) (is_outside s) state step sound w)

@@ -1,0 +1,115 @@
+-- What a commit does to contents and buckets: nothing; its content; or its content and then its
+-- entry.
+use Rattle.std.specs.Prelude.{◌≡◌, ◌⊎◌, ◌<◌, ◌^◌, ℕ, true, List, [], ◌∷◌, ◌++◌, Option, None, Some, Ok, length}
+use Rattle.cacache_core.specs.PathNames.{Names, names_of}
+use Rattle.cacache_base.specs.declared.store.step.Step.TheVariants as steps
+use Rattle.cacache_base.specs.declared.store.answer.Answer.TheVariants as answers
+use Rattle.cacache_base.specs.Plain.{PlainStep, PlainAnswer}
+use Rattle.cacache_calls.specs.declared.command.Command.{Command}
+use Rattle.cacache_calls.specs.declared.command.Command.TheVariants as commands
+use Rattle.cacache_calls.specs.declared.reply.Reply.{Reply}
+use Rattle.cacache_calls.specs.declared.reply.Reply.TheVariants.{Refused}
+use Rattle.cacache_calls.specs.Places.{content_path, bucket_path}
+use Rattle.cacache_calls.specs.State.{Site, Commit, Insertion, Target}
+use Rattle.cacache_calls.specs.Inserting.{insertion, deletion}
+use Rattle.cacache_calls.specs.Storing.{insertion_of, commit_of}
+use Rattle.cacache_calls.specs.Linking.{commit_for, target_of}
+use Rattle.cacache_laws.specs.Acts.{Act, Nothing, PutBytes, PutLink, AddEntries, Drop, MakeFolders, DropFolder, act_of}
+use Rattle.cacache_laws.specs.Traces.{Move}
+use Rattle.cacache_history.specs.Setup.{site_of}
+use Rattle.cacache_history.specs.History.{History, Turn, Call, Reaches}
+
+-- ---- deeds
+
+pub data Deed : Type 0 where
+  -- it acts so on contents or buckets
+  does : Act → Deed
+  -- it finds that something is at this path
+  finds : List ℕ → Deed
+
+-- folders are left aside, and so is a bucket that gains no entry
+abbrev pub deeds_of_act : Act → List Deed
+deeds_of_act Nothing = []
+deeds_of_act (PutBytes names bytes) = does (PutBytes names bytes) ∷ []
+deeds_of_act (PutLink names target) = does (PutLink names target) ∷ []
+deeds_of_act (AddEntries names []) = []
+deeds_of_act (AddEntries names (e ∷ es)) = does (AddEntries names (e ∷ es)) ∷ []
+deeds_of_act (Drop names) = does (Drop names) ∷ []
+deeds_of_act (MakeFolders names count) = []
+deeds_of_act (DropFolder names) = []
+
+-- a question that was answered yes
+abbrev pub finds_in : PlainStep → PlainAnswer → List Deed
+finds_in (steps.Exists path) (answers.There true) = finds path ∷ []
+finds_in step answer = []
+
+abbrev pub deeds_of : Move → List Deed
+deeds_of m = deeds_of_act (act_of m.step m.luck m.answer) ++ finds_in m.step m.answer
+
+-- what these turns did, in order
+abbrev pub deeds : List Turn → List Deed
+deeds [] = []
+deeds (turn ∷ turns) = deeds_of turn.move ++ deeds turns
+
+-- ---- the cases
+
+-- the content is put at the place of its integrity, or is found there
+abbrev pub IsContent : Commit → (Names → Act) → Deed → Type 0
+IsContent c put (does act) =
+    (names : Names) × (names_of (content_path c.cache c.computed) ≡ Ok names) × (act ≡ put names)
+IsContent c put (finds path) = path ≡ content_path c.cache c.computed
+
+-- the entry is added to the bucket of its key
+abbrev pub IsAdded : Insertion → Deed → Type 0
+IsAdded i (does act) =
+    (names : Names) × (names_of (bucket_path i.cache i.entry.key) ≡ Ok names)
+    × (act ≡ AddEntries names (i.entry ∷ []))
+IsAdded i (finds path) = ⊥
+
+-- the call isn't over, or was refused
+abbrev pub IsNotOk : Option Reply → Type 0
+IsNotOk None = Unit {0}
+IsNotOk (Some (Refused e)) = Unit {0}
+IsNotOk (Some r) = ⊥
+
+-- it did nothing, and isn't Ok
+abbrev pub DidNothing : List Deed → Option Reply → Type 0
+DidNothing ds reply = (ds ≡ []) × IsNotOk reply
+
+-- an insertion did nothing, or added its entry
+abbrev pub Adds : Insertion → List Deed → Option Reply → Type 0
+Adds i ds reply = DidNothing ds reply ⊎ ((entry : Deed) × IsAdded i entry × (ds ≡ entry ∷ []))
+
+-- once the content is there, a commit with a key adds its entry
+abbrev pub AddsAfter : Commit → Option (List ℕ) → List Deed → Option Reply → Type 0
+AddsAfter c None ds reply = ds ≡ []
+AddsAfter c (Some key) ds reply = Adds (insertion_of c key) ds reply
+
+-- a commit did nothing, or put its content, and then what follows it
+abbrev pub CommitsAs : Commit → (Names → Act) → List Deed → Option Reply → Type 0
+CommitsAs c put ds reply =
+    DidNothing ds reply
+    ⊎ ((content : Deed) × (more : List Deed) × IsContent c put content × (ds ≡ content ∷ more)
+    × AddsAfter c c.key more reply)
+
+-- a link's commit is that of bytes that were read, and its content a link to the target
+abbrev pub LinksAs : Target → List Deed → Option Reply → Type 0
+LinksAs t ds reply =
+    DidNothing ds reply
+    ⊎ ((bytes : List ℕ) × (length bytes < 2 ^ 64)
+    × CommitsAs (commit_for t bytes) (λ names. PutLink names t.path) ds reply)
+
+-- what a call of this command did, by the reply that it has so far
+abbrev pub IsCase : Site → Command → List Deed → Option Reply → Type 0
+IsCase site (commands.Put p) ds reply =
+    CommitsAs (commit_of site.cache p) (λ names. PutBytes names p.data) ds reply
+IsCase site (commands.Link l) ds reply = LinksAs (target_of site l) ds reply
+IsCase site (commands.Insert i) ds reply = Adds (insertion site.cache i) ds reply
+IsCase site (commands.Delete d) ds reply = Adds (deletion site.cache d) ds reply
+IsCase site command ds reply = Unit {0}
+
+-- each commit did one of the cases, whether it is over or was left on its way
+abbrev pub CommitsAreCases : History → Type 0
+CommitsAreCases h =
+    (call : Call) (reply : Option Reply) → Reaches h call reply
+    → IsCase (site_of h.setup call.number) call.command (deeds call.turns) reply

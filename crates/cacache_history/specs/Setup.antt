@@ -1,0 +1,68 @@
+-- What callers share, and where their exports and links may lead.
+use Rattle.std.specs.Prelude.{ℕ, Bool, true, false, ◌&&◌, ◌||◌, List, [], ◌∷◌, Option, None, Some, Result, Ok, Err, bytes_eq, codes, if◌then◌else◌}
+use Rattle.cacache_core.specs.declared.errors.Fault.{Fault}
+use Rattle.cacache_core.specs.PathNames.{Names, names_of, home_of}
+use Rattle.cacache_disk.specs.Tree.{same_path}
+use Rattle.cacache_calls.specs.State.{Site}
+
+-- the cache, the files that links may lead to, and how many callers there are
+pub record Setup : Type 0 where
+  pub cache : List ℕ
+  pub outside : List (List ℕ × List ℕ)
+  pub callers : ℕ
+
+-- where the call with this number works: relative link targets start at the top folder
+abbrev pub site_of : Setup → ℕ → Site
+site_of s number = record { cache = s.cache; base = codes "/"; number = number }
+
+-- the names of the cache's folder
+abbrev pub home : Setup → Option Names
+home s = home_of s.cache
+
+-- ---- where exports may go
+
+-- neither path is the other, or lies below it
+abbrev pub are_apart : Names → Names → Bool
+are_apart [] path = false
+are_apart (n ∷ ns) [] = false
+are_apart (n ∷ ns) (m ∷ ms) = if bytes_eq n m then are_apart ns ms else true
+
+-- a path is apart from the cache's folder; from one that can't be, each path is
+abbrev pub apart_from_home : Option Names → Names → Bool
+apart_from_home None path = true
+apart_from_home (Some folder) path = are_apart folder path
+
+-- it is apart from what a text names; from one that names nothing, each path is
+abbrev pub apart_from_text : Result Names Fault → Names → Bool
+apart_from_text (Ok names) path = are_apart names path
+apart_from_text (Err fault) path = true
+
+-- it is apart from each outside file
+abbrev pub apart_from_files : List (List ℕ × List ℕ) → Names → Bool
+apart_from_files [] path = true
+apart_from_files (file ∷ files) path =
+    apart_from_text (names_of file.0) path && apart_from_files files path
+
+-- an export may go apart from the cache and from the outside files; where a text names nothing,
+-- its step fails
+abbrev pub may_take : Setup → Result Names Fault → Bool
+may_take s (Ok path) = apart_from_home (home s) path && apart_from_files s.outside path
+may_take s (Err fault) = true
+
+abbrev pub may_export : Setup → List ℕ → Bool
+may_export s path = may_take s (names_of path)
+
+-- ---- where links may lead
+
+-- both texts name the same path
+abbrev pub same_place : Result Names Fault → Result Names Fault → Bool
+same_place (Ok a) (Ok b) = same_path a b
+same_place a b = false
+
+-- one of these files lies here
+abbrev pub is_among : List (List ℕ × List ℕ) → List ℕ → Bool
+is_among [] path = false
+is_among (file ∷ files) path = same_place (names_of file.0) (names_of path) || is_among files path
+
+abbrev pub is_outside : Setup → List ℕ → Bool
+is_outside s path = is_among s.outside path

@@ -1,0 +1,16 @@
+//! What happens when callers take turns.
+use cacache_base::store::{PlainAnswer, PlainStep};
+use cacache_calls::{Command, Reply};
+use cacache_disk::Luck;
+
+/// One thing that happened. A caller is known by its number, from 0.
+#[derive(Debug, Drop)]
+pub enum Record {
+    /// The caller began a call.
+    Began(usize, Command),
+    /// The caller's call moved: the luck, the step with its answer, and the reply where the call is
+    /// over. There is no step only where the call was over before any.
+    Moved(usize, Luck, Option<(PlainStep, PlainAnswer)>, Option<Reply>),
+    /// The caller gave its call up.
+    Stopped(usize),
+}

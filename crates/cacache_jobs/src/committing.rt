@@ -1,0 +1,35 @@
+//! Commits of contents whose bytes stand in a temporary file.
+ghost use Rattle.std.specs.Prelude.{◌≡◌};
+ghost use Rattle.cacache_core.specs.declared.errors.Error.TheVariants.{OutOfMemory};
+ghost use Rattle.cacache_calls.specs.Promises.{Stores};
+ghost use Rattle.cacache_calls.specs.Runs.{Ran, plain_reply};
+ghost use Rattle.cacache_calls.specs.Storing.{persist};
+ghost use Rattle.cacache_calls.specs.declared.reply.Reply.TheVariants.{Refused};
+ghost use Rattle.cacache_jobs.specs.Standing.{commit_of};
+
+use crate::job::Job;
+use crate::run::drive;
+use crate::storing::{Commit, fill_place};
+use cacache_base::env::Env;
+use cacache_base::store::Store;
+use cacache_calls::Reply;
+
+/// Makes the temporary file the content that the commit says, and goes on to its end. The reply is that of a run of the
+/// call from there on, and where the store keeps its log, that run is what the log gained. The clock, the numbers and the
+/// base folder stay as they were.
+pub fn commit_from<S: Store, C, N>(env: &mut Env<S, C, N>, commit: Commit, file: S::Temp) -> Reply
+    ensures ran { Ran (persist (commit_of commit) (S.Temp.seen file))
+        (plain_reply result) (S.log env.old.store) (S.log env.new.store) }
+    ensures promised { Stores (commit_of commit) (plain_reply result) }
+
+    // A caller that finds no memory for the reply answers as if the run had found none.
+    ensures lost { Ran (persist (commit_of commit) (S.Temp.seen file))
+        (Refused OutOfMemory) (S.log env.old.store) (S.log env.new.store) }
+    ensures clock { env.new.clock ≡ env.old.clock }
+    ensures names { env.new.names ≡ env.old.names }
+    ensures base { env.new.base ≡ env.old.base }
+{
+    let phase = fill_place(env.alloc, commit, file);
+    let job = Job::at(env.alloc, phase);
+    drive(&mut env.store, job)
+}

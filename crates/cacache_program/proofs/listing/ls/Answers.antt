@@ -1,0 +1,11 @@
+-- What was listed was told.
+use Rattle.cacache_program.specs.Listing.{listed}
+use Rattle.cacache_program.proofs.Listings.{plain_listing, plain_puts}
+use Rattle.cacache_program.proofs.listing.ls.Goals as goal
+
+pub returns-in-Ok-listing_of-clause-does : goal.returns-in-Ok-listing_of-clause-does
+returns-in-Ok-listing_of-clause-does g c =
+    let items = c.in-Ok.items.items in
+    let text = c.in-Ok-listing_of.listing.text.items in
+    let puts = plain_puts items _ text (g.W.Write.contents c.args.output.now) (g.W.Write.contents c.print.new.output) c.print.result c.in-Ok-listing_of.ensures.error c.print.ensures.put in
+    (listed items, c.in-Ok.ensures.ran, (text, plain_listing items text c.in-Ok-listing_of.ensures.text, puts))

@@ -1,0 +1,30 @@
+-- What reading the rest of a target does.
+use Rattle.std.specs.Prelude.{◌≡◌, ℕ, List, Option, Result, Ok, Err, length}
+use Rattle.cacache_core.specs.declared.errors.Error.{Error}
+use Rattle.cacache_core.specs.declared.integrity.hasher.Hasher.{Hasher}
+use Rattle.cacache_core.specs.Hashers.{Holds, algorithm_of}
+use Rattle.cacache_base.specs.declared.store.log.LogItem.{LogItem}
+use Rattle.cacache_base.specs.declared.store.plain.PlainFile.{PlainFile}
+use Rattle.cacache_calls.specs.declared.reply.Reply.TheVariants.{Refused}
+use Rattle.cacache_calls.specs.Linking.{commit_for}
+use Rattle.cacache_calls.specs.Runs.{Gone, Ran, without_message}
+use Rattle.cacache_calls.specs.State.{State, hashing, to_link, Target}
+use Rattle.cacache_calls.specs.Storing.{link}
+
+-- a link is made of its target once these bytes were read of it, and no more
+abbrev pub links : Target → List ℕ → State
+links t bytes = link (commit_for t bytes) t.path
+
+-- the hasher went on to these bytes
+abbrev pub HoldsOn : Hasher → Hasher → List ℕ → Type 0
+HoldsOn old new bytes = Holds new bytes × (algorithm_of new ≡ algorithm_of old)
+
+-- the rest of the target was read, whose bytes are so many then; or why it wasn't
+abbrev pub ReadsRest :
+    Target → PlainFile → List ℕ → Hasher → Hasher → Result ℕ Error
+    → Option (List LogItem) → Option (List LogItem) → Type 0
+ReadsRest t file bytes hasher next (Ok n) old new =
+    (all : List ℕ) × HoldsOn hasher next all × (n ≡ length all)
+    × Gone (hashing (to_link t) file bytes) (links t all) old new
+ReadsRest t file bytes hasher next (Err e) old new =
+    Ran (hashing (to_link t) file bytes) (Refused (without_message e)) old new

@@ -1,0 +1,278 @@
+//! Links whose target is read in pieces before they are made.
+ghost use Rattle.std.specs.Prelude.{◌≡◌, ◌++◌, ℕ, List, None, Some, length};
+ghost use Rattle.std.specs.Io.{ReadsAtMost};
+ghost use Rattle.std.specs.Io.KnownBytes.{ReadConsumes};
+ghost use Rattle.cacache_core.specs.declared.integrity.algorithm.Algorithm.TheVariants.{Sha256};
+ghost use Rattle.cacache_core.specs.Integrity.{integrity_under};
+ghost use Rattle.cacache_base.specs.Handles.{LeftFalls};
+ghost use Rattle.cacache_calls.specs.declared.reply.Reply.TheVariants.{Stored};
+ghost use Rattle.cacache_calls.specs.Runs.{Ran};
+ghost use Rattle.cacache_calls.specs.State.{hashing, to_link};
+ghost use Rattle.cacache_core.specs.Hashers.{Holds, algorithm_of};
+ghost use Rattle.cacache_content.specs.Reading.{given};
+ghost use Rattle.cacache_put.specs.Linkers.{HasTaken, OpensLinker, Commits, Sizes, asks_size, asks_file, linked_to, target_at};
+ghost use Rattle.cacache_put.specs.Options.{blank as blank_options};
+ghost use Rattle.cacache_put.specs.Replies.{reply_of};
+ghost use Rattle.cacache_put.specs.Rest.{links};
+
+use crate::linked::Linked;
+use crate::moment::moment;
+use crate::put::blank;
+use crate::rest::read_rest;
+use cacache_base::env::{Clock, Env, Names};
+use cacache_base::store::{OpenedFile, Step, Store};
+use cacache_calls::Reply;
+use cacache_calls::answers::{file_of, length_of};
+use cacache_core::errors::{Error, Result};
+use cacache_core::hasher::Hasher;
+use cacache_core::integrity::{Algorithm, Integrity};
+use cacache_core::text::Text;
+use cacache_jobs::{link_from, refused};
+use std::alloc::{AllocError, Global};
+use std::io;
+use std::io::Read;
+
+/// An open file that is to become a content by a link to it. It may be read in pieces; `commit` reads the rest. Each byte
+/// is hashed once.
+#[derive(Drop)]
+pub struct SyncToLinker<F> {
+    linked: Linked,
+    hasher: Hasher,
+    /// How many bytes were read, or `usize::MAX` if there are more.
+    count: usize,
+    file: F,
+}
+
+/// Why the target wasn't opened.
+fn unopened(alloc: Global, linked: &Linked) -> std::result::Result<Text, AllocError> {
+    let path = &linked.path;
+    Ok(Text::new(format!(in alloc; "Failed to open reader to {path}")?))
+}
+
+/// Why the target's size wasn't told.
+fn unmeasured(alloc: Global, linked: &Linked) -> std::result::Result<Text, AllocError> {
+    let path = &linked.path;
+    Ok(Text::new(format!(in alloc; "Failed to get metadata of {path}")?))
+}
+
+/// Opens the target.
+pub(crate) fn open_target<S: Store>(
+    alloc: Global,
+    store: &mut S,
+    linked: Linked,
+) -> Result<SyncToLinker<S::File>>
+    ensures { OpensLinker S.File.seen linked.time (asks_file linked) result
+        (S.log store.old) (S.log store.new) }
+{
+    let path = linked.path.clone()?;
+    match file_of(store.step(Step::Open(path))) {
+        Ok(file) => {
+            let hasher = Hasher::new(linked.options.algorithm);
+            Ok(SyncToLinker {
+                linked,
+                hasher,
+                count: 0,
+                file,
+            })
+        }
+        Err(refusal) => Err(refused(refusal, unopened(alloc, &linked))),
+    }
+}
+
+/// Asks the target's size, which the link is to have.
+fn sized<S: Store>(alloc: Global, store: &mut S, linked: Linked) -> Result<Linked>
+    ensures { Sizes linked result (S.log store.old) (S.log store.new) }
+{
+    let path = linked.path.clone()?;
+    match length_of(store.step(Step::Size(path))) {
+        Ok(size) => Ok(linked.with_size(size as usize)),
+        Err(refusal) => Err(refused(refusal, unmeasured(alloc, &linked))),
+    }
+}
+
+/// Asks the target's size, and opens it.
+fn open_sized<S: Store>(
+    alloc: Global,
+    store: &mut S,
+    linked: Linked,
+) -> Result<SyncToLinker<S::File>>
+    ensures { OpensLinker S.File.seen linked.time (asks_size linked) result
+        (S.log store.old) (S.log store.new) }
+{
+    match sized(alloc, store, linked) {
+        Ok(linked) => open_target(alloc, store, linked),
+        Err(error) => Err(error),
+    }
+}
+
+/// Makes the link of a target that was read to its end and has this integrity and size.
+fn finish<S: Store, C, N>(
+    env: &mut Env<S, C, N>,
+    linked: Linked,
+    computed: Integrity,
+    count: usize,
+    moment: u128,
+) -> Result<Integrity>
+    ensures ran { (bytes : List ℕ)
+        → computed ≡ integrity_under linked.options.algorithm bytes → count ≡ length bytes
+        → Ran (links (target_at linked moment) bytes) (reply_of Stored result)
+        (S.log env.old.store) (S.log env.new.store) }
+    ensures clock { env.new.clock ≡ env.old.clock }
+    ensures names { env.new.names ≡ env.old.names }
+    ensures base { env.new.base ≡ env.old.base }
+{
+    let (commit, target) = linked.into_commit(computed, count, moment);
+    match link_from(env, commit, target) {
+        Reply::Stored(integrity) => Ok(integrity),
+        Reply::Refused(error) => Err(error),
+        _ => unreachable!(),
+    }
+}
+
+/// Reads the rest of the target, of which so many bytes were hashed, and makes the link.
+fn link_rest<S: Store, C, N>(
+    env: &mut Env<S, C, N>,
+    linked: Linked,
+    hasher: Hasher,
+    count: usize,
+    file: S::File,
+    moment: u128,
+) -> Result<Integrity>
+    ensures ran { (bytes : List ℕ)
+        → Holds hasher bytes → algorithm_of hasher ≡ linked.options.algorithm
+        → count ≡ length bytes
+        → Ran (hashing (to_link (target_at linked moment)) (S.File.seen file) bytes)
+        (reply_of Stored result) (S.log env.old.store) (S.log env.new.store) }
+    ensures clock { env.new.clock ≡ env.old.clock }
+    ensures names { env.new.names ≡ env.old.names }
+    ensures base { env.new.base ≡ env.old.base }
+{
+    let mut hasher = hasher;
+    match read_rest(env.alloc, &mut env.store, file, &mut hasher, count) {
+        Ok(whole) => match hasher.result(env.alloc) {
+            Ok(computed) => finish(env, linked, computed, whole, moment),
+            Err(error) => Err(error),
+        },
+        Err(error) => Err(error),
+    }
+}
+
+impl<F: OpenedFile> SyncToLinker<F> {
+    /// Opens the target of a link without a key, whose integrity is to be under this algorithm. A target without a `/` in
+    /// front starts at the base folder of `env`.
+    ///
+    /// `IoError` says that the target couldn't be opened. Nothing changes.
+    pub fn new<S: Store<File = F>, C: Clock, N: Names>(
+        env: &mut Env<S, C, N>,
+        cache: &str,
+        algo: Algorithm,
+        target: &str,
+    ) -> Result<SyncToLinker<F>>
+        ensures opens { OpensLinker F.seen (Some 0) (asks_file (linked_to env.old.base cache.now
+            None target.now (Some 0) (blank_options algo))) result
+            (S.log env.old.store) (S.log env.new.store) }
+        ensures clock { env.new.clock ≡ env.old.clock }
+        ensures names { env.new.names ≡ env.old.names }
+        ensures base { env.new.base ≡ env.old.base }
+    {
+        let alloc = env.alloc;
+        let base = env.base.as_str();
+        let linked = Linked::new(alloc, base, cache, None, target, Some(0), blank(algo))?;
+        open_target(alloc, &mut env.store, linked)
+    }
+
+    /// Opens the target of a link under the key. Its size is asked first, and is the one that the link is to have. A
+    /// target without a `/` in front starts at the base folder of `env`.
+    ///
+    /// `IoError` says whether the size couldn't be told or the target couldn't be opened. Nothing changes.
+    pub fn open<S: Store<File = F>, C: Clock, N: Names>(
+        env: &mut Env<S, C, N>,
+        cache: &str,
+        key: &str,
+        target: &str,
+    ) -> Result<SyncToLinker<F>>
+        ensures opens { OpensLinker F.seen None (asks_size (linked_to env.old.base cache.now
+            (Some key.now) target.now None (blank_options Sha256))) result
+            (S.log env.old.store) (S.log env.new.store) }
+        ensures clock { env.new.clock ≡ env.old.clock }
+        ensures names { env.new.names ≡ env.old.names }
+        ensures base { env.new.base ≡ env.old.base }
+    {
+        let alloc = env.alloc;
+        let base = env.base.as_str();
+        let key = Some(Text::from_str(alloc, key)?);
+        let options = blank(Algorithm::Sha256);
+        let linked = Linked::new(alloc, base, cache, key, target, None, options)?;
+        open_sized(alloc, &mut env.store, linked)
+    }
+
+    /// What `open` does, without a key.
+    pub fn open_hash<S: Store<File = F>, C: Clock, N: Names>(
+        env: &mut Env<S, C, N>,
+        cache: &str,
+        target: &str,
+    ) -> Result<SyncToLinker<F>>
+        ensures opens { OpensLinker F.seen (Some 0) (asks_size (linked_to env.old.base cache.now
+            None target.now (Some 0) (blank_options Sha256))) result
+            (S.log env.old.store) (S.log env.new.store) }
+        ensures clock { env.new.clock ≡ env.old.clock }
+        ensures names { env.new.names ≡ env.old.names }
+        ensures base { env.new.base ≡ env.old.base }
+    {
+        let alloc = env.alloc;
+        let base = env.base.as_str();
+        let options = blank(Algorithm::Sha256);
+        let linked = Linked::new(alloc, base, cache, None, target, Some(0), options)?;
+        open_sized(alloc, &mut env.store, linked)
+    }
+
+    /// Reads the rest of the target, makes a link to it the content of its bytes, and with a key adds an entry. Answers
+    /// the integrity of the whole target, or with a key the expected one, where one was given. The entry has the time
+    /// that was set; where none was, the clock is asked for it once, before the first step.
+    ///
+    /// `IoError` says which step failed, or took only a part of the line. `IntegrityError` where the expected integrity
+    /// doesn't list the target's, `SizeMismatch` where the target has another size than expected, `SerdeError` where the
+    /// entry can't be written: then the link is there. After other errors it may be there or not, and the bucket may end
+    /// in a beginning of the line, perhaps all of it. `OutOfMemory` may come after any step.
+    pub fn commit<S: Store<File = F>, C: Clock, N: Names>(
+        self,
+        env: &mut Env<S, C, N>,
+    ) -> Result<Integrity>
+        ensures ran { (bytes : List ℕ) → HasTaken self bytes
+            → Commits F.seen S.log C.given env.old env.new self bytes (reply_of Stored result) }
+    {
+        let SyncToLinker {
+            linked,
+            hasher,
+            count,
+            file,
+        } = self;
+        let moment = moment(&mut env.clock, linked.time);
+        // a longer target has no size that could be told
+        if count == usize::MAX {
+            return Err(Error::OutOfMemory);
+        }
+        link_rest(env, linked, hasher, count, file, moment)
+    }
+}
+
+impl<F: OpenedFile> Read for SyncToLinker<F> {
+    ghost remaining = { λ linker. (F.seen linker.file).bytes };
+
+    /// Reads some bytes into the front of `buf` and returns how many: none only at the end of the target, or if `buf` is
+    /// empty. After an error the linker stands where it stood, and may go on.
+    fn read(&mut self, buf: &mut [u8]) -> io::Result<usize>
+        ensures bound { ReadsAtMost result buf.new }
+        ensures bytes { ReadConsumes (F.seen self.old.file).bytes (F.seen self.new.file).bytes
+            result buf.new }
+        ensures left { LeftFalls (F.seen self.old.file).left (F.seen self.new.file).left result }
+        ensures so_far { (bytes : List ℕ) → HasTaken self.old bytes
+            → HasTaken self.new (bytes ++ given result buf.new) }
+        ensures linked { self.new.linked ≡ self.old.linked }
+    {
+        let count = self.file.read_some(buf)?;
+        self.hasher.update(&buf[..count]);
+        self.count = self.count.saturating_add(count);
+        Ok(count)
+    }
+}

@@ -1,0 +1,61 @@
+//! Links that are opened with options.
+ghost use Rattle.std.specs.Prelude.{◌≡◌, None, Some};
+ghost use Rattle.cacache_put.specs.Linkers.{OpensLinker, asks_file, linked_to};
+ghost use Rattle.cacache_put.specs.Options.{options_of};
+
+use crate::linked::Linked;
+use crate::linker::{SyncToLinker, open_target};
+use crate::opts::WriteOpts;
+use cacache_base::env::{Clock, Env, Names};
+use cacache_base::store::Store;
+use cacache_core::errors::Result;
+use cacache_core::text::Text;
+
+impl WriteOpts {
+    /// Opens the target of a link under the key, with these options. A target without a `/` in front starts at the base
+    /// folder of `env`. The link is made by the linker's `commit`.
+    ///
+    /// `IoError` says that the target couldn't be opened. Nothing changes.
+    pub fn link_to_sync<S: Store, C: Clock, N: Names>(
+        self,
+        env: &mut Env<S, C, N>,
+        cache: &str,
+        key: &str,
+        target: &str,
+    ) -> Result<SyncToLinker<S::File>>
+        ensures opens { OpensLinker S.File.seen self.time (asks_file (linked_to env.old.base
+            cache.now (Some key.now) target.now self.time (options_of self))) result
+            (S.log env.old.store) (S.log env.new.store) }
+        ensures clock { env.new.clock ≡ env.old.clock }
+        ensures names { env.new.names ≡ env.old.names }
+        ensures base { env.new.base ≡ env.old.base }
+    {
+        let alloc = env.alloc;
+        let time = self.set_time();
+        let key = Some(Text::from_str(alloc, key)?);
+        let options = self.into_options(alloc)?;
+        let linked = Linked::new(alloc, env.base.as_str(), cache, key, target, time, options)?;
+        open_target(alloc, &mut env.store, linked)
+    }
+
+    /// What `link_to_sync` does, without a key.
+    pub fn link_to_hash_sync<S: Store, C: Clock, N: Names>(
+        self,
+        env: &mut Env<S, C, N>,
+        cache: &str,
+        target: &str,
+    ) -> Result<SyncToLinker<S::File>>
+        ensures opens { OpensLinker S.File.seen (Some 0) (asks_file (linked_to env.old.base
+            cache.now None target.now (Some 0) (options_of self))) result
+            (S.log env.old.store) (S.log env.new.store) }
+        ensures clock { env.new.clock ≡ env.old.clock }
+        ensures names { env.new.names ≡ env.old.names }
+        ensures base { env.new.base ≡ env.old.base }
+    {
+        let alloc = env.alloc;
+        let options = self.into_options(alloc)?;
+        let base = env.base.as_str();
+        let linked = Linked::new(alloc, base, cache, None, target, Some(0), options)?;
+        open_target(alloc, &mut env.store, linked)
+    }
+}

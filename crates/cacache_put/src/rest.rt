@@ -1,0 +1,58 @@
+//! The rest of a target, which a commit reads.
+ghost use Rattle.std.specs.Prelude.{◌≡◌, ℕ, List, length};
+ghost use Rattle.cacache_core.specs.Hashers.{Holds};
+ghost use Rattle.cacache_calls.specs.State.{Target};
+ghost use Rattle.cacache_put.specs.Rest.{ReadsRest};
+
+use cacache_base::store::{Step, Store};
+use cacache_calls::answers::{Got, got_of};
+use cacache_core::errors::{Error, Result};
+use cacache_core::hasher::Hasher;
+use cacache_core::text::Text;
+use cacache_jobs::refused;
+use std::alloc::{AllocError, Global};
+
+/// A read asks for at most so many bytes.
+const PIECE: usize = 8192;
+
+/// Why a piece of the target wasn't read.
+fn unread(alloc: Global) -> std::result::Result<Text, AllocError> {
+    Text::from_str(
+        alloc,
+        "Failed to read target file contents while calculating integrity",
+    )
+}
+
+/// Reads the target to its end and hashes it, so many bytes having been read before, and answers how many it has.
+pub(crate) fn read_rest<S: Store>(
+    alloc: Global,
+    store: &mut S,
+    file: S::File,
+    hasher: &mut Hasher,
+    before: usize,
+) -> Result<usize>
+    ensures { (t : Target) (bytes : List ℕ) → Holds hasher.old bytes → before ≡ length bytes
+        → ReadsRest t (S.File.seen file) bytes hasher.old hasher.new result
+        (S.log store.old) (S.log store.new) }
+{
+    let mut file = file;
+    let mut count = before;
+    'pieces: loop {
+        match got_of(store.step(Step::Read(file, PIECE))) {
+            Ok(got) => {
+                let Got { file: next, bytes } = got;
+                if bytes.is_empty() {
+                    return Ok(count);
+                }
+                // a longer file has no size that could be told
+                let Some(more) = count.checked_add(bytes.len()) else {
+                    return Err(Error::OutOfMemory);
+                };
+                hasher.update(bytes.as_slice());
+                count = more;
+                file = next;
+            }
+            Err(refusal) => return Err(refused(refusal, unread(alloc))),
+        }
+    }
+}

@@ -1,0 +1,162 @@
+//! Contents that are written in pieces, with all options at their commit.
+ghost use Rattle.std.specs.Prelude.{◌≡◌, ◌++◌, ℕ, List, Some};
+ghost use Rattle.std.specs.Io.{WritesAtMost};
+ghost use Rattle.std.specs.Io.KnownBytes.{WriteAppends};
+ghost use Rattle.cacache_calls.specs.Promises.{Stores};
+ghost use Rattle.cacache_content.specs.Writing.{HasTaken, GoesOn, Removes, taken, stored_as};
+ghost use Rattle.cacache_put.specs.Options.{nothing_said};
+ghost use Rattle.cacache_put.specs.Writers.{OpensAt, Opens, Commits, commit_of};
+
+use crate::moment::moment_of;
+use crate::opts::WriteOpts;
+use cacache_base::env::{Clock, Env, Names};
+use cacache_base::store::{Store, TempFile};
+use cacache_calls::Options;
+use cacache_content::writer::{Writer, abandon, commit, open};
+use cacache_core::errors::Result;
+use cacache_core::integrity::{Algorithm, Integrity};
+use cacache_core::text::Text;
+use std::alloc::Global;
+use std::io;
+use std::io::Write;
+
+/// A content that is being written, and what was said of it. A writer that is dropped leaves its file for `clear_sync`.
+#[derive(Drop)]
+pub struct SyncWriter<T> {
+    writer: Writer<T>,
+    key: Option<Text>,
+    /// The entry's time, in milliseconds since 1970; the clock is asked where none was set.
+    time: Option<u128>,
+    options: Options,
+}
+
+/// Opens a writer with a temporary file of this number.
+pub(crate) fn open_writer<S: Store>(
+    alloc: Global,
+    store: &mut S,
+    cache: &str,
+    number: u64,
+    key: Option<Text>,
+    opts: WriteOpts,
+) -> Result<SyncWriter<S::Temp>>
+    ensures { OpensAt S.Temp.seen cache.now key opts result
+        (S.log store.old) (S.log store.new) number }
+{
+    let time = opts.set_time();
+    let options = opts.into_options(alloc)?;
+    let writer = open(alloc, store, cache, options.algorithm, number)?;
+    Ok(SyncWriter {
+        writer,
+        key,
+        time,
+        options,
+    })
+}
+
+impl<T: TempFile> SyncWriter<T> {
+    /// Opens a writer that commits under the key, with the SHA-256 integrity. A number is asked once, before the first
+    /// step.
+    ///
+    /// `IoError` says which step failed. Contents and index stay as they were; folders may have been made.
+    pub fn create<S: Store<Temp = T>, C: Clock, N: Names>(
+        env: &mut Env<S, C, N>,
+        cache: &str,
+        key: &str,
+    ) -> Result<SyncWriter<T>>
+        ensures opens { Opens T.seen S.log N.given env.old env.new cache.now (Some key.now)
+            nothing_said result }
+    {
+        WriteOpts::new().open_sync(env, cache, key)
+    }
+
+    /// What `create` does, with an algorithm of the caller's for the integrity.
+    pub fn create_with_algo<S: Store<Temp = T>, C: Clock, N: Names>(
+        env: &mut Env<S, C, N>,
+        algo: Algorithm,
+        cache: &str,
+        key: &str,
+    ) -> Result<SyncWriter<T>>
+        ensures opens { Opens T.seen S.log N.given env.old env.new cache.now (Some key.now)
+            (record nothing_said { algorithm = algo }) result }
+    {
+        WriteOpts::new().algorithm(algo).open_sync(env, cache, key)
+    }
+
+    /// Makes the bytes that the writer took a content, compares it with the expected integrity and then with the expected
+    /// size, and with a key adds its entry; the entry's size is the count of the bytes. Answers the expected integrity
+    /// where there is one and a key, and else that of the bytes. With a key the clock is asked once, before the first step,
+    /// where no time was set.
+    ///
+    /// `IntegrityError` and `SizeMismatch` leave the content there, without an entry. `SerdeError` where the entry can't be
+    /// written, likewise. `IoError` says which step failed, or took only a part of the line. Then the content may have been
+    /// stored or not, and the bucket may end in a beginning of the line, perhaps all of it. `OutOfMemory` may come after
+    /// any step.
+    pub fn commit<S: Store<Temp = T>, C: Clock, N: Names>(
+        self,
+        env: &mut Env<S, C, N>,
+    ) -> Result<Integrity>
+        ensures stored { (bytes : List ℕ) → HasTaken self.writer bytes
+            → (moment : ℕ) × Stores (commit_of self bytes moment) (stored_as result) }
+        ensures ran { (bytes : List ℕ) → HasTaken self.writer bytes
+            → Commits T.seen S.log C.given env.old env.new self bytes (stored_as result) }
+        ensures names { env.new.names ≡ env.old.names }
+        ensures base { env.new.base ≡ env.old.base }
+    {
+        let SyncWriter {
+            writer,
+            key,
+            time,
+            options,
+        } = self;
+        let moment = moment_of(&mut env.clock, &key, time);
+        commit(env, writer, key, moment, options)
+    }
+
+    /// Removes the temporary file, and commits nothing.
+    ///
+    /// `IoError` says that it couldn't be removed. Contents and index stay as they were.
+    pub fn abandon<S: Store<Temp = T>, C: Clock, N: Names>(
+        self,
+        env: &mut Env<S, C, N>,
+    ) -> Result<()>
+        ensures removes { Removes self.writer.path result
+            (S.log env.old.store) (S.log env.new.store) }
+        ensures clock { env.new.clock ≡ env.old.clock }
+        ensures names { env.new.names ≡ env.old.names }
+        ensures base { env.new.base ≡ env.old.base }
+    {
+        let SyncWriter {
+            writer,
+            key: _key,
+            time: _,
+            options: _options,
+        } = self;
+        abandon(env.alloc, &mut env.store, writer)
+    }
+}
+
+impl<T: TempFile> Write for SyncWriter<T> {
+    ghost contents = { λ writer. (T.seen writer.writer.file).bytes };
+
+    /// Hands some bytes from the front of `buf` to the file, and returns how many it took. After an error none was
+    /// taken, and the writer goes on.
+    fn write(&mut self, buf: &[u8]) -> io::Result<usize>
+        ensures bound { WritesAtMost result buf.now }
+        ensures bytes { WriteAppends (T.seen self.old.writer.file).bytes
+            (T.seen self.new.writer.file).bytes result buf.now }
+        ensures takes { (bytes : List ℕ) → HasTaken self.old.writer bytes
+            → HasTaken self.new.writer (bytes ++ taken result buf.now) }
+        ensures goes_on { GoesOn T.seen self.old.writer self.new.writer }
+        ensures said { self.new ≡ record self.old { writer = self.new.writer } }
+    {
+        self.writer.write(buf)
+    }
+
+    /// Does nothing: each write goes to the file itself.
+    fn flush(&mut self) -> io::Result<()>
+        ensures bytes { (T.seen self.new.writer.file).bytes ≡ (T.seen self.old.writer.file).bytes }
+        ensures same { self.new ≡ self.old }
+    {
+        Ok(())
+    }
+}

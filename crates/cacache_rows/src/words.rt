@@ -1,0 +1,54 @@
+//! Words of rows: `-` stands for nothing, `\n` for a line feed, `\t` for a tab, and `\0` for a NUL.
+use crate::flaw::Flaw;
+use std::alloc::{AllocError, Global};
+
+/// The first column of a row, and those behind it.
+pub fn column(row: &str) -> Result<(&str, &str), Flaw> {
+    match row.split_once(" | ") {
+        Some(columns) => Ok(columns),
+        None => Err(Flaw::NotRead),
+    }
+}
+
+/// The first word of a text, and what follows it.
+pub fn cut(text: &str) -> (&str, &str) {
+    text.split_once(' ').unwrap_or((text, ""))
+}
+
+/// Whether a word stands for nothing.
+pub fn is_nothing(word: &str) -> bool {
+    word == "-" || word.is_empty()
+}
+
+/// The number that a word spells.
+pub fn number_of(word: &str) -> Result<usize, Flaw> {
+    match word.parse::<usize>() {
+        Ok(number) => Ok(number),
+        Err(_) => Err(Flaw::NotRead),
+    }
+}
+
+/// The text that a word stands for.
+pub fn string_of(alloc: Global, word: &str) -> Result<String, AllocError> {
+    if is_nothing(word) {
+        return Ok(String::new(alloc));
+    }
+    let text = word.replace(alloc, "\\n", "\n")?;
+    let text = text.replace(alloc, "\\t", "\t")?;
+    text.replace(alloc, "\\0", "\0")
+}
+
+/// Bytes as a word, in which line feeds, tabs and NULs are not written out; `?` where they aren't UTF-8.
+pub fn word_of(bytes: &[u8]) -> &str {
+    if bytes.is_empty() {
+        return "-";
+    }
+    str::from_utf8(bytes).unwrap_or("?")
+}
+
+/// A text with its line feeds, tabs and NULs written out.
+pub fn written_out(alloc: Global, text: &str) -> Result<String, AllocError> {
+    let text = text.replace(alloc, "\n", "\\n")?;
+    let text = text.replace(alloc, "\t", "\\t")?;
+    text.replace(alloc, "\0", "\\0")
+}

@@ -1,0 +1,4 @@
+pub mod Turning
+pub mod Worlds
+pub mod Admitting
+pub mod Playing

@@ -1,0 +1,81 @@
+use Rattle.std.proofs.Common.{◌∙◌, ◌∷◌, ◌++◌, [], None, Some, sym, ap, subst, vec_len, slice_set}
+use Rattle.cacache_history.specs.declared.record.Record.TheVariants.{Moved}
+use Rattle.cacache_history.specs.History.{Made}
+use Rattle.cacache_world.specs.Turned.{reply_of, told_by}
+use Rattle.cacache_world.specs.Kept.{told, adding, history_of, setup_of, Keeps, Adds}
+use Rattle.cacache_world.proofs.Worlds.{over_left, back_keeps, move_left, told_is, same_parts, keeps_same, keeps_ready, set_again}
+use Rattle.cacache_world.proofs.world.World.move_one.Goals as goal
+
+pub advance-requires : goal.advance-requires
+advance-requires c =
+    keeps_ready (told c.self.inside) c.self.inside.disk c.self.inside.begun c.self.inside.calls.items c.args.caller c.lift-job.result c.self.invariant c.lift-job.ensures.lifted.here
+
+pub invariant_of-self-in-Over : goal.invariant_of-self-in-Over
+invariant_of-self-in-Over c =
+    let parts = same_parts c.self.inside.cache c.self.inside.outside.items (vec_len c.self.inside.calls) (vec_len c.lift-job.new.calls) _ c.note.new.records.items c.lift-job.ensures.len
+    (c.note.ensures ∙ ap (λ xs. xs ++ Moved c.args.caller c.args.luck None (Some c.in-Over.copy) ∷ []) c.make_room.ensures.items) in
+    subst (λ d. Keeps (history_of (setup_of c.self.inside.cache c.self.inside.outside.items (vec_len c.lift-job.new.calls)) c.note.new.records.items) d c.self.inside.begun c.lift-job.new.calls.items) (sym c.in-Over.ensures.0)
+    (keeps_same (adding (told c.self.inside) (Moved c.args.caller c.args.luck None (Some c.in-Over.copy))) _ c.self.inside.disk c.self.inside.begun c.lift-job.new.calls.items parts
+    (over_left (told c.self.inside) c.self.inside.disk c.self.inside.begun c.self.inside.calls.items c.lift-job.new.calls.items c.args.caller c.lift-job.result c.args.luck c.in-Over.copy c.self.invariant
+    c.lift-job.ensures.lifted.here c.in-Over.ensures.2 c.lift-job.ensures.lifted.gone).keeps)
+
+pub returns-in-Over-clause-adds : goal.returns-in-Over-clause-adds
+returns-in-Over-clause-adds c =
+    let parts = same_parts c.self.inside.cache c.self.inside.outside.items (vec_len c.self.inside.calls) (vec_len c.lift-job.new.calls) _ c.note.new.records.items c.lift-job.ensures.len
+    (c.note.ensures ∙ ap (λ xs. xs ++ Moved c.args.caller c.args.luck None (Some c.in-Over.copy) ∷ []) c.make_room.ensures.items) in
+    let new = history_of (setup_of c.self.inside.cache c.self.inside.outside.items (vec_len c.lift-job.new.calls)) c.note.new.records.items in (
+      None,
+      subst (λ x. Adds x (Moved c.args.caller c.args.luck None (Some c.in-Over.reply)) new) c.self.view_is
+          (subst (λ r. Adds (told c.self.inside) (Moved c.args.caller c.args.luck None (Some r)) new) c.in-Over.ensures.1
+          (record {
+            may = (over_left (told c.self.inside) c.self.inside.disk c.self.inside.begun c.self.inside.calls.items c.lift-job.new.calls.items c.args.caller c.lift-job.result c.args.luck c.in-Over.copy c.self.invariant
+                c.lift-job.ensures.lifted.here c.in-Over.ensures.2 c.lift-job.ensures.lifted.gone).may;
+            added = parts;
+          })),
+    )
+
+pub invariant_of-self-in-Back : goal.invariant_of-self-in-Back
+invariant_of-self-in-Back c =
+    let set = c.place.ensures.items ∙ ap (λ xs. slice_set xs c.args.caller (Some c.in-Back.job)) c.lift-job.ensures.lifted.gone ∙ set_again c.self.inside.calls.items c.args.caller None (Some c.in-Back.job) in
+    subst (λ d. Keeps (history_of (setup_of c.self.inside.cache c.self.inside.outside.items (vec_len c.place.new.calls)) c.make_room.new.records.items) d c.self.inside.begun c.place.new.calls.items) (sym c.in-Back.ensures.0)
+    (keeps_same (told c.self.inside) _ c.self.inside.disk c.self.inside.begun c.place.new.calls.items
+    (same_parts c.self.inside.cache c.self.inside.outside.items (vec_len c.self.inside.calls) (vec_len c.place.new.calls) c.self.inside.records.items c.make_room.new.records.items
+    (c.place.ensures.len ∙ c.lift-job.ensures.len) c.make_room.ensures.items)
+    (back_keeps (told c.self.inside) c.self.inside.disk c.self.inside.begun c.self.inside.calls.items c.place.new.calls.items c.args.caller c.lift-job.result c.in-Back.job c.self.invariant
+    c.lift-job.ensures.lifted.here c.in-Back.ensures.2 c.in-Back.ensures.1 set))
+
+pub invariant_of-self-in-Made : goal.invariant_of-self-in-Made
+invariant_of-self-in-Made c =
+    let made : Made = (c.in-Made.step, c.in-Made.answer) in
+    let a = c.in-Made.after in
+    let set = c.place-in-Made.ensures.items ∙ ap (λ xs. slice_set xs c.args.caller c.parted-call.result.0) c.lift-job.ensures.lifted.gone
+    ∙ set_again c.self.inside.calls.items c.args.caller None c.parted-call.result.0 ∙ ap (slice_set c.self.inside.calls.items c.args.caller) c.parted-call.ensures.0 in
+    let more = c.note-in-Made.ensures ∙ ap (λ xs. xs ++ Moved c.args.caller c.args.luck (Some made) c.parted-call.result.1 ∷ []) c.make_room.ensures.items
+    ∙ ap (λ q. c.self.inside.records.items ++ Moved c.args.caller c.args.luck (Some made) q ∷ []) c.parted-call.ensures.1 in
+    keeps_same (adding (told c.self.inside) (Moved c.args.caller c.args.luck (Some made) (reply_of a))) _ c.advance.new.disk c.self.inside.begun c.place-in-Made.new.calls.items
+    (same_parts c.self.inside.cache c.self.inside.outside.items (vec_len c.self.inside.calls) (vec_len c.place-in-Made.new.calls) _ c.note-in-Made.new.records.items
+    (c.place-in-Made.ensures.len ∙ c.lift-job.ensures.len) more)
+    (move_left (told c.self.inside) c.self.inside.disk c.advance.new.disk c.self.inside.begun c.self.inside.calls.items c.place-in-Made.new.calls.items c.args.caller c.lift-job.result c.args.luck made a c.self.invariant
+    c.lift-job.ensures.lifted.here c.in-Made.ensures set).keeps
+
+pub returns-in-Made-clause-adds : goal.returns-in-Made-clause-adds
+returns-in-Made-clause-adds c =
+    let made : Made = (c.in-Made.step, c.in-Made.answer) in
+    let a = c.in-Made.after in
+    let more = c.note-in-Made.ensures ∙ ap (λ xs. xs ++ Moved c.args.caller c.args.luck (Some made) c.parted-call.result.1 ∷ []) c.make_room.ensures.items
+    ∙ ap (λ q. c.self.inside.records.items ++ Moved c.args.caller c.args.luck (Some made) q ∷ []) c.parted-call.ensures.1 in
+    let set = c.place-in-Made.ensures.items ∙ ap (λ xs. slice_set xs c.args.caller c.parted-call.result.0) c.lift-job.ensures.lifted.gone
+    ∙ set_again c.self.inside.calls.items c.args.caller None c.parted-call.result.0 ∙ ap (slice_set c.self.inside.calls.items c.args.caller) c.parted-call.ensures.0 in
+    let new = history_of (setup_of c.self.inside.cache c.self.inside.outside.items (vec_len c.place-in-Made.new.calls)) c.note-in-Made.new.records.items in
+    let same = c.parted-call.ensures.2 ∙ told_is (told c.self.inside) c.self.inside.disk c.advance.new.disk c.self.inside.begun c.self.inside.calls.items c.args.caller c.lift-job.result c.args.luck made a c.self.invariant
+    c.lift-job.ensures.lifted.here c.in-Made.ensures in (
+      Some made,
+      subst (λ x. Adds x (Moved c.args.caller c.args.luck (Some made) (told_by c.parted-call.result.2)) new) c.self.view_is
+          (subst (λ r. Adds (told c.self.inside) (Moved c.args.caller c.args.luck (Some made) r) new) (sym same)
+          (record {
+            may = (move_left (told c.self.inside) c.self.inside.disk c.advance.new.disk c.self.inside.begun c.self.inside.calls.items c.place-in-Made.new.calls.items c.args.caller c.lift-job.result c.args.luck made a c.self.invariant
+                c.lift-job.ensures.lifted.here c.in-Made.ensures set).may;
+            added = same_parts c.self.inside.cache c.self.inside.outside.items (vec_len c.self.inside.calls) (vec_len c.place-in-Made.new.calls) _ c.note-in-Made.new.records.items
+                (c.place-in-Made.ensures.len ∙ c.lift-job.ensures.len) more;
+          })),
+    )

@@ -1,0 +1,98 @@
+-- What each world keeps, and what its events add.
+use Rattle.std.specs.Prelude.{◌≡◌, ℕ, List, [], ◌++◌, ◌∷◌, Option, None, Some, slice_get, slice_set, vec_len, IsTrue}
+use Rattle.cacache_disk.specs.declared.luck.Luck.{Luck}
+use Rattle.cacache_disk.specs.Tree.{Tree}
+use Rattle.cacache_calls.specs.declared.command.Command.{Command}
+use Rattle.cacache_calls.specs.Sound.{MayBegin}
+use Rattle.cacache_jobs.specs.Jobs.{can_go_on}
+use Rattle.cacache_history.specs.declared.record.Record.{Record}
+use Rattle.cacache_history.specs.declared.record.Record.TheVariants.{Moved}
+use Rattle.cacache_history.specs.Setup.{Setup, site_of, may_export, is_outside}
+use Rattle.cacache_history.specs.History.{History, Call, Made, IsLegal, MayCome, NamesIntegrity, Now, now_at}
+use Rattle.cacache_world.specs.declared.event.Move.{Move}
+use Rattle.cacache_world.specs.declared.event.WorldFault.{WorldFault}
+use Rattle.cacache_world.specs.declared.event.WorldFault.TheVariants as faults
+use Rattle.cacache_world.specs.declared.world.World.TheInside.{Inside}
+use Rattle.cacache_world.specs.Turned.{DiskJob, StandsIn, told_by}
+
+-- ---- what a world tells
+
+-- what callers share in a world of these parts
+abbrev pub setup_of : List ℕ → List (List ℕ × List ℕ) → ℕ → Setup
+setup_of cache outside callers =
+    record { cache = cache; outside = outside; callers = callers }
+
+abbrev pub history_of : Setup → List Record → History
+history_of setup records = record { setup = setup; records = records }
+
+abbrev pub told : Inside → History
+told w = history_of (setup_of w.cache w.outside.items (vec_len w.calls)) w.records.items
+
+-- with one record more
+abbrev pub adding : History → Record → History
+adding h r = history_of h.setup (h.records ++ r ∷ [])
+
+-- what stands at the end of a history
+abbrev pub last : History → Now
+last h = now_at h h.records
+
+-- ---- what it keeps
+
+-- a caller's job stands where its call does
+abbrev pub JobAt : Option (Option DiskJob) → Option Call → Type 0
+JobAt None call = call ≡ None
+JobAt (Some None) call = call ≡ None
+JobAt (Some (Some job)) None = ⊥
+JobAt (Some (Some job)) (Some call) = StandsIn job call.state × IsTrue (can_go_on job)
+
+-- the history is legal, and the disk and the jobs are where it leads
+pub record Keeps (h : History) (t : Tree) (b : ℕ) (jobs : List (Option DiskJob)) : Type 0 where
+  pub legal : IsLegal h
+  pub tree : (last h).tree ≡ t
+  pub begun : (last h).begun ≡ b
+  pub calls : (caller : ℕ) → JobAt (slice_get jobs caller) ((last h).calls caller)
+
+abbrev pub IsKept : Inside → Type 0
+IsKept w = Keeps (told w) w.disk w.begun w.calls.items
+
+-- ---- places of calls
+
+abbrev pub IsHeld : List (Option DiskJob) → ℕ → Type 0
+IsHeld jobs caller = (job : DiskJob) × (slice_get jobs caller ≡ Some (Some job))
+
+-- why nothing can be moved or stopped here
+abbrev pub IsIdleFault : List (Option DiskJob) → ℕ → WorldFault → Type 0
+IsIdleFault jobs caller faults.NoCaller = slice_get jobs caller ≡ None
+IsIdleFault jobs caller faults.Idle = slice_get jobs caller ≡ Some None
+IsIdleFault jobs caller fault = ⊥
+
+-- why nothing can begin here
+abbrev pub IsBusyFault : List (Option DiskJob) → ℕ → WorldFault → Type 0
+IsBusyFault jobs caller faults.NoCaller = slice_get jobs caller ≡ None
+IsBusyFault jobs caller faults.Busy =
+    (job : DiskJob) × (slice_get jobs caller ≡ Some (Some job))
+IsBusyFault jobs caller fault = ⊥
+
+-- a job that was taken from its place
+pub record IsLifted (old : List (Option DiskJob)) (caller : ℕ) (job : DiskJob)
+    (new : List (Option DiskJob)) : Type 0 where
+  pub here : slice_get old caller ≡ Some (Some job)
+  pub gone : new ≡ slice_set old caller None
+
+-- ---- what events add
+
+-- a command that a call may begin with
+abbrev pub MayAsk : Setup → ℕ → Command → Type 0
+MayAsk s number command =
+    MayBegin (site_of s number) (may_export s) (is_outside s) command × NamesIntegrity command
+
+-- one record more, which may come
+pub record Adds (h : History) (r : Record) (h' : History) : Type 0 where
+  pub may : MayCome h.setup (last h) r
+  pub added : h' ≡ adding h r
+
+-- one move more: the step that the caller's call wants, the luck, the answer and the tree of the
+-- disk, and the reply that the caller is told
+abbrev pub MovesOn : History → ℕ → Luck → Move → History → Type 0
+MovesOn h caller luck move h' =
+    (made : Option Made) × Adds h (Moved caller luck made (told_by move)) h'

@@ -1,0 +1,3 @@
+pub mod Turned
+pub mod Kept
+pub mod Played

@@ -1,0 +1,90 @@
+-- One move of one call.
+use Rattle.std.specs.Prelude.{◌≡◌, ◌⊎◌, Option, Some, None, IsTrue}
+use Rattle.cacache_core.specs.declared.errors.Error.TheVariants.{OutOfMemory}
+use Rattle.cacache_base.specs.declared.store.plain.PlainFile.{PlainFile}
+use Rattle.cacache_base.specs.declared.store.plain.PlainTemp.{PlainTemp}
+use Rattle.cacache_disk.specs.declared.luck.Luck.{Luck}
+use Rattle.cacache_disk.specs.Tree.{Tree}
+use Rattle.cacache_disk.specs.Apply.{apply}
+use Rattle.cacache_calls.specs.declared.reply.Reply.{Reply}
+use Rattle.cacache_calls.specs.declared.reply.Reply.TheVariants.{Refused}
+use Rattle.cacache_calls.specs.State.{State}
+use Rattle.cacache_calls.specs.Table.{after}
+use Rattle.cacache_jobs.specs.declared.job.Job.{Job}
+use Rattle.cacache_jobs.specs.Jobs.{Stands, GoesTo, can_go_on}
+use Rattle.cacache_history.specs.History.{Made, Ends, MayMove}
+use Rattle.cacache_world.specs.declared.event.Move.{Move}
+use Rattle.cacache_world.specs.declared.event.Move.TheVariants as moves
+use Rattle.cacache_world.specs.declared.turn.After.{After}
+use Rattle.cacache_world.specs.declared.turn.After.TheVariants as ways
+use Rattle.cacache_world.specs.declared.turn.Turn.{Turn}
+use Rattle.cacache_world.specs.declared.turn.Turn.TheVariants as turns
+
+-- a call on a disk in memory, whose files contracts see as they are
+abbrev pub DiskJob : Type 0
+DiskJob = Job PlainFile PlainTemp
+
+abbrev pub StandsIn : DiskJob → State → Type 0
+StandsIn job s = Stands (λ file. file) (λ temp. temp) job s
+
+-- unless memory was refused
+abbrev pub GoesInto : DiskJob → State → Type 0
+GoesInto job s = GoesTo (λ file. file) (λ temp. temp) job s
+
+-- a reply is said twice, unless there was no memory for its copy
+abbrev pub IsSaid : Reply → Reply → Reply → Type 0
+IsSaid reply said kept = (kept ≡ said) × ((said ≡ reply) ⊎ (said ≡ Refused OutOfMemory))
+
+-- ---- after a step
+
+abbrev pub reply_of : After → Option Reply
+reply_of (ways.On job) = None
+reply_of (ways.Over said kept) = Some kept
+
+-- what the caller is told
+abbrev pub said_of : After → Option Reply
+said_of (ways.On job) = None
+said_of (ways.Over said kept) = Some said
+
+abbrev pub job_of : After → Option DiskJob
+job_of (ways.On job) = Some job
+job_of (ways.Over said kept) = None
+
+-- the call that goes on stands in this state, and both replies are the same
+abbrev pub StandsAfter : After → State → Type 0
+StandsAfter (ways.On job) s = StandsIn job s × IsTrue (can_go_on job)
+StandsAfter (ways.Over said kept) s = said ≡ kept
+
+-- in each state that the job went to it goes on, or is over
+abbrev pub GoesOn : DiskJob → After → Type 0
+GoesOn job after =
+    (s : State) → GoesInto job s → Ends s (reply_of after) × StandsAfter after s
+
+-- the reply of a move
+abbrev pub told_by : Move → Option Reply
+told_by moves.More = None
+told_by (moves.Done reply) = Some reply
+
+-- the parts of what stands after a step
+abbrev pub AreParts : After → Option DiskJob → Option Reply → Move → Type 0
+AreParts after job kept move =
+    (job ≡ job_of after) × (kept ≡ reply_of after) × (told_by move ≡ said_of after)
+
+-- ---- a move
+
+-- the step that the job wanted in each state that it stood in, and how it stands then
+abbrev pub IsMade : DiskJob → Luck → Tree → Made → After → Tree → Type 0
+IsMade job luck old made next new =
+    (s : State) → StandsIn job s
+    → MayMove old s luck (Some made) (reply_of next)
+    × (new ≡ (apply old made.0 luck).1) × StandsAfter next (after s made.1)
+
+-- a step was made; or memory lacked, and the job is as it was; or it was over before any step
+abbrev pub IsTurn : DiskJob → Luck → Tree → Turn → Tree → Type 0
+IsTurn job luck old (turns.Made step answer next) new =
+    IsMade job luck old (step, answer) next new
+IsTurn job luck old (turns.Back same) new =
+    (new ≡ old) × IsTrue (can_go_on same) × ((s : State) → StandsIn job s → StandsIn same s)
+IsTurn job luck old (turns.Over said kept) new =
+    (new ≡ old) × (kept ≡ said)
+    × ((s : State) → StandsIn job s → MayMove old s luck None (Some kept))

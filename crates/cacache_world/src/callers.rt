@@ -1,0 +1,80 @@
+//! The callers' calls, and the list of what happened.
+ghost use Rattle.std.specs.Prelude.{◌≡◌, ◌<◌, ◌++◌, ◌∷◌, [], vec_len, vec_capacity, slice_get, slice_set, option_copied, Some, None, OnOk, IfErr};
+ghost use Rattle.cacache_world.specs.Kept.{IsHeld, IsLifted, IsIdleFault, IsBusyFault};
+
+use crate::event::WorldFault;
+use crate::turn::Call;
+use cacache_history::Record;
+use std::alloc::AllocError;
+
+/// Room for one record more.
+pub(crate) fn make_room(records: &mut Vec<Record>) -> Result<(), AllocError>
+    ensures items { records.new.items ≡ records.old.items }
+    ensures room { OnOk result (vec_len records.new < vec_capacity records.new) }
+{
+    records.reserve(1)?;
+    Ok(())
+}
+
+/// One record more, for which there is room.
+pub(crate) fn note(records: &mut Vec<Record>, last: Record)
+    requires { vec_len records.old < vec_capacity records.old }
+    ensures { records.new.items ≡ records.old.items ++ last ∷ [] }
+{
+    let _ = records.push(last);
+}
+
+/// Puts a call in its caller's place, or none.
+pub(crate) fn place(calls: &mut Vec<Option<Call>>, caller: usize, call: Option<Call>)
+    requires { caller < vec_len calls.old }
+    ensures items { calls.new.items ≡ slice_set calls.old.items caller call }
+    ensures len { vec_len calls.new ≡ vec_len calls.old }
+{
+    calls[caller] = call;
+}
+
+/// What a caller has, where there is such a caller.
+fn call_at(calls: &Vec<Option<Call>>, caller: usize) -> Option<&Option<Call>>
+    ensures { option_copied result ≡ slice_get calls.now.items caller }
+{
+    calls.get(caller)
+}
+
+/// That a caller has a call.
+pub(crate) fn held(calls: &Vec<Option<Call>>, caller: usize) -> Result<(), WorldFault>
+    ensures held { OnOk result (IsHeld calls.now.items caller) }
+    ensures within { OnOk result (caller < vec_len calls.now) }
+    ensures why { IfErr result (λ fault. IsIdleFault calls.now.items caller fault) }
+{
+    match call_at(calls, caller) {
+        None => Err(WorldFault::NoCaller),
+        Some(None) => Err(WorldFault::Idle),
+        Some(Some(_)) => Ok(()),
+    }
+}
+
+/// That a caller has no call.
+pub(crate) fn free(calls: &Vec<Option<Call>>, caller: usize) -> Result<(), WorldFault>
+    ensures free { OnOk result (slice_get calls.now.items caller ≡ Some None) }
+    ensures within { OnOk result (caller < vec_len calls.now) }
+    ensures why { IfErr result (λ fault. IsBusyFault calls.now.items caller fault) }
+{
+    match call_at(calls, caller) {
+        None => Err(WorldFault::NoCaller),
+        Some(Some(_)) => Err(WorldFault::Busy),
+        Some(None) => Ok(()),
+    }
+}
+
+/// Takes a caller's call from its place.
+pub(crate) fn lift(calls: &mut Vec<Option<Call>>, caller: usize) -> Call
+    requires held { IsHeld calls.old.items caller }
+    requires within { caller < vec_len calls.old }
+    ensures lifted { IsLifted calls.old.items caller result calls.new.items }
+    ensures len { vec_len calls.new ≡ vec_len calls.old }
+{
+    match std::mem::replace(&mut calls[caller], None) {
+        Some(call) => call,
+        None => unreachable!(),
+    }
+}

@@ -1,0 +1,96 @@
+//! One move of one call.
+ghost use Rattle.std.specs.Prelude.{IsTrue};
+ghost use Rattle.cacache_jobs.specs.Jobs.{can_go_on};
+ghost use Rattle.cacache_world.specs.Turned.{GoesOn, IsTurn, IsSaid, AreParts};
+
+use crate::event::Move;
+use cacache_base::store::{PlainAnswer, PlainFile, PlainStep, PlainTemp};
+use cacache_calls::Reply;
+use cacache_core::errors::Error;
+use cacache_disk::{Disk, Luck};
+use cacache_jobs::{Job, Next};
+use std::alloc::Global;
+
+/// A call on a disk in memory.
+pub(crate) type Call = Job<PlainFile, PlainTemp>;
+
+/// A call after its step: it goes on, or is over with a reply, of which there are two.
+#[derive(Drop)]
+pub enum After {
+    On(Call),
+    Over(Reply, Reply),
+}
+
+/// What a move of a call comes to.
+#[derive(Drop)]
+pub enum Turn {
+    /// A step was made, with this answer.
+    Made(PlainStep, PlainAnswer, After),
+    /// Memory was refused before the step: the call stands as it stood.
+    Back(Call),
+    /// The call was over before any step.
+    Over(Reply, Reply),
+}
+
+/// A reply twice, or out of memory twice where it can't be copied.
+fn twice(alloc: Global, reply: Reply) -> (Reply, Reply)
+    ensures { IsSaid reply result.0 result.1 }
+{
+    match reply.copy(alloc) {
+        Ok(copy) => (reply, copy),
+        Err(_) => (
+            Reply::Refused(Error::OutOfMemory),
+            Reply::Refused(Error::OutOfMemory),
+        ),
+    }
+}
+
+/// Whether a call goes on.
+fn looked(alloc: Global, mut job: Call) -> After
+    requires { IsTrue (can_go_on job) }
+    ensures { GoesOn job result }
+{
+    match job.next() {
+        Next::Step(step) => {
+            job.back(step);
+            After::On(job)
+        }
+        Next::Over(reply) => {
+            let (reply, copy) = twice(alloc, reply);
+            After::Over(reply, copy)
+        }
+    }
+}
+
+/// Makes the step that a call wants.
+pub(crate) fn advance(alloc: Global, disk: &mut Disk, mut job: Call, luck: Luck) -> Turn
+    requires { IsTrue (can_go_on job) }
+    ensures { IsTurn job luck disk.old result disk.new }
+{
+    match job.next() {
+        Next::Over(reply) => {
+            let (reply, copy) = twice(alloc, reply);
+            Turn::Over(reply, copy)
+        }
+        Next::Step(step) => match disk.apply_logged(&step, luck) {
+            Err(_) => {
+                job.back(step);
+                Turn::Back(job)
+            }
+            Ok((answer, copy)) => {
+                job.take(copy);
+                Turn::Made(step, answer, looked(alloc, job))
+            }
+        },
+    }
+}
+
+/// The call that goes on, the reply for the history, and what the caller is told.
+pub(crate) fn parted(after: After) -> (Option<Call>, Option<Reply>, Move)
+    ensures { AreParts after result.0 result.1 result.2 }
+{
+    match after {
+        After::On(call) => (Some(call), None, Move::More),
+        After::Over(reply, copy) => (None, Some(copy), Move::Done(reply)),
+    }
+}

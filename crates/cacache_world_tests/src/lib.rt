@@ -1,0 +1,5 @@
+//! Tests of worlds. There is nothing else here.
+#![tactic(auto)]
+
+#[cfg(test)]
+mod tests;
