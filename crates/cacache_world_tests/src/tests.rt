@@ -127,7 +127,7 @@ fn events_are_played_up_to_the_first_fault(rt: HostRuntime) -> Result<(), Fail> 
         Event::Move(1, Luck::Plain),
         Event::Stop(1),
         Event::Move(1, Luck::Plain),
-        Event::Begin(1, Command::Ls)
+        Event::Begin(1, Command::Ls),
     ]?;
     assert!(rt; world.play(events.as_slice()) == Err(WorldFault::Idle));
     assert_eq!(rt; world.history().len(), 3);
