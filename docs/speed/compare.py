@@ -19,8 +19,9 @@ DEPTHS = [(100, 1000), (1000, 100), (10000, 10)]
 SMALL = ["put", "get", "put-again", "get-hash", "find", "remove", "exists"]
 LISTED = [1000, 100000]
 # Blocks of SHA-256 in an operation on 1 KiB: 17 of the content where it is hashed, and 3 of the line's text where there is one
-# (2 of a tombstone's).
+# (2 of a tombstone's). With a key there is also one block of SHA-1, of the key.
 BLOCKS = {"put": 20, "get": 20, "put-again": 20, "get-hash": 17, "find": 3, "remove": 2, "exists": 0, "ls": 3}
+KEYED = ["put", "get", "put-again", "find", "remove"]
 
 figures = {}  # name -> list of (ns by the clock, ns of the processor)
 peaks = {}  # name -> KiB
@@ -80,6 +81,7 @@ def run_program(bench, program, at):
         for _ in range(MIB):
             file.write(os.urandom(1 << 20))
     run("digest", [bench, "digest", str(MIB)])
+    run("digest-sha1", [bench, "digest-sha1", str(MIB)])
     with open(given, "rb") as file:
         run("write < file", [program, "write", f"{at}/program", "large"], stdin=file)
     run("read > /dev/null", [program, "read", f"{at}/program", "large"])
@@ -104,11 +106,11 @@ def ratio(over, under, of=0):
 
 
 def tell():
-    block = median("digest") / (MIB << 14)
-    print(f"small calls, us; a block of SHA-256 takes {block / 1e3:.3f} us")
+    block, key_block = (median(name) / (MIB << 14) for name in ("digest", "digest-sha1"))
+    print(f"small calls, us; a block of SHA-256 takes {block / 1e3:.3f} us, one of SHA-1 {key_block / 1e3:.3f} us")
     for kind in SMALL:
         ours, floor = f"{kind} ours", f"{kind} floor"
-        with_digests = median(ours) / (median(floor) + BLOCKS[kind] * block)
+        with_digests = median(ours) / (median(floor) + BLOCKS[kind] * block + (kind in KEYED) * key_block)
         print(f"  {kind:10} ours {median(ours) / 1e3:6.2f}  floor {median(floor) / 1e3:6.2f}  by the clock {ratio(ours, floor)}  by the processor {ratio(ours, floor, 1)}  over floor and digests {with_digests:.2f}")
     print("ls, us an entry")
     for keys in LISTED:
@@ -116,7 +118,7 @@ def tell():
         with_digests = median(ours) / (median(floor) + BLOCKS["ls"] * block)
         print(f"  {keys:7} entries  ours {median(ours) / 1e3:6.2f}  floor {median(floor) / 1e3:6.2f}  by the clock {ratio(ours, floor)}  by the processor {ratio(ours, floor, 1)}  over floor and digests {with_digests:.2f}")
     print(f"{MIB} MiB, ms; over the digest")
-    for kind in [name for name in figures if name in ("digest", "reader", "copy", "writer") or "large" in name or "<" in name or ">" in name]:
+    for kind in [name for name in figures if name in ("digest", "digest-sha1", "reader", "copy", "writer") or "large" in name or "<" in name or ">" in name]:
         print(f"  {kind:16} {median(kind) / 1e6:7.1f}  {ratio(kind, 'digest')}  peak memory {peaks[kind] / 1024 / MIB:.2f} times the content")
     print(f"get-deep, ns a byte of the bucket; the digest alone {block / 64:.2f}")
     for depth, bytes_ in buckets.items():

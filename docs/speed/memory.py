@@ -2,7 +2,7 @@
 """Runs what cacache_bench measures in memory at a small and a large size in turn, and prints medians and their ratios.
 
 memory.py BENCH [ROUNDS]: the built binary of cacache_bench. Each figure is the nanoseconds of one operation: a key that is put or
-listed, an append of 212 bytes, a write of 8 KiB.
+listed, an append of 212 bytes, a write of 8 KiB, a move in a world; of a move also its ratio to the same step on a disk alone.
 """
 import os
 import re
@@ -12,11 +12,13 @@ import sys
 import time
 
 # The kind, its small and its large size, and the most that the ratio of their costs should be.
-KINDS = [("memory-put", 1000, 64000, 3), ("memory-list", 1000, 64000, 3), ("memory-append", 1000, 10000, 2), ("memory-pieces", 6, 64, 2)]
+KINDS = [("memory-put", 1000, 64000, 3), ("memory-list", 1000, 64000, 3), ("memory-append", 1000, 10000, 2), ("memory-pieces", 6, 64, 2), ("world", 7000, 70000, 2)]
+# The most that a move should cost, over its step.
+STEPS = 3
 
 
 def nanos(bench, kind, size):
-    """The nanoseconds of one operation, and the most memory in KiB that the process had."""
+    """The nanoseconds of one operation, the most memory in KiB that the process had, and the nanoseconds of its step alone, if told."""
     words = [bench, kind, str(size)]
     child = subprocess.Popen(words, stdout=subprocess.DEVNULL, stderr=subprocess.PIPE)
     errors = child.stderr.read().decode()
@@ -25,7 +27,8 @@ def nanos(bench, kind, size):
     told = re.search(r"ns (\d+)", errors)
     if child.returncode != 0 or not told:
         sys.exit(f"{words}: status {child.returncode}: {errors}")
-    return int(told.group(1)), used.ru_maxrss
+    step = re.search(r"step (\d+)", errors)
+    return int(told.group(1)), used.ru_maxrss, int(step.group(1)) if step else None
 
 
 def main():
@@ -41,6 +44,9 @@ def main():
         ratio = statistics.median(many) / statistics.median(few)
         print(f"{kind:14} {small:5}: {statistics.median(few):9.0f} ns  {large:5}: {statistics.median(many):9.0f} ns  "
               f"ratio {ratio:.2f} ({min(each):.2f} to {max(each):.2f}), at most {most}  peak memory {peak:.0f} MiB", flush=True)
+        if pairs[0][0][2]:
+            over = [statistics.median(pair[at][0] / pair[at][2] for pair in pairs) for at in (0, 1)]
+            print(f"  over its step: {over[0]:.2f} and {over[1]:.2f}, at most {STEPS}", flush=True)
 
 
 main()

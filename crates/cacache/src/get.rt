@@ -5,9 +5,9 @@ ghost use Rattle.cacache_core.specs.Integrity.{Meets};
 ghost use Rattle.cacache_calls.specs.declared.command.Command.TheVariants as commands;
 ghost use Rattle.cacache_calls.specs.declared.reply.Reply.TheVariants.{Read, Exists};
 ghost use Rattle.cacache_calls.specs.Promises.{Answers};
+ghost use Rattle.cacache_calls.specs.Runs.{reply_of};
 ghost use Rattle.cacache_jobs.specs.Found.{FindsBytes, ReadsFound};
 ghost use Rattle.cacache_jobs.specs.Opening.{site_of};
-ghost use Rattle.cacache_put.specs.Replies.{reply_of};
 ghost use Rattle.cacache_put.specs.Writes.{Calls};
 ghost use Rattle.cacache.specs.Reads.{IsReading, bytes_read};
 

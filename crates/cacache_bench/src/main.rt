@@ -7,14 +7,15 @@ mod pieces;
 mod program;
 mod steps;
 mod work;
+mod world;
 mod writer;
 
 use cacache::env::{Env, ProcessNames, SystemClock};
 use cacache::store::{FolderStore, MemStore, Store};
-use program::{failed, misused, run, without_words};
+use program::{failed, misused, run, run_world, without_words};
 use std::io;
 use std::process::ExitCode;
-use work::{Work, work_of};
+use work::{Kind, Work, work_of};
 
 /// The words behind the program's name.
 fn words_of(rt: &HostRuntime) -> io::Result<Vec<String>> {
@@ -37,6 +38,9 @@ fn run_on<S: Store + Drop>(rt: HostRuntime, store: S, work: Work<'_>) -> u8 {
 
 /// Does the work on real folders or in memory, and answers the status.
 fn run_at_its_place(rt: HostRuntime, work: Work<'_>) -> u8 {
+    if work.kind == Kind::World {
+        return run_world(&rt, rt.alloc(), work, &mut rt.stdout(), &mut rt.stderr());
+    }
     if !work.kind.is_in_memory() {
         return run_on(rt, FolderStore::new(rt), work);
     }

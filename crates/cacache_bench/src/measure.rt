@@ -33,7 +33,7 @@ fn size_of(work: Work<'_>) -> u64 {
     match work.kind {
         Kind::Put | Kind::PutAgain => work.second,
         Kind::GetDeep | Kind::Remove | Kind::MemoryPut | Kind::MemoryList => 8,
-        Kind::PutLarge | Kind::Digest => work.first.saturating_mul(1024 * 1024),
+        Kind::PutLarge | Kind::Digest | Kind::DigestSha1 => work.first.saturating_mul(1024 * 1024),
         _ => 0,
     }
 }
@@ -193,6 +193,13 @@ fn digest(alloc: Global, content: &[u8]) -> Result<()> {
     }
 }
 
+/// Hashes the content under SHA-1. No content has this digest, so it isn't met.
+fn digest_sha1(alloc: Global, content: &[u8]) -> Result<()> {
+    let integrity = Integrity::parse(alloc, "sha1-deadbeef")?;
+    let _ = integrity.check(alloc, content);
+    Ok(())
+}
+
 /// Makes in the cache what the work takes to be there, and answers the integrities that it reads by.
 pub fn prepare<S: Store, C: Clock, N: Names>(
     env: &mut Env<S, C, N>,
@@ -228,10 +235,11 @@ fn call<S: Store, C: Clock, N: Names>(
         Kind::PutLarge => put_large(env, work.cache, content)?,
         Kind::GetLarge => get(env, work.cache, LARGE)?,
         Kind::Digest => digest(env.alloc, content)?,
+        Kind::DigestSha1 => digest_sha1(env.alloc, content)?,
         _ => put_keys(env, work.cache, work.first, content)?,
     }
     Ok(match work.kind {
-        Kind::PutLarge | Kind::GetLarge | Kind::Digest => 1,
+        Kind::PutLarge | Kind::GetLarge | Kind::Digest | Kind::DigestSha1 => 1,
         Kind::GetDeep => work.second,
         _ => work.first,
     })

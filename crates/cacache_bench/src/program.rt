@@ -4,15 +4,17 @@ ghost use Rattle.std.specs.IoError.{error_kind};
 
 use crate::measure::{content_of, perform, prepare};
 use crate::work::Work;
+use crate::world::{Spent, spend};
 use cacache::Integrity;
 use cacache::env::{Clock, Env, Names};
 use cacache::store::Store;
+use std::alloc::Global;
 use std::io::{self, ErrorKind, Write};
 use std::time::{Clock as SystemTimes, Instant};
 
 /// What the program says to wrong words.
 pub const USAGE: &str =
-    "usage: cacache_bench put|put-again CACHE N BYTES | get|get-hash|find|ls|remove|exists CACHE N | get-deep CACHE DEPTH N | put-large|get-large|reader|copy|writer CACHE MIB | digest MIB | memory-put|memory-list KEYS | memory-append N | memory-pieces MIB\n";
+    "usage: cacache_bench put|put-again CACHE N BYTES | get|get-hash|find|ls|remove|exists CACHE N | get-deep CACHE DEPTH N | put-large|get-large|reader|copy|writer CACHE MIB | digest|digest-sha1 MIB | memory-put|memory-list KEYS | memory-append N | memory-pieces MIB | world MOVES\n";
 
 /// The nanoseconds that one operation took, the clock read around all of them; None where anything failed.
 fn timed<R: SystemTimes, S: Store, C: Clock, N: Names>(
@@ -63,6 +65,26 @@ pub fn run<R: SystemTimes, S: Store, C: Clock, N: Names, W: Write, E: Write>(
         Some(nanos) => told(work, nanos, output, errors),
         None => failed(errors, b"failed\n"),
     }
+}
+
+/// Does the work of a world, and answers the status: 0, or 1 where a call, a step or a stream failed. On errors it tells the
+/// nanoseconds of a move, and of its step on a disk alone.
+pub fn run_world<R: SystemTimes, W: Write, E: Write>(
+    rt: &R,
+    alloc: Global,
+    work: Work<'_>,
+    output: &mut W,
+    errors: &mut E,
+) -> u8
+    ensures { result ≤ 1 }
+{
+    let Some(Spent { moving, stepping }) = spend(rt, alloc, work.first) else {
+        return failed(errors, b"failed\n");
+    };
+    if writeln!(errors, "step {stepping}").is_err() {
+        return 1;
+    }
+    told(work, moving, output, errors)
 }
 
 /// Prints a message, and returns the status of work that failed.

@@ -18,19 +18,30 @@ pub enum Kind {
     Reader,
     Copy,
     Digest,
+    DigestSha1,
     MemoryPut,
     MemoryList,
     MemoryAppend,
     MemoryPieces,
     Writer,
+    World,
 }
 
 impl Kind {
+    /// Whether it has no cache.
+    fn is_without_cache(self) -> bool {
+        matches!(self, Kind::Digest | Kind::DigestSha1)
+    }
+
     /// Whether it is measured on a disk in memory.
     pub fn is_in_memory(self) -> bool {
         matches!(
             self,
-            Kind::MemoryPut | Kind::MemoryList | Kind::MemoryAppend | Kind::MemoryPieces
+            Kind::MemoryPut
+                | Kind::MemoryList
+                | Kind::MemoryAppend
+                | Kind::MemoryPieces
+                | Kind::World
         )
     }
 }
@@ -44,7 +55,7 @@ pub struct Work<'a> {
     pub kind: Kind,
     /// The folder of the cache; a digest has none.
     pub cache: &'a str,
-    /// N, DEPTH, KEYS or MIB: the first number.
+    /// N, DEPTH, KEYS, MIB or MOVES: the first number.
     pub first: u64,
     /// BYTES, or the N of a deep key: the second number, or 0.
     pub second: u64,
@@ -66,11 +77,13 @@ fn kind_of(name: &str) -> Option<Kind> {
         "reader" => Some(Kind::Reader),
         "copy" => Some(Kind::Copy),
         "digest" => Some(Kind::Digest),
+        "digest-sha1" => Some(Kind::DigestSha1),
         "memory-put" => Some(Kind::MemoryPut),
         "memory-list" => Some(Kind::MemoryList),
         "memory-append" => Some(Kind::MemoryAppend),
         "memory-pieces" => Some(Kind::MemoryPieces),
         "writer" => Some(Kind::Writer),
+        "world" => Some(Kind::World),
         _ => None,
     }
 }
@@ -109,7 +122,7 @@ fn asked<'a>(kind: Kind, cache: &'a str, numbers: &[String]) -> Option<Work<'a>>
 pub fn work_of(words: &[String]) -> Option<Work<'_>> {
     let (name, others) = words.split_first()?;
     let kind = kind_of(name.as_str())?;
-    if kind == Kind::Digest || kind.is_in_memory() {
+    if kind.is_without_cache() || kind.is_in_memory() {
         return asked(kind, MEMORY, others);
     }
     let (cache, numbers) = others.split_first()?;
@@ -135,11 +148,13 @@ impl fmt::Display for Work<'_> {
             Kind::Reader => write!(f, "reader {first} MiB"),
             Kind::Copy => write!(f, "copy {first} MiB"),
             Kind::Digest => write!(f, "digest {first} MiB"),
+            Kind::DigestSha1 => write!(f, "digest-sha1 {first} MiB"),
             Kind::MemoryPut => write!(f, "memory-put {first} keys"),
             Kind::MemoryList => write!(f, "memory-list {first} keys"),
             Kind::MemoryAppend => write!(f, "memory-append {first} lines"),
             Kind::MemoryPieces => write!(f, "memory-pieces {first} MiB"),
             Kind::Writer => write!(f, "writer {first} MiB"),
+            Kind::World => write!(f, "world {first} moves"),
         }
     }
 }

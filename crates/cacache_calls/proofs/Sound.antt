@@ -263,7 +263,7 @@ module _ (site : Site) (apart outside : List ℕ → Bool) where
 
   line_at : (i : Insertion) → SoundInsertion site i → refused_cause i ≡ None → IsLine site (bucket_path i.cache i.entry.key) (bucket_line i)
   unfolding bucket_line refused_cause
-  line_at i h none = (i.entry, h.formed, none, ap (λ c. bucket_path c i.entry.key) h.here, refl)
+  line_at i h none = (i.entry, h.formed none, none, ap (λ c. bucket_path c i.entry.key) h.here, refl)
 
   pub steps_allowed : (s : State) (step : PlainStep) → Is s → wants s ≡ Some step → Allowed site apart outside step
   steps_allowed (doing errand s) step h e = some_is (Allowed site apart outside) _ step e h.0

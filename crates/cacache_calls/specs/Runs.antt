@@ -1,5 +1,5 @@
 -- Runs of a call: its steps with their answers, and its reply. They end.
-use Rattle.std.specs.Prelude.{◌≡◌, ◌⊎◌, ◌<◌, ◌+◌, ◌*◌, ◌^◌, ◌++◌, ℕ, List, [], ◌∷◌, Option, Some, None, Ok, Err, option_map, map, length}
+use Rattle.std.specs.Prelude.{◌≡◌, ◌⊎◌, ◌<◌, ◌+◌, ◌*◌, ◌^◌, ◌++◌, ℕ, List, [], ◌∷◌, Option, Some, None, Result, Ok, Err, option_map, map, length}
 use Rattle.cacache_core.specs.declared.errors.Error.{Error}
 use Rattle.cacache_core.specs.declared.errors.Error.TheVariants.{IoError, SerdeError, OutOfMemory}
 use Rattle.cacache_base.specs.declared.store.answer.Answer.TheVariants as answers
@@ -55,6 +55,11 @@ abbrev pub plain_reply : Reply → Reply
 plain_reply (Listed items) = Listed (map plain_item items)
 plain_reply (Refused error) = Refused (without_message error)
 plain_reply reply = reply
+
+-- a result as the reply that it stands for, by what its value is answered as
+abbrev pub reply_of : {X : Type 0} → (X → Reply) → Result X Error → Reply
+reply_of answer (Ok x) = answer x
+reply_of answer (Err error) = Refused (without_message error)
 
 -- the call is over with this error, or out of memory ended it
 abbrev pub EndsAs : Error → State → Type 0

@@ -23,24 +23,28 @@ use Rattle.cacache_calls.specs.Table.{wants, after, opening}
 
 -- ---- what a state carries
 
--- a commit at this site: of some bytes, with a well-formed entry
+-- the entry is well-formed, unless it is refused because it can't be written
+abbrev pub FormedIfWritten : Insertion → Type 0
+FormedIfWritten i = refused_cause i ≡ None → IsEntry i.entry
+
+-- a commit at this site, of some bytes
 pub record SoundCommit (site : Site) (c : Commit) : Type 0 where
   pub here : c.cache ≡ site.cache
   pub bytes : List ℕ
   pub computed_of : c.computed ≡ integrity_under c.options.algorithm bytes
-  pub formed : (key : List ℕ) → c.key ≡ Some key → IsEntry (insertion_of c key).entry
+  pub formed : (key : List ℕ) → c.key ≡ Some key → FormedIfWritten (insertion_of c key)
 
--- a well-formed entry that goes into a bucket at this site
+-- an entry that goes into a bucket at this site
 pub record SoundInsertion (site : Site) (i : Insertion) : Type 0 where
   pub here : i.cache ≡ site.cache
-  pub formed : IsEntry i.entry
+  pub formed : FormedIfWritten i
 
--- a target whose link gets a well-formed entry, whatever is read from it
+-- a target, whatever is read from it
 pub record SoundTarget (site : Site) (t : Target) : Type 0 where
   pub here : t.cache ≡ site.cache
   pub formed :
       (bytes : List ℕ) → length bytes < 2 ^ 64 → (key : List ℕ) → t.key ≡ Some key
-      → IsEntry (insertion_of (commit_for t bytes) key).entry
+      → FormedIfWritten (insertion_of (commit_for t bytes) key)
 
 -- the call's own temporary file
 abbrev pub IsTemp : Site → PlainTemp → Type 0
@@ -133,14 +137,16 @@ module _ (site : Site) (apart outside : List ℕ → Bool) where
   Sound (walking w v todo) = SoundVisit site v × SoundTasks site todo
   Sound (over reply) = Unit {0}
 
-  -- a command whose entry is well-formed, whose export goes apart, whose link leads outside
+  -- a command whose entry is well-formed or refused, whose export goes apart, whose link leads
+  -- outside
   abbrev pub MayBegin : Command → Type 0
   MayBegin (commands.Put p) =
-      (key : List ℕ) → p.key ≡ Some key → IsEntry (insertion_of (commit_of site.cache p) key).entry
+      (key : List ℕ) → p.key ≡ Some key
+      → FormedIfWritten (insertion_of (commit_of site.cache p) key)
   MayBegin (commands.Link l) =
       SoundTarget site (target_of site l) × (outside (target_of site l).path ≡ true)
-  MayBegin (commands.Insert i) = IsEntry (insertion site.cache i).entry
-  MayBegin (commands.Delete d) = IsEntry (deletion site.cache d).entry
+  MayBegin (commands.Insert i) = FormedIfWritten (insertion site.cache i)
+  MayBegin (commands.Delete d) = FormedIfWritten (deletion site.cache d)
   MayBegin (commands.Export source e) = apart e.to ≡ true
   MayBegin command = Unit {0}
 

@@ -1,5 +1,5 @@
 //! One call on a cache as plain data.
-ghost use Rattle.std.specs.Prelude.{◌≡◌, IfOk};
+ghost use Rattle.std.specs.Prelude.{◌≡◌, IfOk, Some};
 
 use crate::json::Json;
 use cacache_core::bytes::Bytes;
@@ -154,6 +154,26 @@ impl Options {
             metadata: self.metadata.clone()?,
             raw_metadata: share_bytes(&self.raw_metadata)?,
         })
+    }
+
+    /// The same with this size, in bytes.
+    pub fn with_size(self, size: usize) -> Options
+        ensures { result ≡ record self { size = Some size } }
+    {
+        let Options {
+            algorithm,
+            size: _,
+            integrity,
+            metadata,
+            raw_metadata,
+        } = self;
+        Options {
+            algorithm,
+            size: Some(size),
+            integrity,
+            metadata,
+            raw_metadata,
+        }
     }
 }
 

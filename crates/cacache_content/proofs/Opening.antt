@@ -1,44 +1,19 @@
--- What the one step of an opening says of a reader, and what a lookup before it says.
+-- What the lookup before an opening says of a reader.
 use Rattle.std.proofs.Common.{◌≡◌, inl, inr, ℕ, List, Option, Result, Ok, Err}
 use Rattle.cacache_core.specs.declared.errors.Error.{Error}
 use Rattle.cacache_core.specs.declared.errors.Error.TheVariants.{EntryNotFound}
-use Rattle.cacache_base.specs.declared.store.answer.Answer.TheVariants as answers
 use Rattle.cacache_base.specs.declared.store.log.LogItem.{LogItem}
 use Rattle.cacache_base.specs.declared.store.plain.PlainFile.{PlainFile}
-use Rattle.cacache_base.specs.declared.store.step.Step.TheVariants as steps
-use Rattle.cacache_base.specs.Fits.{Fits, Logs}
-use Rattle.cacache_base.specs.Plain.{PlainAnswer}
 use Rattle.cacache_calls.specs.declared.answers.Refusal.{Refusal}
 use Rattle.cacache_calls.specs.declared.answers.Refusal.TheVariants as refusals
 use Rattle.cacache_calls.specs.declared.reply.Reply.TheVariants.{Refused}
-use Rattle.cacache_calls.specs.Answers.{file_in}
-use Rattle.cacache_calls.specs.Common.{fails, refuse}
 use Rattle.cacache_calls.specs.Replies.{find_reply, bucket_shown}
-use Rattle.cacache_calls.specs.Runs.{EndsAs, without_message}
+use Rattle.cacache_calls.specs.Runs.{without_message}
 use Rattle.cacache_calls.proofs.Replies.{finds_shown}
 use Rattle.cacache_entry.specs.Entry.{Entry}
 use Rattle.cacache_jobs.specs.Opening.{site_of}
 use Rattle.cacache_content.specs.declared.reader.SyncReader.{SyncReader}
-use Rattle.cacache_content.proofs.Stepping.{failed, lost}
-use Rattle.cacache_content.specs.Reading.{Opens, FailsToOpen, LooksUp, OpensFound, OpensKey}
-
--- ---- the step
-
--- a file was opened
-pub opens : (path : List ℕ) (t : PlainAnswer) (f : PlainFile) (old new : Option (List LogItem)) → Ok f ≡ file_in t → Logs old new (steps.Open path) t → Opens path f old new
-opens path (answers.File g) f old new is logs = let same : f ≡ g = cc in rw same logs
-opens path t f old new is logs = absurd cc
-
--- no file was opened
-pub fails_to_open : (path : List ℕ) (t : PlainAnswer) (refusal : Refusal) (e : Error) (old new : Option (List LogItem)) → Err refusal ≡ file_in t → Fits (steps.Open path) t → Logs old new (steps.Open path) t → EndsAs e (refuse refusal fails) → FailsToOpen path e old new
-fails_to_open path (answers.Failed fault) refusal e old new is fits logs ends =
-    let same : refusal ≡ refusals.Fault fault = cc in
-    failed (steps.Open path) fault e old new logs (rw same at ends)
-fails_to_open path (answers.NoMemory b) refusal e old new is fits logs ends =
-    let same : refusal ≡ refusals.Memory = cc in
-    lost (steps.Open path) e old new logs (rw same at ends)
-fails_to_open path (answers.File g) refusal e old new is fits logs ends = absurd cc
-fails_to_open path t refusal e old new is fits logs ends = absurd fits
+use Rattle.cacache_content.specs.Reading.{LooksUp, OpensFound, OpensKey}
 
 -- ---- the lookup
 

@@ -1,5 +1,5 @@
 -- Contents that are opened and read in pieces.
-use Rattle.std.specs.Prelude.{◌≡◌, ◌⊎◌, ℕ, List, [], Option, None, Some, Result, Ok, Err, take}
+use Rattle.std.specs.Prelude.{◌≡◌, ◌⊎◌, ℕ, List, [], Option, None, Some, Result, Ok, Err}
 use Rattle.cacache_core.specs.declared.errors.Error.{Error}
 use Rattle.cacache_core.specs.declared.errors.Error.TheVariants.{EntryNotFound}
 use Rattle.cacache_core.specs.declared.integrity.digest.Hash.{Hash}
@@ -24,11 +24,6 @@ use Rattle.cacache_jobs.specs.Opening.{site_of}
 -- the reader gave these bytes so far, and checks them against this integrity
 abbrev pub HasRead : {F : Type 0} → SyncReader F → List Hash → List ℕ → Type 0
 HasRead r i bytes = Compares r.checker i bytes
-
--- what a read gave: the front of the buffer, and nothing where it failed
-abbrev pub given : {E : Type 0} → Result ℕ E → List ℕ → List ℕ
-given (Ok n) buf = take n buf
-given (Err e) buf = []
 
 -- ---- the opening of a file: before and after
 

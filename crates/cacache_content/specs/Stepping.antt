@@ -1,5 +1,5 @@
 -- A single step of a handle, and why it brought nothing.
-use Rattle.std.specs.Prelude.{◌≡◌, ◌⊎◌, List, [], ◌∷◌, Option}
+use Rattle.std.specs.Prelude.{◌≡◌, ◌⊎◌, ℕ, List, [], ◌∷◌, Option, Result, Ok, Err, take}
 use Rattle.cacache_core.specs.declared.errors.Error.{Error}
 use Rattle.cacache_core.specs.declared.errors.Error.TheVariants.{IoError, OutOfMemory}
 use Rattle.cacache_core.specs.declared.errors.Fault.{Fault}
@@ -18,3 +18,8 @@ FailsAt step (IoError fault message) old new = Does step (answers.Failed fault) 
 FailsAt step OutOfMemory old new =
     (new ≡ old) ⊎ ((fault : Fault) × Does step (answers.Failed fault) old new)
 FailsAt step e old new = ⊥
+
+-- the front of a buffer that a call moved, and nothing where it failed
+abbrev pub passed : {E : Type 0} → Result ℕ E → List ℕ → List ℕ
+passed (Ok n) buf = take n buf
+passed (Err e) buf = []

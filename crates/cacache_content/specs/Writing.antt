@@ -1,9 +1,8 @@
 -- Contents that are written in pieces: how they open, what they took and what their commit is.
-use Rattle.std.specs.Prelude.{◌≡◌, ◌⊎◌, ◌^◌, ◌-◌, ℕ, List, [], Option, None, Result, Ok, Err, min, length, take}
+use Rattle.std.specs.Prelude.{◌≡◌, ◌⊎◌, ◌^◌, ◌-◌, ◌++◌, ℕ, List, [], Option, None, Result, Ok, Err, min, length}
 use Rattle.serde_json.specs.Data.{null}
 use Rattle.cacache_core.specs.declared.errors.Error.{Error}
 use Rattle.cacache_core.specs.declared.integrity.algorithm.Algorithm.{Algorithm}
-use Rattle.cacache_core.specs.declared.integrity.digest.Hash.{Hash}
 use Rattle.cacache_core.specs.Hashers.{Holds, algorithm_of}
 use Rattle.cacache_core.specs.Integrity.{integrity_under}
 use Rattle.cacache_base.specs.declared.store.answer.Answer.TheVariants as answers
@@ -13,9 +12,8 @@ use Rattle.cacache_base.specs.declared.store.step.Step.TheVariants as steps
 use Rattle.cacache_base.specs.Plain.{PlainStep}
 use Rattle.cacache_calls.specs.declared.command.Options.{Options}
 use Rattle.cacache_calls.specs.declared.reply.Reply.{Reply}
-use Rattle.cacache_calls.specs.declared.reply.Reply.TheVariants.{Stored, Refused}
 use Rattle.cacache_calls.specs.Places.{temp_folder, temp_path}
-use Rattle.cacache_calls.specs.Runs.{Ran, without_message}
+use Rattle.cacache_calls.specs.Runs.{Ran}
 use Rattle.cacache_calls.specs.State.{Commit}
 use Rattle.cacache_calls.specs.Storing.{persist}
 use Rattle.cacache_content.specs.declared.writer.Writer.{Writer}
@@ -31,10 +29,14 @@ counted bytes = min (length bytes) (2 ^ 64 - 1)
 abbrev pub HasTaken : {T : Type 0} → Writer T → List ℕ → Type 0
 HasTaken w bytes = Holds w.hasher bytes × (w.count ≡ counted bytes)
 
--- what a write took: the front of the buffer, and nothing where it failed
-abbrev pub taken : {E : Type 0} → Result ℕ E → List ℕ → List ℕ
-taken (Ok n) buf = take n buf
-taken (Err e) buf = []
+-- the writer took these bytes more
+abbrev pub Takes : {T : Type 0} → Writer T → Writer T → List ℕ → Type 0
+Takes old new more = (bytes : List ℕ) → HasTaken old bytes → HasTaken new (bytes ++ more)
+
+-- it took a beginning of these
+abbrev pub TakesPart : {T : Type 0} → Writer T → Writer T → List ℕ → Type 0
+TakesPart old new bytes =
+    (front rest : List ℕ) × (bytes ≡ front ++ rest) × Takes old new front
 
 -- the writer is still one of the same cache, temporary file and algorithm
 abbrev pub GoesOn : {T : Type 0} → (T → PlainTemp) → Writer T → Writer T → Type 0
@@ -82,11 +84,6 @@ module _ (cache : List ℕ) (number : ℕ) where
   Opens temp a (Err e) old new = FailsToMake e old new
 
 -- ---- the end
-
--- the result of a commit as the reply that it stands for
-abbrev pub stored_as : Result (List Hash) Error → Reply
-stored_as (Ok i) = Stored i
-stored_as (Err e) = Refused (without_message e)
 
 -- the commit of a writer that took these bytes
 abbrev pub commit_of :

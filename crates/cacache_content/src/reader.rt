@@ -6,7 +6,8 @@ ghost use Rattle.cacache_core.specs.declared.integrity.digest.Hash.{Hash};
 ghost use Rattle.cacache_core.specs.Integrity.{Meets, strongest, actual};
 ghost use Rattle.cacache_core.specs.Refusals.{IsCheckFailure};
 ghost use Rattle.cacache_base.specs.Handles.{LeftFalls};
-ghost use Rattle.cacache_content.specs.Reading.{HasRead, OpensHash, OpensKey, given};
+ghost use Rattle.cacache_content.specs.Reading.{HasRead, OpensHash, OpensKey};
+ghost use Rattle.cacache_content.specs.Stepping.{passed};
 
 use cacache_base::env::{Clock, Env, Names};
 use cacache_base::store::{OpenedFile, Step, Store};
@@ -15,8 +16,8 @@ use cacache_calls::{Command, Found, Reply};
 use cacache_core::errors::{Error, Result};
 use cacache_core::integrity::{Algorithm, Integrity, IntegrityChecker};
 use cacache_core::text::Text;
-use cacache_jobs::{call, content_path, refused};
-use std::alloc::{AllocError, Global};
+use cacache_jobs::{call, content_path, messages, refused};
+use std::alloc::Global;
 use std::io;
 use std::io::Read;
 
@@ -27,12 +28,6 @@ pub struct SyncReader<F> {
     alloc: Global,
     file: F,
     checker: IntegrityChecker,
-}
-
-/// Why the content's file wasn't opened.
-fn message(alloc: Global, cache: &str, sri: &Integrity) -> std::result::Result<Text, AllocError> {
-    let path = content_path(alloc, cache, sri)?;
-    Ok(Text::new(format!(in alloc; "Failed to open reader to {path}")?))
 }
 
 /// Opens the content of the integrity. What is read is checked against it.
@@ -51,7 +46,8 @@ pub fn open<S: Store, C: Clock, N: Names>(
 {
     let alloc = env.alloc;
     let path = content_path(alloc, cache, &sri)?;
-    match file_of(env.store.step(Step::Open(path))) {
+    let named = path.clone()?;
+    match file_of(env.store.step(Step::Open(named))) {
         Ok(file) => {
             let checker = IntegrityChecker::new(sri);
             Ok(SyncReader {
@@ -60,7 +56,7 @@ pub fn open<S: Store, C: Clock, N: Names>(
                 checker,
             })
         }
-        Err(refusal) => Err(refused(refusal, message(alloc, cache, &sri))),
+        Err(refusal) => Err(refused(refusal, messages::opening(alloc, &path))),
     }
 }
 
@@ -146,7 +142,7 @@ impl<F: OpenedFile> Read for SyncReader<F> {
             result buf.new }
         ensures left { LeftFalls (F.seen self.old.file).left (F.seen self.new.file).left result }
         ensures so_far { (i : List Hash) (bytes : List ℕ) → HasRead self.old i bytes
-            → HasRead self.new i (bytes ++ given result buf.new) }
+            → HasRead self.new i (bytes ++ passed result buf.new) }
     {
         let count = self.file.read_some(buf)?;
         self.checker.input(&buf[..count]);

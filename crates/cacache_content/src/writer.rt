@@ -1,14 +1,16 @@
 //! Contents that are written in pieces, to a temporary file that a commit moves to its place.
-ghost use Rattle.std.specs.Prelude.{◌≡◌, ◌++◌, ℕ, List, None, IfOk, IfErr};
+ghost use Rattle.std.specs.Prelude.{◌≡◌, ℕ, List, None, IfOk, IfErr, OnOk, OnErr};
 ghost use Rattle.std.specs.Io.{WritesAtMost};
-ghost use Rattle.std.specs.Io.KnownBytes.{WriteAppends};
+ghost use Rattle.std.specs.Io.KnownBytes.{Appends, WriteAppends};
 ghost use Rattle.cacache_core.specs.Hashers.{algorithm_of};
 ghost use Rattle.cacache_core.specs.Integrity.{integrity_under};
 ghost use Rattle.cacache_base.specs.declared.store.answer.Answer.TheVariants.{Done};
 ghost use Rattle.cacache_base.specs.Given.{AddsAnswer};
+ghost use Rattle.cacache_calls.specs.declared.reply.Reply.TheVariants.{Stored};
 ghost use Rattle.cacache_calls.specs.Promises.{Stores};
-ghost use Rattle.cacache_content.specs.Stepping.{Does, FailsAt};
-ghost use Rattle.cacache_content.specs.Writing.{HasTaken, GoesOn, Opens, Ends, Removes, taken, make_folder as making_folder, make_file as making_file, commit_of, stored_as, unkeyed};
+ghost use Rattle.cacache_calls.specs.Runs.{reply_of};
+ghost use Rattle.cacache_content.specs.Stepping.{Does, FailsAt, passed};
+ghost use Rattle.cacache_content.specs.Writing.{HasTaken, GoesOn, Opens, Ends, Removes, Takes, TakesPart, make_folder as making_folder, make_file as making_file, commit_of, unkeyed};
 
 use cacache_base::env::{Clock, Env, Names};
 use cacache_base::store::{Step, Store, TempFile};
@@ -18,11 +20,11 @@ use cacache_core::errors::Result;
 use cacache_core::hasher::Hasher;
 use cacache_core::integrity::{Algorithm, Integrity};
 use cacache_core::text::Text;
-use cacache_jobs::{Commit, commit_from, refused, temp_folder, temp_path};
+use cacache_jobs::{Commit, commit_from, messages, refused, temp_folder, temp_path};
 use serde_json::Value;
 use std::alloc::{AllocError, Global};
 use std::io;
-use std::io::Write;
+use std::io::{ErrorKind, Write};
 
 /// A content that is being written. Its bytes go to a temporary file as they come, and each is hashed once; `close`
 /// makes the file the content. A writer that is dropped leaves its file for `clear_sync`.
@@ -37,12 +39,6 @@ pub struct Writer<T> {
     count: usize,
 }
 
-/// A message that ends with the folder of temporary files.
-fn about_folder(alloc: Global, cache: &str, words: &str) -> std::result::Result<Text, AllocError> {
-    let folder = temp_folder(alloc, cache)?;
-    Ok(Text::new(format!(in alloc; "{words} {folder}")?))
-}
-
 /// Makes the folder of temporary files.
 fn make_folder<S: Store>(alloc: Global, store: &mut S, cache: &str) -> Result<()>
     ensures made { IfOk result
@@ -53,10 +49,7 @@ fn make_folder<S: Store>(alloc: Global, store: &mut S, cache: &str) -> Result<()
     let folder = temp_folder(alloc, cache)?;
     match done_of(store.step(Step::MakeDirs(folder))) {
         Ok(()) => Ok(()),
-        Err(refusal) => {
-            let words = "Failed to create cache directory for temporary files, at";
-            Err(refused(refusal, about_folder(alloc, cache, words)))
-        }
+        Err(refusal) => Err(refused(refusal, messages::making_temps(alloc, cache))),
     }
 }
 
@@ -86,8 +79,8 @@ pub fn open<S: Store>(
             count: 0,
         }),
         Err(refusal) => {
-            let words = "Failed to create temp file while initializing a writer, inside";
-            Err(refused(refusal, about_folder(alloc, cache.as_str(), words)))
+            let message = messages::creating(alloc, cache.as_str());
+            Err(refused(refusal, message))
         }
     }
 }
@@ -104,10 +97,10 @@ pub fn commit<S: Store, C, N>(
     options: Options,
 ) -> Result<Integrity>
     ensures stored { (bytes : List ℕ) → HasTaken writer bytes
-        → Stores (commit_of writer bytes key moment options) (stored_as result) }
+        → Stores (commit_of writer bytes key moment options) (reply_of Stored result) }
     ensures ran { (bytes : List ℕ) → HasTaken writer bytes
-        → Ends S.Temp.seen writer (commit_of writer bytes key moment options) (stored_as result)
-        (S.log env.old.store) (S.log env.new.store) }
+        → Ends S.Temp.seen writer (commit_of writer bytes key moment options)
+        (reply_of Stored result) (S.log env.old.store) (S.log env.new.store) }
     ensures clock { env.new.clock ≡ env.old.clock }
     ensures names { env.new.names ≡ env.old.names }
     ensures base { env.new.base ≡ env.old.base }
@@ -196,7 +189,7 @@ impl<T: TempFile> Writer<T> {
         ensures stored { (bytes : List ℕ) → HasTaken self bytes
             → IfOk result (λ i. i ≡ integrity_under (algorithm_of self.hasher) bytes) }
         ensures ran { (bytes : List ℕ) → HasTaken self bytes
-            → Ends T.seen self (unkeyed self bytes) (stored_as result)
+            → Ends T.seen self (unkeyed self bytes) (reply_of Stored result)
             (S.log env.old.store) (S.log env.new.store) }
         ensures clock { env.new.clock ≡ env.old.clock }
         ensures names { env.new.names ≡ env.old.names }
@@ -222,14 +215,42 @@ impl<T: TempFile> Write for Writer<T> {
         ensures bound { WritesAtMost result buf.now }
         ensures bytes { WriteAppends (T.seen self.old.file).bytes (T.seen self.new.file).bytes
             result buf.now }
-        ensures takes { (bytes : List ℕ) → HasTaken self.old bytes
-            → HasTaken self.new (bytes ++ taken result buf.now) }
+        ensures takes { Takes self.old self.new (passed result buf.now) }
         ensures goes_on { GoesOn T.seen self.old self.new }
     {
         let count = self.file.write_some(buf)?;
         self.hasher.update(&buf[..count]);
         self.count = self.count.saturating_add(count);
         Ok(count)
+    }
+
+    /// Hands all of `buf` to the file, in as many writes as that takes. A write that was interrupted is tried again.
+    ///
+    /// After an error the file took a beginning of `buf`, perhaps nothing, and the writer goes on. `WriteZero` says that
+    /// a write took nothing.
+    fn write_all(&mut self, buf: &[u8]) -> io::Result<()>
+        ensures bytes { OnOk result (Appends (T.seen self.old.file).bytes
+            (T.seen self.new.file).bytes buf.now) }
+        ensures takes { OnOk result (Takes self.old self.new buf.now) }
+        ensures part { OnErr result (TakesPart self.old self.new buf.now) }
+        ensures goes_on { GoesOn T.seen self.old self.new }
+    {
+        let mut done = 0;
+        for _ in 0..u64::MAX {
+            if done == buf.len() {
+                return Ok(());
+            }
+            match self.write(&buf[done..]) {
+                Ok(0) => {
+                    let message = "failed to write whole buffer";
+                    return Err(io::Error::new(ErrorKind::WriteZero, message));
+                }
+                Ok(count) => done += count,
+                Err(error) if error.kind() == ErrorKind::Interrupted => {}
+                Err(error) => return Err(error),
+            }
+        }
+        Err(ErrorKind::TimedOut.into())
     }
 
     /// Does nothing: each write goes to the file itself.

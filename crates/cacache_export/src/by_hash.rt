@@ -3,9 +3,10 @@ ghost use Rattle.std.specs.Prelude.{IfOk};
 ghost use Rattle.cacache_calls.specs.declared.command.How.TheVariants.{Copy, Reflink, HardLink};
 ghost use Rattle.cacache_calls.specs.declared.command.Source.TheVariants.{Hash};
 ghost use Rattle.cacache_calls.specs.declared.reply.Reply.TheVariants.{Copied, Done};
+ghost use Rattle.cacache_calls.specs.Runs.{reply_of};
 ghost use Rattle.cacache_export.specs.Exports.{checked, unchecked};
 ghost use Rattle.cacache_jobs.specs.Found.{Verified};
-ghost use Rattle.cacache_put.specs.Replies.{reply_of, done};
+ghost use Rattle.cacache_put.specs.Replies.{done};
 ghost use Rattle.cacache_put.specs.Writes.{Calls};
 
 use crate::exporting::{copied, linked};

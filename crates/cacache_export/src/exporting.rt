@@ -2,10 +2,11 @@
 ghost use Rattle.std.specs.Prelude.{◌≡◌, ◌≢◌, true, IfOk};
 ghost use Rattle.cacache_calls.specs.declared.command.How.TheVariants.{Copy};
 ghost use Rattle.cacache_calls.specs.declared.reply.Reply.TheVariants.{Copied, Done};
+ghost use Rattle.cacache_calls.specs.Runs.{reply_of};
 ghost use Rattle.cacache_export.specs.Exports.{exporting, SaysCount};
 ghost use Rattle.cacache_jobs.specs.Found.{ReadsFirst, Verified};
 ghost use Rattle.cacache_jobs.specs.Opening.{site_of};
-ghost use Rattle.cacache_put.specs.Replies.{reply_of, done as says_done, SaysNothing};
+ghost use Rattle.cacache_put.specs.Replies.{done as says_done, SaysNothing};
 ghost use Rattle.cacache_put.specs.Writes.{Calls};
 
 use cacache_base::env::Env;

@@ -3,7 +3,6 @@ use Rattle.std.proofs.Common.{◌≡◌, ◌⊎◌, inl, inr, ℕ, List, [], ◌
 use Rattle.cacache_core.specs.declared.errors.Error.TheVariants.{OutOfMemory}
 use Rattle.cacache_core.specs.Integrity.{integrity_under}
 use Rattle.cacache_base.specs.Plain.{PlainAnswer}
-use Rattle.cacache_entry.specs.Fits.{IsEntry}
 use Rattle.cacache_entry.proofs.Causes.{Fits-no_cause}
 use Rattle.cacache_calls.specs.declared.command.Command.{Command}
 use Rattle.cacache_calls.specs.declared.command.Command.TheVariants as commands
@@ -14,7 +13,7 @@ use Rattle.cacache_calls.specs.Inserting.{insertion, deletion, bucket_line, refu
 use Rattle.cacache_calls.specs.Linking.{target_of, commit_for}
 use Rattle.cacache_calls.specs.Places.{content_path, bucket_path}
 use Rattle.cacache_calls.specs.Runs.{Runs, plain_reply}
-use Rattle.cacache_calls.specs.Sound.{SoundTarget, MayBegin}
+use Rattle.cacache_calls.specs.Sound.{FormedIfWritten, SoundTarget, MayBegin}
 use Rattle.cacache_calls.specs.State.{Commit, Insertion, Target}
 use Rattle.cacache_calls.specs.Storing.{insertion_of, commit_of}
 use Rattle.cacache_calls.specs.Table.{opening}
@@ -40,20 +39,20 @@ module _ (own : Own) (reply : Option Reply) (r : Reply) (refused : IsRefused r �
   sent_adds i a new (inr took) (inl h) = absurd (h.1 took)
   sent_adds i a new end (inr h) = inr (does (AddEntries h.0 (i.entry ∷ [])), (h.0, h.1, refl), h.2)
 
-  adds : (i : Insertion) (es : List Effect) (ds : List Deed) → IsEntry i.entry → Realizes own es ds → Inserts i es r → Adds i ds reply
+  adds : (i : Insertion) (es : List Effect) (ds : List Deed) → FormedIfWritten i → Realizes own es ds → Inserts i es r → Adds i ds reply
   unfolding bucket_line refused_cause
   adds i es ds formed real (inl h) = inl (subst (λ x. Realizes own x ds) h.0 real, refused h.1)
   adds i es ds formed real (inr h) =
       let k : Realizes own (sent (bucket_path i.cache i.entry.key) (bucket_line i) h.1.0 ∷ []) ds = subst (λ x. Realizes own x ds) h.1.1 real in
       let all : ds ≡ k.0 = k.2 ∙ ap (λ more. k.0 ++ more) k.4 ∙ append-nil k.0 in
-      subst (λ x. Adds i x reply) (sym all) (sent_adds i h.1.0 k.0 h.1.2 (k.3 i.entry formed (Fits-no_cause i.entry formed h.0) refl))
+      subst (λ x. Adds i x reply) (sym all) (sent_adds i h.1.0 k.0 h.1.2 (k.3 i.entry (formed h.0) (Fits-no_cause i.entry (formed h.0) h.0) refl))
 
-  adds_after : (c : Commit) (key : Option (List ℕ)) (es : List Effect) (ds : List Deed) → ((k : List ℕ) → key ≡ Some k → IsEntry (insertion_of c k).entry) → Realizes own es ds → Indexes c key es r
+  adds_after : (c : Commit) (key : Option (List ℕ)) (es : List Effect) (ds : List Deed) → ((k : List ℕ) → key ≡ Some k → FormedIfWritten (insertion_of c k)) → Realizes own es ds → Indexes c key es r
       → AddsAfter c key ds reply
   adds_after c None es ds formed real h = subst (λ x. Realizes own x ds) h real
   adds_after c (Some key) es ds formed real h = adds (insertion_of c key) es ds (formed key refl) real h
 
-  commits : (c : Commit) (es : List Effect) (ds : List Deed) → ((k : List ℕ) → c.key ≡ Some k → IsEntry (insertion_of c k).entry) → Realizes own es ds → Commits c es r → CommitsAs c (put_own own) ds reply
+  commits : (c : Commit) (es : List Effect) (ds : List Deed) → ((k : List ℕ) → c.key ≡ Some k → FormedIfWritten (insertion_of c k)) → Realizes own es ds → Commits c es r → CommitsAs c (put_own own) ds reply
   commits c es ds formed real (inl h) = inl (subst (λ x. Realizes own x ds) h.0 real, refused h.1)
   commits c es ds formed real (inr h) =
       let k : Realizes own (stored (content_path c.cache c.computed) ∷ h.0) ds = subst (λ x. Realizes own x ds) h.1 real in

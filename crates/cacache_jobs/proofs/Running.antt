@@ -66,18 +66,18 @@ wants_some s a w =
     omega arith
 
 module _ {F T : Type 0} (file : F → PlainFile) (temp : T → PlainTemp) where
-  memory_at : (p : Phase F T) → LostMemory p → PhaseAt file temp p (over (Refused OutOfMemory))
+  pub memory_at : (p : Phase F T) → LostMemory p → PhaseAt file temp p (over (Refused OutOfMemory))
   memory_at (phases.Wanting stage step) e = absurd e
   memory_at (phases.Over reply) e = ap over (sym e)
 
   -- where a job is after an answer, or at its beginning
-  turn_at : (p : Standing F T) (s : State) → GoesOnTo file temp p s → IdleAt file temp p s ⊎ IdleAt file temp p (over (Refused OutOfMemory))
+  pub turn_at : (p : Standing F T) (s : State) → GoesOnTo file temp p s → IdleAt file temp p s ⊎ IdleAt file temp p (over (Refused OutOfMemory))
   turn_at (standings.At phase) s (inl e) = inl e
   turn_at (standings.At phase) s (inr e) = inr (memory_at phase e)
   turn_at (standings.Out stage) s e = absurd e
   turn_at standings.Told s e = absurd e
 
-  out_wants : (q : Standing F T) (s : State) (a : PlainStep) → OutAt temp q s a → wants s ≡ Some a
+  pub out_wants : (q : Standing F T) (s : State) (a : PlainStep) → OutAt temp q s a → wants s ≡ Some a
   out_wants (standings.At phase) s a e = absurd e
   out_wants (standings.Out stage) s a e = e.wanted
   out_wants standings.Told s a e = absurd e

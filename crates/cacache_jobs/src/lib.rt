@@ -9,7 +9,7 @@ mod inserting;
 mod job;
 mod linking;
 mod looking;
-mod messages;
+pub mod messages;
 mod opening;
 mod phase;
 mod places;

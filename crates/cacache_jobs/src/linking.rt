@@ -59,20 +59,7 @@ impl Target {
             moment,
             options,
         } = self;
-        let Options {
-            algorithm,
-            size: _,
-            integrity,
-            metadata,
-            raw_metadata,
-        } = options;
-        let options = Options {
-            algorithm,
-            size: Some(size),
-            integrity,
-            metadata,
-            raw_metadata,
-        };
+        let options = options.with_size(size);
         Target {
             cache,
             key,
@@ -193,7 +180,7 @@ pub(crate) fn sized<F: FileHandle, T: TempHandle>(
             let stage = Stage::Opening(Hashing::Link(hasher, target));
             Ok(Phase::Wanting(stage, Step::Open(path)))
         }
-        Err(refusal) => Err(refused(refusal, messages::sizing(alloc, &target))),
+        Err(refusal) => Err(refused(refusal, messages::sizing(alloc, &target.path))),
     }
 }
 

@@ -1,7 +1,6 @@
 //! What a call says where a step failed. No contract speaks of these texts; tests show them.
 use crate::hashing::Hashing;
 use crate::inserting::Insertion;
-use crate::linking::Target;
 use crate::looking::Lookup;
 use crate::places::{bucket_path, bucket_place, content_path, content_place, temp_folder};
 use crate::reading::Content;
@@ -10,15 +9,17 @@ use crate::storing::Commit;
 use cacache_core::text::Text;
 use std::alloc::{AllocError, Global};
 
-pub(crate) fn making_temps(alloc: Global, commit: &Commit) -> Result<Text, AllocError> {
-    let folder = temp_folder(alloc, commit.cache.as_str())?;
+/// The folder of temporary files wasn't made.
+pub fn making_temps(alloc: Global, cache: &str) -> Result<Text, AllocError> {
+    let folder = temp_folder(alloc, cache)?;
     Ok(Text::new(format!(in alloc;
         "Failed to create cache directory for temporary files, at {folder}"
     )?))
 }
 
-pub(crate) fn creating(alloc: Global, commit: &Commit) -> Result<Text, AllocError> {
-    let folder = temp_folder(alloc, commit.cache.as_str())?;
+/// The temporary file wasn't made.
+pub fn creating(alloc: Global, cache: &str) -> Result<Text, AllocError> {
+    let folder = temp_folder(alloc, cache)?;
     Ok(Text::new(format!(in alloc;
         "Failed to create temp file while initializing a writer, inside {folder}"
     )?))
@@ -100,33 +101,42 @@ pub(crate) fn finishing(alloc: Global, last: &Last) -> Result<Text, AllocError> 
     Ok(Text::new(message))
 }
 
-pub(crate) fn opening_file(alloc: Global, hashing: &Hashing) -> Result<Text, AllocError> {
-    let path = match hashing {
-        Hashing::Verify(_, from, _) => from,
-        Hashing::Link(_, target) => &target.path,
-    };
+/// The file at the path, a content or a link's target, wasn't opened.
+pub fn opening(alloc: Global, path: &Text) -> Result<Text, AllocError> {
     Ok(Text::new(format!(in alloc; "Failed to open reader to {path}")?))
 }
 
+/// The file that was to be hashed wasn't opened.
+pub(crate) fn opening_file(alloc: Global, hashing: &Hashing) -> Result<Text, AllocError> {
+    match hashing {
+        Hashing::Verify(_, from, _) => opening(alloc, from),
+        Hashing::Link(_, target) => opening(alloc, &target.path),
+    }
+}
+
+/// A piece of a link's target wasn't read.
+pub fn reading_target(alloc: Global) -> Result<Text, AllocError> {
+    Text::from_str(
+        alloc,
+        "Failed to read target file contents while calculating integrity",
+    )
+}
+
 pub(crate) fn hashing(alloc: Global, hashing: &Hashing) -> Result<Text, AllocError> {
-    let message = match hashing {
-        Hashing::Verify(_, from, _) => format!(in alloc;
+    match hashing {
+        Hashing::Verify(_, from, _) => Ok(Text::new(format!(in alloc;
             "Failed to read cache contents while verifying integrity for {from}"
-        )?,
-        Hashing::Link(_, _) => String::from_str(
-            alloc,
-            "Failed to read target file contents while calculating integrity",
-        )?,
-    };
-    Ok(Text::new(message))
+        )?)),
+        Hashing::Link(_, _) => reading_target(alloc),
+    }
 }
 
 pub(crate) fn copying(alloc: Global, from: &Text, to: &Text) -> Result<Text, AllocError> {
     Ok(Text::new(format!(in alloc; "Failed to copy cache contents from {from} to {to}")?))
 }
 
-pub(crate) fn sizing(alloc: Global, target: &Target) -> Result<Text, AllocError> {
-    let path = &target.path;
+/// The size of a link's target wasn't told.
+pub fn sizing(alloc: Global, path: &Text) -> Result<Text, AllocError> {
     Ok(Text::new(format!(in alloc; "Failed to get metadata of {path}")?))
 }
 

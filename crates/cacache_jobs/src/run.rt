@@ -17,6 +17,7 @@ use cacache_calls::{Command, Reply};
 
 /// Does the steps of a call until it is over. The reply is that of a run of the call, and where the store keeps its
 /// log, that run is what the log gained.
+#[inline(always)]
 pub fn drive<S: Store>(store: &mut S, job: Job<S::File, S::Temp>) -> Reply
     requires { (s : State) × Stands S.File.seen S.Temp.seen job s }
     ensures { (s : State) → Stands S.File.seen S.Temp.seen job s

@@ -72,7 +72,7 @@ impl<T: TempHandle> Then<T> {
     /// Why the errand before this one failed, in words.
     fn message(&self, alloc: Global) -> Result<Text, AllocError> {
         match self {
-            Then::Create(_, commit, _) => messages::making_temps(alloc, commit),
+            Then::Create(_, commit, _) => messages::making_temps(alloc, commit.cache.as_str()),
             Then::Persist(commit, _, _) => messages::making_contents(alloc, commit),
             Then::Append(insertion, _, _) => messages::making_bucket(alloc, insertion),
             Then::RemoveBucket(content, _) => messages::removing_content(alloc, content),

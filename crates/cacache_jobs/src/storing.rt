@@ -164,7 +164,10 @@ pub(crate) fn created<F: FileHandle, T: TempHandle>(
 {
     match temp {
         Ok(file) => write_rest(alloc, commit, file, rest),
-        Err(refusal) => Err(refused(refusal, messages::creating(alloc, &commit))),
+        Err(refusal) => {
+            let message = messages::creating(alloc, commit.cache.as_str());
+            Err(refused(refusal, message))
+        }
     }
 }
 

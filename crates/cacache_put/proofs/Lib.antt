@@ -1,2 +1,3 @@
 mod Links
 mod Linkers
+mod Wholes

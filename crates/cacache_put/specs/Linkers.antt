@@ -1,16 +1,19 @@
 -- Links whose target is read in pieces before they are made.
-use Rattle.std.specs.Prelude.{◌≡◌, ◌-◌, ◌^◌, ℕ, List, [], Option, Result, Ok, Err, length, min}
+use Rattle.std.specs.Prelude.{◌≡◌, ◌-◌, ◌^◌, ◌++◌, ℕ, List, [], Option, Result, Ok, Err, length, min}
 use Rattle.cacache_core.specs.declared.errors.Error.{Error}
+use Rattle.cacache_core.specs.declared.integrity.digest.Hash.{Hash}
 use Rattle.cacache_core.specs.Hashers.{Holds, algorithm_of}
 use Rattle.cacache_base.specs.declared.env.Env.{Env}
 use Rattle.cacache_base.specs.declared.store.log.LogItem.{LogItem}
 use Rattle.cacache_base.specs.declared.store.plain.PlainFile.{PlainFile}
 use Rattle.cacache_calls.specs.declared.command.Options.{Options}
 use Rattle.cacache_calls.specs.declared.reply.Reply.{Reply}
-use Rattle.cacache_calls.specs.declared.reply.Reply.TheVariants.{Refused}
-use Rattle.cacache_calls.specs.Linking.{based}
-use Rattle.cacache_calls.specs.Runs.{Gone, Ran, without_message}
+use Rattle.cacache_calls.specs.declared.reply.Reply.TheVariants.{Stored, Refused}
+use Rattle.cacache_calls.specs.Linking.{based, commit_for}
+use Rattle.cacache_calls.specs.Promises.{Stores}
+use Rattle.cacache_calls.specs.Runs.{Moves, Gains, Gone, Ran, without_message}
 use Rattle.cacache_calls.specs.State.{State, sizing, opening_file, hashing, to_link, Target}
+use Rattle.cacache_calls.specs.Verifying.{Gives}
 use Rattle.cacache_put.specs.declared.linked.Linked.{Linked}
 use Rattle.cacache_put.specs.declared.linker.SyncToLinker.{SyncToLinker}
 use Rattle.cacache_put.specs.Writes.{HasMoment}
@@ -86,3 +89,12 @@ module _ {F : Type 0} (file : F → PlainFile) where
       (moment : ℕ) × HasMoment moments l.linked.time old.clock new.clock moment
       × Ran (stands_at l bytes moment) reply (log old.store) (log new.store)
       × (new.names ≡ old.names) × (new.base ≡ old.base)
+
+  -- a log that is kept gained moves that begin with reads of the target's rest, to its end: a commit of
+  -- all its bytes, those that were taken and the rest, stores this integrity
+  abbrev pub StoresWhole :
+      SyncToLinker F → List ℕ → List Hash → Option (List LogItem) → Option (List LogItem) → Type 0
+  StoresWhole l bytes i old new =
+      (moves : Moves) × Gains old new moves
+      × (rest : List ℕ) × Gives (file l.file) rest moves
+      × (moment : ℕ) × Stores (commit_for (target_at l.linked moment) (bytes ++ rest)) (Stored i)

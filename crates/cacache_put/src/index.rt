@@ -3,7 +3,8 @@ ghost use Rattle.std.specs.Prelude.{◌≡◌, None, IfOk};
 ghost use Rattle.cacache_calls.specs.declared.command.Command.TheVariants as commands;
 ghost use Rattle.cacache_calls.specs.declared.reply.Reply.TheVariants.{Stored};
 ghost use Rattle.cacache_calls.specs.Inserting.{given_or, no_integrity};
-ghost use Rattle.cacache_put.specs.Replies.{reply_of, done as says_done, looked_up};
+ghost use Rattle.cacache_calls.specs.Runs.{reply_of};
+ghost use Rattle.cacache_put.specs.Replies.{done as says_done, looked_up};
 ghost use Rattle.cacache_put.specs.Writes.{Calls, RunsTimed, insert_of, delete_of};
 
 use crate::moment::moment;

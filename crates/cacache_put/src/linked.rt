@@ -71,20 +71,7 @@ impl Linked {
             time,
             options,
         } = self;
-        let Options {
-            algorithm,
-            size: _,
-            integrity,
-            metadata,
-            raw_metadata,
-        } = options;
-        let options = Options {
-            algorithm,
-            size: Some(size),
-            integrity,
-            metadata,
-            raw_metadata,
-        };
+        let options = options.with_size(size);
         Linked {
             cache,
             key,

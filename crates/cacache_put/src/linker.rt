@@ -1,18 +1,17 @@
 //! Links whose target is read in pieces before they are made.
-ghost use Rattle.std.specs.Prelude.{◌≡◌, ◌++◌, ℕ, List, None, Some, length};
+ghost use Rattle.std.specs.Prelude.{◌≡◌, ◌++◌, ℕ, List, None, Some, IfOk, length};
 ghost use Rattle.std.specs.Io.{ReadsAtMost};
 ghost use Rattle.std.specs.Io.KnownBytes.{ReadConsumes};
 ghost use Rattle.cacache_core.specs.declared.integrity.algorithm.Algorithm.TheVariants.{Sha256};
 ghost use Rattle.cacache_core.specs.Integrity.{integrity_under};
 ghost use Rattle.cacache_base.specs.Handles.{LeftFalls};
 ghost use Rattle.cacache_calls.specs.declared.reply.Reply.TheVariants.{Stored};
-ghost use Rattle.cacache_calls.specs.Runs.{Ran};
+ghost use Rattle.cacache_calls.specs.Runs.{Ran, reply_of};
 ghost use Rattle.cacache_calls.specs.State.{hashing, to_link};
 ghost use Rattle.cacache_core.specs.Hashers.{Holds, algorithm_of};
-ghost use Rattle.cacache_content.specs.Reading.{given};
-ghost use Rattle.cacache_put.specs.Linkers.{HasTaken, OpensLinker, Commits, Sizes, asks_size, asks_file, linked_to, target_at};
+ghost use Rattle.cacache_content.specs.Stepping.{passed};
+ghost use Rattle.cacache_put.specs.Linkers.{HasTaken, OpensLinker, Commits, StoresWhole, Sizes, asks_size, asks_file, linked_to, target_at};
 ghost use Rattle.cacache_put.specs.Options.{blank as blank_options};
-ghost use Rattle.cacache_put.specs.Replies.{reply_of};
 ghost use Rattle.cacache_put.specs.Rest.{links};
 
 use crate::linked::Linked;
@@ -27,8 +26,8 @@ use cacache_core::errors::{Error, Result};
 use cacache_core::hasher::Hasher;
 use cacache_core::integrity::{Algorithm, Integrity};
 use cacache_core::text::Text;
-use cacache_jobs::{link_from, refused};
-use std::alloc::{AllocError, Global};
+use cacache_jobs::{link_from, messages, refused};
+use std::alloc::Global;
 use std::io;
 use std::io::Read;
 
@@ -41,18 +40,6 @@ pub struct SyncToLinker<F> {
     /// How many bytes were read, or `usize::MAX` if there are more.
     count: usize,
     file: F,
-}
-
-/// Why the target wasn't opened.
-fn unopened(alloc: Global, linked: &Linked) -> std::result::Result<Text, AllocError> {
-    let path = &linked.path;
-    Ok(Text::new(format!(in alloc; "Failed to open reader to {path}")?))
-}
-
-/// Why the target's size wasn't told.
-fn unmeasured(alloc: Global, linked: &Linked) -> std::result::Result<Text, AllocError> {
-    let path = &linked.path;
-    Ok(Text::new(format!(in alloc; "Failed to get metadata of {path}")?))
 }
 
 /// Opens the target.
@@ -75,7 +62,7 @@ pub(crate) fn open_target<S: Store>(
                 file,
             })
         }
-        Err(refusal) => Err(refused(refusal, unopened(alloc, &linked))),
+        Err(refusal) => Err(refused(refusal, messages::opening(alloc, &linked.path))),
     }
 }
 
@@ -86,7 +73,7 @@ fn sized<S: Store>(alloc: Global, store: &mut S, linked: Linked) -> Result<Linke
     let path = linked.path.clone()?;
     match length_of(store.step(Step::Size(path))) {
         Ok(size) => Ok(linked.with_size(size as usize)),
-        Err(refusal) => Err(refused(refusal, unmeasured(alloc, &linked))),
+        Err(refusal) => Err(refused(refusal, messages::sizing(alloc, &linked.path))),
     }
 }
 
@@ -238,6 +225,8 @@ impl<F: OpenedFile> SyncToLinker<F> {
         self,
         env: &mut Env<S, C, N>,
     ) -> Result<Integrity>
+        ensures whole { (bytes : List ℕ) → HasTaken self bytes → IfOk result
+            (λ i. StoresWhole F.seen self bytes i (S.log env.old.store) (S.log env.new.store)) }
         ensures ran { (bytes : List ℕ) → HasTaken self bytes
             → Commits F.seen S.log C.given env.old env.new self bytes (reply_of Stored result) }
     {
@@ -267,7 +256,7 @@ impl<F: OpenedFile> Read for SyncToLinker<F> {
             result buf.new }
         ensures left { LeftFalls (F.seen self.old.file).left (F.seen self.new.file).left result }
         ensures so_far { (bytes : List ℕ) → HasTaken self.old bytes
-            → HasTaken self.new (bytes ++ given result buf.new) }
+            → HasTaken self.new (bytes ++ passed result buf.new) }
         ensures linked { self.new.linked ≡ self.old.linked }
     {
         let count = self.file.read_some(buf)?;

@@ -4,10 +4,10 @@ ghost use Rattle.cacache_core.specs.declared.integrity.algorithm.Algorithm.TheVa
 ghost use Rattle.cacache_calls.specs.declared.command.Command.TheVariants as commands;
 ghost use Rattle.cacache_calls.specs.declared.reply.Reply.TheVariants.{Stored};
 ghost use Rattle.cacache_calls.specs.Linking.{based, target_of};
+ghost use Rattle.cacache_calls.specs.Runs.{reply_of};
 ghost use Rattle.cacache_jobs.specs.Found.{Linked};
 ghost use Rattle.cacache_jobs.specs.Opening.{site_of};
 ghost use Rattle.cacache_put.specs.Links.{link_to, HoldsTarget};
-ghost use Rattle.cacache_put.specs.Replies.{reply_of};
 ghost use Rattle.cacache_put.specs.Writes.{Calls, RunsTimed};
 
 use crate::moment::moment;

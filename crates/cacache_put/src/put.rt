@@ -4,8 +4,8 @@ ghost use Rattle.cacache_core.specs.declared.integrity.algorithm.Algorithm.TheVa
 ghost use Rattle.cacache_core.specs.Integrity.{integrity_under};
 ghost use Rattle.cacache_calls.specs.declared.command.Command.TheVariants as commands;
 ghost use Rattle.cacache_calls.specs.declared.reply.Reply.TheVariants.{Stored};
+ghost use Rattle.cacache_calls.specs.Runs.{reply_of};
 ghost use Rattle.cacache_put.specs.Options.{blank};
-ghost use Rattle.cacache_put.specs.Replies.{reply_of};
 ghost use Rattle.cacache_put.specs.Writes.{Steps, RunsNumbered, RunsPut, keyed_put, unkeyed_put};
 
 use cacache_base::env::{Clock, Env, Names};

@@ -1,5 +1,6 @@
 //! Calls by the kind of their reply.
-ghost use Rattle.cacache_put.specs.Replies.{SaysNothing, reply_of, done as says_done};
+ghost use Rattle.cacache_calls.specs.Runs.{reply_of};
+ghost use Rattle.cacache_put.specs.Replies.{SaysNothing, done as says_done};
 ghost use Rattle.cacache_put.specs.Writes.{Calls};
 
 use cacache_base::env::Env;

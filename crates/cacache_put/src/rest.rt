@@ -8,20 +8,11 @@ use cacache_base::store::{Step, Store};
 use cacache_calls::answers::{Got, got_of};
 use cacache_core::errors::{Error, Result};
 use cacache_core::hasher::Hasher;
-use cacache_core::text::Text;
-use cacache_jobs::refused;
-use std::alloc::{AllocError, Global};
+use cacache_jobs::{messages, refused};
+use std::alloc::Global;
 
 /// A read asks for at most so many bytes.
 const PIECE: usize = 8192;
-
-/// Why a piece of the target wasn't read.
-fn unread(alloc: Global) -> std::result::Result<Text, AllocError> {
-    Text::from_str(
-        alloc,
-        "Failed to read target file contents while calculating integrity",
-    )
-}
 
 /// Reads the target to its end and hashes it, so many bytes having been read before, and answers how many it has.
 pub(crate) fn read_rest<S: Store>(
@@ -52,7 +43,7 @@ pub(crate) fn read_rest<S: Store>(
                 count = more;
                 file = next;
             }
-            Err(refusal) => return Err(refused(refusal, unread(alloc))),
+            Err(refusal) => return Err(refused(refusal, messages::reading_target(alloc))),
         }
     }
 }

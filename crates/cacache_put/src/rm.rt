@@ -1,7 +1,8 @@
 //! Calls that remove.
 ghost use Rattle.std.specs.Prelude.{◌≡◌, None, true, false};
 ghost use Rattle.cacache_calls.specs.declared.command.Command.TheVariants as commands;
-ghost use Rattle.cacache_put.specs.Replies.{reply_of, done as says_done};
+ghost use Rattle.cacache_calls.specs.Runs.{reply_of};
+ghost use Rattle.cacache_put.specs.Replies.{done as says_done};
 ghost use Rattle.cacache_put.specs.Writes.{Calls, RunsTimed, delete_of};
 
 use crate::index::delete;

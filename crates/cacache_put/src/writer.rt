@@ -1,9 +1,12 @@
 //! Contents that are written in pieces, with all options at their commit.
-ghost use Rattle.std.specs.Prelude.{◌≡◌, ◌++◌, ℕ, List, Some};
+ghost use Rattle.std.specs.Prelude.{◌≡◌, ℕ, List, Some, OnOk, OnErr};
 ghost use Rattle.std.specs.Io.{WritesAtMost};
-ghost use Rattle.std.specs.Io.KnownBytes.{WriteAppends};
+ghost use Rattle.std.specs.Io.KnownBytes.{Appends, WriteAppends};
+ghost use Rattle.cacache_calls.specs.declared.reply.Reply.TheVariants.{Stored};
 ghost use Rattle.cacache_calls.specs.Promises.{Stores};
-ghost use Rattle.cacache_content.specs.Writing.{HasTaken, GoesOn, Removes, taken, stored_as};
+ghost use Rattle.cacache_calls.specs.Runs.{reply_of};
+ghost use Rattle.cacache_content.specs.Stepping.{passed};
+ghost use Rattle.cacache_content.specs.Writing.{HasTaken, GoesOn, Removes, Takes, TakesPart};
 ghost use Rattle.cacache_put.specs.Options.{nothing_said};
 ghost use Rattle.cacache_put.specs.Writers.{OpensAt, Opens, Commits, commit_of};
 
@@ -96,9 +99,9 @@ impl<T: TempFile> SyncWriter<T> {
         env: &mut Env<S, C, N>,
     ) -> Result<Integrity>
         ensures stored { (bytes : List ℕ) → HasTaken self.writer bytes
-            → (moment : ℕ) × Stores (commit_of self bytes moment) (stored_as result) }
+            → (moment : ℕ) × Stores (commit_of self bytes moment) (reply_of Stored result) }
         ensures ran { (bytes : List ℕ) → HasTaken self.writer bytes
-            → Commits T.seen S.log C.given env.old env.new self bytes (stored_as result) }
+            → Commits T.seen S.log C.given env.old env.new self bytes (reply_of Stored result) }
         ensures names { env.new.names ≡ env.old.names }
         ensures base { env.new.base ≡ env.old.base }
     {
@@ -144,12 +147,26 @@ impl<T: TempFile> Write for SyncWriter<T> {
         ensures bound { WritesAtMost result buf.now }
         ensures bytes { WriteAppends (T.seen self.old.writer.file).bytes
             (T.seen self.new.writer.file).bytes result buf.now }
-        ensures takes { (bytes : List ℕ) → HasTaken self.old.writer bytes
-            → HasTaken self.new.writer (bytes ++ taken result buf.now) }
+        ensures takes { Takes self.old.writer self.new.writer (passed result buf.now) }
         ensures goes_on { GoesOn T.seen self.old.writer self.new.writer }
         ensures said { self.new ≡ record self.old { writer = self.new.writer } }
     {
         self.writer.write(buf)
+    }
+
+    /// Hands all of `buf` to the file, in as many writes as that takes. A write that was interrupted is tried again.
+    ///
+    /// After an error the file took a beginning of `buf`, perhaps nothing, and the writer goes on. `WriteZero` says that
+    /// a write took nothing.
+    fn write_all(&mut self, buf: &[u8]) -> io::Result<()>
+        ensures bytes { OnOk result (Appends (T.seen self.old.writer.file).bytes
+            (T.seen self.new.writer.file).bytes buf.now) }
+        ensures takes { OnOk result (Takes self.old.writer self.new.writer buf.now) }
+        ensures part { OnErr result (TakesPart self.old.writer self.new.writer buf.now) }
+        ensures goes_on { GoesOn T.seen self.old.writer self.new.writer }
+        ensures said { self.new ≡ record self.old { writer = self.new.writer } }
+    {
+        self.writer.write_all(buf)
     }
 
     /// Does nothing: each write goes to the file itself.

@@ -12,6 +12,7 @@ mod listing;
 mod options;
 mod readers;
 mod readme;
+mod reads;
 mod removed;
 mod round;
 mod steps;

@@ -1,4 +1,6 @@
 pub mod Turning
 pub mod Worlds
-pub mod Admitting
-pub mod Playing
+pub mod Asking
+pub mod Played
+pub mod Paths
+pub mod Files

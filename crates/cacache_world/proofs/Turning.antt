@@ -1,47 +1,23 @@
 -- A move of a job is one of its call.
 use Rattle.std.proofs.Common.{◌≡◌, ◌⊎◌, inl, inr, None, Some, sym, ap, ◌∙◌}
 use Rattle.cacache_core.specs.declared.errors.Error.TheVariants.{OutOfMemory}
-use Rattle.cacache_base.specs.declared.store.plain.PlainFile.{PlainFile}
-use Rattle.cacache_base.specs.declared.store.plain.PlainTemp.{PlainTemp}
 use Rattle.cacache_base.specs.Plain.{PlainStep}
 use Rattle.cacache_calls.specs.declared.reply.Reply.{Reply}
 use Rattle.cacache_calls.specs.declared.reply.Reply.TheVariants.{Refused}
 use Rattle.cacache_calls.specs.State.{State, over}
 use Rattle.cacache_calls.specs.Table.{wants}
 use Rattle.cacache_calls.specs.Runs.{plain_reply}
-use Rattle.cacache_jobs.specs.declared.phase.Phase.{Phase}
-use Rattle.cacache_jobs.specs.declared.phase.Phase.TheVariants as phases
-use Rattle.cacache_jobs.specs.declared.job.Standing.{Standing}
-use Rattle.cacache_jobs.specs.declared.job.Standing.TheVariants as standings
-use Rattle.cacache_jobs.specs.Jobs.{IdleAt, OutAt, LostMemory, GoesOnTo}
-use Rattle.cacache_jobs.specs.Standing.{PhaseAt}
+use Rattle.cacache_jobs.specs.Jobs.{OutAt}
+use Rattle.cacache_jobs.proofs.Running.{out_wants, turn_at}
 use Rattle.cacache_history.specs.History.{Ends}
 use Rattle.cacache_history.proofs.Runs.{memory_plain}
 use Rattle.cacache_world.specs.Turned.{DiskJob, StandsIn, GoesInto, IsSaid}
 
-module _ {F T : Type 0} (file : F → PlainFile) (temp : T → PlainTemp) where
-  -- a standing whose step is out wants that step
-  out_wanted : (q : Standing F T) (s : State) (step : PlainStep) → OutAt temp q s step → wants s ≡ Some step
-  out_wanted (standings.At phase) s step e = absurd e
-  out_wanted (standings.Out stage) s step e = e.wanted
-  out_wanted standings.Told s step e = absurd e
-
-  lost_phase : (p : Phase F T) → LostMemory p → PhaseAt file temp p (over (Refused OutOfMemory))
-  lost_phase (phases.Wanting stage step) e = absurd e
-  lost_phase (phases.Over reply) e = ap over (sym e)
-
-  -- where a job stands that went to a state
-  went : (p : Standing F T) (s : State) → GoesOnTo file temp p s → IdleAt file temp p s ⊎ IdleAt file temp p (over (Refused OutOfMemory))
-  went (standings.At phase) s (inl e) = inl e
-  went (standings.At phase) s (inr e) = inr (lost_phase phase e)
-  went (standings.Out stage) s e = absurd e
-  went standings.Told s e = absurd e
-
 pub wanted_out : (job : DiskJob) (s : State) (step : PlainStep) → OutAt (λ temp. temp) job.standing s step → wants s ≡ Some step
-wanted_out job s step out = out_wanted (λ file. file) (λ temp. temp) job.standing s step out
+wanted_out job s step out = out_wants (λ file. file) (λ temp. temp) job.standing s step out
 
 pub stands_where : (job : DiskJob) (s : State) → GoesInto job s → StandsIn job s ⊎ StandsIn job (over (Refused OutOfMemory))
-stands_where job s goes = went (λ file. file) (λ temp. temp) job.standing s goes
+stands_where job s goes = turn_at (λ file. file) (λ temp. temp) job.standing s goes
 
 -- a call that is over wants no step
 pub over_wants_none : (s : State) (reply : Reply) → s ≡ over reply → wants s ≡ None

@@ -1,8 +1,10 @@
 -- What a world keeps, with one record more.
-use Rattle.std.proofs.Common.{◌≡◌, ◌==◌, ◌<◌, ◌+◌, ℕ, zero, suc, Bool, true, false, cond, List, [], ◌∷◌, ◌++◌, Option, None, Some, IsTrue, replicate, slice_get, slice_set, option_map, refl, sym, ap, subst, ◌∙◌}
+use Rattle.std.proofs.Common.{◌≡◌, Ok, ◌==◌, ◌<◌, ◌+◌, ℕ, zero, suc, Bool, true, false, cond, List, [], ◌∷◌, ◌++◌, Option, None, Some, IsTrue, replicate, slice_get, slice_set, option_map, refl, sym, ap, subst, ◌∙◌}
 use Rattle.std.proofs.lemmas.Bool.{eqb-true, eqb-false}
 use Rattle.cacache_disk.specs.declared.luck.Luck.{Luck}
+use Rattle.cacache_core.specs.PathNames.{home_of}
 use Rattle.cacache_disk.specs.Tree.{Tree, bare}
+use Rattle.cacache_laws.specs.Opening.{LieApart, with_files}
 use Rattle.cacache_disk.specs.Apply.{apply}
 use Rattle.cacache_calls.specs.declared.command.Command.{Command}
 use Rattle.cacache_calls.specs.declared.reply.Reply.{Reply}
@@ -12,11 +14,15 @@ use Rattle.cacache_jobs.specs.Jobs.{can_go_on}
 use Rattle.cacache_history.specs.declared.record.Record.{Record}
 use Rattle.cacache_history.specs.declared.record.Record.TheVariants.{Began, Moved, Stopped}
 use Rattle.cacache_history.specs.Setup.{Setup, site_of}
-use Rattle.cacache_history.specs.History.{Call, Now, History, Made, first, moved, moved_call, unless_over, begins, next, replay, MayMove, MayCome, Legal, IsLegal}
+use Rattle.cacache_history.specs.History.{Call, Now, History, Made, tree_in, first, moved, moved_call, unless_over, begins, next, replay, MayMove, MayCome, Legal, IsLegal}
 use Rattle.cacache_world.specs.declared.turn.After.{After}
 use Rattle.cacache_world.specs.declared.turn.After.TheVariants as ways
 use Rattle.cacache_world.specs.Turned.{DiskJob, StandsIn, StandsAfter, reply_of, said_of, job_of, IsMade}
-use Rattle.cacache_world.specs.Kept.{history_of, setup_of, adding, last, JobAt, Keeps, MayAsk}
+use Rattle.cacache_world.specs.Kept.{history_of, setup_of, adding, last, JobAt, Keeps}
+use Rattle.cacache_world.specs.Admitted.{MayAsk, IsTurnedAway}
+use Rattle.cacache_world.specs.declared.event.WorldFault.{WorldFault}
+use Rattle.cacache_world.specs.declared.event.WorldFault.TheVariants as faults
+use Rattle.cacache_world.specs.Faults.{IsFreeAt, IsIdleFault, IsBusyFault, IsUnready, IsFree, HasCall, CantMove, CantBegin}
 
 replay-push : (s : Setup) (w : Now) (records : List Record) (r : Record) → replay s w (records ++ r ∷ []) ≡ next s (replay s w records) r
 replay-push s w [] r = refl
@@ -205,10 +211,51 @@ none_at zero k = refl
 none_at (suc n) zero = refl
 none_at (suc n) (suc k) = none_at n k
 
-pub new_keeps : (cache : List ℕ) (n : ℕ) (jobs : List (Option DiskJob)) (t : Tree) → t ≡ bare → jobs ≡ replicate n None → Keeps (history_of (setup_of cache [] n) []) t 0 jobs
-new_keeps cache n jobs t e f = record {
-  legal = record { apart = tt; opens = refl; legal = tt };
-  tree = sym e;
+pub new_keeps : (cache : List ℕ) (outside : List (List ℕ × List ℕ)) (n : ℕ) (jobs : List (Option DiskJob)) (t : Tree) → LieApart (home_of cache) outside → with_files bare outside ≡ Ok t → jobs ≡ replicate n None
+    → Keeps (history_of (setup_of cache outside n) []) t 0 jobs
+new_keeps cache outside n jobs t apart opens f = record {
+  legal = record { apart = apart; opens = opens ∙ ap Ok (sym (ap tree_in opens)); legal = tt };
+  tree = ap tree_in opens;
   begun = refl;
   calls = λ k. subst (λ xs. JobAt (slice_get xs k) None) (sym f) (none_at n k);
 }
+
+-- ---- why an event can't be
+
+pub cant_move : (h : History) (t : Tree) (b : ℕ) (jobs : List (Option DiskJob)) (caller : ℕ) (fault : WorldFault) → Keeps h t b jobs → IsIdleFault h.setup.callers jobs caller fault → CantMove h caller fault
+cant_move h t b jobs caller faults.NoCaller k e = e
+cant_move h t b jobs caller faults.Busy k e = absurd e
+cant_move h t b jobs caller faults.Idle k e = (e.0, no_call (slice_get jobs caller) _ e.1 (k.calls caller))
+cant_move h t b jobs caller faults.BadCommand k e = absurd e
+cant_move h t b jobs caller faults.OutOfMemory k e = absurd e
+
+pub keeps_call : (h : History) (t : Tree) (b : ℕ) (jobs : List (Option DiskJob)) (caller : ℕ) (job : DiskJob) → Keeps h t b jobs → slice_get jobs caller ≡ Some (Some job) → HasCall h caller
+keeps_call h t b jobs caller job k here = let c = has_call job (slice_get jobs caller) _ here (k.calls caller) in (c.0, c.1)
+
+is_free : (h : History) (t : Tree) (b : ℕ) (jobs : List (Option DiskJob)) (caller : ℕ) → Keeps h t b jobs → IsFreeAt h.setup.callers jobs caller → IsFree h caller
+is_free h t b jobs caller k e = (e.0, no_call (slice_get jobs caller) _ e.1 (k.calls caller))
+
+pub cant_begin : (h : History) (t : Tree) (b : ℕ) (jobs : List (Option DiskJob)) (caller : ℕ) (command : Command) (fault : WorldFault) → Keeps h t b jobs
+    → IsUnready h.setup.callers jobs caller h.setup b command fault → CantBegin h caller command fault
+cant_begin h t b jobs caller command faults.NoCaller k e = e
+cant_begin h t b jobs caller command faults.Busy k e = keeps_call h t b jobs caller e.0 k e.1
+cant_begin h t b jobs caller command faults.Idle k e = absurd e
+cant_begin h t b jobs caller command faults.BadCommand k e = (is_free h t b jobs caller k e.0, λ may. e.1 (subst (λ n. MayAsk h.setup n command) k.begun may))
+cant_begin h t b jobs caller command faults.OutOfMemory k e = is_free h t b jobs caller k e
+
+-- ---- why no call is ready
+
+pub busy_unready : (count : ℕ) (jobs : List (Option DiskJob)) (caller : ℕ) (s : Setup) (n : ℕ) (command : Command) (fault : WorldFault) → IsBusyFault count jobs caller fault → IsUnready count jobs caller s n command fault
+busy_unready count jobs caller s n command faults.NoCaller e = e
+busy_unready count jobs caller s n command faults.Busy e = e
+busy_unready count jobs caller s n command faults.Idle e = e
+busy_unready count jobs caller s n command faults.BadCommand e = absurd e
+busy_unready count jobs caller s n command faults.OutOfMemory e = absurd e
+
+pub away_unready : (count : ℕ) (jobs : List (Option DiskJob)) (caller : ℕ) (s : Setup) (n : ℕ) (command : Command) (fault : WorldFault) → IsFreeAt count jobs caller → IsTurnedAway s n command fault
+    → IsUnready count jobs caller s n command fault
+away_unready count jobs caller s n command faults.NoCaller free e = absurd e
+away_unready count jobs caller s n command faults.Busy free e = absurd e
+away_unready count jobs caller s n command faults.Idle free e = e
+away_unready count jobs caller s n command faults.BadCommand free e = (free, e)
+away_unready count jobs caller s n command faults.OutOfMemory free e = free

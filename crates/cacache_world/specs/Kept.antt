@@ -2,16 +2,12 @@
 use Rattle.std.specs.Prelude.{◌≡◌, ℕ, List, [], ◌++◌, ◌∷◌, Option, None, Some, slice_get, slice_set, vec_len, IsTrue}
 use Rattle.cacache_disk.specs.declared.luck.Luck.{Luck}
 use Rattle.cacache_disk.specs.Tree.{Tree}
-use Rattle.cacache_calls.specs.declared.command.Command.{Command}
-use Rattle.cacache_calls.specs.Sound.{MayBegin}
 use Rattle.cacache_jobs.specs.Jobs.{can_go_on}
 use Rattle.cacache_history.specs.declared.record.Record.{Record}
 use Rattle.cacache_history.specs.declared.record.Record.TheVariants.{Moved}
-use Rattle.cacache_history.specs.Setup.{Setup, site_of, may_export, is_outside}
-use Rattle.cacache_history.specs.History.{History, Call, Made, IsLegal, MayCome, NamesIntegrity, Now, now_at}
+use Rattle.cacache_history.specs.Setup.{Setup}
+use Rattle.cacache_history.specs.History.{History, Call, Made, IsLegal, MayCome, Now, now_at}
 use Rattle.cacache_world.specs.declared.event.Move.{Move}
-use Rattle.cacache_world.specs.declared.event.WorldFault.{WorldFault}
-use Rattle.cacache_world.specs.declared.event.WorldFault.TheVariants as faults
 use Rattle.cacache_world.specs.declared.world.World.TheInside.{Inside}
 use Rattle.cacache_world.specs.Turned.{DiskJob, StandsIn, told_by}
 
@@ -60,19 +56,6 @@ IsKept w = Keeps (told w) w.disk w.begun w.calls.items
 abbrev pub IsHeld : List (Option DiskJob) → ℕ → Type 0
 IsHeld jobs caller = (job : DiskJob) × (slice_get jobs caller ≡ Some (Some job))
 
--- why nothing can be moved or stopped here
-abbrev pub IsIdleFault : List (Option DiskJob) → ℕ → WorldFault → Type 0
-IsIdleFault jobs caller faults.NoCaller = slice_get jobs caller ≡ None
-IsIdleFault jobs caller faults.Idle = slice_get jobs caller ≡ Some None
-IsIdleFault jobs caller fault = ⊥
-
--- why nothing can begin here
-abbrev pub IsBusyFault : List (Option DiskJob) → ℕ → WorldFault → Type 0
-IsBusyFault jobs caller faults.NoCaller = slice_get jobs caller ≡ None
-IsBusyFault jobs caller faults.Busy =
-    (job : DiskJob) × (slice_get jobs caller ≡ Some (Some job))
-IsBusyFault jobs caller fault = ⊥
-
 -- a job that was taken from its place
 pub record IsLifted (old : List (Option DiskJob)) (caller : ℕ) (job : DiskJob)
     (new : List (Option DiskJob)) : Type 0 where
@@ -80,11 +63,6 @@ pub record IsLifted (old : List (Option DiskJob)) (caller : ℕ) (job : DiskJob)
   pub gone : new ≡ slice_set old caller None
 
 -- ---- what events add
-
--- a command that a call may begin with
-abbrev pub MayAsk : Setup → ℕ → Command → Type 0
-MayAsk s number command =
-    MayBegin (site_of s number) (may_export s) (is_outside s) command × NamesIntegrity command
 
 -- one record more, which may come
 pub record Adds (h : History) (r : Record) (h' : History) : Type 0 where

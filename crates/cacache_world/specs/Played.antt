@@ -1,11 +1,14 @@
 -- Events in their order.
-use Rattle.std.specs.Prelude.{◌≡◌, List, [], ◌∷◌}
+use Rattle.std.specs.Prelude.{◌≡◌, ℕ, List, [], ◌∷◌, Some, slice_get, take}
 use Rattle.cacache_history.specs.History.{History}
 use Rattle.cacache_history.specs.declared.record.Record.TheVariants.{Began, Stopped}
 use Rattle.cacache_world.specs.declared.event.Event.{Event}
 use Rattle.cacache_world.specs.declared.event.Event.TheVariants as events
 use Rattle.cacache_world.specs.declared.event.Move.{Move}
+use Rattle.cacache_world.specs.declared.event.WorldFault.{WorldFault}
+use Rattle.cacache_world.specs.declared.event.WorldFault.TheVariants as faults
 use Rattle.cacache_world.specs.Kept.{Adds, MovesOn}
+use Rattle.cacache_world.specs.Faults.{CantBegin, CantMove}
 
 -- the second history is the first with this event's record
 abbrev pub Happens : Event → History → History → Type 0
@@ -18,3 +21,16 @@ abbrev pub HappenAll : List Event → History → History → Type 0
 HappenAll [] h h' = h' ≡ h
 HappenAll (event ∷ events) h h' =
     (next : History) × Happens event h next × HappenAll events next h'
+
+-- why an event can't be; memory may be refused for any
+abbrev pub CantBe : Event → History → WorldFault → Type 0
+CantBe event h faults.OutOfMemory = Unit {0}
+CantBe (events.Begin caller command) h fault = CantBegin h caller command fault
+CantBe (events.Move caller luck) h fault = CantMove h caller fault
+CantBe (events.Stop caller) h fault = CantMove h caller fault
+
+-- the events before some place happened, and the one there can't be
+abbrev pub StopAt : List Event → History → History → WorldFault → Type 0
+StopAt events h h' fault =
+    (n : ℕ) × (event : Event) × (slice_get events n ≡ Some event)
+    × HappenAll (take n events) h h' × CantBe event h' fault

@@ -1,11 +1,24 @@
 //! The callers' calls, and the list of what happened.
-ghost use Rattle.std.specs.Prelude.{◌≡◌, ◌<◌, ◌++◌, ◌∷◌, [], vec_len, vec_capacity, slice_get, slice_set, option_copied, Some, None, OnOk, IfErr};
-ghost use Rattle.cacache_world.specs.Kept.{IsHeld, IsLifted, IsIdleFault, IsBusyFault};
+ghost use Rattle.std.specs.Prelude.{◌≡◌, ◌<◌, ◌++◌, ◌∷◌, [], IfOk, replicate, vec_len, vec_capacity, slice_get, slice_set, option_copied, Some, None, OnOk, IfErr};
+ghost use Rattle.cacache_world.specs.Kept.{IsHeld, IsLifted};
+ghost use Rattle.cacache_world.specs.Faults.{IsIdleFault, IsBusyFault};
 
 use crate::event::WorldFault;
 use crate::turn::Call;
 use cacache_history::Record;
-use std::alloc::AllocError;
+use std::alloc::{AllocError, Global};
+
+/// So many callers without a call.
+pub(crate) fn idle(alloc: Global, callers: usize) -> Result<Vec<Option<Call>>, AllocError>
+    ensures items { IfOk result (λ calls. calls.items ≡ replicate callers None) }
+    ensures len { IfOk result (λ calls. vec_len calls ≡ callers) }
+{
+    let mut calls: Vec<Option<Call>> = Vec::new(alloc);
+    for _ in 0..callers {
+        calls.push(None)?;
+    }
+    Ok(calls)
+}
 
 /// Room for one record more.
 pub(crate) fn make_room(records: &mut Vec<Record>) -> Result<(), AllocError>
@@ -44,7 +57,8 @@ fn call_at(calls: &Vec<Option<Call>>, caller: usize) -> Option<&Option<Call>>
 pub(crate) fn held(calls: &Vec<Option<Call>>, caller: usize) -> Result<(), WorldFault>
     ensures held { OnOk result (IsHeld calls.now.items caller) }
     ensures within { OnOk result (caller < vec_len calls.now) }
-    ensures why { IfErr result (λ fault. IsIdleFault calls.now.items caller fault) }
+    ensures why { IfErr result (λ fault.
+        IsIdleFault (vec_len calls.now) calls.now.items caller fault) }
 {
     match call_at(calls, caller) {
         None => Err(WorldFault::NoCaller),
@@ -57,7 +71,8 @@ pub(crate) fn held(calls: &Vec<Option<Call>>, caller: usize) -> Result<(), World
 pub(crate) fn free(calls: &Vec<Option<Call>>, caller: usize) -> Result<(), WorldFault>
     ensures free { OnOk result (slice_get calls.now.items caller ≡ Some None) }
     ensures within { OnOk result (caller < vec_len calls.now) }
-    ensures why { IfErr result (λ fault. IsBusyFault calls.now.items caller fault) }
+    ensures why { IfErr result (λ fault.
+        IsBusyFault (vec_len calls.now) calls.now.items caller fault) }
 {
     match call_at(calls, caller) {
         None => Err(WorldFault::NoCaller),

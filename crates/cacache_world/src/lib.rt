@@ -2,9 +2,14 @@
 //! happened. What `cacache_history` proves of every legal history holds of each world's.
 #![tactic(auto)]
 
+mod admitting;
 mod callers;
+mod entries;
 mod event;
-mod gate;
+mod names;
+mod outside;
+mod playing;
+mod starting;
 mod turn;
 mod world;
 

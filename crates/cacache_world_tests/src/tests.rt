@@ -1,5 +1,5 @@
 //! Callers' calls in a world: how many moves they take, and what they answer.
-use cacache_calls::{Command, Json, Options, Put, Reply};
+use cacache_calls::{Command, Export, How, Json, Options, Put, Reply, Source};
 use cacache_core::bytes::Bytes;
 use cacache_core::errors::{Error, Fault};
 use cacache_core::integrity::Algorithm;
@@ -29,9 +29,33 @@ fn put_hello(alloc: Global) -> Result<Command, AllocError> {
     }))
 }
 
-/// A world of some callers.
+/// A world of some callers, with one outside file.
 fn world_of(alloc: Global, callers: usize) -> Result<World, AllocError> {
-    World::new(alloc, callers, Text::from_str(alloc, "/cache")?)
+    let path = Text::from_str(alloc, "/files/a")?;
+    let file = (
+        path,
+        Bytes::new(alloc, Vec::from_slice(alloc, b"hello world")?)?,
+    );
+    match World::new(
+        alloc,
+        callers,
+        Text::from_str(alloc, "/cache")?,
+        vec![in alloc; file]?,
+    ) {
+        Ok(world) => Ok(world),
+        Err(_) => Err(AllocError),
+    }
+}
+
+/// An export of the key's content to a path.
+fn export_to(alloc: Global, to: &str) -> Result<Command, AllocError> {
+    let export = Export {
+        how: How::Copy,
+        checked: true,
+        to: Text::from_str(alloc, to)?,
+    };
+    let key = Text::from_str(alloc, "a")?;
+    Ok(Command::Export(Source::Key(key), export))
 }
 
 /// Moves the first caller's call to its end, with this luck at one move: how many moves it took, and
@@ -131,5 +155,16 @@ fn events_are_played_up_to_the_first_fault(rt: HostRuntime) -> Result<(), Fail> 
     ]?;
     assert!(rt; world.play(events.as_slice()) == Err(WorldFault::Idle));
     assert_eq!(rt; world.history().len(), 3);
+    Ok(())
+}
+
+#[test]
+fn exports_go_apart_from_the_cache_and_the_outside_files(rt: HostRuntime) -> Result<(), Fail> {
+    let alloc = rt.alloc();
+    let mut world = world_of(alloc, 1)?;
+    for to in ["/cache", "//cache/./b", "/files", "/files/a"] {
+        assert!(rt; world.begin(0, export_to(alloc, to)?) == Err(WorldFault::BadCommand));
+    }
+    assert!(rt; world.begin(0, export_to(alloc, "/files/b")?) == Ok(()));
     Ok(())
 }

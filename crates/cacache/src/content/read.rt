@@ -2,7 +2,7 @@
 ghost use Rattle.std.specs.Prelude.{◌≡◌, IfOk, IfErr, IfSome};
 ghost use Rattle.cacache_core.specs.declared.errors.Error.TheVariants.{OutOfMemory};
 ghost use Rattle.cacache_calls.specs.declared.command.Command.TheVariants as commands;
-ghost use Rattle.cacache_put.specs.Replies.{reply_of};
+ghost use Rattle.cacache_calls.specs.Runs.{reply_of};
 ghost use Rattle.cacache_put.specs.Writes.{Calls};
 ghost use Rattle.cacache.specs.Reads.{has};
 

@@ -73,9 +73,9 @@ fn wrong_round_change<S: Store>(env: &mut On<S>, path: &str) -> Result<String, F
 
 #[test]
 fn links_in_memory(rt: HostRuntime) -> Result<(), Fail> {
-    let mut env = based(rt.alloc(), MemStore::new(rt.alloc())?, "/work")?;
-    env.store.plant_folder("/work")?;
-    let wrong = wrong_round_change(&mut env, "/work/t.txt")?;
+    let mut env = based(rt.alloc(), MemStore::new(rt.alloc())?, "/base")?;
+    env.store.plant_folder("/base")?;
+    let wrong = wrong_round_change(&mut env, "/base/t.txt")?;
     assert_eq!(rt; wrong.as_str(), "");
     Ok(())
 }
@@ -116,7 +116,7 @@ fn links_take_their_steps(rt: HostRuntime) -> Result<(), Fail> {
 
 #[test]
 fn a_missing_target_is_told(rt: HostRuntime) -> Result<(), Fail> {
-    let mut env = based(rt.alloc(), MemStore::new(rt.alloc())?, "/work")?;
+    let mut env = based(rt.alloc(), MemStore::new(rt.alloc())?, "/base")?;
     let answer = stored(
         rt.alloc(),
         cacache::link_to_sync(&mut env, "c", "k", "none"),

@@ -26,21 +26,33 @@ fn write_words<W: Write>(writer: &mut W, words: &[&str]) -> bool {
     true
 }
 
+/// The writer once it was given the words, or the line on why there is none.
+fn written<W: Write + Drop>(
+    alloc: Global,
+    opened: Result<W, Error>,
+    words: &[&str],
+) -> Result<Result<W, String>, Fail> {
+    let mut writer = match opened {
+        Ok(writer) => writer,
+        Err(error) => return Ok(Err(refused(alloc, &error)?)),
+    };
+    if write_words(&mut writer, words) {
+        Ok(Ok(writer))
+    } else {
+        Ok(Err(String::from_str(alloc, "not written")?))
+    }
+}
+
 /// The line on a commit of the words.
 fn committed<S: Store>(
     env: &mut On<S>,
     opened: Result<SyncWriter<S::Temp>, Error>,
     words: &[&str],
 ) -> Result<String, Fail> {
-    let alloc = env.alloc;
-    let mut writer = match opened {
-        Ok(writer) => writer,
-        Err(error) => return refused(alloc, &error),
-    };
-    if !write_words(&mut writer, words) {
-        return Ok(String::from_str(alloc, "not written")?);
+    match written(env.alloc, opened, words)? {
+        Ok(writer) => stored(env.alloc, writer.commit(env)),
+        Err(line) => Ok(line),
     }
-    stored(alloc, writer.commit(env))
 }
 
 /// The line on a close of a writer that was given the words.
@@ -49,15 +61,10 @@ fn closed<S: Store>(
     opened: Result<Writer<S::Temp>, Error>,
     words: &[&str],
 ) -> Result<String, Fail> {
-    let alloc = env.alloc;
-    let mut writer = match opened {
-        Ok(writer) => writer,
-        Err(error) => return refused(alloc, &error),
-    };
-    if !write_words(&mut writer, words) {
-        return Ok(String::from_str(alloc, "not written")?);
+    match written(env.alloc, opened, words)? {
+        Ok(writer) => stored(env.alloc, writer.close(env)),
+        Err(line) => Ok(line),
     }
-    stored(alloc, writer.close(env))
 }
 
 /// The line on a writer that was given the words and then abandoned.
@@ -66,15 +73,10 @@ fn abandoned<S: Store>(
     opened: Result<SyncWriter<S::Temp>, Error>,
     words: &[&str],
 ) -> Result<String, Fail> {
-    let alloc = env.alloc;
-    let mut writer = match opened {
-        Ok(writer) => writer,
-        Err(error) => return refused(alloc, &error),
-    };
-    if !write_words(&mut writer, words) {
-        return Ok(String::from_str(alloc, "not written")?);
+    match written(env.alloc, opened, words)? {
+        Ok(writer) => done(env.alloc, writer.abandon(env)),
+        Err(line) => Ok(line),
     }
-    done(alloc, writer.abandon(env))
 }
 
 /// The line, and where the rows after it go wrong the first of those.

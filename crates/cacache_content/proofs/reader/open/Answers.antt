@@ -1,7 +1,10 @@
-use Rattle.cacache_content.proofs.Opening.{fails_to_open}
+use Rattle.cacache_base.specs.declared.store.step.Step.TheVariants as steps
+use Rattle.cacache_content.proofs.Stepping.{file_refused, refused_fails}
 use Rattle.cacache_content.proofs.reader.open.Goals as goal
 
 pub returns-in-Err-clause-opens : goal.returns-in-Err-clause-opens
 returns-in-Err-clause-opens g c =
-    rw (← c.in_ok-path.ensures)
-    (fails_to_open c.in_ok-path.path _ c.in-Err.refusal c.refused.result _ _ c.in-Err.ensures c.step.ensures.fits c.step.ensures.logged c.refused.ensures)
+    let named = c.in_ok-named.named in
+    let is = file_refused named _ c.in-Err.refusal c.in-Err.ensures c.step.ensures.fits in
+    let fails = refused_fails (steps.Open named) _ c.in-Err.refusal c.refused.result _ _ is c.step.ensures.logged c.refused.ensures in
+    rw (c.in_ok-named.ensures.cases, c.in_ok-path.ensures) at fails

@@ -1,7 +1,10 @@
-use Rattle.cacache_content.proofs.Stepping.{file_stays}
+use Rattle.cacache_base.specs.declared.store.step.Step.TheVariants as steps
+use Rattle.cacache_content.proofs.Stepping.{removal_refused, refused_fails}
 use Rattle.cacache_content.proofs.writer.abandon.Goals as goal
 
 pub returns : goal.returns
 returns g c =
-    let stays = file_stays c.in_ok-named.named _ c.in-Err.refusal c.refused.result _ _ c.in-Err.ensures c.step.ensures.fits c.step.ensures.logged c.refused.ensures in
-    rw c.in_ok-named.ensures.cases at stays
+    let named = c.in_ok-named.named in
+    let is = removal_refused named _ c.in-Err.refusal c.in-Err.ensures c.step.ensures.fits in
+    let fails = refused_fails (steps.RemoveFile named) _ c.in-Err.refusal c.refused.result _ _ is c.step.ensures.logged c.refused.ensures in
+    rw c.in_ok-named.ensures.cases at fails

@@ -3,7 +3,8 @@ use Rattle.cacache_history.specs.declared.record.Record.TheVariants.{Moved}
 use Rattle.cacache_history.specs.History.{Made}
 use Rattle.cacache_world.specs.Turned.{reply_of, told_by}
 use Rattle.cacache_world.specs.Kept.{told, adding, history_of, setup_of, Keeps, Adds}
-use Rattle.cacache_world.proofs.Worlds.{over_left, back_keeps, move_left, told_is, same_parts, keeps_same, keeps_ready, set_again}
+use Rattle.cacache_world.proofs.Worlds.{keeps_call, over_left, back_keeps, move_left, told_is, same_parts, keeps_same, keeps_ready, set_again}
+use Rattle.cacache_world.specs.Faults.{HasCall}
 use Rattle.cacache_world.proofs.world.World.move_one.Goals as goal
 
 pub advance-requires : goal.advance-requires
@@ -79,3 +80,14 @@ returns-in-Made-clause-adds c =
                 (c.place-in-Made.ensures.len ∙ c.lift-job.ensures.len) more;
           })),
     )
+
+pub returns-then-is_err-clause-why : goal.returns-then-is_err-clause-why
+returns-then-is_err-clause-why c =
+    let held = c.in_ok-held.ensures.held in
+    subst (λ h. HasCall h c.args.caller) c.self.view_is
+    (keeps_call (told c.self.inside) c.self.inside.disk c.self.inside.begun c.self.inside.calls.items c.args.caller held.0 c.self.invariant held.1)
+
+pub returns-in-Back-clause-why : goal.returns-in-Back-clause-why
+returns-in-Back-clause-why c =
+    subst (λ h. HasCall h c.args.caller) c.self.view_is
+    (keeps_call (told c.self.inside) c.self.inside.disk c.self.inside.begun c.self.inside.calls.items c.args.caller c.lift-job.result c.self.invariant c.lift-job.ensures.lifted.here)

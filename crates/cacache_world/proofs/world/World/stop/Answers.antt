@@ -1,7 +1,8 @@
 use Rattle.std.proofs.Common.{◌∙◌, ◌∷◌, ◌++◌, [], ap, vec_len, subst}
 use Rattle.cacache_history.specs.declared.record.Record.TheVariants.{Stopped}
 use Rattle.cacache_world.specs.Kept.{told, adding, history_of, setup_of, Adds}
-use Rattle.cacache_world.proofs.Worlds.{stop_left, same_parts, keeps_same}
+use Rattle.cacache_world.proofs.Worlds.{keeps_call, stop_left, same_parts, keeps_same}
+use Rattle.cacache_world.specs.Faults.{HasCall}
 use Rattle.cacache_world.proofs.world.World.stop.Goals as goal
 
 pub invariant_of-self-2 : goal.invariant_of-self-2
@@ -22,3 +23,9 @@ returns-clause-adds c =
       added = same_parts c.self.inside.cache c.self.inside.outside.items (vec_len c.self.inside.calls) (vec_len c.lift-job.new.calls) _ c.note.new.records.items c.lift-job.ensures.len
           (c.note.ensures ∙ ap (λ xs. xs ++ Stopped c.args.caller ∷ []) c.make_room.ensures.items);
     })
+
+pub returns-then-is_err-clause-why : goal.returns-then-is_err-clause-why
+returns-then-is_err-clause-why c =
+    let held = c.in_ok-held.ensures.held in
+    subst (λ h. HasCall h c.args.caller) c.self.view_is
+    (keeps_call (told c.self.inside) c.self.inside.disk c.self.inside.begun c.self.inside.calls.items c.args.caller held.0 c.self.invariant held.1)

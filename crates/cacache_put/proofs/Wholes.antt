@@ -1,0 +1,62 @@
+-- A link that is made stores its whole target.
+use Rattle.std.proofs.Common.{◌≡◌, inl, inr, ℕ, List, [], ◌∷◌, ◌++◌, Option, Result, Ok, Err, refl, sym, append_assoc, append-nil}
+use Rattle.std.proofs.lemmas.Option.{same_Some}
+use Rattle.std.specs.Prelude.{IfOk}
+use Rattle.cacache_core.specs.declared.errors.Error.{Error}
+use Rattle.cacache_core.specs.declared.errors.Error.TheVariants.{IoError, OutOfMemory}
+use Rattle.cacache_core.specs.declared.integrity.digest.Hash.{Hash}
+use Rattle.cacache_base.specs.declared.store.answer.Answer.TheVariants as answers
+use Rattle.cacache_base.specs.declared.store.log.LogItem.{LogItem}
+use Rattle.cacache_base.specs.declared.store.plain.PlainFile.{PlainFile}
+use Rattle.cacache_base.specs.declared.store.step.Step.TheVariants as steps
+use Rattle.cacache_base.specs.Plain.{PlainAnswer}
+use Rattle.cacache_calls.specs.declared.answers.Refusal.{Refusal}
+use Rattle.cacache_calls.specs.declared.answers.Refusal.TheVariants as refusals
+use Rattle.cacache_calls.specs.declared.reply.Reply.TheVariants.{Stored, Refused}
+use Rattle.cacache_calls.specs.Answers.{got_in, refusal_in}
+use Rattle.cacache_calls.specs.Common.{ends_with, fails, go_on, refuse}
+use Rattle.cacache_calls.specs.Linking.{after_read, commit_for}
+use Rattle.cacache_calls.specs.Promises.{Stores}
+use Rattle.cacache_calls.specs.Runs.{Moves, Runs, Ran, reply_of}
+use Rattle.cacache_calls.specs.State.{Target, hashing, to_link}
+use Rattle.cacache_calls.specs.Table.{piece}
+use Rattle.cacache_calls.specs.Verifying.{Gives}
+use Rattle.cacache_calls.proofs.Promises.{runs_keep}
+use Rattle.cacache_put.specs.declared.linker.SyncToLinker.{SyncToLinker}
+use Rattle.cacache_put.specs.Linkers.{StoresWhole, stands_at, target_at}
+use Rattle.cacache_put.specs.Rest.{links}
+
+module _ (t : Target) (i : List Hash) where
+  -- a call that was refused stores nothing
+  not_refused : (refusal : Refusal) (moves : Moves) → Runs (refuse refusal fails) moves (Stored i) → ⊥
+  not_refused (refusals.Fault fault) moves run =
+      absurd (let is : Stored i ≡ Refused (IoError fault []) = runs_keep (fails fault) moves (Stored i) run in cc)
+  not_refused refusals.Memory moves run =
+      absurd (let is : Stored i ≡ Refused OutOfMemory = runs_keep (ends_with OutOfMemory) moves (Stored i) run in cc)
+
+  -- the moves read the file to its end, and what it gave is stored with the bytes before it
+  abbrev Brings : PlainFile → List ℕ → Moves → Type 0
+  Brings file bytes moves =
+      (rest : List ℕ) × Gives file rest moves × Stores (commit_for t (bytes ++ rest)) (Stored i)
+
+  brings : (file : PlainFile) (bytes : List ℕ) (moves : Moves) → Runs (hashing (to_link t) file bytes) moves (Stored i) → Brings file bytes moves
+  brings file bytes [] (inl is) = absurd cc
+  brings file bytes [] (inr is) = absurd cc
+  brings file bytes ((a, answer) ∷ moves) run =
+      let same : a ≡ steps.Read file piece = sym (same_Some _ _ run.0) in
+      rw same (by_answer (λ g so_far. brings g so_far moves) answer run.2)
+    where
+      by_answer : ((g : PlainFile) (so_far : List ℕ) → Runs (hashing (to_link t) g so_far) moves (Stored i) → Brings g so_far moves) → (answer : PlainAnswer) → Runs (go_on (got_in answer) fails (after_read (to_link t) bytes)) moves (Stored i) → Brings file bytes ((steps.Read file piece, answer) ∷ moves)
+      by_answer more (answers.Got g []) run =
+          ([], (refl, refl), rw append-nil (runs_keep (links t bytes) moves (Stored i) run))
+      by_answer more (answers.Got g (b ∷ bs)) run =
+          let x = more g (bytes ++ b ∷ bs) run in
+          ((b ∷ bs) ++ x.0, (refl, x.0, refl, x.1), rw (← append_assoc bytes (b ∷ bs) x.0) x.2)
+      by_answer more answer run = absurd (not_refused (refusal_in answer) moves run)
+
+-- a commit that isn't refused stores what it took with what its run read
+pub stores_whole : {F : Type 0} (file : F → PlainFile) (l : SyncToLinker F) (bytes : List ℕ) (moment : ℕ) (r : Result (List Hash) Error) (old new : Option (List LogItem)) → Ran (stands_at file l bytes moment) (reply_of Stored r) old new → IfOk r (λ i. StoresWhole file l bytes i old new)
+stores_whole file l bytes moment (Ok i) old new ran =
+    let x = brings (target_at l.linked moment) i (file l.file) bytes ran.0 ran.1 in
+    (ran.0, ran.2, x.0, x.1, moment, x.2)
+stores_whole file l bytes moment (Err e) old new ran = tt

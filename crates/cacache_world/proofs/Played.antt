@@ -1,0 +1,59 @@
+-- One event more.
+use Rattle.std.proofs.Common.{◌≡◌, ◌<◌, ◌+◌, ℕ, zero, suc, List, [], ◌∷◌, ◌++◌, Some, take, length, get_or, slice_get, refl, sym, ap, subst, ◌∙◌, arith}
+use Rattle.std.proofs.lemmas.List.{take_more}
+use Rattle.cacache_history.specs.History.{History}
+use Rattle.cacache_world.specs.declared.event.Event.{Event}
+use Rattle.cacache_disk.specs.declared.luck.Luck.{Luck}
+use Rattle.cacache_calls.specs.declared.command.Command.{Command}
+use Rattle.cacache_world.specs.declared.event.Event.TheVariants as events
+use Rattle.cacache_world.specs.declared.event.WorldFault.{WorldFault}
+use Rattle.cacache_world.specs.declared.event.WorldFault.TheVariants as faults
+use Rattle.cacache_world.specs.Faults.{CantBegin, CantMove}
+use Rattle.cacache_world.specs.Played.{Happens, HappenAll, CantBe, StopAt}
+
+happen_more : (events : List Event) (event : Event) (h m h' : History) → HappenAll events h m → Happens event m h' → HappenAll (events ++ event ∷ []) h h'
+happen_more [] event h m h' all one = (h', subst (λ x. Happens event x h') all one, refl)
+happen_more (e ∷ events) event h m h' all one = (all.0, all.1, happen_more events event all.0 m h' all.2 one)
+
+-- the event at a place comes behind those before it
+pub play_more : (events : List Event) (k : ℕ) (event : Event) (h m h' : History) → k < length events → event ≡ get_or events k event → HappenAll (take k events) h m → Happens event m h'
+    → HappenAll (take (k + 1) events) h h'
+play_more events k event h m h' below is all one =
+    let taken : take (k + 1) events ≡ take k events ++ event ∷ [] = take_more events k event below ∙ ap (λ (e : Event). take k events ++ e ∷ []) (sym is) in
+    subst (λ es. HappenAll es h h') (sym taken) (happen_more (take k events) event h m h' all one)
+
+-- ---- why an event can't be
+
+pub begin_cant_be : (caller : ℕ) (command : Command) (h : History) (fault : WorldFault) → CantBegin h caller command fault → CantBe (events.Begin caller command) h fault
+begin_cant_be caller command h faults.NoCaller e = e
+begin_cant_be caller command h faults.Busy e = e
+begin_cant_be caller command h faults.Idle e = e
+begin_cant_be caller command h faults.BadCommand e = e
+begin_cant_be caller command h faults.OutOfMemory e = tt
+
+pub move_cant_be : (caller : ℕ) (luck : Luck) (h : History) (fault : WorldFault) → CantMove h caller fault → CantBe (events.Move caller luck) h fault
+move_cant_be caller luck h faults.NoCaller e = e
+move_cant_be caller luck h faults.Busy e = e
+move_cant_be caller luck h faults.Idle e = e
+move_cant_be caller luck h faults.BadCommand e = e
+move_cant_be caller luck h faults.OutOfMemory e = tt
+
+pub stop_cant_be : (caller : ℕ) (h : History) (fault : WorldFault) → CantMove h caller fault → CantBe (events.Stop caller) h fault
+stop_cant_be caller h faults.NoCaller e = e
+stop_cant_be caller h faults.Busy e = e
+stop_cant_be caller h faults.Idle e = e
+stop_cant_be caller h faults.BadCommand e = e
+stop_cant_be caller h faults.OutOfMemory e = tt
+
+-- ---- where playing ends
+
+-- what stands at a place of a list
+found_at : (events : List Event) (k : ℕ) (event other : Event) → k < length events → event ≡ get_or events k other → slice_get events k ≡ Some event
+found_at [] k event other below is = absurd (omega arith)
+found_at (e ∷ events) zero event other below is = ap Some (sym is)
+found_at (e ∷ events) (suc k) event other below is = found_at events k event other (omega arith) is
+
+pub stops_at : (events : List Event) (k : ℕ) (event : Event) (h m h' : History) (fault : WorldFault) → k < length events → event ≡ get_or events k event → HappenAll (take k events) h m
+    → h' ≡ m → CantBe event m fault → StopAt events h h' fault
+stops_at events k event h m h' fault below is all same cant =
+    (k, event, found_at events k event event below is, subst (HappenAll (take k events) h) (sym same) all, subst (λ x. CantBe event x fault) (sym same) cant)

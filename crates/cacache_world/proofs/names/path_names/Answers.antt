@@ -1,0 +1,11 @@
+use Rattle.std.proofs.Common.{subst, option_map}
+use Rattle.std.proofs.Common.{◌≡◌}
+use Rattle.std.specs.Prelude.{IfOk}
+use Rattle.cacache_world.proofs.Paths.{no_names, names_home}
+use Rattle.cacache_world.proofs.names.path_names.Goals as goal
+
+pub returns-then-is_empty : goal.returns-then-is_empty
+returns-then-is_empty c = no_names c.args.text.now (cc)
+
+pub returns : goal.returns
+returns c = subst (λ names. IfOk c.home_names.result (λ found. option_map (λ v. v.items) found ≡ names)) (names_home c.args.text.now (cc)) c.home_names.ensures

@@ -1,0 +1,78 @@
+-- Why an event can't be, or an outside file.
+use Rattle.std.specs.Prelude.{◌≡◌, ◌⊎◌, ◌≤◌, ◌<◌, ℕ, List, Option, None, Some, Err, false, slice_get}
+use Rattle.cacache_core.specs.declared.errors.Fault.{Fault}
+use Rattle.cacache_disk.specs.Tree.{Tree}
+use Rattle.cacache_disk.specs.Apply.{planted}
+use Rattle.cacache_history.specs.History.{History, Call}
+use Rattle.cacache_calls.specs.declared.command.Command.{Command}
+use Rattle.cacache_history.specs.Setup.{Setup, may_export}
+use Rattle.cacache_world.specs.declared.event.WorldFault.{WorldFault}
+use Rattle.cacache_world.specs.declared.event.WorldFault.TheVariants as faults
+use Rattle.cacache_world.specs.Turned.{DiskJob}
+use Rattle.cacache_world.specs.Kept.{setup_of, last}
+use Rattle.cacache_world.specs.Admitted.{MayAsk}
+
+-- ---- what the list of jobs shows
+
+-- one of so many callers, without a call
+abbrev pub IsFreeAt : ℕ → List (Option DiskJob) → ℕ → Type 0
+IsFreeAt count jobs caller = (caller < count) × (slice_get jobs caller ≡ Some None)
+
+-- why nothing can be moved or stopped here
+abbrev pub IsIdleFault : ℕ → List (Option DiskJob) → ℕ → WorldFault → Type 0
+IsIdleFault count jobs caller faults.NoCaller = count ≤ caller
+IsIdleFault count jobs caller faults.Idle = IsFreeAt count jobs caller
+IsIdleFault count jobs caller fault = ⊥
+
+-- why nothing can begin here
+abbrev pub IsBusyFault : ℕ → List (Option DiskJob) → ℕ → WorldFault → Type 0
+IsBusyFault count jobs caller faults.NoCaller = count ≤ caller
+IsBusyFault count jobs caller faults.Busy =
+    (job : DiskJob) × (slice_get jobs caller ≡ Some (Some job))
+IsBusyFault count jobs caller fault = ⊥
+
+-- why no call of the command is ready to begin here
+abbrev pub IsUnready : ℕ → List (Option DiskJob) → ℕ → Setup → ℕ → Command → WorldFault → Type 0
+IsUnready count jobs caller s number command faults.NoCaller = count ≤ caller
+IsUnready count jobs caller s number command faults.Busy =
+    (job : DiskJob) × (slice_get jobs caller ≡ Some (Some job))
+IsUnready count jobs caller s number command faults.Idle = ⊥
+IsUnready count jobs caller s number command faults.BadCommand =
+    IsFreeAt count jobs caller × (MayAsk s number command → ⊥)
+IsUnready count jobs caller s number command faults.OutOfMemory = IsFreeAt count jobs caller
+
+-- ---- what the history says
+
+-- one of the callers, without a call
+abbrev pub IsFree : History → ℕ → Type 0
+IsFree h caller = (caller < h.setup.callers) × ((last h).calls caller ≡ None)
+
+abbrev pub HasCall : History → ℕ → Type 0
+HasCall h caller = (call : Call) × ((last h).calls caller ≡ Some call)
+
+-- why a caller can't move its call, or give it up
+abbrev pub CantMove : History → ℕ → WorldFault → Type 0
+CantMove h caller faults.NoCaller = h.setup.callers ≤ caller
+CantMove h caller faults.Idle = IsFree h caller
+CantMove h caller faults.OutOfMemory = HasCall h caller
+CantMove h caller fault = ⊥
+
+-- why a caller can't begin a call of this command
+abbrev pub CantBegin : History → ℕ → Command → WorldFault → Type 0
+CantBegin h caller command faults.NoCaller = h.setup.callers ≤ caller
+CantBegin h caller command faults.Busy = HasCall h caller
+CantBegin h caller command faults.Idle = ⊥
+CantBegin h caller command faults.BadCommand =
+    IsFree h caller × (MayAsk h.setup (last h).begun command → ⊥)
+CantBegin h caller command faults.OutOfMemory = IsFree h caller
+
+-- ---- outside files
+
+-- why a file can't be put beside those before it: its path isn't free, or can't name a file
+abbrev pub CantPlace : List ℕ → List (List ℕ × List ℕ) → Tree → List ℕ × List ℕ → WorldFault
+    → Type 0
+CantPlace cache before t file faults.BadCommand =
+    (may_export (setup_of cache before 0) file.0 ≡ false)
+    ⊎ ((fault : Fault) × (planted t file.0 file.1 ≡ Err fault))
+CantPlace cache before t file faults.OutOfMemory = Unit {0}
+CantPlace cache before t file fault = ⊥

@@ -1,0 +1,205 @@
+//! Which commands a call may begin with.
+ghost use Rattle.std.specs.Prelude.{◌≡◌, ◌<◌, ◌^◌, IfOk, IfErr, OnOk, ℕ, List, Some, codes, length};
+ghost use Rattle.std.specs.Bool.{Decides};
+ghost use Rattle.cacache_calls.specs.Inserting.{given_size};
+ghost use Rattle.cacache_calls.specs.Linking.{based as based_of};
+ghost use Rattle.cacache_core.specs.Integrity.{IsIntegrity};
+ghost use Rattle.cacache_calls.specs.declared.command.Command.TheVariants as commands;
+ghost use Rattle.cacache_history.specs.History.{NamesSource};
+ghost use Rattle.cacache_history.specs.Setup.{Setup, is_outside as is_outside_of};
+ghost use Rattle.cacache_world.specs.Kept.{setup_of};
+ghost use Rattle.cacache_world.specs.Admitted.{MayAsk, IsTurnedAway, FormsEntries};
+
+use crate::entries::form;
+use crate::event::WorldFault;
+use crate::names::{is_outside, may_take};
+use cacache_calls::{Command, Delete, Export, Insert, Link, Options, Put, Source};
+use cacache_core::bytes::Bytes;
+use cacache_core::integrity::Integrity;
+use cacache_core::text::Text;
+use cacache_jobs::based;
+use std::alloc::{AllocError, Global};
+
+/// That an integrity is one, as each is.
+fn known(integrity: &Integrity)
+    ensures { IsIntegrity integrity.now }
+{
+    let _address = integrity.address();
+}
+
+/// That the integrity of a source is one, as each is.
+fn known_source(source: &Source)
+    ensures { NamesSource source.now }
+{
+    match source {
+        Source::Key(_) => {}
+        Source::Hash(integrity) => known(integrity),
+    }
+}
+
+/// That the size of an entry has 64 bits, as each has.
+fn measure(options: &Options)
+    ensures { given_size options.now.size < 2 ^ 64 }
+{
+    match &options.size {
+        Some(size) => {
+            let _size = *size;
+        }
+        None => {}
+    }
+}
+
+/// How many bytes there are: a number of 64 bits, as each is.
+fn count(bytes: &Bytes) -> u64
+    ensures { length bytes.now < 2 ^ 64 }
+{
+    bytes.len() as u64
+}
+
+/// That a put may begin, as each may.
+fn admit_put(alloc: Global, put: &Put) -> Result<(), AllocError>
+    ensures { OnOk result ((s : Setup) (n : ℕ) → MayAsk s n (commands.Put put.now)) }
+{
+    let Some(key) = &put.key else {
+        return Ok(());
+    };
+    let _count = count(&put.data);
+    form(alloc, key, put.moment, &put.options)?;
+    Ok(())
+}
+
+/// That an insertion may begin, as each may.
+fn admit_insert(alloc: Global, insert: &Insert) -> Result<(), AllocError>
+    ensures { OnOk result ((s : Setup) (n : ℕ) → MayAsk s n (commands.Insert insert.now)) }
+{
+    measure(&insert.options);
+    form(alloc, &insert.key, insert.moment, &insert.options)?;
+    Ok(())
+}
+
+/// That a deletion may begin, as each may.
+fn admit_delete(delete: &Delete)
+    ensures { (s : Setup) (n : ℕ) → MayAsk s n (commands.Delete delete.now) }
+{
+    let _key = delete.key.as_str();
+}
+
+/// Whether an export may begin: it goes apart from the cache and from each outside file.
+fn may_begin_export(
+    alloc: Global,
+    cache: &str,
+    outside: &[(Text, Bytes)],
+    source: &Source,
+    export: &Export,
+) -> Result<bool, AllocError>
+    ensures { IfOk result (λ may. (callers n : ℕ) → Decides may
+        (MayAsk (setup_of cache.now outside.now callers) n
+        (commands.Export source.now export.now))) }
+{
+    known_source(source);
+    let may = may_take(alloc, cache, outside, export.to.as_str())?;
+    Ok(may)
+}
+
+/// That the entries of a link are well-formed, where they can be written.
+fn form_link(alloc: Global, link: &Link) -> Result<(), AllocError>
+    ensures { OnOk result ((key : List ℕ) → link.now.key ≡ Some key
+        → FormsEntries key link.now.moment link.now.options) }
+{
+    let Some(key) = &link.key else {
+        return Ok(());
+    };
+    form(alloc, key, link.moment, &link.options)?;
+    Ok(())
+}
+
+/// The path of a link's target.
+fn target_path(alloc: Global, target: &Text) -> Result<Text, AllocError>
+    ensures { IfOk result (λ path. path ≡ based_of (codes "/") target.now) }
+{
+    let target = target.clone()?;
+    based(alloc, "/", target)
+}
+
+/// Whether the target of a link is one of the outside files.
+fn leads_outside(
+    alloc: Global,
+    outside: &[(Text, Bytes)],
+    target: &Text,
+) -> Result<bool, AllocError>
+    ensures { IfOk result (λ leads. (cache : List ℕ) (callers : ℕ) → leads
+        ≡ is_outside_of (setup_of cache outside.now callers) (based_of (codes "/") target.now)) }
+{
+    let path = target_path(alloc, target)?;
+    is_outside(alloc, outside, path.as_str())
+}
+
+/// Whether a link may begin: its target is one of the outside files.
+fn may_begin_link(alloc: Global, outside: &[(Text, Bytes)], link: &Link) -> Result<bool, AllocError>
+    ensures { IfOk result (λ may. (cache : List ℕ) (callers n : ℕ) → Decides may
+        (MayAsk (setup_of cache outside.now callers) n (commands.Link link.now))) }
+{
+    form_link(alloc, link)?;
+    let leads = leads_outside(alloc, outside, &link.target)?;
+    Ok(leads)
+}
+
+/// Whether a call may begin with a command.
+fn may_begin(
+    alloc: Global,
+    cache: &str,
+    outside: &[(Text, Bytes)],
+    command: &Command,
+) -> Result<bool, AllocError>
+    ensures { IfOk result (λ may. (callers n : ℕ) → Decides may
+        (MayAsk (setup_of cache.now outside.now callers) n command.now)) }
+{
+    match command {
+        Command::Find(_)
+        | Command::Get(_)
+        | Command::Ls
+        | Command::RemoveFully(_)
+        | Command::Clear => Ok(true),
+        Command::GetHash(integrity) | Command::Exists(integrity) | Command::RemoveHash(integrity) =>
+            {
+                known(integrity);
+                Ok(true)
+            }
+        Command::Put(put) => {
+            admit_put(alloc, put)?;
+            Ok(true)
+        }
+        Command::Insert(insert) => {
+            admit_insert(alloc, insert)?;
+            Ok(true)
+        }
+        Command::Delete(delete) => {
+            admit_delete(delete);
+            Ok(true)
+        }
+        Command::Link(link) => {
+            let may = may_begin_link(alloc, outside, link)?;
+            Ok(may)
+        }
+        Command::Export(source, export) => may_begin_export(alloc, cache, outside, source, export),
+    }
+}
+
+/// That a call may begin with a command.
+pub(crate) fn admit(
+    alloc: Global,
+    cache: &str,
+    outside: &[(Text, Bytes)],
+    command: &Command,
+) -> Result<(), WorldFault>
+    ensures may { OnOk result ((callers n : ℕ)
+        → MayAsk (setup_of cache.now outside.now callers) n command.now) }
+    ensures why { IfErr result (λ fault. (callers n : ℕ)
+        → IsTurnedAway (setup_of cache.now outside.now callers) n command.now fault) }
+{
+    match may_begin(alloc, cache, outside, command) {
+        Ok(true) => Ok(()),
+        Ok(false) => Err(WorldFault::BadCommand),
+        Err(_) => Err(WorldFault::OutOfMemory),
+    }
+}

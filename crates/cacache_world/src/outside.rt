@@ -1,0 +1,59 @@
+//! The outside files, which links may lead to.
+ghost use Rattle.std.specs.Prelude.{◌≡◌, Ok, IfOk, IfErr, OnOk};
+ghost use Rattle.cacache_core.specs.PathNames.{home_of};
+ghost use Rattle.cacache_disk.specs.Apply.{planted as planted_tree};
+ghost use Rattle.cacache_disk.specs.Tree.{bare};
+ghost use Rattle.cacache_laws.specs.Kinds.{Elsewhere, IsFor};
+ghost use Rattle.cacache_laws.specs.Opening.{with_files, LieApart};
+ghost use Rattle.cacache_world.specs.Faults.{CantPlace};
+
+use crate::event::WorldFault;
+use crate::names::may_take;
+use cacache_core::bytes::Bytes;
+use cacache_core::text::Text;
+use cacache_disk::Disk;
+use std::alloc::Global;
+
+/// Puts one outside file more on the disk.
+fn plant(
+    alloc: Global,
+    disk: &mut Disk,
+    cache: &str,
+    before: &[(Text, Bytes)],
+    file: &(Text, Bytes),
+) -> Result<(), WorldFault>
+    ensures apart { OnOk result (IsFor (home_of cache.now) Elsewhere file.now.0) }
+    ensures planted { OnOk result
+        (planted_tree disk.old file.now.0 file.now.1 ≡ Ok disk.new) }
+    ensures why { IfErr result (λ fault. CantPlace cache.now before.now disk.old file.now fault) }
+{
+    match may_take(alloc, cache, before, file.0.as_str()) {
+        Ok(true) => {}
+        Ok(false) => return Err(WorldFault::BadCommand),
+        Err(_) => return Err(WorldFault::OutOfMemory),
+    }
+    match disk.plant(file.0.as_str(), &file.1) {
+        Ok(Ok(())) => Ok(()),
+        Ok(Err(_)) => Err(WorldFault::BadCommand),
+        Err(_) => Err(WorldFault::OutOfMemory),
+    }
+}
+
+/// A disk with nothing but outside files.
+pub(crate) fn planted(
+    alloc: Global,
+    cache: &str,
+    outside: &[(Text, Bytes)],
+) -> Result<Disk, WorldFault>
+    ensures apart { OnOk result (LieApart (home_of cache.now) outside.now) }
+    ensures opens { IfOk result (λ disk. with_files bare outside.now ≡ Ok disk) }
+{
+    let Ok(disk) = Disk::new(alloc) else {
+        return Err(WorldFault::OutOfMemory);
+    };
+    let mut disk = disk;
+    for i in 0..outside.len() {
+        plant(alloc, &mut disk, cache, &outside[..i], &outside[i])?;
+    }
+    Ok(disk)
+}

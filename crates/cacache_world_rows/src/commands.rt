@@ -1,0 +1,167 @@
+//! Random calls and lucks, on few keys and contents, so that calls meet.
+use crate::random::Random;
+use cacache_calls::{Command, Delete, Insert, Json, Options, Put};
+use cacache_core::bytes::Bytes;
+use cacache_core::errors::Fault;
+use cacache_core::integrity::{Algorithm, Integrity};
+use cacache_core::text::Text;
+use cacache_disk::Luck;
+use cacache_rows::let_go;
+use serde_json::Value;
+use std::alloc::{AllocError, Global};
+
+/// The keys of all calls. Each has a bucket of its own.
+pub(crate) const KEYS: [&str; 3] = ["a", "b", "another key"];
+
+/// The contents of all calls: bytes, an algorithm, and the integrity that they have under it, as `openssl dgst` prints it.
+pub(crate) const CONTENTS: [(&str, Algorithm, &str); 3] = [
+    (
+        "hello",
+        Algorithm::Sha256,
+        "sha256-LPJNul+wow4m6DsqxbninhsWHlwfp0JecwQzYpOLmCQ=",
+    ),
+    ("", Algorithm::Sha1, "sha1-2jmj7l5rSw0yVb/vlWAYkK/YBwk="),
+    (
+        "a content of some more bytes",
+        Algorithm::Sha512,
+        "sha512-IC8qU4BYFi2PGOr7QaicKkTB+HcF2qrqwbl6ybyADw3QeaRfiVhrqlZU63bILvSVVc2s/Hbc9hWsmDW2vHHCPQ==",
+    ),
+];
+
+/// The kinds of calls; some come more often.
+const KINDS: [&str; 18] = [
+    "put",
+    "put",
+    "put",
+    "put",
+    "put_hash",
+    "insert",
+    "insert_raw",
+    "delete",
+    "find",
+    "find",
+    "get",
+    "get",
+    "get_hash",
+    "exists",
+    "ls",
+    "remove_hash",
+    "remove_fully",
+    "clear",
+];
+
+/// The faults that are made up.
+const FAULTS: [Fault; 3] = [Fault::Device, Fault::NotFound, Fault::AlreadyExists];
+
+/// The integrity of a text.
+pub(crate) fn integrity_of(alloc: Global, text: &str) -> Result<Integrity, AllocError> {
+    match Integrity::parse(alloc, text) {
+        Ok(integrity) => Ok(integrity),
+        Err(error) => {
+            let_go(error);
+            Err(AllocError)
+        }
+    }
+}
+
+/// The text of the integrity of a content's bytes.
+pub(crate) fn text_of(bytes: &[u8]) -> &'static str {
+    for (text, _, integrity) in &CONTENTS {
+        if text.as_bytes() == bytes {
+            return integrity;
+        }
+    }
+    ""
+}
+
+/// Options that say no more than this.
+fn options_of(
+    algorithm: Algorithm,
+    integrity: Option<Integrity>,
+    raw_metadata: Option<Bytes>,
+) -> Options {
+    Options {
+        algorithm,
+        size: None,
+        integrity,
+        metadata: Json::new(Value::Null),
+        raw_metadata,
+    }
+}
+
+/// A call that commits a content, or its entry alone.
+fn commit_of(
+    kind: &str,
+    key: Text,
+    data: Bytes,
+    algorithm: Algorithm,
+    integrity: Integrity,
+    moment: u128,
+) -> Command {
+    let (key, options) = match kind {
+        "insert" => (key, options_of(algorithm, Some(integrity), None)),
+        "insert_raw" => (key, options_of(algorithm, Some(integrity), Some(data))),
+        _ => {
+            let key = if kind == "put" { Some(key) } else { None };
+            let options = options_of(algorithm, None, None);
+            return Command::Put(Put {
+                key,
+                data,
+                moment,
+                options,
+            });
+        }
+    };
+    Command::Insert(Insert {
+        key,
+        moment,
+        options,
+    })
+}
+
+/// A random kind of call.
+pub(crate) fn random_kind(random: &mut Random) -> &'static str {
+    match random.pick(&KINDS) {
+        Some(kind) => kind,
+        None => "ls",
+    }
+}
+
+/// A call of this kind on a random key and content.
+pub(crate) fn random_command(
+    alloc: Global,
+    random: &mut Random,
+    kind: &str,
+) -> Result<Command, AllocError> {
+    let moment = random.below(1_000_000) as u128;
+    let name = random.pick(&KEYS).copied().unwrap_or("a");
+    let picked = random.pick(&CONTENTS).copied();
+    let (text, algorithm, integrity) = picked.unwrap_or(("", Algorithm::Sha1, ""));
+    let key = Text::from_str(alloc, name)?;
+    let integrity = integrity_of(alloc, integrity)?;
+    let data = Bytes::new(alloc, Vec::from_slice(alloc, text.as_bytes())?)?;
+    Ok(match kind {
+        "delete" => Command::Delete(Delete { key, moment }),
+        "find" => Command::Find(key),
+        "get" => Command::Get(key),
+        "get_hash" => Command::GetHash(integrity),
+        "exists" => Command::Exists(integrity),
+        "ls" => Command::Ls,
+        "remove_hash" => Command::RemoveHash(integrity),
+        "remove_fully" => Command::RemoveFully(key),
+        "clear" => Command::Clear,
+        _ => commit_of(kind, key, data, algorithm, integrity, moment),
+    })
+}
+
+/// A random luck, which is mostly plain. The line of an entry has some 200 bytes.
+pub(crate) fn random_luck(random: &mut Random) -> Luck {
+    let part = random.below(240);
+    let fault = random.pick(&FAULTS).copied().unwrap_or(Fault::Device);
+    match random.below(24) {
+        0 | 1 => Luck::Take(part),
+        2 => Luck::Fail(fault, None),
+        3 => Luck::Fail(fault, Some(part)),
+        _ => Luck::Plain,
+    }
+}

@@ -1,0 +1,83 @@
+//! Plays random events in worlds, and compares each with a plain, slow model of what the definitions say. Each row of
+//! standard input asks for some lists of events:
+//!
+//!     lists 1000 seed 7 callers 3 events 40
+//!
+//! An event begins a call on one of three keys and contents, moves it on under some luck, or stops it. The model holds the
+//! bytes of each content and each bucket. It is changed by the steps of the world's history alone, and says what each reply
+//! is to be; at the end of a list its contents and buckets are compared with the files of the disk. A row prints what it
+//! counted, and each list that differs prints how at first.
+//!
+//! Left out: folders, temporary files, links and exports, the messages of errors, and whether a step was the right one to
+//! make, but for what its reply shows.
+#![tactic(auto)]
+
+mod commands;
+mod play;
+mod random;
+mod replies;
+mod row;
+mod story;
+mod tally;
+mod value;
+
+use play::{Counts, played};
+use random::Random;
+use row::{Row, row_of};
+use std::alloc::Global;
+use std::io;
+use std::process::ExitCode;
+use tally::Tally;
+
+/// Plays all lists of a row, prints how they differ, and tells how many do.
+fn differing(rt: &impl Print, alloc: Global, row: Row, counts: &mut Counts) -> io::Result<u64> {
+    let mut random = Random::new(row.seed as u64);
+    let mut count: u64 = 0;
+    for list in 0..row.lists {
+        if let Some(difference) = played(alloc, row, &mut random, counts)? {
+            println!(rt; "    list {list}: {difference}")?;
+            count = count.saturating_add(1);
+        }
+    }
+    Ok(count)
+}
+
+/// Tries a row and prints what it counted: whether nothing differs.
+fn holds(rt: &impl Print, alloc: Global, line: &str) -> io::Result<bool> {
+    println!(rt; "{line}")?;
+    let Ok(row) = row_of(line) else {
+        println!(rt; "    not read")?;
+        return Ok(false);
+    };
+    let mut counts = Counts {
+        begun: Tally::new(alloc),
+        replies: Tally::new(alloc),
+        events: Tally::new(alloc),
+    };
+    let count = differing(rt, alloc, row, &mut counts)?;
+    let word = if count == 0 { "ok" } else { "wrong" };
+    println!(rt; "    {word}: {} lists, {count} differences", row.lists)?;
+    println!(rt; "    begun: {}", counts.begun.shown()?)?;
+    println!(rt; "    replies: {}", counts.replies.shown()?)?;
+    println!(rt; "    events: {}", counts.events.shown()?)?;
+    Ok(count == 0)
+}
+
+/// Tries all rows of standard input: whether each of them holds.
+fn all_hold(rt: &(impl Input + Print + AllocGlobal)) -> io::Result<bool> {
+    let alloc = rt.alloc();
+    let mut all = true;
+    for line in rt.lines(alloc) {
+        if !holds(rt, alloc, line?.as_str())? {
+            all = false;
+        }
+    }
+    Ok(all)
+}
+
+fn main(rt: HostRuntime) -> ExitCode {
+    match all_hold(&rt) {
+        Ok(true) => ExitCode::from(0),
+        _ => ExitCode::from(1),
+    }
+}

@@ -1,0 +1,187 @@
+//! A list of random events in a world, and what the model says of its history.
+use crate::commands::{random_command, random_kind, random_luck};
+use crate::random::Random;
+use crate::replies::shown_reply;
+use crate::row::Row;
+use crate::story::Story;
+use crate::tally::Tally;
+use crate::value::{CACHE, Value};
+use cacache_base::store::{Answer, PlainAnswer, PlainStep, Step};
+use cacache_calls::Reply;
+use cacache_core::text::Text;
+use cacache_disk::Luck;
+use cacache_rows::words::cut;
+use cacache_rows::{let_go, set};
+use cacache_world::{Record, World, WorldFault};
+use std::alloc::{AllocError, Global};
+
+/// What is counted.
+#[derive(Drop)]
+pub(crate) struct Counts {
+    pub(crate) begun: Tally,
+    pub(crate) replies: Tally,
+    pub(crate) events: Tally,
+}
+
+/// The model in the midst of a history: what the cache holds, and the call of each caller.
+#[derive(Drop)]
+struct Model<'h> {
+    alloc: Global,
+    value: Value,
+    stories: Vec<Option<Story<'h>>>,
+}
+
+/// A world with so many callers; None where memory was refused.
+fn world_of(alloc: Global, callers: usize) -> Option<World> {
+    let cache = Text::from_str(alloc, CACHE).ok()?;
+    World::new(alloc, callers, cache, Vec::new(alloc)).ok()
+}
+
+/// A random event of a caller: it stops its call, moves it, or begins one.
+fn event(
+    alloc: Global,
+    world: &mut World,
+    random: &mut Random,
+    caller: usize,
+    counts: &mut Counts,
+) -> Result<(), AllocError> {
+    if random.below(40) == 0 && world.stop(caller).is_ok() {
+        return counts.events.count("stopped");
+    }
+    match world.move_one(caller, random_luck(random)) {
+        Ok(moved) => {
+            let_go(moved);
+            return Ok(());
+        }
+        Err(WorldFault::Idle) => {}
+        Err(_) => return Err(AllocError),
+    }
+    let kind = random_kind(random);
+    match world.begin(caller, random_command(alloc, random, kind)?) {
+        Ok(()) => counts.begun.count(kind),
+        Err(WorldFault::BadCommand) => counts.begun.count("refused"),
+        Err(_) => Err(AllocError),
+    }
+}
+
+/// Counts a step.
+fn count_step(
+    counts: &mut Counts,
+    step: &PlainStep,
+    luck: Luck,
+    answer: &PlainAnswer,
+) -> Result<(), AllocError> {
+    counts.events.count(match luck {
+        Luck::Plain => "plain",
+        Luck::Take(_) => "taken in part",
+        Luck::Fail(_, _) => "made to fail",
+    })?;
+    match (step, answer) {
+        (Step::Append(_, bytes), Answer::Took(count)) if *count < bytes.len() => {
+            counts.events.count("torn appends")
+        }
+        (Step::Persist(_, _), Answer::Failed(_)) => counts.events.count("refused persists"),
+        (Step::RemoveFile(_), Answer::Done) => counts.events.count("removed files"),
+        _ => Ok(()),
+    }
+}
+
+impl<'h> Model<'h> {
+    /// Before any record.
+    fn new(alloc: Global, callers: usize) -> Result<Model<'h>, AllocError> {
+        let mut stories = Vec::new(alloc);
+        for _ in 0..callers {
+            stories.push(None)?;
+        }
+        Ok(Model {
+            alloc,
+            value: Value::empty(alloc)?,
+            stories,
+        })
+    }
+
+    /// Puts a caller's call in its place, or none.
+    fn place(&mut self, caller: usize, story: Option<Story<'h>>) {
+        if let Some(slot) = self.stories.get_mut(caller) {
+            set(slot, story);
+        }
+    }
+
+    /// A call is over with this reply: what was wanted and what came, if they differ.
+    fn reply(&self, caller: usize, came: &str) -> Result<Option<String>, AllocError> {
+        let wanted = match self.stories.get(caller) {
+            Some(Some(story)) => story.wanted.as_str(),
+            _ => "no call",
+        };
+        if came == wanted {
+            return Ok(None);
+        }
+        Ok(Some(format!(in self.alloc; "wanted {wanted}, got {came}")?))
+    }
+
+    /// The next record of the history: how the model differs from it, if it does.
+    fn follow(
+        &mut self,
+        record: &'h Record,
+        counts: &mut Counts,
+    ) -> Result<Option<String>, AllocError> {
+        match record {
+            Record::Began(caller, command) => {
+                let story = Story::new(self.alloc, command)?;
+                self.place(*caller, Some(story));
+            }
+            Record::Stopped(caller) => self.place(*caller, None),
+            Record::Moved(caller, luck, made, reply) => {
+                if let Some((step, answer)) = made {
+                    count_step(counts, step, *luck, answer)?;
+                    self.value.change(step, *luck, answer)?;
+                    if let Some(Some(story)) = self.stories.get_mut(*caller) {
+                        story.see(&self.value, step, answer)?;
+                    }
+                }
+                if let Some(reply) = reply {
+                    let came = shown_reply(self.alloc, reply)?;
+                    counts.replies.count(cut(came.as_str()).0)?;
+                    return self.reply(*caller, came.as_str());
+                }
+            }
+        }
+        Ok(None)
+    }
+}
+
+/// The first difference between a world and the model of its history, if there is one.
+fn judged(
+    alloc: Global,
+    callers: usize,
+    world: &World,
+    counts: &mut Counts,
+) -> Result<Option<String>, AllocError> {
+    let mut model = Model::new(alloc, callers)?;
+    for record in world.history() {
+        if let Some(difference) = model.follow(record, counts)? {
+            return Ok(Some(difference));
+        }
+    }
+    if model.value.differs(world.disk())? {
+        return Ok(Some(String::from_str(alloc, "other files at the end")?));
+    }
+    Ok(None)
+}
+
+/// Plays a list of random events: how the model differs from it, if it does.
+pub(crate) fn played(
+    alloc: Global,
+    row: Row,
+    random: &mut Random,
+    counts: &mut Counts,
+) -> Result<Option<String>, AllocError> {
+    let Some(mut world) = world_of(alloc, row.callers) else {
+        return Err(AllocError);
+    };
+    for _ in 0..row.events {
+        let caller = random.below(row.callers);
+        event(alloc, &mut world, random, caller, counts)?;
+    }
+    judged(alloc, row.callers, &world, counts)
+}

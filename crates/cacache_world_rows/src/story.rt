@@ -1,0 +1,207 @@
+//! A call, and the reply that its steps lead to by what the cache holds.
+use crate::commands::{integrity_of, text_of};
+use crate::replies::{shown_bytes, shown_entry, shown_fault};
+use crate::value::Value;
+use cacache_base::store::{Answer, PlainAnswer, PlainStep, Step};
+use cacache_calls::Command;
+use cacache_core::bytes::Bytes;
+use cacache_core::errors::Fault;
+use cacache_core::integrity::Integrity;
+use cacache_core::text::Text;
+use cacache_rows::set;
+use std::alloc::{AllocError, Global};
+
+/// A call, and the reply that it is to give if it is over now.
+#[derive(Drop)]
+pub(crate) struct Story<'h> {
+    alloc: Global,
+    command: &'h Command,
+    /// The content that a lookup found.
+    found: Option<Integrity>,
+    /// Whether an entry may come: that of a put only once its content is there.
+    may_add: bool,
+    pub(crate) wanted: String,
+}
+
+/// Why a step failed, if it did.
+fn fault_in(answer: &PlainAnswer) -> Option<Fault> {
+    match answer {
+        Answer::Failed(fault) => Some(*fault),
+        _ => None,
+    }
+}
+
+/// Why a step shows nothing, if so. That a file is missing shows what is so.
+fn hidden_by(answer: &PlainAnswer) -> Option<Fault> {
+    fault_in(answer).filter(|fault| *fault != Fault::NotFound)
+}
+
+impl<'h> Story<'h> {
+    /// A call that begins. Only a listing has a reply before it did anything.
+    pub(crate) fn new(alloc: Global, command: &'h Command) -> Result<Story<'h>, AllocError> {
+        Ok(Story {
+            alloc,
+            command,
+            found: None,
+            may_add: !matches!(command, Command::Put(_)),
+            wanted: String::from_str(alloc, "listed")?,
+        })
+    }
+
+    /// The reply is to be this.
+    fn want(&mut self, text: &str) -> Result<(), AllocError> {
+        set(&mut self.wanted, String::from_str(self.alloc, text)?);
+        Ok(())
+    }
+
+    /// The reply is to be this fault.
+    fn fail(&mut self, fault: Fault) -> Result<(), AllocError> {
+        let text = shown_fault(self.alloc, fault)?;
+        self.want(text.as_str())
+    }
+
+    /// The listing is to have this item more.
+    fn item(&mut self, item: &str) -> Result<(), AllocError> {
+        self.wanted.push_str(" ; ")?;
+        self.wanted.push_str(item)
+    }
+
+    /// After a step of a listing: the bucket's newest entry, or why nothing could be read.
+    fn list(
+        &mut self,
+        value: &Value,
+        step: &PlainStep,
+        answer: &PlainAnswer,
+    ) -> Result<(), AllocError> {
+        match (step, fault_in(answer)) {
+            (Step::ReadAll(path), None | Some(Fault::NotFound)) => {
+                if let Some(entry) = value.newest(path)? {
+                    self.item(shown_entry(self.alloc, &entry)?.as_str())?;
+                }
+                Ok(())
+            }
+            (_, Some(fault)) => self.item(shown_fault(self.alloc, fault)?.as_str()),
+            (_, None) => Ok(()),
+        }
+    }
+
+    /// After the bucket was read: what its newest entry leads to.
+    fn look(&mut self, value: &Value, path: &Text, answer: &PlainAnswer) -> Result<(), AllocError> {
+        let none = match self.command {
+            Command::Find(_) => "nothing",
+            _ => "no_entry",
+        };
+        if let Some(fault) = hidden_by(answer) {
+            return self.fail(fault);
+        }
+        let Some(entry) = value.newest(path)? else {
+            return self.want(none);
+        };
+        self.want(shown_entry(self.alloc, &entry)?.as_str())?;
+        if let Some(text) = &entry.integrity {
+            set(
+                &mut self.found,
+                Some(integrity_of(self.alloc, text.as_str())?),
+            );
+        }
+        Ok(())
+    }
+
+    /// After a content was read.
+    fn read(
+        &mut self,
+        value: &Value,
+        integrity: &Integrity,
+        answer: &PlainAnswer,
+    ) -> Result<(), AllocError> {
+        if let Some(fault) = hidden_by(answer) {
+            return self.fail(fault);
+        }
+        match value.content(integrity)? {
+            Some(bytes) => self.want(shown_bytes(self.alloc, bytes.as_slice())?.as_str()),
+            None => self.fail(Fault::NotFound),
+        }
+    }
+
+    /// After the question whether a content is there.
+    fn ask(
+        &mut self,
+        value: &Value,
+        integrity: &Integrity,
+        answer: &PlainAnswer,
+    ) -> Result<(), AllocError> {
+        let is_there = value.content(integrity)?.is_some();
+        self.want(if is_there && fault_in(answer).is_none() {
+            "there"
+        } else {
+            "absent"
+        })
+    }
+
+    /// After a step by which the content of a put is at its place.
+    fn placed(&mut self, value: &Value, data: &Bytes) -> Result<(), AllocError> {
+        let text = text_of(data.as_slice());
+        let integrity = integrity_of(self.alloc, text)?;
+        if value.content(&integrity)? == Some(data) {
+            self.may_add = true;
+        }
+        self.want(format!(in self.alloc; "stored {text}")?.as_str())
+    }
+
+    /// After all of a line was appended: the bucket's newest entry is that of the commit.
+    fn added(&mut self, value: &Value, path: &Text) -> Result<(), AllocError> {
+        match value.newest(path)?.and_then(|entry| entry.integrity) {
+            None => self.want("done"),
+            Some(text) if self.may_add => self.want(format!(in self.alloc;
+                "stored {text}"
+            )?.as_str()),
+            Some(_) => self.want("an entry before its content"),
+        }
+    }
+
+    /// After a step of a commit.
+    fn commit(
+        &mut self,
+        value: &Value,
+        step: &PlainStep,
+        answer: &PlainAnswer,
+    ) -> Result<(), AllocError> {
+        match (self.command, step, answer) {
+            (_, Step::Append(_, line), Answer::Took(count)) if *count < line.len() => self.fail(
+                Fault::ShortAppend,
+            ),
+            (_, Step::Append(path, _), Answer::Took(_)) => self.added(value, path),
+            (Command::Put(put), Step::Persist(_, _), Answer::Done)
+            | (Command::Put(put), Step::Exists(_), Answer::There(true)) => self.placed(
+                value, &put.data,
+            ),
+            (_, Step::Exists(_), _) => Ok(()),
+            (_, Step::Write(_, _), Answer::Wrote(_, 0)) => self.fail(Fault::WriteZero),
+            (_, _, Answer::Failed(fault)) => self.fail(*fault),
+            _ => Ok(()),
+        }
+    }
+
+    /// After a step of the call: the reply that it leads to.
+    pub(crate) fn see(
+        &mut self,
+        value: &Value,
+        step: &PlainStep,
+        answer: &PlainAnswer,
+    ) -> Result<(), AllocError> {
+        match (self.command, step, self.found.take()) {
+            (Command::Ls, _, _) => self.list(value, step, answer),
+            (Command::Get(_), Step::ReadAll(_), Some(found)) => self.read(value, &found, answer),
+            (Command::GetHash(integrity), _, _) => self.read(value, integrity, answer),
+            (_, Step::ReadAll(path), _) => self.look(value, path, answer),
+            (Command::Exists(integrity), _, _) => self.ask(value, integrity, answer),
+            (Command::Put(_) | Command::Insert(_) | Command::Delete(_), _, _) => self.commit(
+                value, step, answer,
+            ),
+            _ => match fault_in(answer) {
+                Some(fault) => self.fail(fault),
+                None => self.want("done"),
+            },
+        }
+    }
+}
