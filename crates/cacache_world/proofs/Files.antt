@@ -1,43 +1,15 @@
 -- Outside files, one by one.
-use Rattle.std.proofs.Common.{◌≡◌, ◌<◌, ◌+◌, ◌&&◌, ℕ, Bool, true, false, cond, List, [], ◌∷◌, ◌++◌, Option, None, Some, Ok, take, length, get_or, refl, sym, ap, subst, ◌∙◌}
-use Rattle.std.specs.Prelude.{Result, Err, IfOk, bytes_eq}
+use Rattle.std.proofs.Common.{◌≡◌, ◌<◌, ◌+◌, ℕ, List, [], ◌∷◌, ◌++◌, Option, Ok, take, length, get_or, sym, ap, subst, ◌∙◌}
+use Rattle.std.specs.Prelude.{Result, Err}
 use Rattle.std.proofs.lemmas.List.{take_more}
 use Rattle.cacache_core.specs.declared.errors.Fault.{Fault}
-use Rattle.cacache_core.specs.PathNames.{Names, names_of}
+use Rattle.cacache_core.specs.PathNames.{Names}
 use Rattle.cacache_disk.specs.Tree.{Tree, bare}
 use Rattle.cacache_disk.specs.Apply.{planted}
 use Rattle.cacache_disk.specs.Found.{and_then}
 use Rattle.cacache_disk.proofs.Finding.{and_then_ok}
-use Rattle.cacache_laws.specs.Kinds.{Elsewhere, IsFor, kind_beside, path_kind}
+use Rattle.cacache_laws.specs.Kinds.{Elsewhere, IsFor}
 use Rattle.cacache_laws.specs.Opening.{with_files, LieApart}
-use Rattle.cacache_history.specs.Setup.{Setup, home, are_apart, apart_from_home, apart_from_files, may_take, may_export}
-
--- ---- where a file may be put
-
-and_first : (a b : Bool) → (a && b) ≡ true → a ≡ true
-and_first true b e = refl
-and_first false b e = absurd cc
-
-beside_apart : (folder path : Names) → are_apart folder path ≡ true → kind_beside folder path ≡ Elsewhere
-beside_apart [] path e = absurd cc
-beside_apart (n ∷ ns) [] e = absurd cc
-beside_apart (n ∷ ns) (m ∷ ms) e = by (bytes_eq n m) (beside_apart ns ms) e
-  where
-    by : (b : Bool) → (are_apart ns ms ≡ true → kind_beside ns ms ≡ Elsewhere) → cond b (are_apart ns ms) true ≡ true → cond b (kind_beside ns ms) Elsewhere ≡ Elsewhere
-    by true rest is = rest is
-    by false rest is = refl
-
-home_apart : (h : Option Names) (path : Names) → apart_from_home h path ≡ true → path_kind h path ≡ Elsewhere
-home_apart None path e = refl
-home_apart (Some folder) path e = beside_apart folder path e
-
-taken_elsewhere : (s : Setup) (r : Result Names Fault) → may_take s r ≡ true → IfOk r (λ path. path_kind (home s) path ≡ Elsewhere)
-taken_elsewhere s (Ok path) e = home_apart (home s) path (and_first (apart_from_home (home s) path) (apart_from_files s.outside path) e)
-taken_elsewhere s (Err fault) e = tt
-
--- a path that an export may take is apart from the cache
-pub lies_elsewhere : (s : Setup) (path : List ℕ) → true ≡ may_export s path → IsFor (home s) Elsewhere path
-lies_elsewhere s path e = taken_elsewhere s (names_of path) (sym e)
 
 -- ---- one file more
 

@@ -3,12 +3,7 @@ use Rattle.std.proofs.Common.{◌≡◌, ◌<◌, ◌+◌, ℕ, zero, suc, List,
 use Rattle.std.proofs.lemmas.List.{take_more}
 use Rattle.cacache_history.specs.History.{History}
 use Rattle.cacache_world.specs.declared.event.Event.{Event}
-use Rattle.cacache_disk.specs.declared.luck.Luck.{Luck}
-use Rattle.cacache_calls.specs.declared.command.Command.{Command}
-use Rattle.cacache_world.specs.declared.event.Event.TheVariants as events
 use Rattle.cacache_world.specs.declared.event.WorldFault.{WorldFault}
-use Rattle.cacache_world.specs.declared.event.WorldFault.TheVariants as faults
-use Rattle.cacache_world.specs.Faults.{CantBegin, CantMove}
 use Rattle.cacache_world.specs.Played.{Happens, HappenAll, CantBe, StopAt}
 
 happen_more : (events : List Event) (event : Event) (h m h' : History) → HappenAll events h m → Happens event m h' → HappenAll (events ++ event ∷ []) h h'
@@ -21,29 +16,6 @@ pub play_more : (events : List Event) (k : ℕ) (event : Event) (h m h' : Histor
 play_more events k event h m h' below is all one =
     let taken : take (k + 1) events ≡ take k events ++ event ∷ [] = take_more events k event below ∙ ap (λ (e : Event). take k events ++ e ∷ []) (sym is) in
     subst (λ es. HappenAll es h h') (sym taken) (happen_more (take k events) event h m h' all one)
-
--- ---- why an event can't be
-
-pub begin_cant_be : (caller : ℕ) (command : Command) (h : History) (fault : WorldFault) → CantBegin h caller command fault → CantBe (events.Begin caller command) h fault
-begin_cant_be caller command h faults.NoCaller e = e
-begin_cant_be caller command h faults.Busy e = e
-begin_cant_be caller command h faults.Idle e = e
-begin_cant_be caller command h faults.BadCommand e = e
-begin_cant_be caller command h faults.OutOfMemory e = tt
-
-pub move_cant_be : (caller : ℕ) (luck : Luck) (h : History) (fault : WorldFault) → CantMove h caller fault → CantBe (events.Move caller luck) h fault
-move_cant_be caller luck h faults.NoCaller e = e
-move_cant_be caller luck h faults.Busy e = e
-move_cant_be caller luck h faults.Idle e = e
-move_cant_be caller luck h faults.BadCommand e = e
-move_cant_be caller luck h faults.OutOfMemory e = tt
-
-pub stop_cant_be : (caller : ℕ) (h : History) (fault : WorldFault) → CantMove h caller fault → CantBe (events.Stop caller) h fault
-stop_cant_be caller h faults.NoCaller e = e
-stop_cant_be caller h faults.Busy e = e
-stop_cant_be caller h faults.Idle e = e
-stop_cant_be caller h faults.BadCommand e = e
-stop_cant_be caller h faults.OutOfMemory e = tt
 
 -- ---- where playing ends
 

@@ -22,7 +22,7 @@ use Rattle.cacache_world.specs.Kept.{history_of, setup_of, adding, last, JobAt, 
 use Rattle.cacache_world.specs.Admitted.{MayAsk, IsTurnedAway}
 use Rattle.cacache_world.specs.declared.event.WorldFault.{WorldFault}
 use Rattle.cacache_world.specs.declared.event.WorldFault.TheVariants as faults
-use Rattle.cacache_world.specs.Faults.{IsFreeAt, IsIdleFault, IsBusyFault, IsUnready, IsFree, HasCall, CantMove, CantBegin}
+use Rattle.cacache_world.specs.Faults.{IsFreeAt, IsUnready, IsFree, HasCall, CantBegin}
 
 replay-push : (s : Setup) (w : Now) (records : List Record) (r : Record) → replay s w (records ++ r ∷ []) ≡ next s (replay s w records) r
 replay-push s w [] r = refl
@@ -222,13 +222,6 @@ new_keeps cache outside n jobs t apart opens f = record {
 
 -- ---- why an event can't be
 
-pub cant_move : (h : History) (t : Tree) (b : ℕ) (jobs : List (Option DiskJob)) (caller : ℕ) (fault : WorldFault) → Keeps h t b jobs → IsIdleFault h.setup.callers jobs caller fault → CantMove h caller fault
-cant_move h t b jobs caller faults.NoCaller k e = e
-cant_move h t b jobs caller faults.Busy k e = absurd e
-cant_move h t b jobs caller faults.Idle k e = (e.0, no_call (slice_get jobs caller) _ e.1 (k.calls caller))
-cant_move h t b jobs caller faults.BadCommand k e = absurd e
-cant_move h t b jobs caller faults.OutOfMemory k e = absurd e
-
 pub keeps_call : (h : History) (t : Tree) (b : ℕ) (jobs : List (Option DiskJob)) (caller : ℕ) (job : DiskJob) → Keeps h t b jobs → slice_get jobs caller ≡ Some (Some job) → HasCall h caller
 keeps_call h t b jobs caller job k here = let c = has_call job (slice_get jobs caller) _ here (k.calls caller) in (c.0, c.1)
 
@@ -244,13 +237,6 @@ cant_begin h t b jobs caller command faults.BadCommand k e = (is_free h t b jobs
 cant_begin h t b jobs caller command faults.OutOfMemory k e = is_free h t b jobs caller k e
 
 -- ---- why no call is ready
-
-pub busy_unready : (count : ℕ) (jobs : List (Option DiskJob)) (caller : ℕ) (s : Setup) (n : ℕ) (command : Command) (fault : WorldFault) → IsBusyFault count jobs caller fault → IsUnready count jobs caller s n command fault
-busy_unready count jobs caller s n command faults.NoCaller e = e
-busy_unready count jobs caller s n command faults.Busy e = e
-busy_unready count jobs caller s n command faults.Idle e = e
-busy_unready count jobs caller s n command faults.BadCommand e = absurd e
-busy_unready count jobs caller s n command faults.OutOfMemory e = absurd e
 
 pub away_unready : (count : ℕ) (jobs : List (Option DiskJob)) (caller : ℕ) (s : Setup) (n : ℕ) (command : Command) (fault : WorldFault) → IsFreeAt count jobs caller → IsTurnedAway s n command fault
     → IsUnready count jobs caller s n command fault
