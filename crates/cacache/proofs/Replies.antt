@@ -1,7 +1,7 @@
 -- Which replies are bytes, and what a question may be refused for.
-use Rattle.std.proofs.Common.{◌≡◌, inl, inr, List, Option, Bool, Result, Ok, Err, refl}
+use Rattle.std.proofs.Common.{◌≡◌, inl, inr, List, Option, Bool, Result, Ok, Err}
 use Rattle.cacache_core.specs.declared.errors.Error.{Error}
-use Rattle.cacache_core.specs.declared.errors.Error.TheVariants.{EntryNotFound, SizeMismatch, IoError, SerdeError, IntegrityError, OutOfMemory}
+use Rattle.cacache_core.specs.declared.errors.Error.TheVariants.{OutOfMemory}
 use Rattle.cacache_core.specs.declared.integrity.digest.Hash.{Hash}
 use Rattle.cacache_base.specs.declared.store.log.LogItem.{LogItem}
 use Rattle.cacache_calls.specs.declared.answers.Refusal.{Refusal}

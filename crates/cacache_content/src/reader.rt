@@ -17,7 +17,7 @@ use cacache_core::errors::{Error, Result};
 use cacache_core::integrity::{Algorithm, Integrity, IntegrityChecker};
 use cacache_core::text::Text;
 use cacache_jobs::{call, content_path, messages, refused};
-use std::alloc::Global;
+use std::alloc::{AllocError, Global};
 use std::io;
 use std::io::Read;
 
@@ -28,6 +28,12 @@ pub struct SyncReader<F> {
     alloc: Global,
     file: F,
     checker: IntegrityChecker,
+}
+
+/// Why the content wasn't opened. The path is made again, so that an opening that succeeds makes it once.
+fn unopened(alloc: Global, cache: &str, sri: &Integrity) -> std::result::Result<Text, AllocError> {
+    let path = content_path(alloc, cache, sri)?;
+    messages::opening(alloc, &path)
 }
 
 /// Opens the content of the integrity. What is read is checked against it.
@@ -46,8 +52,7 @@ pub fn open<S: Store, C: Clock, N: Names>(
 {
     let alloc = env.alloc;
     let path = content_path(alloc, cache, &sri)?;
-    let named = path.clone()?;
-    match file_of(env.store.step(Step::Open(named))) {
+    match file_of(env.store.step(Step::Open(path))) {
         Ok(file) => {
             let checker = IntegrityChecker::new(sri);
             Ok(SyncReader {
@@ -56,7 +61,7 @@ pub fn open<S: Store, C: Clock, N: Names>(
                 checker,
             })
         }
-        Err(refusal) => Err(refused(refusal, messages::opening(alloc, &path))),
+        Err(refusal) => Err(refused(refusal, unopened(alloc, cache, &sri))),
     }
 }
 

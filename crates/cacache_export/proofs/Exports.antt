@@ -1,5 +1,5 @@
 -- What exports answer, and what the checked ones read first.
-use Rattle.std.proofs.Common.{◌≡◌, ◌≢◌, ℕ, List, Bool, true, Result, Ok, Err, refl}
+use Rattle.std.proofs.Common.{◌≡◌, ◌≢◌, Bool, true, Result, Ok, Err, refl}
 use Rattle.std.specs.Prelude.{IfOk}
 use Rattle.cacache_core.specs.declared.errors.Error.{Error}
 use Rattle.cacache_calls.specs.declared.command.How.{How}

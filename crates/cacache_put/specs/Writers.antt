@@ -1,5 +1,5 @@
 -- Open writers: how they are opened, and what their commit does.
-use Rattle.std.specs.Prelude.{◌≡◌, ℕ, List, Option, None, Some, Result, Ok, Err}
+use Rattle.std.specs.Prelude.{◌≡◌, ℕ, List, Option, Result, Ok, Err}
 use Rattle.cacache_core.specs.declared.errors.Error.{Error}
 use Rattle.cacache_base.specs.declared.env.Env.{Env}
 use Rattle.cacache_base.specs.declared.store.log.LogItem.{LogItem}

@@ -4,7 +4,6 @@ use Rattle.cacache_content.proofs.reader.open.Goals as goal
 
 pub returns-in-Err-clause-opens : goal.returns-in-Err-clause-opens
 returns-in-Err-clause-opens g c =
-    let named = c.in_ok-named.named in
-    let is = file_refused named _ c.in-Err.refusal c.in-Err.ensures c.step.ensures.fits in
-    let fails = refused_fails (steps.Open named) _ c.in-Err.refusal c.refused.result _ _ is c.step.ensures.logged c.refused.ensures in
-    rw (c.in_ok-named.ensures.cases, c.in_ok-path.ensures) at fails
+    let path = c.in_ok-path.path in
+    let is = file_refused path _ c.in-Err.refusal c.in-Err.ensures c.step.ensures.fits in
+    rw (← c.in_ok-path.ensures) (refused_fails (steps.Open path) _ c.in-Err.refusal c.refused.result _ _ is c.step.ensures.logged c.refused.ensures)
