@@ -63,7 +63,7 @@ module _ (s : Setup) (n : ℕ) (reply : Option Reply) (r : Reply) (refused : IsR
   links t es ds sound real (inl h) = inl (subst (λ x. Realizes (own_link t.path) x ds) h.0 real, refused h.1)
   links t es ds sound real (inr h) = inr (h.0, h.1, commits (own_link t.path) reply r refused (commit_for t h.0) es ds (sound.formed h.0 h.1) real h.2)
 
-  cases : (command : Command) (turns : List Turn) → MayBegin (site_of s n) (may_export s) (is_outside s) command → TurnsHold s turns
+  pub cases : (command : Command) (turns : List Turn) → MayBegin (site_of s n) (may_export s) (is_outside s) command → TurnsHold s turns
       → EachTurn (λ turn. Makes (own_of (site_of s n) command) turn.move.step) turns → Runs (opening (site_of s n) command) (made_in turns) r → IsCase (site_of s n) command (deeds turns) reply
   cases (commands.Put p) turns may hold makes run =
       commits (own_bytes p.data (content_path s.cache (integrity_under p.options.algorithm p.data))) reply r refused (commit_of s.cache p) (effects_of (made_in turns)) (deeds turns) may (turns_realize s (own_bytes p.data (content_path s.cache (integrity_under p.options.algorithm p.data))) turns hold makes)
@@ -79,7 +79,7 @@ module _ (s : Setup) (n : ℕ) (reply : Option Reply) (r : Reply) (refused : IsR
       (deletes_send (site_of s n) d (made_in turns) r run)
   cases other turns may hold makes run = tt
 
-plain_refused : (r : Reply) → IsRefused (plain_reply r) → IsNotOk (Some r)
+pub plain_refused : (r : Reply) → IsRefused (plain_reply r) → IsNotOk (Some r)
 plain_refused (replies.Refused e) h = tt
 plain_refused r h = absurd h
 

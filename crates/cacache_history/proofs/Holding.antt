@@ -62,7 +62,7 @@ pub record AllHold (s : Setup) (w : Now) : Type 0 where
 
 -- ---- a call
 
-begins_hold : (s : Setup) (n : ℕ) (command : Command) → MayBegin (site_of s n) (may_export s) (is_outside s) command → NamesIntegrity command → CallHolds s (begins s n command)
+pub begins_hold : (s : Setup) (n : ℕ) (command : Command) → MayBegin (site_of s n) (may_export s) (is_outside s) command → NamesIntegrity command → CallHolds s (begins s n command)
 begins_hold s n command may named = record {
   may = may;
   named = named;
@@ -81,7 +81,7 @@ turns_more : (s : Setup) (turns : List Turn) (turn : Turn) → TurnsHold s turns
 turns_more s [] turn h one = (one, tt)
 turns_more s (t ∷ turns) turn h one = (h.0, turns_more s turns turn h.1 one)
 
-each_more : (P : Turn → Type 0) (turns : List Turn) (turn : Turn) → EachTurn P turns → P turn → EachTurn P (turns ++ turn ∷ [])
+pub each_more : (P : Turn → Type 0) (turns : List Turn) (turn : Turn) → EachTurn P turns → P turn → EachTurn P (turns ++ turn ∷ [])
 each_more P [] turn h one = (one, tt)
 each_more P (t ∷ turns) turn h one = (h.0, each_more P turns turn h.1 one)
 
@@ -121,7 +121,7 @@ module _ (s : Setup) (apart : LieApart (home s) s.outside) where
   pub made_proper : (t : Tree) (luck : Luck) (made : Made) (reply : Option Reply) (call : Call) → CallHolds s call → MayMove t call.state luck (Some made) reply → Proper (home s) made.0
   made_proper t luck made reply call mine may = sound_proper s call.number apart call.state made.0 mine.sound may.0
 
-  tree_holds : (w : Now) (luck : Luck) (made : Option Made) (reply : Option Reply) (call : Call) → AllHold s w → CallHolds s call → MayMove w.tree call.state luck made reply
+  pub tree_holds : (w : Now) (luck : Luck) (made : Option Made) (reply : Option Reply) (call : Call) → AllHold s w → CallHolds s call → MayMove w.tree call.state luck made reply
       → Placed (home s) (moved_tree w.tree luck made) × Rooted (moved_tree w.tree luck made) × TreeFormed (home s) (moved_tree w.tree luck made)
       × TreeRight (home s) (moved_tree w.tree luck made)
   tree_holds w luck None reply call h mine may = (h.placed, h.rooted, h.formed, h.right)

@@ -13,3 +13,5 @@ pub mod Replies
 pub mod Deeds
 pub mod Commits
 pub mod Righted
+pub mod Turned
+pub mod Entries

@@ -96,12 +96,15 @@ module _ (s : Setup) (turn : Turn) (h : TurnHolds s turn) where
       content_is _ path turn.move.answer (fits_is (steps.ReadAll path) is)
       (subst (ShowsContent _) (sym (answer_is (steps.ReadAll path) is)) (shows.content a path turn.move.luck (content_below s a hs (All-head IsHash a hs integrity.hashes))))
 
-  there_at_turn : (i : List Hash) → IsIntegrity i → turn.move.step ≡ steps.Exists (content_path s.cache i) → there_in turn.move.answer ≡ there_read s i turn
-  there_at_turn [] integrity is = absurd (omega (arith, integrity.nonempty))
-  there_at_turn (a ∷ hs) integrity is =
+  pub there_at : (a : Hash) (hs : List Hash) → IsHash a → turn.move.step ≡ steps.Exists (content_path s.cache (a ∷ hs)) → there_in turn.move.answer ≡ there_read s (a ∷ hs) turn
+  there_at a hs hash is =
       let path = content_path s.cache (a ∷ hs) in
       there_is _ path turn.move.answer (fits_is (steps.Exists path) is)
-      (subst (ShowsThere _) (sym (answer_is (steps.Exists path) is)) (shows.there a path turn.move.luck (content_below s a hs (All-head IsHash a hs integrity.hashes))))
+      (subst (ShowsThere _) (sym (answer_is (steps.Exists path) is)) (shows.there a path turn.move.luck (content_below s a hs hash)))
+
+  there_at_turn : (i : List Hash) → IsIntegrity i → turn.move.step ≡ steps.Exists (content_path s.cache i) → there_in turn.move.answer ≡ there_read s i turn
+  there_at_turn [] integrity is = absurd (omega (arith, integrity.nonempty))
+  there_at_turn (a ∷ hs) integrity is = there_at a hs (All-head IsHash a hs integrity.hashes) is
 
 -- ---- turns and moves
 

@@ -35,7 +35,7 @@ module _ (s : Setup) (n : ℕ) where
   unless_refused X Y (replies.Refused e) h x = tt
   unless_refused X Y r h x = h x
 
-  reads_value : (command : Command) (turns : List Turn) (r : Reply) → NamesIntegrity command → TurnsHold s turns → Runs (opening (site_of s n) command) (made_in turns) r
+  pub reads_value : (command : Command) (turns : List Turn) (r : Reply) → NamesIntegrity command → TurnsHold s turns → Runs (opening (site_of s n) command) (made_in turns) r
       → (r ≡ Refused OutOfMemory) ⊎ ReadsValue s command turns r
   reads_value (commands.Find key) turns r named hold run =
       elim (finds_shown (site_of s n) key (made_in turns) r run) [ inl e ↦ inl e | inr h ↦ inr (finds s key turns r hold h) ]

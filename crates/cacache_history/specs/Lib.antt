@@ -4,3 +4,4 @@ pub mod Turns
 pub mod Values
 pub mod Reading
 pub mod Commits
+pub mod Entries

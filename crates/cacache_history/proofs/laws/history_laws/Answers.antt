@@ -1,4 +1,5 @@
 use Rattle.cacache_history.proofs.Commits.{commits_are_cases}
+use Rattle.cacache_history.proofs.Entries.{entries_name_contents}
 use Rattle.cacache_history.proofs.Replies.{replies_read_value, io_errors_are_caused}
 use Rattle.cacache_history.proofs.Values.{value_follows_acts, buckets_only_grow, contents_stay, contents_are_right}
 use Rattle.cacache_history.proofs.laws.history_laws.Goals as goal
@@ -23,3 +24,6 @@ returns-clause-contents c = contents_stay
 
 pub returns-clause-digests : goal.returns-clause-digests
 returns-clause-digests c = contents_are_right
+
+pub returns-clause-entries : goal.returns-clause-entries
+returns-clause-entries c = entries_name_contents

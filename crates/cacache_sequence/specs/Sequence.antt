@@ -1,0 +1,111 @@
+-- Calls that are made one after another on one store in memory.
+use Rattle.std.specs.Prelude.{◌≡◌, ◌⊎◌, ℕ, List, [], ◌∷◌, ◌++◌, Some, map}
+use Rattle.cacache_core.specs.declared.errors.Error.TheVariants.{OutOfMemory}
+use Rattle.cacache_base.specs.declared.store.log.LogItem.{LogItem}
+use Rattle.cacache_base.specs.declared.store.log.LogItem.TheVariants.{Made, Foreign}
+use Rattle.cacache_disk.specs.declared.luck.Luck.TheVariants.{Plain}
+use Rattle.cacache_disk.specs.Tree.{Tree}
+use Rattle.cacache_disk.specs.Apply.{apply}
+use Rattle.cacache_memory.specs.Replay.{tree_of, IsLog}
+use Rattle.cacache_calls.specs.declared.command.Command.{Command}
+use Rattle.cacache_calls.specs.declared.reply.Reply.{Reply}
+use Rattle.cacache_calls.specs.declared.reply.Reply.TheVariants.{Refused}
+use Rattle.cacache_calls.specs.Causes.{HasCause, own_of}
+use Rattle.cacache_calls.specs.Runs.{Moves, Runs, Ran, plain_reply}
+use Rattle.cacache_calls.specs.Sound.{MayBegin}
+use Rattle.cacache_calls.specs.Table.{opening}
+use Rattle.cacache_laws.specs.Opening.{LieApart}
+use Rattle.cacache_laws.specs.Traces.{Move, acts}
+use Rattle.cacache_laws.specs.Value.{wide_value, cache_part, value_of_tree}
+use Rattle.cacache_history.specs.Setup.{Setup, site_of, home, may_export, is_outside}
+use Rattle.cacache_history.specs.History.{Turn, turn_of, NamesIntegrity}
+use Rattle.cacache_history.specs.Commits.{deeds, IsCase}
+use Rattle.cacache_history.specs.Reading.{ReadsValue}
+
+-- a call that was made: its command, its number, the steps that it made, and its reply
+pub record Call : Type 0 where
+  pub command : Command
+  pub number : ℕ
+  pub moves : Moves
+  pub reply : Reply
+
+-- the log gained the call's run
+pub record IsMade (s : Setup) (old : List LogItem) (call : Call) (new : List LogItem) : Type 0 where
+  pub run : Runs (opening (site_of s call.number) call.command) call.moves (plain_reply call.reply)
+  pub gained : new ≡ old ++ map (λ m. Made m.0 m.1) call.moves
+
+-- the log gained the runs of these calls, in their order
+abbrev pub AreMade : Setup → List LogItem → List Call → List LogItem → Type 0
+AreMade s old [] new = new ≡ old
+AreMade s old (call ∷ calls) new =
+    (next : List LogItem) × IsMade s old call next × AreMade s next calls new
+
+-- where a log is kept, what `call` says of it is that it made a call
+abbrev pub RunsAreCalls : Type 0
+RunsAreCalls =
+    (s : Setup) (command : Command) (number : ℕ) (reply : Reply) (old new : List LogItem)
+    → Ran (opening (site_of s number) command) (plain_reply reply) (Some old) (Some new)
+    → (call : Call) × (call.command ≡ command) × (call.number ≡ number) × (call.reply ≡ reply)
+    × IsMade s old call new
+
+-- each call may begin, as in a world
+abbrev pub MayBeMade : Setup → List Call → Type 0
+MayBeMade s [] = Unit {0}
+MayBeMade s (call ∷ calls) =
+    MayBegin (site_of s call.number) (may_export s) (is_outside s) call.command
+    × NamesIntegrity call.command × MayBeMade s calls
+
+-- the log of a store in which only these files were planted
+abbrev pub planted_log : List (List ℕ × List ℕ) → List LogItem
+planted_log files = map (λ file. Foreign file.0 file.1) files
+
+-- ---- what moves do to a tree
+
+-- the tree after these moves
+abbrev pub tree_on : Tree → Moves → Tree
+tree_on t [] = t
+tree_on t (m ∷ moves) = tree_on (apply t m.0 Plain).1 moves
+
+-- each move with the tree that it found
+abbrev pub turns_on : Tree → Moves → List Turn
+turns_on t [] = []
+turns_on t (m ∷ moves) = turn_of t Plain m ∷ turns_on (apply t m.0 Plain).1 moves
+
+-- each answer is the disk's
+abbrev pub AreAnswered : Tree → Moves → Type 0
+AreAnswered t [] = Unit {0}
+AreAnswered t (m ∷ moves) =
+    (m.1 ≡ (apply t m.0 Plain).0) × AreAnswered (apply t m.0 Plain).1 moves
+
+-- the moves as steps with plain luck
+abbrev pub plain_moves : Moves → List Move
+plain_moves [] = []
+plain_moves (m ∷ moves) = record { step = m.0; luck = Plain; answer = m.1 } ∷ plain_moves moves
+
+-- ---- what holds of each call
+
+-- a call on this tree: the value follows its acts, and its reply is what its turns show
+pub record Answers (s : Setup) (t : Tree) (call : Call) : Type 0 where
+  pub disk : AreAnswered t call.moves
+  pub acts :
+      value_of_tree (home s) (tree_on t call.moves)
+      ≡ cache_part (home s) (acts (home s) (wide_value (home s) t) (plain_moves call.moves))
+  pub reads :
+      (call.reply ≡ Refused OutOfMemory)
+      ⊎ ReadsValue s call.command (turns_on t call.moves) (plain_reply call.reply)
+  pub commits :
+      IsCase (site_of s call.number) call.command (deeds (turns_on t call.moves)) (Some call.reply)
+  pub causes : HasCause (own_of call.command) call.moves (plain_reply call.reply)
+
+-- each call answers so on the tree that the calls before it left, and the last of these trees
+abbrev pub AllAnswer : Setup → Tree → List Call → Tree → Type 0
+AllAnswer s t [] last = last ≡ t
+AllAnswer s t (call ∷ calls) last =
+    Answers s t call × AllAnswer s (tree_on t call.moves) calls last
+
+-- so do any calls on a store in memory that held nothing but files apart from the cache
+abbrev pub SequencesAnswer : Type 0
+SequencesAnswer =
+    (s : Setup) (calls : List Call) (log : List LogItem) → LieApart (home s) s.outside
+    → MayBeMade s calls → AreMade s (planted_log s.outside) calls log → IsLog log
+    → AllAnswer s (tree_of (planted_log s.outside)) calls (tree_of log)

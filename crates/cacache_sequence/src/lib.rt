@@ -1,0 +1,6 @@
+//! Calls that are made one after another on one store in memory. No function here does anything.
+#![tactic(auto)]
+
+mod laws;
+
+pub use laws::sequence_laws;
