@@ -2,4 +2,10 @@
 #![tactic(auto)]
 
 #[cfg(test)]
+mod making;
+#[cfg(test)]
+mod playing;
+#[cfg(test)]
 mod tests;
+#[cfg(test)]
+mod turns;

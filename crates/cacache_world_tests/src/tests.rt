@@ -1,51 +1,12 @@
 //! Callers' calls in a world: how many moves they take, and what they answer.
-use cacache_calls::{Command, Export, How, Json, Options, Put, Reply, Source};
-use cacache_core::bytes::Bytes;
+use crate::making::{HELLO, put, world_of};
+use cacache_calls::{Command, Export, How, Reply, Source};
 use cacache_core::errors::{Error, Fault};
-use cacache_core::integrity::Algorithm;
 use cacache_core::text::Text;
 use cacache_disk::Luck;
 use cacache_world::{Event, Move, World, WorldFault};
-use serde_json::Value;
 use std::alloc::{AllocError, Global};
 use std::test::Fail;
-
-/// The integrity of `hello world`, as `openssl dgst -sha256 -binary | base64` prints its digest.
-const HELLO: &str = "sha256-uU0nuZNNPgilLlLX2n2r+sSE7+N6U4DukIj3rOLvzek=";
-
-/// A put of `hello world` under a key.
-fn put_hello(alloc: Global) -> Result<Command, AllocError> {
-    Ok(Command::Put(Put {
-        key: Some(Text::from_str(alloc, "a")?),
-        data: Bytes::new(alloc, Vec::from_slice(alloc, b"hello world")?)?,
-        moment: 1234567,
-        options: Options {
-            algorithm: Algorithm::Sha256,
-            size: None,
-            integrity: None,
-            metadata: Json::new(Value::Null),
-            raw_metadata: None,
-        },
-    }))
-}
-
-/// A world of some callers, with one outside file.
-fn world_of(alloc: Global, callers: usize) -> Result<World, AllocError> {
-    let path = Text::from_str(alloc, "/files/a")?;
-    let file = (
-        path,
-        Bytes::new(alloc, Vec::from_slice(alloc, b"hello world")?)?,
-    );
-    match World::new(
-        alloc,
-        callers,
-        Text::from_str(alloc, "/cache")?,
-        vec![in alloc; file]?,
-    ) {
-        Ok(world) => Ok(world),
-        Err(_) => Err(AllocError),
-    }
-}
 
 /// An export of the key's content to a path.
 fn export_to(alloc: Global, to: &str) -> Result<Command, AllocError> {
@@ -99,7 +60,7 @@ fn put_with(
     luck: Luck,
 ) -> Result<(usize, Option<Reply>, usize), AllocError> {
     let mut world = world_of(alloc, 1)?;
-    match world.begin(0, put_hello(alloc)?) {
+    match world.begin(0, put(alloc, "a", "hello world")?) {
         Ok(()) => {
             let (moves, reply) = ended(&mut world, odd, luck);
             Ok((moves, reply, world.history().len()))
@@ -147,7 +108,7 @@ fn events_are_played_up_to_the_first_fault(rt: HostRuntime) -> Result<(), Fail> 
     let alloc = rt.alloc();
     let mut world = world_of(alloc, 2)?;
     let events = vec![in alloc;
-        Event::Begin(1, put_hello(alloc)?),
+        Event::Begin(1, put(alloc, "a", "hello world")?),
         Event::Move(1, Luck::Plain),
         Event::Stop(1),
         Event::Move(1, Luck::Plain),
