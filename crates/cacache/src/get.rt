@@ -12,10 +12,11 @@ ghost use Rattle.cacache_put.specs.Writes.{Calls};
 ghost use Rattle.cacache.specs.Reads.{IsReading, bytes_read};
 
 use cacache_base::env::{Clock, Env, Names};
-use cacache_base::store::Store;
-use cacache_calls::{Command, Reply};
+use cacache_base::store::{Step, Store};
+use cacache_calls::answers::there_of;
+use cacache_calls::{Command, Refusal, Reply};
 pub use cacache_content::reader::SyncReader;
-use cacache_core::errors::Result;
+use cacache_core::errors::{Error, Result};
 use cacache_core::integrity::Integrity;
 use cacache_core::text::Text;
 pub use cacache_export::{
@@ -23,7 +24,7 @@ pub use cacache_export::{
     hard_link_hash_unchecked_sync, hard_link_sync, hard_link_unchecked_sync, reflink_hash_sync,
     reflink_hash_unchecked_sync, reflink_sync, reflink_unchecked_sync,
 };
-use cacache_jobs::call;
+use cacache_jobs::{call, content_path};
 pub use cacache_put::index::find as metadata_sync;
 
 /// Makes a call that reads bytes.
@@ -80,7 +81,8 @@ pub fn read_hash_sync<S: Store, C: Clock, N: Names>(
 
 /// Whether the content of the integrity is there. Whether it meets the integrity isn't asked.
 ///
-/// A failed step counts as a content that isn't there, so `OutOfMemory` is the only error. Nothing changes.
+/// A failed step counts as a content that isn't there, so `OutOfMemory` is the only error. Nothing changes. It is one
+/// step, which takes no job.
 pub fn exists_sync<S: Store, C: Clock, N: Names>(
     env: &mut Env<S, C, N>,
     cache: &str,
@@ -90,10 +92,10 @@ pub fn exists_sync<S: Store, C: Clock, N: Names>(
     ensures ran { Calls S.log env.old env.new cache.now (commands.Exists sri.now)
         (reply_of Exists result) }
 {
-    let command = Command::Exists(sri.clone()?);
-    match call(env, cache, command, 0) {
-        Reply::Exists(there) => Ok(there),
-        Reply::Refused(error) => Err(error),
-        _ => unreachable!(),
+    let path = content_path(env.alloc, cache, sri)?;
+    match there_of(env.store.step(Step::Exists(path))) {
+        Ok(there) => Ok(there),
+        Err(Refusal::Fault(_)) => Ok(false),
+        Err(Refusal::Memory) => Err(Error::OutOfMemory),
     }
 }

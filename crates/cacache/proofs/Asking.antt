@@ -1,0 +1,35 @@
+-- A question is a run of one step.
+use Rattle.std.proofs.Common.{◌≡◌, inl, inr, ℕ, List, [], ◌∷◌, ◌++◌, Option, None, Some, option_map, refl, sym, ap, subst, ◌∙◌, append-nil}
+use Rattle.cacache_core.specs.declared.integrity.digest.Hash.{Hash}
+use Rattle.cacache_base.specs.declared.store.step.Step.TheVariants as steps
+use Rattle.cacache_base.specs.declared.store.answer.Answer.TheVariants as answers
+use Rattle.cacache_base.specs.declared.store.log.LogItem.{LogItem}
+use Rattle.cacache_base.specs.Plain.{PlainAnswer}
+use Rattle.cacache_base.specs.Fits.{Fits, Logs}
+use Rattle.cacache_calls.specs.declared.command.Command.TheVariants as commands
+use Rattle.cacache_calls.specs.declared.reply.Reply.{Reply}
+use Rattle.cacache_calls.specs.Answers.{there_in}
+use Rattle.cacache_calls.specs.Places.{content_path}
+use Rattle.cacache_calls.specs.Replies.{there_reply}
+use Rattle.cacache_calls.specs.Runs.{Ran}
+use Rattle.cacache_calls.specs.State.{Site}
+use Rattle.cacache_calls.specs.Table.{opening}
+
+-- a log that gained nothing
+nothing_more : (log : Option (List LogItem)) → log ≡ option_map (λ items. items ++ []) log
+nothing_more None = refl
+nothing_more (Some items) = ap Some (sym (append-nil items))
+
+-- the store's answer makes the reply
+asks_once : (site : Site) (i : List Hash) (t : PlainAnswer) (r : Reply) (old new : Option (List LogItem)) → Fits (steps.Exists (content_path site.cache i)) t
+    → Logs old new (steps.Exists (content_path site.cache i)) t → r ≡ there_reply (there_in t) → Ran (opening site (commands.Exists i)) r old new
+asks_once site i (answers.There there) r old new fits logs is = ((steps.Exists (content_path site.cache i), answers.There there) ∷ [], (refl, fits, inl (rw is refl)), logs)
+asks_once site i (answers.Failed fault) r old new fits logs is = ((steps.Exists (content_path site.cache i), answers.Failed fault) ∷ [], (refl, fits, inl (rw is refl)), logs)
+asks_once site i (answers.NoMemory back) r old new fits logs is = ([], inr is, logs ∙ nothing_more old)
+asks_once site i other r old new fits logs is = absurd fits
+
+-- the path of the step is the content's
+pub asks_at : (site : Site) (i : List Hash) (path : List ℕ) (t : PlainAnswer) (r : Reply) (old new : Option (List LogItem)) → path ≡ content_path site.cache i
+    → Fits (steps.Exists path) t → Logs old new (steps.Exists path) t → r ≡ there_reply (there_in t) → Ran (opening site (commands.Exists i)) r old new
+asks_at site i path t r old new at fits logs is =
+    asks_once site i t r old new (subst (λ p. Fits (steps.Exists p) t) at fits) (subst (λ p. Logs old new (steps.Exists p) t) at logs) is
