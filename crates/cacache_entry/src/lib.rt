@@ -13,5 +13,5 @@ mod written;
 pub use laws::{bucket_laws, entry_laws, lookup_laws};
 pub use metadata::{Metadata, SerializableMetadata};
 pub use read::entries;
-pub use search::{Lookup, latest};
+pub use search::{Lookup, answer_of_entry, latest};
 pub use write::line;

@@ -85,6 +85,36 @@ fn entry_answer(
     }
 }
 
+/// What an entry that was read before answers to a lookup of its own key: a copy of what it says or, if it is a
+/// tombstone, that there is none. None where its integrity is unreadable.
+pub fn answer_of_entry(
+    alloc: Global,
+    entry: &SerializableMetadata,
+) -> Result<Option<Option<Metadata>>, AllocError>
+    ensures { IfOk result (λ answer. option_map (option_map found_view) answer
+        ≡ answer_of (entry_view entry.now) (entry_view entry.now).integrity) }
+{
+    match integrity_answer(alloc, &entry.integrity)? {
+        Some(Some(integrity)) => Ok(Some(Some(copied(entry, integrity)?))),
+        Some(None) => Ok(Some(None)),
+        None => Ok(None),
+    }
+}
+
+/// A copy of the entry, with its integrity.
+fn copied(entry: &SerializableMetadata, integrity: Integrity) -> Result<Metadata, AllocError>
+    ensures { IfOk result (λ found. found_view found ≡ found_of (entry_view entry.now) integrity) }
+{
+    Ok(Metadata {
+        key: entry.key.clone()?,
+        integrity,
+        time: entry.time,
+        size: entry.size,
+        metadata: entry.metadata.clone()?,
+        raw_metadata: entry.raw_metadata.clone()?,
+    })
+}
+
 /// What an entry's integrity answers: what its text reads as or, for a tombstone, that there is none. None where it is
 /// unreadable.
 fn integrity_answer(

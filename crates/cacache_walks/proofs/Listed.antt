@@ -1,13 +1,15 @@
 -- How the items of a bucket come together, entry by entry.
-use Rattle.std.proofs.Common.{◌≡◌, ℕ, List, [], ◌∷◌, ◌++◌, Bool, true, false, cond, Option, Some, None, bytes_eq, refl, sym, ap, ◌∙◌, map}
+use Rattle.std.proofs.Common.{◌≡◌, string_bytes, ℕ, List, [], ◌∷◌, ◌++◌, Bool, true, false, cond, Option, Some, None, bytes_eq, refl, sym, ap, ◌∙◌, map}
 use Rattle.std.specs.List.{list_any}
 use Rattle.cacache_entry.specs.Entry.{Entry}
-use Rattle.cacache_entry.specs.Latest.{Found, latest}
+use Rattle.std.proofs.lemmas.Slice.Eq.{bytes_eq-Decides}
+use Rattle.cacache_entry.specs.Latest.{Found, answer_of, answer_to, latest, NoneAnswers}
+use Rattle.cacache_entry.proofs.Lookups.{last_answer_decides}
 use Rattle.cacache_entry.specs.View.{entry_view}
 use Rattle.cacache_entry.specs.declared.metadata.SerializableMetadata.{SerializableMetadata}
 use Rattle.cacache_entry.specs.Bucket.{entries_of}
 use Rattle.cacache_calls.specs.Walking.{once, items_in}
-use Rattle.cacache_walks.specs.Listed.{keys_in, lookups, added_at}
+use Rattle.cacache_walks.specs.Listed.{keys_in, lookups, added_at, EndsWith}
 
 -- the keys of entries are those of what they stand for
 pub keys_in_view : (es : List SerializableMetadata) → map (λ (e : Entry). e.key) (map entry_view es) ≡ keys_in es
@@ -31,3 +33,30 @@ pub all_items : (bytes : List ℕ) (es : List SerializableMetadata) → map entr
 unfolding items_in
 all_items bytes es e =
     ap (λ (keys : List (List ℕ)). lookups (entries_of bytes) (once keys)) (sym (keys_in_view es) ∙ ap (map (λ (e : Entry). e.key)) e)
+
+-- ---- the last entry of a key
+
+-- an entry of another key answers nothing
+other_silent : (key : List ℕ) (e : Entry) → bytes_eq key e.key ≡ false → answer_to key e ≡ None
+other_silent key e differs = by (bytes_eq e.key key) refl
+  where
+    by : (b : Bool) → bytes_eq e.key key ≡ b → cond b (answer_of e e.integrity) None ≡ None
+    by false is = refl
+    by true is = let same : bytes_eq key e.key ≡ true = (bytes_eq-Decides key e.key).1 (sym ((bytes_eq-Decides e.key key).0 is)) in absurd cc
+
+later_silent : (key : List ℕ) (later : List SerializableMetadata) → list_any (bytes_eq key) (keys_in later) ≡ false → NoneAnswers key (map entry_view later)
+later_silent key [] none = tt
+later_silent key (e ∷ later) none = by (bytes_eq key (string_bytes e.key)) refl (later_silent key later)
+  where
+    by : (b : Bool) → bytes_eq key (string_bytes e.key) ≡ b → (list_any (bytes_eq key) (keys_in later) ≡ false → NoneAnswers key (map entry_view later)) → NoneAnswers key (map entry_view (e ∷ later))
+    by true is rest = let no : true ≡ false = rw is at none in absurd cc
+    by false is rest = (other_silent key (entry_view e) is, rest (rw is at none))
+
+-- what the last entry of its key answers is what the lookup finds
+pub last_answers : (es : List Entry) (e : SerializableMetadata) (later : List SerializableMetadata) (found : Option Found) → EndsWith es e later
+    → list_any (bytes_eq (string_bytes e.key)) (keys_in later) ≡ false → answer_of (entry_view e) (entry_view e).integrity ≡ Some found → latest (string_bytes e.key) es ≡ found
+last_answers es e later found ends last is =
+    let key = string_bytes e.key in
+    let own : answer_to key (entry_view e) ≡ Some found
+    = ap (λ b. cond b (answer_of (entry_view e) (entry_view e).integrity) None) ((bytes_eq-Decides key key).1 refl) ∙ is in
+    ap (latest key) ends.1 ∙ last_answer_decides key ends.0 (map entry_view later) (entry_view e) found own (later_silent key later last)

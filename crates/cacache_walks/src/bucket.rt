@@ -1,15 +1,17 @@
 //! What a bucket lists: each of its keys once, where its lookup finds an entry.
-ghost use Rattle.std.specs.Prelude.{◌≡◌, ◌++◌, IfOk, IfErr, OnOk, map, bytes_eq};
+ghost use Rattle.std.specs.Prelude.{◌≡◌, ◌++◌, IfOk, IfErr, OnOk, false, map, option_map, bytes_eq, string_bytes};
 ghost use Rattle.std.specs.List.{list_any};
 ghost use Rattle.cacache_core.specs.declared.errors.Error.TheVariants.{OutOfMemory};
 ghost use Rattle.cacache_entry.specs.Bucket.{entries_of};
+ghost use Rattle.cacache_entry.specs.Latest.{latest as latest_of};
+ghost use Rattle.cacache_entry.specs.View.{found_view};
 ghost use Rattle.cacache_calls.specs.Runs.{plain_item};
 ghost use Rattle.cacache_calls.specs.Walking.{items_in};
-ghost use Rattle.cacache_walks.specs.Listed.{keys_in, added_at};
+ghost use Rattle.cacache_walks.specs.Listed.{keys_in, added_at, EndsWith};
 
 use cacache_calls::Found;
 use cacache_core::errors::{self, Error};
-use cacache_entry::{SerializableMetadata, entries, latest};
+use cacache_entry::{Metadata, SerializableMetadata, answer_of_entry, entries, latest};
 use std::alloc::Global;
 
 /// Whether one of the entries has this key.
@@ -26,29 +28,52 @@ fn has_key(entries: &[SerializableMetadata], key: &str) -> bool
     false
 }
 
-/// Adds what the lookup of a key finds, unless the key comes again in a later entry.
+/// What the lookup of the key of a bucket's last entry with this key finds. That entry answers as it was read; only where
+/// its integrity is unreadable the bucket is looked through once more.
+fn look_up(
+    alloc: Global,
+    bytes: &[u8],
+    entry: &SerializableMetadata,
+    later: &[SerializableMetadata],
+) -> errors::Result<Option<Metadata>>
+    requires ends { EndsWith (entries_of bytes.now) entry.now later.now }
+    requires last { list_any (bytes_eq (string_bytes entry.now.key)) (keys_in later.now) ≡ false }
+    ensures found { IfOk result (λ found. option_map found_view found
+        ≡ latest_of (string_bytes entry.now.key) (entries_of bytes.now)) }
+    ensures refused { IfErr result (λ e. e ≡ OutOfMemory) }
+{
+    match answer_of_entry(alloc, entry)? {
+        Some(found) => Ok(found),
+        None => {
+            let answer = latest(alloc, bytes, entry.key.as_str())?;
+            Ok(answer.found)
+        }
+    }
+}
+
+/// Adds what the lookup of an entry's key finds, unless the key comes again in a later entry.
 fn add(
     alloc: Global,
     items: &mut Vec<Result<Found, Error>>,
     bytes: &[u8],
-    key: &str,
+    entry: &SerializableMetadata,
     later: &[SerializableMetadata],
 ) -> errors::Result<()>
+    requires ends { EndsWith (entries_of bytes.now) entry.now later.now }
     ensures items { OnOk result (map plain_item items.new.items ≡ map plain_item items.old.items
-        ++ added_at (entries_of bytes.now) key.now (keys_in later.now)) }
+        ++ added_at (entries_of bytes.now) (string_bytes entry.now.key) (keys_in later.now)) }
     ensures refused { IfErr result (λ e. e ≡ OutOfMemory) }
 {
-    if has_key(later, key) {
+    if has_key(later, entry.key.as_str()) {
         return Ok(());
     }
-    if let Some(found) = latest(alloc, bytes, key)?.found {
+    if let Some(found) = look_up(alloc, bytes, entry, later)? {
         items.push(Ok(Found::new(found)))?;
     }
     Ok(())
 }
 
-/// The items of a bucket's bytes. A bucket holds the entries of one key, unless keys have one SHA-1; one with more keys
-/// is looked up once for each.
+/// The items of a bucket's bytes, each of which is read and hashed once.
 pub(crate) fn items(alloc: Global, bytes: &[u8]) -> errors::Result<Vec<Result<Found, Error>>>
     ensures items { IfOk result (λ items. map plain_item items.items ≡ items_in bytes.now) }
     ensures refused { IfErr result (λ e. e ≡ OutOfMemory) }
@@ -57,7 +82,7 @@ pub(crate) fn items(alloc: Global, bytes: &[u8]) -> errors::Result<Vec<Result<Fo
     let mut items = Vec::new(alloc);
     let mut rest = entries.as_slice();
     while let Some((entry, later)) = rest.split_first() {
-        add(alloc, &mut items, bytes, entry.key.as_str(), later)?;
+        add(alloc, &mut items, bytes, entry, later)?;
         rest = later;
     }
     Ok(items)
