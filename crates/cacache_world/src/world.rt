@@ -148,12 +148,14 @@ impl World {
     }
 
     /// A caller's call makes its next step, which turns out as the luck says. Memory that is refused
-    /// after the step ends the call with `OutOfMemory`.
+    /// after the step ends the call with `OutOfMemory`. A call that is over before any step makes none,
+    /// and tells its own reply.
     ///
     /// # Errors
     ///
     /// Nothing changes then. `NoCaller` where there is no such caller, `Idle` where it has no call,
-    /// `OutOfMemory` where memory is refused before the step.
+    /// `OutOfMemory` where memory is refused before the step, or for the reply of a call that makes
+    /// none.
     pub fn move_one(&mut self, caller: usize, luck: Luck) -> Result<Move, WorldFault>
         ensures adds { IfOk result (λ move. MovesOn self.old caller luck move self.new) }
         ensures same { OnErr result (self.new ≡ self.old) }
