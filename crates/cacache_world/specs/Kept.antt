@@ -1,5 +1,5 @@
 -- What each world keeps, and what its events add.
-use Rattle.std.specs.Prelude.{◌≡◌, ℕ, List, [], ◌++◌, ◌∷◌, Option, None, Some, slice_get, slice_set, vec_len, IsTrue}
+use Rattle.std.specs.Prelude.{◌≡◌, ℕ, List, [], ◌++◌, ◌∷◌, Option, None, Some, slice_get, slice_set, take, true, vec_len, IsTrue}
 use Rattle.cacache_disk.specs.declared.luck.Luck.{Luck}
 use Rattle.cacache_disk.specs.Tree.{Tree}
 use Rattle.cacache_calls.specs.State.{over}
@@ -7,7 +7,7 @@ use Rattle.cacache_calls.specs.Runs.{plain_reply}
 use Rattle.cacache_jobs.specs.Jobs.{can_go_on}
 use Rattle.cacache_history.specs.declared.record.Record.{Record}
 use Rattle.cacache_history.specs.declared.record.Record.TheVariants.{Moved}
-use Rattle.cacache_history.specs.Setup.{Setup}
+use Rattle.cacache_history.specs.Setup.{Setup, may_export}
 use Rattle.cacache_history.specs.History.{History, Call, Made, IsLegal, MayCome, Now, now_at}
 use Rattle.cacache_world.specs.declared.event.Move.{Move}
 use Rattle.cacache_world.specs.declared.event.Move.TheVariants as moves
@@ -34,6 +34,18 @@ adding h r = history_of h.setup (h.records ++ r ∷ [])
 -- what stands at the end of a history
 abbrev pub last : History → Now
 last h = now_at h h.records
+
+-- ---- outside files
+
+-- a path lies apart from the cache and from these files, if it names something
+abbrev pub LiesApart : List ℕ → List (List ℕ × List ℕ) → List ℕ → Type 0
+LiesApart cache files path = may_export (setup_of cache files 0) path ≡ true
+
+-- each file lies apart from the cache and from the files before it
+abbrev pub AreApart : List ℕ → List (List ℕ × List ℕ) → Type 0
+AreApart cache files =
+    (n : ℕ) (file : List ℕ × List ℕ) → slice_get files n ≡ Some file
+    → LiesApart cache (take n files) file.0
 
 -- ---- what it keeps
 
