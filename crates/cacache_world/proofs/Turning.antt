@@ -7,7 +7,7 @@ use Rattle.cacache_calls.specs.declared.reply.Reply.TheVariants.{Refused}
 use Rattle.cacache_calls.specs.State.{State, over}
 use Rattle.cacache_calls.specs.Table.{wants}
 use Rattle.cacache_calls.specs.Runs.{plain_reply}
-use Rattle.cacache_jobs.specs.Jobs.{OutAt}
+use Rattle.cacache_jobs.specs.Jobs.{OutAt, Tells}
 use Rattle.cacache_jobs.proofs.Running.{out_wants, turn_at}
 use Rattle.cacache_history.specs.History.{Ends}
 use Rattle.cacache_history.proofs.Runs.{memory_plain}
@@ -22,6 +22,10 @@ stands_where job s goes = turn_at (λ file. file) (λ temp. temp) job.standing s
 -- a call that is over wants no step
 pub over_wants_none : (s : State) (reply : Reply) → s ≡ over reply → wants s ≡ None
 over_wants_none s reply e = ap wants e
+
+-- a call that tells no reply isn't over
+pub not_over : (s : State) (reply : Reply) → Tells None s → s ≡ over reply → ⊥
+not_over s reply wanted e = let no : None ≡ Some wanted.0 = sym (over_wants_none s reply e) ∙ wanted.1 in absurd cc
 
 over_inner : (reply : Reply) → over (Refused OutOfMemory) ≡ over (plain_reply reply) → reply ≡ Refused OutOfMemory
 over_inner reply e = memory_plain reply (let same : Refused OutOfMemory ≡ plain_reply reply = cc in sym same)

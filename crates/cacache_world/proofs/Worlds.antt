@@ -1,5 +1,5 @@
 -- What a world keeps, with one record more.
-use Rattle.std.proofs.Common.{◌≡◌, Ok, ◌==◌, ◌<◌, ◌+◌, ℕ, zero, suc, Bool, true, false, cond, List, [], ◌∷◌, ◌++◌, Option, None, Some, IsTrue, replicate, slice_get, slice_set, option_map, refl, sym, ap, subst, ◌∙◌}
+use Rattle.std.proofs.Common.{◌≡◌, inl, Ok, ◌==◌, ◌<◌, ◌+◌, ℕ, zero, suc, Bool, true, false, cond, List, [], ◌∷◌, ◌++◌, Option, None, Some, IsTrue, replicate, slice_get, slice_set, option_map, refl, sym, ap, subst, ◌∙◌}
 use Rattle.std.proofs.lemmas.Bool.{eqb-true, eqb-false}
 use Rattle.cacache_disk.specs.declared.luck.Luck.{Luck}
 use Rattle.cacache_core.specs.PathNames.{home_of}
@@ -10,7 +10,8 @@ use Rattle.cacache_calls.specs.declared.command.Command.{Command}
 use Rattle.cacache_calls.specs.declared.reply.Reply.{Reply}
 use Rattle.cacache_calls.specs.State.{State}
 use Rattle.cacache_calls.specs.Table.{after, opening}
-use Rattle.cacache_jobs.specs.Jobs.{can_go_on}
+use Rattle.cacache_calls.specs.Runs.{plain_reply}
+use Rattle.cacache_jobs.specs.Jobs.{Tells, can_go_on}
 use Rattle.cacache_history.specs.declared.record.Record.{Record}
 use Rattle.cacache_history.specs.declared.record.Record.TheVariants.{Began, Moved, Stopped}
 use Rattle.cacache_history.specs.Setup.{Setup, site_of}
@@ -18,7 +19,9 @@ use Rattle.cacache_history.specs.History.{Call, Now, History, Made, tree_in, fir
 use Rattle.cacache_world.specs.declared.turn.After.{After}
 use Rattle.cacache_world.specs.declared.turn.After.TheVariants as ways
 use Rattle.cacache_world.specs.Turned.{DiskJob, StandsIn, StandsAfter, reply_of, said_of, job_of, IsMade}
-use Rattle.cacache_world.specs.Kept.{history_of, setup_of, adding, last, JobAt, Keeps}
+use Rattle.cacache_world.specs.Kept.{history_of, setup_of, adding, last, JobAt, Keeps, TellsOwn}
+use Rattle.cacache_world.specs.declared.event.Move.TheVariants as moves
+use Rattle.cacache_world.proofs.Turning.{over_wants_none}
 use Rattle.cacache_world.specs.Admitted.{MayAsk, IsTurnedAway}
 use Rattle.cacache_world.specs.declared.event.WorldFault.{WorldFault}
 use Rattle.cacache_world.specs.declared.event.WorldFault.TheVariants as faults
@@ -134,16 +137,22 @@ begin_left h t b jobs jobs' caller command job k free within may stands ready se
 
 -- a call that was over before any step
 pub over_left : (h : History) (t : Tree) (b : ℕ) (jobs jobs' : List (Option DiskJob)) (caller : ℕ) (job : DiskJob) (luck : Luck) (reply : Reply) → Keeps h t b jobs → slice_get jobs caller ≡ Some (Some job)
-    → ((s : State) → StandsIn job s → MayMove t s luck None (Some reply)) → jobs' ≡ slice_set jobs caller None → Left h (Moved caller luck None (Some reply)) t b jobs'
+    → ((s : State) → StandsIn job s → Tells (Some reply) s) → jobs' ≡ slice_set jobs caller None → Left h (Moved caller luck None (Some reply)) t b jobs'
 over_left h t b jobs jobs' caller job luck reply k here ends gone =
     let c = has_call job (slice_get jobs caller) _ here (k.calls caller) in
-    let come : MayCome h.setup (last h) (Moved caller luck None (Some reply)) = (c.0, c.1, ends c.0.state c.2) in
+    let is = ends c.0.state c.2 in
+    let come : MayCome h.setup (last h) (Moved caller luck None (Some reply)) = (c.0, c.1, (over_wants_none c.0.state (plain_reply reply) is, inl is)) in
     record {
       may = come;
       keeps = keeps_more h (Moved caller luck None (Some reply)) t t b b jobs jobs' k come k.tree k.begun
           (subst (λ xs. (m : ℕ) → JobAt (slice_get xs m) ((next h.setup (last h) (Moved caller luck None (Some reply))).calls m)) (sym gone)
           (set_jobs jobs caller (Some job) None (last h).calls None here k.calls refl));
     }
+
+-- its own reply is told
+pub tells_own : (h : History) (t : Tree) (b : ℕ) (jobs : List (Option DiskJob)) (caller : ℕ) (job : DiskJob) (reply : Reply) → Keeps h t b jobs → slice_get jobs caller ≡ Some (Some job)
+    → ((s : State) → StandsIn job s → Tells (Some reply) s) → TellsOwn h caller None (moves.Done reply)
+tells_own h t b jobs caller job reply k here ends = let c = has_call job (slice_get jobs caller) _ here (k.calls caller) in (c.0, c.1, ends c.0.state c.2)
 
 job_after : (a : After) (c : Call) → StandsAfter a c.state → JobAt (Some (job_of a)) (unless_over (reply_of a) (Some c))
 job_after (ways.On job) c h = h

@@ -1,8 +1,9 @@
 -- Why an event can't be, or an outside file.
-use Rattle.std.specs.Prelude.{◌≡◌, ◌⊎◌, ◌≤◌, ◌<◌, ℕ, List, Option, None, Some, Err, false, slice_get}
+use Rattle.std.specs.Prelude.{◌≡◌, ◌⊎◌, ◌≤◌, ◌<◌, ℕ, List, Option, None, Some, Ok, Err, false, slice_get, take}
 use Rattle.cacache_core.specs.declared.errors.Fault.{Fault}
-use Rattle.cacache_disk.specs.Tree.{Tree}
+use Rattle.cacache_disk.specs.Tree.{Tree, bare}
 use Rattle.cacache_disk.specs.Apply.{planted}
+use Rattle.cacache_laws.specs.Opening.{with_files}
 use Rattle.cacache_history.specs.History.{History, Call}
 use Rattle.cacache_calls.specs.declared.command.Command.{Command}
 use Rattle.cacache_history.specs.Setup.{Setup, may_export}
@@ -76,3 +77,16 @@ CantPlace cache before t file faults.BadCommand =
     ⊎ ((fault : Fault) × (planted t file.0 file.1 ≡ Err fault))
 CantPlace cache before t file faults.OutOfMemory = Unit {0}
 CantPlace cache before t file fault = ⊥
+
+-- one of the files can't be put on the disk that those before it make
+abbrev pub HasUnplaced : List ℕ → List (List ℕ × List ℕ) → Type 0
+HasUnplaced cache files =
+    (n : ℕ) × (file : List ℕ × List ℕ) × (t : Tree)
+    × (slice_get files n ≡ Some file) × (with_files bare (take n files) ≡ Ok t)
+    × CantPlace cache (take n files) t file faults.BadCommand
+
+-- why there is no world of these outside files
+abbrev pub CantOpen : List ℕ → List (List ℕ × List ℕ) → WorldFault → Type 0
+CantOpen cache files faults.BadCommand = HasUnplaced cache files
+CantOpen cache files faults.OutOfMemory = Unit {0}
+CantOpen cache files fault = ⊥

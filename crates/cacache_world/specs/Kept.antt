@@ -1,13 +1,16 @@
 -- What each world keeps, and what its events add.
-use Rattle.std.specs.Prelude.{◌≡◌, ℕ, List, [], ◌++◌, ◌∷◌, Option, None, Some, slice_get, slice_set, vec_len, IsTrue}
+use Rattle.std.specs.Prelude.{◌≡◌, ℕ, List, [], ◌++◌, ◌∷◌, Option, None, Some, slice_get, slice_set, take, true, vec_len, IsTrue}
 use Rattle.cacache_disk.specs.declared.luck.Luck.{Luck}
 use Rattle.cacache_disk.specs.Tree.{Tree}
+use Rattle.cacache_calls.specs.State.{over}
+use Rattle.cacache_calls.specs.Runs.{plain_reply}
 use Rattle.cacache_jobs.specs.Jobs.{can_go_on}
 use Rattle.cacache_history.specs.declared.record.Record.{Record}
 use Rattle.cacache_history.specs.declared.record.Record.TheVariants.{Moved}
-use Rattle.cacache_history.specs.Setup.{Setup}
+use Rattle.cacache_history.specs.Setup.{Setup, may_export}
 use Rattle.cacache_history.specs.History.{History, Call, Made, IsLegal, MayCome, Now, now_at}
 use Rattle.cacache_world.specs.declared.event.Move.{Move}
+use Rattle.cacache_world.specs.declared.event.Move.TheVariants as moves
 use Rattle.cacache_world.specs.declared.world.World.TheInside.{Inside}
 use Rattle.cacache_world.specs.Turned.{DiskJob, StandsIn, told_by}
 
@@ -31,6 +34,18 @@ adding h r = history_of h.setup (h.records ++ r ∷ [])
 -- what stands at the end of a history
 abbrev pub last : History → Now
 last h = now_at h h.records
+
+-- ---- outside files
+
+-- a path lies apart from the cache and from these files, if it names something
+abbrev pub LiesApart : List ℕ → List (List ℕ × List ℕ) → List ℕ → Type 0
+LiesApart cache files path = may_export (setup_of cache files 0) path ≡ true
+
+-- each file lies apart from the cache and from the files before it
+abbrev pub AreApart : List ℕ → List (List ℕ × List ℕ) → Type 0
+AreApart cache files =
+    (n : ℕ) (file : List ℕ × List ℕ) → slice_get files n ≡ Some file
+    → LiesApart cache (take n files) file.0
 
 -- ---- what it keeps
 
@@ -69,8 +84,16 @@ pub record Adds (h : History) (r : Record) (h' : History) : Type 0 where
   pub may : MayCome h.setup (last h) r
   pub added : h' ≡ adding h r
 
+-- where no step was made the call was over before, and its own reply is told
+abbrev pub TellsOwn : History → ℕ → Option Made → Move → Type 0
+TellsOwn h caller (Some made) _ = Unit {0}
+TellsOwn h caller None moves.More = ⊥
+TellsOwn h caller None (moves.Done reply) =
+    (call : Call) × ((last h).calls caller ≡ Some call) × (call.state ≡ over (plain_reply reply))
+
 -- one move more: the step that the caller's call wants, the luck, the answer and the tree of the
 -- disk, and the reply that the caller is told
 abbrev pub MovesOn : History → ℕ → Luck → Move → History → Type 0
 MovesOn h caller luck move h' =
     (made : Option Made) × Adds h (Moved caller luck made (told_by move)) h'
+    × TellsOwn h caller made move

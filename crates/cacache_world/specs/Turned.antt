@@ -11,7 +11,7 @@ use Rattle.cacache_calls.specs.declared.reply.Reply.TheVariants.{Refused}
 use Rattle.cacache_calls.specs.State.{State}
 use Rattle.cacache_calls.specs.Table.{after}
 use Rattle.cacache_jobs.specs.declared.job.Job.{Job}
-use Rattle.cacache_jobs.specs.Jobs.{Stands, GoesTo, can_go_on}
+use Rattle.cacache_jobs.specs.Jobs.{Stands, GoesTo, Tells, can_go_on}
 use Rattle.cacache_history.specs.History.{Made, Ends, MayMove}
 use Rattle.cacache_world.specs.declared.event.Move.{Move}
 use Rattle.cacache_world.specs.declared.event.Move.TheVariants as moves
@@ -34,6 +34,12 @@ GoesInto job s = GoesTo (λ file. file) (λ temp. temp) job s
 -- a reply is said twice, unless there was no memory for its copy
 abbrev pub IsSaid : Reply → Reply → Reply → Type 0
 IsSaid reply said kept = (kept ≡ said) × ((said ≡ reply) ⊎ (said ≡ Refused OutOfMemory))
+
+-- both are the reply of a call that is over; where there is none, the call wants a step
+abbrev pub AreOwn : DiskJob → Option (Reply × Reply) → Type 0
+AreOwn job None = (s : State) → StandsIn job s → Tells None s
+AreOwn job (Some replies) =
+    (replies.1 ≡ replies.0) × ((s : State) → StandsIn job s → Tells (Some replies.1) s)
 
 -- ---- after a step
 
@@ -79,12 +85,12 @@ IsMade job luck old made next new =
     → MayMove old s luck (Some made) (reply_of next)
     × (new ≡ (apply old made.0 luck).1) × StandsAfter next (after s made.1)
 
--- a step was made; or memory lacked, and the job is as it was; or it was over before any step
+-- a step was made; or memory lacked, and the job is as it was; or it was over before any step, with
+-- its own reply
 abbrev pub IsTurn : DiskJob → Luck → Tree → Turn → Tree → Type 0
 IsTurn job luck old (turns.Made step answer next) new =
     IsMade job luck old (step, answer) next new
 IsTurn job luck old (turns.Back same) new =
     (new ≡ old) × IsTrue (can_go_on same) × ((s : State) → StandsIn job s → StandsIn same s)
 IsTurn job luck old (turns.Over said kept) new =
-    (new ≡ old) × (kept ≡ said)
-    × ((s : State) → StandsIn job s → MayMove old s luck None (Some kept))
+    (new ≡ old) × (kept ≡ said) × ((s : State) → StandsIn job s → Tells (Some kept) s)

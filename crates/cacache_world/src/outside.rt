@@ -5,7 +5,8 @@ ghost use Rattle.cacache_disk.specs.Apply.{planted as planted_tree};
 ghost use Rattle.cacache_disk.specs.Tree.{bare};
 ghost use Rattle.cacache_laws.specs.Kinds.{Elsewhere, IsFor};
 ghost use Rattle.cacache_laws.specs.Opening.{with_files, LieApart};
-ghost use Rattle.cacache_world.specs.Faults.{CantPlace};
+ghost use Rattle.cacache_world.specs.Faults.{CantPlace, CantOpen};
+ghost use Rattle.cacache_world.specs.Kept.{LiesApart, AreApart};
 
 use crate::event::WorldFault;
 use crate::names::may_take;
@@ -23,6 +24,7 @@ fn plant(
     file: &(Text, Bytes),
 ) -> Result<(), WorldFault>
     ensures apart { OnOk result (IsFor (home_of cache.now) Elsewhere file.now.0) }
+    ensures free { OnOk result (LiesApart cache.now before.now file.now.0) }
     ensures planted { OnOk result
         (planted_tree disk.old file.now.0 file.now.1 ≡ Ok disk.new) }
     ensures why { IfErr result (λ fault. CantPlace cache.now before.now disk.old file.now fault) }
@@ -46,14 +48,19 @@ pub(crate) fn planted(
     outside: &[(Text, Bytes)],
 ) -> Result<Disk, WorldFault>
     ensures apart { OnOk result (LieApart (home_of cache.now) outside.now) }
+    ensures each { OnOk result (AreApart cache.now outside.now) }
     ensures opens { IfOk result (λ disk. with_files bare outside.now ≡ Ok disk) }
+    ensures why { IfErr result (λ fault. CantOpen cache.now outside.now fault) }
 {
     let Ok(disk) = Disk::new(alloc) else {
         return Err(WorldFault::OutOfMemory);
     };
     let mut disk = disk;
     for i in 0..outside.len() {
-        plant(alloc, &mut disk, cache, &outside[..i], &outside[i])?;
+        match plant(alloc, &mut disk, cache, &outside[..i], &outside[i]) {
+            Ok(()) => {}
+            Err(fault) => return Err(fault),
+        }
     }
     Ok(disk)
 }

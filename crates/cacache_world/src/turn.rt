@@ -1,7 +1,7 @@
 //! One move of one call.
-ghost use Rattle.std.specs.Prelude.{IsTrue};
+ghost use Rattle.std.specs.Prelude.{IsTrue, IfOk};
 ghost use Rattle.cacache_jobs.specs.Jobs.{can_go_on};
-ghost use Rattle.cacache_world.specs.Turned.{GoesOn, IsTurn, IsSaid, AreParts};
+ghost use Rattle.cacache_world.specs.Turned.{GoesOn, IsTurn, IsSaid, AreOwn, AreParts};
 
 use crate::event::Move;
 use cacache_base::store::{PlainAnswer, PlainFile, PlainStep, PlainTemp};
@@ -9,7 +9,7 @@ use cacache_calls::Reply;
 use cacache_core::errors::Error;
 use cacache_disk::{Disk, Luck};
 use cacache_jobs::{Job, Next};
-use std::alloc::Global;
+use std::alloc::{AllocError, Global};
 
 /// A call on a disk in memory.
 pub(crate) type Call = Job<PlainFile, PlainTemp>;
@@ -26,9 +26,9 @@ pub enum After {
 pub enum Turn {
     /// A step was made, with this answer.
     Made(PlainStep, PlainAnswer, After),
-    /// Memory was refused before the step: the call stands as it stood.
+    /// Memory was refused before the step, or for the reply: the call stands as it stood.
     Back(Call),
-    /// The call was over before any step.
+    /// The call was over before any step, with this reply.
     Over(Reply, Reply),
 }
 
@@ -42,6 +42,19 @@ fn twice(alloc: Global, reply: Reply) -> (Reply, Reply)
             Reply::Refused(Error::OutOfMemory),
             Reply::Refused(Error::OutOfMemory),
         ),
+    }
+}
+
+/// The reply of a call that is over before any step, twice.
+fn own_reply(alloc: Global, job: &Call) -> Result<Option<(Reply, Reply)>, AllocError>
+    ensures { IfOk result (λ replies. AreOwn job.now replies) }
+{
+    match job.reply() {
+        Some(reply) => {
+            let said = reply.copy(alloc)?;
+            Ok(Some((said, reply.copy(alloc)?)))
+        }
+        None => Ok(None),
     }
 }
 
@@ -67,7 +80,13 @@ pub(crate) fn advance(alloc: Global, disk: &mut Disk, mut job: Call, luck: Luck)
     requires { IsTrue (can_go_on job) }
     ensures { IsTurn job luck disk.old result disk.new }
 {
+    match own_reply(alloc, &job) {
+        Ok(None) => {}
+        Ok(Some((reply, copy))) => return Turn::Over(reply, copy),
+        Err(_) => return Turn::Back(job),
+    }
     match job.next() {
+        // Not reached: a call that is over has told its reply.
         Next::Over(reply) => {
             let (reply, copy) = twice(alloc, reply);
             Turn::Over(reply, copy)

@@ -5,8 +5,8 @@ ghost use Rattle.cacache_history.specs.Reading.{RepliesReadValue, IoErrorsHaveCa
 ghost use Rattle.cacache_history.specs.Values.{ValueFollowsActs, BucketsOnlyGrow, ContentsStay, ContentsAreRight};
 ghost use Rattle.cacache_history.specs.Commits.{CommitsAreCases};
 ghost use Rattle.cacache_history.specs.declared.record.Record.TheVariants.{Began, Stopped};
-ghost use Rattle.cacache_world.specs.Kept.{setup_of, history_of, last, Adds, MovesOn};
-ghost use Rattle.cacache_world.specs.Faults.{CantMove, CantBegin};
+ghost use Rattle.cacache_world.specs.Kept.{setup_of, history_of, last, AreApart, Adds, MovesOn};
+ghost use Rattle.cacache_world.specs.Faults.{CantMove, CantBegin, CantOpen};
 
 use crate::callers::{held, idle, lift, make_room, note, place};
 use crate::event::{Move, WorldFault};
@@ -65,8 +65,13 @@ impl World {
     ) -> Result<World, WorldFault>
         ensures world { IfOk result (λ world.
             world ≡ history_of (setup_of cache outside.items callers) []) }
+        ensures apart { OnOk result (AreApart cache outside.items) }
+        ensures why { IfErr result (λ fault. CantOpen cache outside.items fault) }
     {
-        let disk = planted(alloc, cache.as_str(), outside.as_slice())?;
+        let disk = match planted(alloc, cache.as_str(), outside.as_slice()) {
+            Ok(disk) => disk,
+            Err(fault) => return Err(fault),
+        };
         let Ok(calls) = idle(alloc, callers) else {
             return Err(WorldFault::OutOfMemory);
         };
@@ -148,12 +153,14 @@ impl World {
     }
 
     /// A caller's call makes its next step, which turns out as the luck says. Memory that is refused
-    /// after the step ends the call with `OutOfMemory`.
+    /// after the step ends the call with `OutOfMemory`. A call that is over before any step makes none,
+    /// and tells its own reply.
     ///
     /// # Errors
     ///
     /// Nothing changes then. `NoCaller` where there is no such caller, `Idle` where it has no call,
-    /// `OutOfMemory` where memory is refused before the step.
+    /// `OutOfMemory` where memory is refused before the step, or for the reply of a call that makes
+    /// none.
     pub fn move_one(&mut self, caller: usize, luck: Luck) -> Result<Move, WorldFault>
         ensures adds { IfOk result (λ move. MovesOn self.old caller luck move self.new) }
         ensures same { OnErr result (self.new ≡ self.old) }

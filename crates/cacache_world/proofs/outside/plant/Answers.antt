@@ -4,6 +4,11 @@ use Rattle.cacache_world.specs.Kept.{setup_of}
 use Rattle.cacache_history.proofs.Proper.{export_elsewhere}
 use Rattle.cacache_world.proofs.outside.plant.Goals as goal
 
+pub returns-in-Ok-Ok-clause-free : goal.returns-in-Ok-Ok-clause-free
+returns-in-Ok-Ok-clause-free c =
+    let s = setup_of c.args.cache.now c.args.before.now 0 in
+    sym (sym c.in-Ok-true.field-0-test ∙ c.in-Ok-true.ensures 0 ∙ ap (may_export s) c.as_str.ensures.same)
+
 pub returns-in-Ok-Ok-clause-apart : goal.returns-in-Ok-Ok-clause-apart
 returns-in-Ok-Ok-clause-apart c =
     let s = setup_of c.args.cache.now c.args.before.now 0 in

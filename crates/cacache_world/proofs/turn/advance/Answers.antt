@@ -2,17 +2,16 @@ use Rattle.std.proofs.Common.{Some, sym, ap, subst, ◌∙◌, refl}
 use Rattle.cacache_base.specs.Plain.{plain_step}
 use Rattle.cacache_base.proofs.Plain.{plain_step_same, plain_answer_same}
 use Rattle.cacache_calls.specs.Table.{after}
-use Rattle.cacache_world.specs.Turned.{GoesInto}
-use Rattle.cacache_world.proofs.Turning.{wanted_out, over_wants_none, ends_so}
+use Rattle.cacache_calls.specs.Runs.{plain_reply}
+use Rattle.cacache_world.specs.Turned.{GoesInto, AreOwn}
+use Rattle.cacache_world.proofs.Turning.{wanted_out, not_over}
 use Rattle.cacache_world.proofs.turn.advance.Goals as goal
 
 pub returns-in-Over : goal.returns-in-Over
 returns-in-Over c = (
   refl,
   c.twice-reply.ensures.0,
-  λ s stands.
-      let e = c.in-Over.ensures.hands_out s stands in
-      (over_wants_none s _ e, ends_so s c.in-Over.reply c.twice-reply.result.0 c.twice-reply.result.1 e c.twice-reply.ensures),
+  λ s stands. absurd (not_over s (plain_reply c.in-Over.reply) (subst (AreOwn c.args.job) c.in-Ok-None.field-0-is c.in-Ok-None.ensures s stands) (c.in-Over.ensures.hands_out s stands)),
 )
 
 pub returns-in-Ok : goal.returns-in-Ok

@@ -2,8 +2,9 @@ use Rattle.std.proofs.Common.{◌∙◌, ◌∷◌, ◌++◌, [], None, Some, sy
 use Rattle.cacache_history.specs.declared.record.Record.TheVariants.{Moved}
 use Rattle.cacache_history.specs.History.{Made}
 use Rattle.cacache_world.specs.Turned.{reply_of, told_by}
-use Rattle.cacache_world.specs.Kept.{told, adding, history_of, setup_of, Keeps, Adds}
-use Rattle.cacache_world.proofs.Worlds.{keeps_call, over_left, back_keeps, move_left, told_is, same_parts, keeps_same, keeps_ready, set_again}
+use Rattle.cacache_world.specs.Kept.{told, adding, history_of, setup_of, Keeps, Adds, TellsOwn}
+use Rattle.cacache_world.specs.declared.event.Move.TheVariants as moves
+use Rattle.cacache_world.proofs.Worlds.{keeps_call, over_left, tells_own, back_keeps, move_left, told_is, same_parts, keeps_same, keeps_ready, set_again}
 use Rattle.cacache_world.specs.Faults.{HasCall}
 use Rattle.cacache_world.proofs.world.World.move_one.Goals as goal
 
@@ -24,16 +25,21 @@ pub returns-in-Over-clause-adds : goal.returns-in-Over-clause-adds
 returns-in-Over-clause-adds c =
     let parts = same_parts c.self.inside.cache c.self.inside.outside.items (vec_len c.self.inside.calls) (vec_len c.lift-job.new.calls) _ c.note.new.records.items c.lift-job.ensures.len
     (c.note.ensures ∙ ap (λ xs. xs ++ Moved c.args.caller c.args.luck None (Some c.in-Over.copy) ∷ []) c.make_room.ensures.items) in
-    let new = history_of (setup_of c.self.inside.cache c.self.inside.outside.items (vec_len c.lift-job.new.calls)) c.note.new.records.items in (
-      None,
-      subst (λ x. Adds x (Moved c.args.caller c.args.luck None (Some c.in-Over.reply)) new) c.self.view_is
-          (subst (λ r. Adds (told c.self.inside) (Moved c.args.caller c.args.luck None (Some r)) new) c.in-Over.ensures.1
-          (record {
-            may = (over_left (told c.self.inside) c.self.inside.disk c.self.inside.begun c.self.inside.calls.items c.lift-job.new.calls.items c.args.caller c.lift-job.result c.args.luck c.in-Over.copy c.self.invariant
-                c.lift-job.ensures.lifted.here c.in-Over.ensures.2 c.lift-job.ensures.lifted.gone).may;
-            added = parts;
-          })),
-    )
+    let new = history_of (setup_of c.self.inside.cache c.self.inside.outside.items (vec_len c.lift-job.new.calls)) c.note.new.records.items in
+    let adds =
+    subst (λ x. Adds x (Moved c.args.caller c.args.luck None (Some c.in-Over.reply)) new) c.self.view_is
+    (subst (λ r. Adds (told c.self.inside) (Moved c.args.caller c.args.luck None (Some r)) new) c.in-Over.ensures.1
+    (record {
+      may = (over_left (told c.self.inside) c.self.inside.disk c.self.inside.begun c.self.inside.calls.items c.lift-job.new.calls.items c.args.caller c.lift-job.result c.args.luck c.in-Over.copy c.self.invariant
+          c.lift-job.ensures.lifted.here c.in-Over.ensures.2 c.lift-job.ensures.lifted.gone).may;
+      added = parts;
+    })) in
+    let own =
+    subst (λ x. TellsOwn x c.args.caller None (moves.Done c.in-Over.reply)) c.self.view_is
+    (subst (λ r. TellsOwn (told c.self.inside) c.args.caller None (moves.Done r)) c.in-Over.ensures.1
+    (tells_own (told c.self.inside) c.self.inside.disk c.self.inside.begun c.self.inside.calls.items c.args.caller c.lift-job.result c.in-Over.copy c.self.invariant
+    c.lift-job.ensures.lifted.here c.in-Over.ensures.2)) in
+    (None, adds, own)
 
 pub invariant_of-self-in-Back : goal.invariant_of-self-in-Back
 invariant_of-self-in-Back c =
@@ -79,6 +85,7 @@ returns-in-Made-clause-adds c =
             added = same_parts c.self.inside.cache c.self.inside.outside.items (vec_len c.self.inside.calls) (vec_len c.place-in-Made.new.calls) _ c.note-in-Made.new.records.items
                 (c.place-in-Made.ensures.len ∙ c.lift-job.ensures.len) more;
           })),
+      tt,
     )
 
 pub returns-then-is_err-clause-why : goal.returns-then-is_err-clause-why
