@@ -1,9 +1,10 @@
 //! Random calls and lucks, on few keys and contents, so that calls meet.
+use crate::outside::{random_export, random_target};
 use crate::random::Random;
-use cacache_calls::{Command, Delete, Insert, Json, Options, Put};
+use cacache_calls::{Command, Delete, Insert, Json, Link, Options, Put, Source};
 use cacache_core::bytes::Bytes;
 use cacache_core::errors::Fault;
-use cacache_core::integrity::{Algorithm, Integrity};
+use cacache_core::integrity::{Algorithm, Integrity, IntegrityOpts};
 use cacache_core::text::Text;
 use cacache_disk::Luck;
 use cacache_rows::let_go;
@@ -29,7 +30,7 @@ pub(crate) const CONTENTS: [(&str, Algorithm, &str); 3] = [
 ];
 
 /// The kinds of calls; some come more often.
-const KINDS: [&str; 18] = [
+const KINDS: [&str; 28] = [
     "put",
     "put",
     "put",
@@ -44,6 +45,16 @@ const KINDS: [&str; 18] = [
     "get",
     "get_hash",
     "exists",
+    "export",
+    "export",
+    "export",
+    "export",
+    "export_hash",
+    "export_hash",
+    "link",
+    "link",
+    "link",
+    "link_hash",
     "ls",
     "remove_hash",
     "remove_fully",
@@ -56,6 +67,23 @@ const FAULTS: [Fault; 3] = [Fault::Device, Fault::NotFound, Fault::AlreadyExists
 /// The integrity of a text.
 pub(crate) fn integrity_of(alloc: Global, text: &str) -> Result<Integrity, AllocError> {
     match Integrity::parse(alloc, text) {
+        Ok(integrity) => Ok(integrity),
+        Err(error) => {
+            let_go(error);
+            Err(AllocError)
+        }
+    }
+}
+
+/// The integrity of bytes under an algorithm.
+pub(crate) fn integrity_under(
+    alloc: Global,
+    algorithm: Algorithm,
+    bytes: &[u8],
+) -> Result<Integrity, AllocError> {
+    let mut builder = IntegrityOpts::new().algorithm(algorithm);
+    builder.input(bytes);
+    match builder.result(alloc) {
         Ok(integrity) => Ok(integrity),
         Err(error) => {
             let_go(error);
@@ -119,6 +147,22 @@ fn commit_of(
     })
 }
 
+/// A link to a random target.
+fn link_of(
+    alloc: Global,
+    random: &mut Random,
+    key: Option<Text>,
+    algorithm: Algorithm,
+    moment: u128,
+) -> Result<Command, AllocError> {
+    Ok(Command::Link(Link {
+        key,
+        target: random_target(alloc, random)?,
+        moment,
+        options: options_of(algorithm, None, None),
+    }))
+}
+
 /// A random kind of call.
 pub(crate) fn random_kind(random: &mut Random) -> &'static str {
     match random.pick(&KINDS) {
@@ -146,6 +190,10 @@ pub(crate) fn random_command(
         "get" => Command::Get(key),
         "get_hash" => Command::GetHash(integrity),
         "exists" => Command::Exists(integrity),
+        "export" => Command::Export(Source::Key(key), random_export(alloc, random)?),
+        "export_hash" => Command::Export(Source::Hash(integrity), random_export(alloc, random)?),
+        "link" => link_of(alloc, random, Some(key), algorithm, moment)?,
+        "link_hash" => link_of(alloc, random, None, algorithm, moment)?,
         "ls" => Command::Ls,
         "remove_hash" => Command::RemoveHash(integrity),
         "remove_fully" => Command::RemoveFully(key),

@@ -1,5 +1,6 @@
 //! A list of random events in a world, and what the model says of its history.
 use crate::commands::{random_command, random_kind, random_luck};
+use crate::outside::{may_begin, outside_files};
 use crate::random::Random;
 use crate::replies::shown_reply;
 use crate::row::Row;
@@ -34,32 +35,42 @@ struct Model<'h> {
 /// A world with so many callers; None where memory was refused.
 fn world_of(alloc: Global, callers: usize) -> Option<World> {
     let cache = Text::from_str(alloc, CACHE).ok()?;
-    World::new(alloc, callers, cache, Vec::new(alloc)).ok()
+    let outside = outside_files(alloc).ok()?;
+    World::new(alloc, callers, cache, outside).ok()
 }
 
-/// A random event of a caller: it stops its call, moves it, or begins one.
+/// A random event of a caller: it stops its call, moves it, or begins one. Whether it is one that may be.
 fn event(
     alloc: Global,
     world: &mut World,
     random: &mut Random,
     caller: usize,
     counts: &mut Counts,
-) -> Result<(), AllocError> {
+) -> Result<bool, AllocError> {
     if random.below(40) == 0 && world.stop(caller).is_ok() {
-        return counts.events.count("stopped");
+        counts.events.count("stopped")?;
+        return Ok(true);
     }
     match world.move_one(caller, random_luck(random)) {
         Ok(moved) => {
             let_go(moved);
-            return Ok(());
+            return Ok(true);
         }
         Err(WorldFault::Idle) => {}
         Err(_) => return Err(AllocError),
     }
     let kind = random_kind(random);
-    match world.begin(caller, random_command(alloc, random, kind)?) {
-        Ok(()) => counts.begun.count(kind),
-        Err(WorldFault::BadCommand) => counts.begun.count("refused"),
+    let command = random_command(alloc, random, kind)?;
+    let may = may_begin(&command);
+    match world.begin(caller, command) {
+        Ok(()) => {
+            counts.begun.count(kind)?;
+            Ok(may)
+        }
+        Err(WorldFault::BadCommand) => {
+            counts.begun.count("refused")?;
+            Ok(!may)
+        }
         Err(_) => Err(AllocError),
     }
 }
@@ -82,6 +93,7 @@ fn count_step(
         }
         (Step::Persist(_, _), Answer::Failed(_)) => counts.events.count("refused persists"),
         (Step::RemoveFile(_), Answer::Done) => counts.events.count("removed files"),
+        (Step::Symlink(_, _), Answer::Done) => counts.events.count("made links"),
         _ => Ok(()),
     }
 }
@@ -134,9 +146,12 @@ impl<'h> Model<'h> {
             Record::Moved(caller, luck, made, reply) => {
                 if let Some((step, answer)) = made {
                     count_step(counts, step, *luck, answer)?;
+                    if self.value.files.wrong_fault(step, *luck, answer) {
+                        return Ok(Some(format!(in self.alloc; "{step:?} gave {answer:?}")?));
+                    }
                     self.value.change(step, *luck, answer)?;
                     if let Some(Some(story)) = self.stories.get_mut(*caller) {
-                        story.see(&self.value, step, answer)?;
+                        story.see(&self.value, step, *luck, answer)?;
                     }
                 }
                 if let Some(reply) = reply {
@@ -163,10 +178,10 @@ fn judged(
             return Ok(Some(difference));
         }
     }
-    if model.value.differs(world.disk())? {
-        return Ok(Some(String::from_str(alloc, "other files at the end")?));
+    match model.value.files.differing(world.disk())? {
+        Some(path) => Ok(Some(format!(in alloc; "at the end, another file at {path}")?)),
+        None => Ok(None),
     }
-    Ok(None)
 }
 
 /// Plays a list of random events: how the model differs from it, if it does.
@@ -181,7 +196,9 @@ pub(crate) fn played(
     };
     for _ in 0..row.events {
         let caller = random.below(row.callers);
-        event(alloc, &mut world, random, caller, counts)?;
+        if !event(alloc, &mut world, random, caller, counts)? {
+            return Ok(Some(String::from_str(alloc, "a call that may not begin")?));
+        }
     }
     judged(alloc, row.callers, &world, counts)
 }

@@ -34,7 +34,7 @@ fn shown_found(alloc: Global, found: &Found) -> Result<String, AllocError> {
 }
 
 /// Why a call failed.
-fn shown_error(alloc: Global, error: &Error) -> Result<String, AllocError> {
+pub(crate) fn shown_error(alloc: Global, error: &Error) -> Result<String, AllocError> {
     match error {
         Error::IoError(fault, _) => shown_fault(alloc, *fault),
         Error::EntryNotFound(_, _) => String::from_str(alloc, "no_entry"),
@@ -65,7 +65,7 @@ pub(crate) fn shown_reply(alloc: Global, reply: &Reply) -> Result<String, AllocE
         Reply::LookedUp(Some(found)) => shown_found(alloc, found),
         Reply::Exists(true) => String::from_str(alloc, "there"),
         Reply::Exists(false) => String::from_str(alloc, "absent"),
-        Reply::Copied(_) => String::from_str(alloc, "copied"),
+        Reply::Copied(count) => format!(in alloc; "copied {count}"),
         Reply::Listed(items) => shown_items(alloc, items),
         Reply::Done => String::from_str(alloc, "done"),
         Reply::Refused(error) => shown_error(alloc, error),

@@ -1,34 +1,34 @@
 //! A call, and the reply that its steps lead to by what the cache holds.
 use crate::commands::{integrity_of, text_of};
-use crate::replies::{shown_bytes, shown_entry, shown_fault};
+use crate::outcomes::fault_in;
+use crate::pieces::Pieces;
+use crate::replies::{shown_bytes, shown_entry, shown_error, shown_fault};
 use crate::value::Value;
 use cacache_base::store::{Answer, PlainAnswer, PlainStep, Step};
-use cacache_calls::Command;
+use cacache_calls::{Command, Source};
 use cacache_core::bytes::Bytes;
 use cacache_core::errors::Fault;
 use cacache_core::integrity::Integrity;
 use cacache_core::text::Text;
-use cacache_rows::set;
+use cacache_disk::Luck;
+use cacache_rows::{let_go, set};
 use std::alloc::{AllocError, Global};
 
 /// A call, and the reply that it is to give if it is over now.
 #[derive(Drop)]
 pub(crate) struct Story<'h> {
-    alloc: Global,
+    pub(crate) alloc: Global,
     command: &'h Command,
     /// The content that a lookup found.
     found: Option<Integrity>,
-    /// Whether an entry may come: that of a put only once its content is there.
-    may_add: bool,
+    /// The file that is read piece by piece, and all its bytes once they are read and as wanted.
+    pub(crate) open: Option<Pieces>,
+    pub(crate) whole: Option<Bytes>,
+    /// The size that a link's target had.
+    pub(crate) size: usize,
+    /// Whether an entry may come: that of a put or a link only once its content is there.
+    pub(crate) may_add: bool,
     pub(crate) wanted: String,
-}
-
-/// Why a step failed, if it did.
-fn fault_in(answer: &PlainAnswer) -> Option<Fault> {
-    match answer {
-        Answer::Failed(fault) => Some(*fault),
-        _ => None,
-    }
 }
 
 /// Why a step shows nothing, if so. That a file is missing shows what is so.
@@ -43,19 +43,22 @@ impl<'h> Story<'h> {
             alloc,
             command,
             found: None,
-            may_add: !matches!(command, Command::Put(_)),
+            open: None,
+            whole: None,
+            size: 0,
+            may_add: !matches!(command, Command::Put(_) | Command::Link(_)),
             wanted: String::from_str(alloc, "listed")?,
         })
     }
 
     /// The reply is to be this.
-    fn want(&mut self, text: &str) -> Result<(), AllocError> {
+    pub(crate) fn want(&mut self, text: &str) -> Result<(), AllocError> {
         set(&mut self.wanted, String::from_str(self.alloc, text)?);
         Ok(())
     }
 
     /// The reply is to be this fault.
-    fn fail(&mut self, fault: Fault) -> Result<(), AllocError> {
+    pub(crate) fn fail(&mut self, fault: Fault) -> Result<(), AllocError> {
         let text = shown_fault(self.alloc, fault)?;
         self.want(text.as_str())
     }
@@ -117,9 +120,16 @@ impl<'h> Story<'h> {
         if let Some(fault) = hidden_by(answer) {
             return self.fail(fault);
         }
-        match value.content(integrity)? {
-            Some(bytes) => self.want(shown_bytes(self.alloc, bytes.as_slice())?.as_str()),
-            None => self.fail(Fault::NotFound),
+        let Some(bytes) = value.content(integrity)? else {
+            return self.fail(Fault::NotFound);
+        };
+        match integrity.check(self.alloc, bytes.as_slice()) {
+            Ok(_) => self.want(shown_bytes(self.alloc, bytes.as_slice())?.as_str()),
+            Err(error) => {
+                let text = shown_error(self.alloc, &error)?;
+                let_go(error);
+                self.want(text.as_str())
+            }
         }
     }
 
@@ -138,11 +148,12 @@ impl<'h> Story<'h> {
         })
     }
 
-    /// After a step by which the content of a put is at its place.
-    fn placed(&mut self, value: &Value, data: &Bytes) -> Result<(), AllocError> {
+    /// After a step by which the content of a put is at its place. One that was only asked for may be a link to other bytes.
+    fn placed(&mut self, value: &Value, data: &Bytes, asked: bool) -> Result<(), AllocError> {
         let text = text_of(data.as_slice());
         let integrity = integrity_of(self.alloc, text)?;
-        if value.content(&integrity)? == Some(data) {
+        let content = value.content(&integrity)?;
+        if content == Some(data) || (asked && content.is_some()) {
             self.may_add = true;
         }
         self.want(format!(in self.alloc; "stored {text}")?.as_str())
@@ -150,17 +161,23 @@ impl<'h> Story<'h> {
 
     /// After all of a line was appended: the bucket's newest entry is that of the commit.
     fn added(&mut self, value: &Value, path: &Text) -> Result<(), AllocError> {
-        match value.newest(path)?.and_then(|entry| entry.integrity) {
-            None => self.want("done"),
-            Some(text) if self.may_add => self.want(format!(in self.alloc;
-                "stored {text}"
-            )?.as_str()),
-            Some(_) => self.want("an entry before its content"),
+        let Some(text) = value.newest(path)?.and_then(|entry| entry.integrity) else {
+            return self.want("done");
+        };
+        if !self.may_add {
+            return self.want("no entry before its content");
+        }
+        let stored = format!(in self.alloc; "stored {text}")?;
+        match self.command {
+            Command::Put(_) | Command::Link(_) if stored != self.wanted => self.want(
+                "no entry of another content",
+            ),
+            _ => self.want(stored.as_str()),
         }
     }
 
     /// After a step of a commit.
-    fn commit(
+    pub(crate) fn commit(
         &mut self,
         value: &Value,
         step: &PlainStep,
@@ -171,9 +188,11 @@ impl<'h> Story<'h> {
                 Fault::ShortAppend,
             ),
             (_, Step::Append(path, _), Answer::Took(_)) => self.added(value, path),
-            (Command::Put(put), Step::Persist(_, _), Answer::Done)
-            | (Command::Put(put), Step::Exists(_), Answer::There(true)) => self.placed(
-                value, &put.data,
+            (Command::Put(put), Step::Persist(_, _), Answer::Done) => self.placed(
+                value, &put.data, false,
+            ),
+            (Command::Put(put), Step::Exists(_), Answer::There(true)) => self.placed(
+                value, &put.data, true,
             ),
             (_, Step::Exists(_), _) => Ok(()),
             (_, Step::Write(_, _), Answer::Wrote(_, 0)) => self.fail(Fault::WriteZero),
@@ -187,14 +206,24 @@ impl<'h> Story<'h> {
         &mut self,
         value: &Value,
         step: &PlainStep,
+        luck: Luck,
         answer: &PlainAnswer,
     ) -> Result<(), AllocError> {
         match (self.command, step, self.found.take()) {
             (Command::Ls, _, _) => self.list(value, step, answer),
             (Command::Get(_), Step::ReadAll(_), Some(found)) => self.read(value, &found, answer),
             (Command::GetHash(integrity), _, _) => self.read(value, integrity, answer),
+            (Command::Export(Source::Hash(content), export), _, _) => self.export(
+                value, content, export, step, luck, answer,
+            ),
+            (Command::Export(_, export), _, Some(found)) => {
+                self.export(value, &found, export, step, luck, answer)?;
+                set(&mut self.found, Some(found));
+                Ok(())
+            }
             (_, Step::ReadAll(path), _) => self.look(value, path, answer),
             (Command::Exists(integrity), _, _) => self.ask(value, integrity, answer),
+            (Command::Link(link), _, _) => self.link(value, link, step, luck, answer),
             (Command::Put(_) | Command::Insert(_) | Command::Delete(_), _, _) => self.commit(
                 value, step, answer,
             ),

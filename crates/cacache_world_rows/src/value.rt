@@ -1,31 +1,26 @@
 //! What the cache holds, by the plainest reading of what each step did.
 use crate::commands::{CONTENTS, KEYS, integrity_of};
+use crate::files::{Files, Node};
+use crate::outside::{DESTINATIONS, outside_files};
 use cacache_base::store::{Answer, PlainAnswer, PlainStep, Step};
 use cacache_core::bytes::Bytes;
 use cacache_core::errors::Fault;
 use cacache_core::integrity::Integrity;
 use cacache_core::paths::{bucket_path, content_path};
 use cacache_core::text::Text;
-use cacache_disk::{Disk, Luck};
+use cacache_disk::Luck;
 use cacache_entry::{SerializableMetadata, entries};
-use cacache_rows::{let_go, set};
+use cacache_rows::let_go;
 use std::alloc::{AllocError, Global};
 
 /// The cache's folder.
 pub(crate) const CACHE: &str = "/cache";
 
-/// Where a content or a bucket lies, and its bytes if it is there.
-#[derive(Drop)]
-struct File {
-    path: Text,
-    bytes: Option<Bytes>,
-}
-
-/// The contents and buckets.
+/// The contents and buckets, and what lies outside.
 #[derive(Drop)]
 pub(crate) struct Value {
     alloc: Global,
-    files: Vec<File>,
+    pub(crate) files: Files,
 }
 
 /// How many of its bytes an append left, if it left anything.
@@ -38,52 +33,58 @@ fn left_by(luck: Luck, answer: &PlainAnswer) -> Option<usize> {
     }
 }
 
-/// Whether the disk has other bytes at a path than the model.
-fn differs(file: &File, disk: &Disk) -> Result<bool, AllocError> {
-    Ok(match (disk.shared(file.path.as_str())?, &file.bytes) {
-        (None, None) => false,
-        (Some(found), Some(bytes)) => found.as_slice() != bytes.as_slice(),
-        _ => true,
-    })
-}
-
 impl Value {
-    /// That of a cache which holds nothing.
+    /// That of a cache which holds nothing, beside the outside files.
     pub(crate) fn empty(alloc: Global) -> Result<Value, AllocError> {
         let mut value = Value {
             alloc,
-            files: Vec::new(alloc),
+            files: Files::new(alloc),
         };
         for name in &KEYS {
-            value.name(bucket_path(alloc, CACHE, name)?)?;
+            let path = bucket_path(alloc, CACHE, name)?;
+            value.files.put(path.as_str(), None)?;
         }
         value.name_contents()?;
+        value.name_destinations()?;
+        value.plant()?;
         Ok(value)
     }
 
-    /// The places of the contents.
+    /// The places of the contents, with nothing there.
     fn name_contents(&mut self) -> Result<(), AllocError> {
         for (_, _, text) in &CONTENTS {
             let integrity = integrity_of(self.alloc, text)?;
-            self.name(content_path(self.alloc, CACHE, &integrity)?)?;
+            let path = content_path(self.alloc, CACHE, &integrity)?;
+            self.files.put(path.as_str(), None)?;
         }
         Ok(())
     }
 
-    /// One place more, with nothing there.
-    fn name(&mut self, path: Text) -> Result<(), AllocError> {
-        self.files.push(File { path, bytes: None })?;
+    /// The places to which exports go, with nothing there.
+    fn name_destinations(&mut self) -> Result<(), AllocError> {
+        for (path, _) in &DESTINATIONS {
+            self.files.put(path, None)?;
+        }
         Ok(())
     }
 
-    /// What is there at a path.
-    fn bytes(&self, path: &Text) -> Option<&Bytes> {
-        for file in &self.files {
-            if file.path == *path {
-                return file.bytes.as_ref();
-            }
+    /// The outside files.
+    fn plant(&mut self) -> Result<(), AllocError> {
+        for (path, bytes) in &outside_files(self.alloc)? {
+            let node = Node::File(bytes.share()?);
+            self.files.put(path.as_str(), Some(node))?;
         }
-        None
+        Ok(())
+    }
+
+    /// The bytes of the file that a path leads to.
+    pub(crate) fn bytes(&self, path: &Text) -> Option<&Bytes> {
+        self.files.bytes(path.as_str())
+    }
+
+    /// Whether the content of an integrity lies at a path.
+    pub(crate) fn is_place(&self, integrity: &Integrity, path: &Text) -> Result<bool, AllocError> {
+        Ok(content_path(self.alloc, CACHE, integrity)? == *path)
     }
 
     /// The bytes of the content of an integrity.
@@ -106,17 +107,6 @@ impl Value {
         }
     }
 
-    /// Puts bytes at a path, or takes them away. Other paths than those of contents and buckets are left aside.
-    fn put(&mut self, path: &Text, bytes: Option<Bytes>) {
-        for file in &mut self.files {
-            if file.path == *path {
-                set(&mut file.bytes, bytes);
-                return;
-            }
-        }
-        let_go(bytes);
-    }
-
     /// Puts more bytes behind those at a path.
     fn append(&mut self, path: &Text, more: &[u8]) -> Result<(), AllocError> {
         let mut bytes = match self.bytes(path) {
@@ -124,8 +114,7 @@ impl Value {
             None => Bytes::new(self.alloc, Vec::new(self.alloc))?,
         };
         bytes.extend(more)?;
-        self.put(path, Some(bytes));
-        Ok(())
+        self.files.put(path.as_str(), Some(Node::File(bytes)))
     }
 
     /// What a step did, by its luck and its answer.
@@ -138,28 +127,19 @@ impl Value {
         match (step, answer) {
             (Step::Persist(file, path), Answer::Done) => {
                 if let Some(bytes) = &file.bytes {
-                    self.put(path, Some(bytes.share()?));
+                    let node = Node::File(bytes.share()?);
+                    self.files.put(path.as_str(), Some(node))?;
                 }
             }
-            (Step::RemoveFile(path), Answer::Done) => self.put(path, None),
+            (Step::RemoveFile(path), Answer::Done) => self.files.put(path.as_str(), None)?,
             (Step::Append(path, bytes), answer) => {
                 if let Some(count) = left_by(luck, answer) {
                     let bytes = bytes.as_slice();
                     self.append(path, bytes.get(..count).unwrap_or(bytes))?;
                 }
             }
-            _ => {}
+            _ => self.files.change(step, luck, answer)?,
         }
         Ok(())
-    }
-
-    /// Whether the disk holds other contents or buckets.
-    pub(crate) fn differs(&self, disk: &Disk) -> Result<bool, AllocError> {
-        for file in &self.files {
-            if differs(file, disk)? {
-                return Ok(true);
-            }
-        }
-        Ok(false)
     }
 }

@@ -1,0 +1,101 @@
+//! What an export replies. A checked one reads the content to its end before it makes anything.
+use crate::pieces::Pieces;
+use crate::replies::shown_error;
+use crate::story::Story;
+use crate::value::Value;
+use cacache_base::store::{Answer, PlainAnswer, PlainStep, Step};
+use cacache_calls::{Export, How};
+use cacache_core::bytes::Bytes;
+use cacache_core::integrity::Integrity;
+use cacache_disk::Luck;
+use cacache_rows::{let_go, set};
+use std::alloc::AllocError;
+
+impl<'h> Story<'h> {
+    /// After a file was opened that holds these bytes.
+    pub(crate) fn open(&mut self, bytes: Option<&Bytes>) -> Result<(), AllocError> {
+        let open = match bytes {
+            Some(bytes) => Some(Pieces::new(bytes.share()?)),
+            None => None,
+        };
+        set(&mut self.open, open);
+        self.want("no reply before the file is read")
+    }
+
+    /// After a piece of the open file was read: all its bytes, if this was the end.
+    pub(crate) fn piece(&mut self, piece: &Bytes, luck: Luck) -> Result<Option<Bytes>, AllocError> {
+        let Some(mut open) = self.open.take() else {
+            self.want("no piece of a file that isn't open")?;
+            return Ok(None);
+        };
+        if !open.gives(piece.as_slice(), luck) {
+            self.want("another piece of the file")?;
+            return Ok(None);
+        }
+        if piece.is_empty() {
+            return Ok(Some(open.whole()));
+        }
+        set(&mut self.open, Some(open));
+        Ok(None)
+    }
+
+    /// After a piece of the content was read.
+    fn verify(&mut self, content: &Integrity, piece: &Bytes, luck: Luck) -> Result<(), AllocError> {
+        let Some(bytes) = self.piece(piece, luck)? else {
+            return Ok(());
+        };
+        match content.check(self.alloc, bytes.as_slice()) {
+            Ok(_) => {
+                set(&mut self.whole, Some(bytes));
+                self.want("no reply before the export")
+            }
+            Err(error) => {
+                let text = shown_error(self.alloc, &error)?;
+                let_go(error);
+                self.want(text.as_str())
+            }
+        }
+    }
+
+    /// After the content came to its second place.
+    fn exported(
+        &mut self,
+        value: &Value,
+        content: &Integrity,
+        export: &Export,
+    ) -> Result<(), AllocError> {
+        let count = match &self.whole {
+            Some(bytes) => bytes.len(),
+            None if export.checked => return self.want("no export before the content is verified"),
+            None => value.content(content)?.map_or(0, |bytes| bytes.len()),
+        };
+        match export.how {
+            How::Copy => self.want(format!(in self.alloc; "copied {count}")?.as_str()),
+            _ => self.want("done"),
+        }
+    }
+
+    /// After a step of an export, once its content is known.
+    pub(crate) fn export(
+        &mut self,
+        value: &Value,
+        content: &Integrity,
+        export: &Export,
+        step: &PlainStep,
+        luck: Luck,
+        answer: &PlainAnswer,
+    ) -> Result<(), AllocError> {
+        match (step, answer, export.how) {
+            (_, Answer::Failed(fault), _) => self.fail(*fault),
+            (Step::Open(_), _, _) => self.open(value.content(content)?),
+            (Step::Read(_, _), Answer::Got(_, piece), _) => self.verify(content, piece, luck),
+            (Step::Copy(from, to), _, How::Copy)
+            | (Step::Reflink(from, to), _, How::Reflink)
+            | (Step::HardLink(from, to), _, How::HardLink)
+                if value.is_place(content, from)? && *to == export.to => self.exported(
+                value, content, export,
+            ),
+            _ => self.want("no such step of an export"),
+        }
+    }
+}
