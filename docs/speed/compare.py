@@ -18,6 +18,8 @@ KEYS, SIZE = 2000, 1024
 DEPTHS = [(100, 1000), (1000, 100), (10000, 10)]
 SMALL = ["put", "get", "put-again", "get-hash", "find", "remove", "exists"]
 LISTED = [1000, 100000]
+# What the kit itself takes is measured too: the bench's word floor-KIND makes the same system calls and digests through the kit alone.
+THROUGH_KIT = ["find", "remove", "exists"]
 # Blocks of SHA-256 in an operation on 1 KiB: 17 of the content where it is hashed, and 3 of the line's text where there is one
 # (2 of a tombstone's). With a key there is also one block of SHA-1, of the key.
 BLOCKS = {"put": 20, "get": 20, "put-again": 20, "get-hash": 17, "find": 3, "remove": 2, "exists": 0, "ls": 3}
@@ -50,6 +52,10 @@ def run_small(bench, floor, at):
         more = [str(SIZE)] if kind.startswith("put") else []
         for who, program in (("ours", bench), ("floor", floor)):
             run(f"{kind} {who}", [program, kind, f"{at}/{folder}-{who}", str(KEYS)] + more, KEYS)
+        if kind in THROUGH_KIT:
+            # floor-find and floor-exists read what put wrote; floor-remove writes first what it needs
+            where = f"{at}/remove-kit" if kind == "remove" else f"{at}/put-ours"
+            run(f"{kind} kit", [bench, f"floor-{kind}", where, str(KEYS)], KEYS)
 
 
 def run_listing(bench, floor, at):
@@ -58,6 +64,8 @@ def run_listing(bench, floor, at):
             folder = f"{at}/listed-{keys}-{who}"
             subprocess.run([program, "put", folder, str(keys), "8"], check=True, capture_output=True)
             run(f"ls {keys} {who}", [program, "ls", folder, str(keys)], keys)
+            if who == "ours":
+                run(f"ls {keys} kit", [bench, "floor-ls", folder, str(keys)], keys)
             shutil.rmtree(folder)
 
 
@@ -97,6 +105,10 @@ def median(name, of=0):
     return statistics.median(figure[of] for figure in figures[name])
 
 
+def least(name):
+    return min(figure[0] for figure in figures[name])
+
+
 def ratio(over, under, of=0):
     above, below = [f[of] for f in figures[over]], [f[of] for f in figures[under]]
     if len(above) != len(below):
@@ -105,18 +117,25 @@ def ratio(over, under, of=0):
     return f"{median(over, of) / median(under, of):.2f} ({min(each):.2f} to {max(each):.2f})"
 
 
+def over_kit(kind):
+    """What is told of the floor through the kit, where the kind has one."""
+    if f"{kind} kit" not in figures:
+        return ""
+    return f"  kit's floor {median(f'{kind} kit') / 1e3:6.2f}  over the kit's floor {ratio(f'{kind} ours', f'{kind} kit')}, of the least times {least(f'{kind} ours') / least(f'{kind} kit'):.2f}"
+
+
 def tell():
     block, key_block = (median(name) / (MIB << 14) for name in ("digest", "digest-sha1"))
     print(f"small calls, us; a block of SHA-256 takes {block / 1e3:.3f} us, one of SHA-1 {key_block / 1e3:.3f} us")
     for kind in SMALL:
         ours, floor = f"{kind} ours", f"{kind} floor"
         with_digests = median(ours) / (median(floor) + BLOCKS[kind] * block + (kind in KEYED) * key_block)
-        print(f"  {kind:10} ours {median(ours) / 1e3:6.2f}  floor {median(floor) / 1e3:6.2f}  by the clock {ratio(ours, floor)}  by the processor {ratio(ours, floor, 1)}  over floor and digests {with_digests:.2f}")
+        print(f"  {kind:10} ours {median(ours) / 1e3:6.2f}  floor {median(floor) / 1e3:6.2f}  by the clock {ratio(ours, floor)}  by the processor {ratio(ours, floor, 1)}  over floor and digests {with_digests:.2f}{over_kit(kind)}")
     print("ls, us an entry")
     for keys in LISTED:
         ours, floor = f"ls {keys} ours", f"ls {keys} floor"
         with_digests = median(ours) / (median(floor) + BLOCKS["ls"] * block)
-        print(f"  {keys:7} entries  ours {median(ours) / 1e3:6.2f}  floor {median(floor) / 1e3:6.2f}  by the clock {ratio(ours, floor)}  by the processor {ratio(ours, floor, 1)}  over floor and digests {with_digests:.2f}")
+        print(f"  {keys:7} entries  ours {median(ours) / 1e3:6.2f}  floor {median(floor) / 1e3:6.2f}  by the clock {ratio(ours, floor)}  by the processor {ratio(ours, floor, 1)}  over floor and digests {with_digests:.2f}{over_kit(f'ls {keys}')}")
     print(f"{MIB} MiB, ms; over the digest")
     for kind in [name for name in figures if name in ("digest", "digest-sha1", "reader", "copy", "writer") or "large" in name or "<" in name or ">" in name]:
         print(f"  {kind:16} {median(kind) / 1e6:7.1f}  {ratio(kind, 'digest')}  peak memory {peaks[kind] / 1024 / MIB:.2f} times the content")

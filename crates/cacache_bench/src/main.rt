@@ -1,6 +1,7 @@
 //! Runs the calls of a cache in bulk over real folders or in memory, and tells how long one takes.
 #![tactic(auto)]
 
+mod floor;
 mod index;
 mod measure;
 mod pieces;

@@ -32,7 +32,7 @@ fn number_content(content: &mut Vec<u8>, number: u64) {
 fn size_of(work: Work<'_>) -> u64 {
     match work.kind {
         Kind::Put | Kind::PutAgain => work.second,
-        Kind::GetDeep | Kind::Remove | Kind::MemoryPut | Kind::MemoryList => 8,
+        Kind::GetDeep | Kind::Remove | Kind::FloorRemove | Kind::MemoryPut | Kind::MemoryList => 8,
         Kind::PutLarge | Kind::Digest | Kind::DigestSha1 => work.first.saturating_mul(1024 * 1024),
         _ => 0,
     }
@@ -207,11 +207,13 @@ pub fn prepare<S: Store, C: Clock, N: Names>(
     content: &mut Vec<u8>,
 ) -> Result<Vec<Integrity>> {
     match work.kind {
-        Kind::PutAgain | Kind::Remove | Kind::MemoryList => put_keys(
+        Kind::PutAgain | Kind::Remove | Kind::FloorRemove | Kind::MemoryList => put_keys(
             env, work.cache, work.first, content,
         )?,
         Kind::GetDeep => put_deep(env, work.cache, work.first, content)?,
-        Kind::GetHash | Kind::Exists => return integrities_of(env, work.cache, work.first),
+        Kind::GetHash | Kind::Exists | Kind::FloorExists => {
+            return integrities_of(env, work.cache, work.first);
+        }
         _ => {}
     }
     Ok(Vec::new(env.alloc))

@@ -2,6 +2,7 @@
 ghost use Rattle.std.specs.Prelude.{◌≡◌, ◌≢◌, ◌≤◌};
 ghost use Rattle.std.specs.IoError.{error_kind};
 
+use crate::floor;
 use crate::measure::{content_of, perform, prepare};
 use crate::work::Work;
 use crate::world::{Spent, spend};
@@ -10,11 +11,12 @@ use cacache::env::{Clock, Env, Names};
 use cacache::store::Store;
 use std::alloc::Global;
 use std::io::{self, ErrorKind, Write};
+use std::rt::Files;
 use std::time::{Clock as SystemTimes, Instant};
 
 /// What the program says to wrong words.
 pub const USAGE: &str =
-    "usage: cacache_bench put|put-again CACHE N BYTES | get|get-hash|find|ls|remove|exists CACHE N | get-deep CACHE DEPTH N | put-large|get-large|reader|copy|writer CACHE MIB | digest|digest-sha1 MIB | memory-put|memory-list KEYS | memory-append N | memory-pieces MIB | world MOVES\n";
+    "usage: cacache_bench put|put-again CACHE N BYTES | get|get-hash|find|ls|remove|exists|floor-find|floor-ls|floor-remove|floor-exists CACHE N | get-deep CACHE DEPTH N | put-large|get-large|reader|copy|writer CACHE MIB | digest|digest-sha1 MIB | memory-put|memory-list KEYS | memory-append N | memory-pieces MIB | world MOVES\n";
 
 /// The nanoseconds that one operation took, the clock read around all of them; None where anything failed.
 fn timed<R: SystemTimes, S: Store, C: Clock, N: Names>(
@@ -31,13 +33,16 @@ fn timed<R: SystemTimes, S: Store, C: Clock, N: Names>(
 }
 
 /// Makes what the work takes to be there, and measures the work.
-fn measured<R: SystemTimes, S: Store, C: Clock, N: Names>(
+fn measured<R: SystemTimes + Files + AllocGlobal + Clone + Drop, S: Store, C: Clock, N: Names>(
     rt: &R,
     env: &mut Env<S, C, N>,
     work: Work<'_>,
 ) -> Option<u128> {
     let mut content = content_of(env.alloc, work).ok()?;
     let integrities = prepare(env, work, &mut content).ok()?;
+    if work.kind.is_floor() {
+        return floor::spend(rt, work, &integrities);
+    }
     timed(rt, env, work, &mut content, &integrities)
 }
 
@@ -52,13 +57,14 @@ fn told<W: Write, E: Write>(work: Work<'_>, nanos: u128, output: &mut W, errors:
 }
 
 /// Does the work, and answers the status: 0, or 1 where a call, a step or a stream failed.
-pub fn run<R: SystemTimes, S: Store, C: Clock, N: Names, W: Write, E: Write>(
-    rt: &R,
-    env: &mut Env<S, C, N>,
-    work: Work<'_>,
-    output: &mut W,
-    errors: &mut E,
-) -> u8
+pub fn run<
+    R: SystemTimes + Files + AllocGlobal + Clone + Drop,
+    S: Store,
+    C: Clock,
+    N: Names,
+    W: Write,
+    E: Write,
+>(rt: &R, env: &mut Env<S, C, N>, work: Work<'_>, output: &mut W, errors: &mut E) -> u8
     ensures { result ≤ 1 }
 {
     match measured(rt, env, work) {

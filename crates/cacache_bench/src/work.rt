@@ -25,12 +25,24 @@ pub enum Kind {
     MemoryPieces,
     Writer,
     World,
+    FloorFind,
+    FloorLs,
+    FloorRemove,
+    FloorExists,
 }
 
 impl Kind {
     /// Whether it has no cache.
     fn is_without_cache(self) -> bool {
         matches!(self, Kind::Digest | Kind::DigestSha1)
+    }
+
+    /// Whether it is made through the kit alone.
+    pub fn is_floor(self) -> bool {
+        matches!(
+            self,
+            Kind::FloorFind | Kind::FloorLs | Kind::FloorRemove | Kind::FloorExists
+        )
     }
 
     /// Whether it is measured on a disk in memory.
@@ -84,6 +96,10 @@ fn kind_of(name: &str) -> Option<Kind> {
         "memory-pieces" => Some(Kind::MemoryPieces),
         "writer" => Some(Kind::Writer),
         "world" => Some(Kind::World),
+        "floor-find" => Some(Kind::FloorFind),
+        "floor-ls" => Some(Kind::FloorLs),
+        "floor-remove" => Some(Kind::FloorRemove),
+        "floor-exists" => Some(Kind::FloorExists),
         _ => None,
     }
 }
@@ -155,6 +171,10 @@ impl fmt::Display for Work<'_> {
             Kind::MemoryPieces => write!(f, "memory-pieces {first} MiB"),
             Kind::Writer => write!(f, "writer {first} MiB"),
             Kind::World => write!(f, "world {first} moves"),
+            Kind::FloorFind => write!(f, "floor-find {first} keys"),
+            Kind::FloorLs => write!(f, "floor-ls {first} keys"),
+            Kind::FloorRemove => write!(f, "floor-remove {first} keys"),
+            Kind::FloorExists => write!(f, "floor-exists {first} contents"),
         }
     }
 }
