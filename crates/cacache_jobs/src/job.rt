@@ -42,6 +42,7 @@ pub struct Job<F, T> {
 }
 
 impl<F: Drop, T: Drop> Drop for Job<F, T> {
+    #[inline(always)]
     fn drop(self) {
         let Job {
             alloc: _,
@@ -126,6 +127,7 @@ impl<F: FileHandle, T: TempHandle> Job<F, T> {
     }
 
     /// The step that the call wants, or its reply. Takes no memory.
+    #[inline(always)]
     pub fn next(&mut self) -> Next<F, T>
         requires { IsTrue (can_go_on self.old) }
         ensures out { has_out self.new ≡ is_step result }
@@ -143,6 +145,7 @@ impl<F: FileHandle, T: TempHandle> Job<F, T> {
     }
 
     /// Goes on with the answer to the step that is out. Where memory is refused, the call is over with `OutOfMemory`.
+    #[inline(always)]
     pub fn take(&mut self, answer: Answer<F, T>)
         requires { IsTrue (has_out self.old) }
         ensures ready { IsTrue (can_go_on self.new) }

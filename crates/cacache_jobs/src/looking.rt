@@ -120,6 +120,9 @@ pub(crate) fn looked<F: FileHandle, T: TempHandle>(
             None => not_found(alloc, lookup),
         },
         Err(Refusal::Fault(Fault::NotFound)) => not_found(alloc, lookup),
-        Err(refusal) => Err(refused(refusal, messages::looking(alloc, &lookup))),
+        Err(refusal) => {
+            let message = messages::looking(alloc, lookup.cache.as_str(), lookup.key.as_str());
+            Err(refused(refusal, message))
+        }
     }
 }

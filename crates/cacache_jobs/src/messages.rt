@@ -1,7 +1,6 @@
 //! What a call says where a step failed. No contract speaks of these texts; tests show them.
 use crate::hashing::Hashing;
 use crate::inserting::Insertion;
-use crate::looking::Lookup;
 use crate::places::{bucket_path, bucket_place, content_path, content_place, temp_folder};
 use crate::reading::Content;
 use crate::stage::Last;
@@ -71,8 +70,9 @@ pub(crate) fn appending(alloc: Global, insertion: &Insertion) -> Result<Text, Al
     Ok(Text::new(format!(in alloc; "Failed to write to index bucket at {bucket:?}")?))
 }
 
-pub(crate) fn looking(alloc: Global, lookup: &Lookup) -> Result<Text, AllocError> {
-    let bucket = bucket_path(alloc, lookup.cache.as_str(), lookup.key.as_str())?;
+/// The bucket of a key couldn't be read.
+pub fn looking(alloc: Global, cache: &str, key: &str) -> Result<Text, AllocError> {
+    let bucket = bucket_path(alloc, cache, key)?;
     Ok(Text::new(format!(in alloc; "Failed to read index bucket entries from {bucket:?}")?))
 }
 

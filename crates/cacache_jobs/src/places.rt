@@ -50,7 +50,7 @@ pub(crate) fn content_place(
 
 /// The path of a key's bucket.
 #[tactic(auto, unfolding(cacache_calls::specs::Places::bucket_path))]
-pub(crate) fn bucket_path(alloc: Global, cache: &str, key: &str) -> Result<Text, AllocError>
+pub fn bucket_path(alloc: Global, cache: &str, key: &str) -> Result<Text, AllocError>
     ensures { IfOk result (λ path. path ≡ bucket_path_of cache.now key.now) }
 {
     paths::bucket_path(alloc, cache, key)

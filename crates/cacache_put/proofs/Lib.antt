@@ -1,3 +1,4 @@
+mod Finding
 mod Links
 mod Linkers
 mod Wholes

@@ -4,27 +4,30 @@ ghost use Rattle.cacache_calls.specs.declared.command.Command.TheVariants as com
 ghost use Rattle.cacache_calls.specs.declared.reply.Reply.TheVariants.{Stored};
 ghost use Rattle.cacache_calls.specs.Inserting.{given_or, no_integrity};
 ghost use Rattle.cacache_calls.specs.Runs.{reply_of};
-ghost use Rattle.cacache_put.specs.Replies.{done as says_done, looked_up};
+ghost use Rattle.cacache_put.specs.Replies.{done as says_done, looked_up, IsShown};
 ghost use Rattle.cacache_put.specs.Writes.{Calls, RunsTimed, insert_of, delete_of};
 
 use crate::moment::moment;
 use crate::opts::WriteOpts;
 use crate::replies::done;
 use cacache_base::env::{Clock, Env, Names};
-use cacache_base::store::Store;
-use cacache_calls::{Command, Delete, Insert, Reply};
-use cacache_core::errors::Result;
+use cacache_base::store::{Step, Store};
+use cacache_calls::answers::bytes_of;
+use cacache_calls::{Command, Delete, Insert, Refusal, Reply};
+use cacache_core::bytes::Bytes;
+use cacache_core::errors::{self, Error, Fault};
 use cacache_core::integrity::Integrity;
 use cacache_core::text::Text;
-use cacache_entry::Metadata;
-use cacache_jobs::call;
+use cacache_entry::{Metadata, latest};
+use cacache_jobs::{bucket_path, call, messages, refused};
+use std::alloc::Global;
 
 /// Makes the call of an insertion.
 fn inserted<S: Store, C, N>(
     env: &mut Env<S, C, N>,
     cache: &str,
     insert: Insert,
-) -> Result<Integrity>
+) -> errors::Result<Integrity>
     ensures inserted { IfOk result (λ i. i ≡ given_or no_integrity insert.options.integrity) }
     ensures ran { Calls S.log env.old env.new cache.now (commands.Insert insert)
         (reply_of Stored result) }
@@ -48,7 +51,7 @@ pub fn insert<S: Store, C: Clock, N: Names>(
     cache: &str,
     key: &str,
     opts: WriteOpts,
-) -> Result<Integrity>
+) -> errors::Result<Integrity>
     ensures inserted { IfOk result (λ i. i ≡ given_or no_integrity opts.integrity) }
     ensures ran { RunsTimed S.log C.given opts.time env.old env.new cache.now
         (λ moment. commands.Insert (insert_of key.now opts moment)) (reply_of Stored result) }
@@ -64,24 +67,39 @@ pub fn insert<S: Store, C: Clock, N: Names>(
     inserted(env, cache, insert)
 }
 
+/// What the bytes of the bucket answer to the lookup; one that isn't there is an empty one.
+fn found(
+    alloc: Global,
+    cache: &str,
+    key: &str,
+    bytes: Result<Bytes, Refusal>,
+) -> errors::Result<Option<Metadata>>
+    ensures { IsShown key.now bytes (reply_of looked_up result) }
+{
+    match bytes {
+        Ok(bytes) => match latest(alloc, bytes.as_slice(), key) {
+            Ok(answer) => Ok(answer.found),
+            Err(_) => Err(Error::OutOfMemory),
+        },
+        Err(Refusal::Fault(Fault::NotFound)) => Ok(None),
+        Err(refusal) => Err(refused(refusal, messages::looking(alloc, cache, key))),
+    }
+}
+
 /// What the index has of the key: the entry that counts, if there is one.
 ///
-/// `IoError` says that the bucket couldn't be read. Nothing changes.
+/// `IoError` says that the bucket couldn't be read. Nothing changes. It is one step, which takes no job.
 pub fn find<S: Store, C: Clock, N: Names>(
     env: &mut Env<S, C, N>,
     cache: &str,
     key: &str,
-) -> Result<Option<Metadata>>
+) -> errors::Result<Option<Metadata>>
     ensures ran { Calls S.log env.old env.new cache.now (commands.Find key.now)
         (reply_of looked_up result) }
 {
-    let key = Text::from_str(env.alloc, key)?;
-    match call(env, cache, Command::Find(key), 0) {
-        Reply::LookedUp(Some(found)) => Ok(Some(found.into_metadata())),
-        Reply::LookedUp(None) => Ok(None),
-        Reply::Refused(error) => Err(error),
-        _ => unreachable!(),
-    }
+    let bucket = bucket_path(env.alloc, cache, key)?;
+    let bytes = bytes_of(env.store.step(Step::ReadAll(bucket)));
+    found(env.alloc, cache, key, bytes)
 }
 
 /// Adds a tombstone, which says that the key was deleted; the content stays. Its moment is the clock's, which is asked
@@ -92,7 +110,7 @@ pub fn delete<S: Store, C: Clock, N: Names>(
     env: &mut Env<S, C, N>,
     cache: &str,
     key: &str,
-) -> Result<()>
+) -> errors::Result<()>
     ensures ran { RunsTimed S.log C.given None env.old env.new cache.now
         (λ moment. commands.Delete (delete_of key.now moment)) (reply_of says_done result) }
 {

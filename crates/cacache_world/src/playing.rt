@@ -1,5 +1,6 @@
 //! Events in their order.
 ghost use Rattle.std.specs.Prelude.{◌≡◌, OnOk, OnErr, IfErr};
+ghost use Rattle.cacache_history.specs.Entries.{EntriesNameContents};
 ghost use Rattle.cacache_history.specs.History.{IsLegal};
 ghost use Rattle.cacache_history.specs.Reading.{RepliesReadValue, IoErrorsHaveCauses};
 ghost use Rattle.cacache_history.specs.Values.{ValueFollowsActs, BucketsOnlyGrow, ContentsStay, ContentsAreRight};
@@ -44,6 +45,7 @@ impl World {
         ensures digests { ContentsAreRight self.new }
         ensures replies { RepliesReadValue self.new }
         ensures commits { CommitsAreCases self.new }
+        ensures entries { EntriesNameContents self.new }
         ensures causes { IoErrorsHaveCauses self.new }
     {
         let outcome = self.run(events);

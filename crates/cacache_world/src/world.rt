@@ -1,5 +1,6 @@
 //! Callers whose calls take turns on one disk.
 ghost use Rattle.std.specs.Prelude.{◌≡◌, IfOk, IfErr, OnOk, OnErr, []};
+ghost use Rattle.cacache_history.specs.Entries.{EntriesNameContents};
 ghost use Rattle.cacache_history.specs.History.{IsLegal};
 ghost use Rattle.cacache_history.specs.Reading.{RepliesReadValue, IoErrorsHaveCauses};
 ghost use Rattle.cacache_history.specs.Values.{ValueFollowsActs, BucketsOnlyGrow, ContentsStay, ContentsAreRight};
@@ -95,6 +96,7 @@ impl World {
         ensures digests { ContentsAreRight self.now }
         ensures replies { RepliesReadValue self.now }
         ensures commits { CommitsAreCases self.now }
+        ensures entries { EntriesNameContents self.now }
         ensures causes { IoErrorsHaveCauses self.now }
     {
         let _records = &self.records;

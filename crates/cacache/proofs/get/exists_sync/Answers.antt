@@ -1,5 +1,6 @@
-use Rattle.std.proofs.Common.{Err, refl, sym, ap, ◌∙◌}
+use Rattle.std.proofs.Common.{Err, false, refl, sym, ap, ◌∙◌}
 use Rattle.cacache_base.specs.Plain.{plain_answer}
+use Rattle.cacache_calls.specs.declared.reply.Reply.TheVariants.{Exists}
 use Rattle.cacache_calls.specs.Replies.{there_reply}
 use Rattle.cacache.proofs.Asking.{asks_at}
 use Rattle.cacache.proofs.get.exists_sync.Goals as goal
@@ -8,14 +9,14 @@ pub returns-in-Ok-clause-ran : goal.returns-in-Ok-clause-ran
 returns-in-Ok-clause-ran g c =
     let answer = plain_answer g.S.File.FileHandle.seen g.S.Temp.TempHandle.seen c.step.result in
     let ran =
-    asks_at (record { cache = c.args.cache.now; base = c.args.env.now.base; number = 0 }) c.args.sri.now c.in_ok-path.path answer _ _ _ c.in_ok-path.ensures c.step.ensures.fits
-    c.step.ensures.logged (ap there_reply (sym c.in-Ok.is ∙ c.there_of.ensures)) in
+    asks_at (record { cache = c.args.cache.now; base = c.args.env.now.base; number = 0 }) c.args.sri.now c.in_ok-path.path answer (Exists c.in-Ok.there)
+    (g.S.Store.log c.args.env.now.store) (g.S.Store.log c.step.new.self) c.in_ok-path.ensures c.step.ensures.fits c.step.ensures.logged (ap there_reply (sym c.in-Ok.is ∙ c.there_of.ensures)) in
     ((ran, refl), refl, refl)
 
 pub returns-in-Err-Fault-clause-ran : goal.returns-in-Err-Fault-clause-ran
 returns-in-Err-Fault-clause-ran g c =
     let answer = plain_answer g.S.File.FileHandle.seen g.S.Temp.TempHandle.seen c.step.result in
     let ran =
-    asks_at (record { cache = c.args.cache.now; base = c.args.env.now.base; number = 0 }) c.args.sri.now c.in_ok-path.path answer _ _ _ c.in_ok-path.ensures c.step.ensures.fits
-    c.step.ensures.logged (ap there_reply (ap Err (sym c.in-Err-Fault.field-0-is) ∙ sym c.in-Err-Fault.is ∙ c.there_of.ensures)) in
+    asks_at (record { cache = c.args.cache.now; base = c.args.env.now.base; number = 0 }) c.args.sri.now c.in_ok-path.path answer (Exists false)
+    (g.S.Store.log c.args.env.now.store) (g.S.Store.log c.step.new.self) c.in_ok-path.ensures c.step.ensures.fits c.step.ensures.logged (ap there_reply (ap Err (sym c.in-Err-Fault.field-0-is) ∙ sym c.in-Err-Fault.is ∙ c.there_of.ensures)) in
     ((ran, refl), refl, refl)

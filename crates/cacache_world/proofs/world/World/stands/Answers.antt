@@ -1,8 +1,10 @@
 use Rattle.std.proofs.Common.{subst}
 use Rattle.cacache_history.specs.Commits.{CommitsAreCases}
+use Rattle.cacache_history.specs.Entries.{EntriesNameContents}
 use Rattle.cacache_history.specs.Reading.{RepliesReadValue, IoErrorsHaveCauses}
 use Rattle.cacache_history.specs.Values.{ValueFollowsActs, BucketsOnlyGrow, ContentsStay, ContentsAreRight}
 use Rattle.cacache_history.proofs.Commits.{commits_are_cases}
+use Rattle.cacache_history.proofs.Entries.{entries_name_contents}
 use Rattle.cacache_history.proofs.Replies.{replies_read_value, io_errors_are_caused}
 use Rattle.cacache_history.proofs.Values.{value_follows_acts, buckets_only_grow, contents_stay, contents_are_right}
 use Rattle.cacache_world.proofs.world.World.stands.Goals as goal
@@ -27,3 +29,6 @@ returns-clause-causes c = subst IoErrorsHaveCauses c.self.view_is (io_errors_are
 
 pub returns-clause-digests : goal.returns-clause-digests
 returns-clause-digests c = subst ContentsAreRight c.self.view_is (contents_are_right _ c.self.invariant.legal)
+
+pub returns-clause-entries : goal.returns-clause-entries
+returns-clause-entries c = subst EntriesNameContents c.self.view_is (entries_name_contents _ c.self.invariant.legal)
