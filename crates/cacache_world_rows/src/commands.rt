@@ -14,13 +14,19 @@ use std::alloc::{AllocError, Global};
 /// The keys of all calls. Each has a bucket of its own.
 pub(crate) const KEYS: [&str; 3] = ["a", "b", "another key"];
 
-/// The contents of all calls: bytes, an algorithm, and the integrity that they have under it, as `openssl dgst` prints it.
-pub(crate) const CONTENTS: [(&str, Algorithm, &str); 3] = [
-    (
-        "hello",
-        Algorithm::Sha256,
-        "sha256-LPJNul+wow4m6DsqxbninhsWHlwfp0JecwQzYpOLmCQ=",
-    ),
+/// A content of calls: bytes, an algorithm, and the integrity that they have under it, as `openssl dgst` prints it.
+type Sample = (&'static str, Algorithm, &'static str);
+
+/// The content that most calls meet at, the bytes of an outside file.
+const HELLO: Sample = (
+    "hello",
+    Algorithm::Sha256,
+    "sha256-LPJNul+wow4m6DsqxbninhsWHlwfp0JecwQzYpOLmCQ=",
+);
+
+/// The contents of all calls.
+pub(crate) const CONTENTS: [Sample; 3] = [
+    HELLO,
     ("", Algorithm::Sha1, "sha1-2jmj7l5rSw0yVb/vlWAYkK/YBwk="),
     (
         "a content of some more bytes",
@@ -30,7 +36,8 @@ pub(crate) const CONTENTS: [(&str, Algorithm, &str); 3] = [
 ];
 
 /// The kinds of calls; some come more often.
-const KINDS: [&str; 28] = [
+const KINDS: [&str; 43] = [
+    "put",
     "put",
     "put",
     "put",
@@ -43,17 +50,31 @@ const KINDS: [&str; 28] = [
     "find",
     "get",
     "get",
+    "get",
+    "get_hash",
+    "get_hash",
     "get_hash",
     "exists",
     "export",
     "export",
     "export",
     "export",
+    "export",
+    "export",
+    "export_hash",
+    "export_hash",
+    "export_hash",
+    "export_hash",
     "export_hash",
     "export_hash",
     "link",
     "link",
     "link",
+    "link",
+    "link",
+    "link",
+    "link_hash",
+    "link_hash",
     "link_hash",
     "ls",
     "remove_hash",
@@ -171,6 +192,15 @@ pub(crate) fn random_kind(random: &mut Random) -> &'static str {
     }
 }
 
+/// A random content, mostly the first where it isn't put.
+fn random_content(random: &mut Random, kind: &str) -> Sample {
+    let count = match kind {
+        "put" | "put_hash" => 3,
+        _ => 6,
+    };
+    CONTENTS.get(random.below(count)).copied().unwrap_or(HELLO)
+}
+
 /// A call of this kind on a random key and content.
 pub(crate) fn random_command(
     alloc: Global,
@@ -179,8 +209,7 @@ pub(crate) fn random_command(
 ) -> Result<Command, AllocError> {
     let moment = random.below(1_000_000) as u128;
     let name = random.pick(&KEYS).copied().unwrap_or("a");
-    let picked = random.pick(&CONTENTS).copied();
-    let (text, algorithm, integrity) = picked.unwrap_or(("", Algorithm::Sha1, ""));
+    let (text, algorithm, integrity) = random_content(random, kind);
     let key = Text::from_str(alloc, name)?;
     let integrity = integrity_of(alloc, integrity)?;
     let data = Bytes::new(alloc, Vec::from_slice(alloc, text.as_bytes())?)?;
@@ -206,7 +235,7 @@ pub(crate) fn random_command(
 pub(crate) fn random_luck(random: &mut Random) -> Luck {
     let part = random.below(240);
     let fault = random.pick(&FAULTS).copied().unwrap_or(Fault::Device);
-    match random.below(24) {
+    match random.below(32) {
         0 | 1 => Luck::Take(part),
         2 => Luck::Fail(fault, None),
         3 => Luck::Fail(fault, Some(part)),

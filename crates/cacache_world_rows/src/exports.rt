@@ -1,5 +1,4 @@
 //! What an export replies. A checked one reads the content to its end before it makes anything.
-use crate::pieces::Pieces;
 use crate::replies::shown_error;
 use crate::story::Story;
 use crate::value::Value;
@@ -12,33 +11,6 @@ use cacache_rows::{let_go, set};
 use std::alloc::AllocError;
 
 impl<'h> Story<'h> {
-    /// After a file was opened that holds these bytes.
-    pub(crate) fn open(&mut self, bytes: Option<&Bytes>) -> Result<(), AllocError> {
-        let open = match bytes {
-            Some(bytes) => Some(Pieces::new(bytes.share()?)),
-            None => None,
-        };
-        set(&mut self.open, open);
-        self.want("no reply before the file is read")
-    }
-
-    /// After a piece of the open file was read: all its bytes, if this was the end.
-    pub(crate) fn piece(&mut self, piece: &Bytes, luck: Luck) -> Result<Option<Bytes>, AllocError> {
-        let Some(mut open) = self.open.take() else {
-            self.want("no piece of a file that isn't open")?;
-            return Ok(None);
-        };
-        if !open.gives(piece.as_slice(), luck) {
-            self.want("another piece of the file")?;
-            return Ok(None);
-        }
-        if piece.is_empty() {
-            return Ok(Some(open.whole()));
-        }
-        set(&mut self.open, Some(open));
-        Ok(None)
-    }
-
     /// After a piece of the content was read.
     fn verify(&mut self, content: &Integrity, piece: &Bytes, luck: Luck) -> Result<(), AllocError> {
         let Some(bytes) = self.piece(piece, luck)? else {

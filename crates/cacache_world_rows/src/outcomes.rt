@@ -80,8 +80,9 @@ impl Files {
         }
     }
 
-    /// The fault of a step that turned out otherwise than it is to. For a link in the cache, the folder may be gone.
-    pub(crate) fn wrong_fault(&self, step: &PlainStep, luck: Luck, answer: &PlainAnswer) -> bool {
+    /// Whether a step of an export or of a link failed, or went well, otherwise than it is to. A link may also fail since the
+    /// folder of its content is gone.
+    pub(crate) fn is_wrong(&self, step: &PlainStep, luck: Luck, answer: &PlainAnswer) -> bool {
         let own = self.own_fault(step);
         let came = fault_in(answer);
         match step {

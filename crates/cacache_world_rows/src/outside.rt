@@ -20,15 +20,18 @@ const FILES: [(&str, &str, usize); 4] = [
     ),
 ];
 
-/// Where exports go, and whether one may go there; some come more often. Those that may lie apart from the cache and from
-/// the outside files, or name nothing.
-pub(crate) const DESTINATIONS: [(&str, bool); 18] = [
+/// Where exports go, and whether one may go there; some come more often. One may go apart from the cache and from the outside
+/// files, and to a path that names nothing, where its step fails.
+pub(crate) const DESTINATIONS: [(&str, bool); 21] = [
+    ("/out/a", true),
     ("/out/a", true),
     ("/out/a", true),
     ("/out/a", true),
     ("/out/b", true),
     ("/out/b", true),
     ("/out/b", true),
+    ("/out/b", true),
+    ("/out/c", true),
     ("/out/c", true),
     ("/out/c", true),
     ("/out/c", true),
@@ -43,12 +46,14 @@ pub(crate) const DESTINATIONS: [(&str, bool); 18] = [
     ("/out/long/below", false),
 ];
 
-/// Where links lead, and whether one may lead there. Relative paths start at the top folder.
-const TARGETS: [(&str, bool); 12] = [
+/// Where links lead, and whether one may lead there; some come more often. Relative paths start at the top folder.
+const TARGETS: [(&str, bool); 14] = [
     ("/out/first", true),
     ("/out/first", true),
     ("/out/first", true),
-    ("out/second", true),
+    ("/out/first", true),
+    ("/out/first", true),
+    ("/out/first", true),
     ("out/second", true),
     ("/out/empty", true),
     ("/out/empty", true),

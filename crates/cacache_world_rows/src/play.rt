@@ -93,7 +93,10 @@ fn count_step(
         }
         (Step::Persist(_, _), Answer::Failed(_)) => counts.events.count("refused persists"),
         (Step::RemoveFile(_), Answer::Done) => counts.events.count("removed files"),
-        (Step::Symlink(_, _), Answer::Done) => counts.events.count("made links"),
+        (Step::Symlink(_, _), Answer::Done) => counts.events.count("links"),
+        (Step::Copy(_, _), Answer::Took(_)) => counts.events.count("copies"),
+        (Step::Reflink(_, _), Answer::Done) => counts.events.count("reflinks"),
+        (Step::HardLink(_, _), Answer::Done) => counts.events.count("hard links"),
         _ => Ok(()),
     }
 }
@@ -146,7 +149,7 @@ impl<'h> Model<'h> {
             Record::Moved(caller, luck, made, reply) => {
                 if let Some((step, answer)) = made {
                     count_step(counts, step, *luck, answer)?;
-                    if self.value.files.wrong_fault(step, *luck, answer) {
+                    if self.value.files.is_wrong(step, *luck, answer) {
                         return Ok(Some(format!(in self.alloc; "{step:?} gave {answer:?}")?));
                     }
                     self.value.change(step, *luck, answer)?;
