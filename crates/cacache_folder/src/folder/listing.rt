@@ -81,15 +81,33 @@ fn add<R: Files + Clone + Drop>(
 }
 
 impl<R: Files + AllocGlobal + Clone + Drop> FolderStore<R> {
+    /// The names in the folder. The error is a kind alone: with a wide one the compiler copies the system's buffer for
+    /// each way out.
+    #[inline(never)]
+    fn names_in(&self, path: &str) -> Result<Vec<Name>, ErrorKind>
+        ensures { IfOk result (λ names. AreProperNames names.items) }
+    {
+        let alloc = self.rt.alloc();
+        let mut names = Vec::new(alloc);
+        let found = match fs::read_dir(&self.rt, path) {
+            Ok(found) => found,
+            Err(e) => return Err(e.kind()),
+        };
+        for entry in found {
+            if let Err(e) = add(alloc, &mut names, entry) {
+                return Err(e.kind());
+            }
+        }
+        Ok(names)
+    }
+
     /// What is in the folder, in the system's order. It fails if a name isn't UTF-8.
     pub(crate) fn read_dir(&self, path: &str) -> io::Result<Listing>
         ensures { IfOk result (λ listing. AreProperNames listing) }
     {
-        let alloc = self.rt.alloc();
-        let mut names = Vec::new(alloc);
-        for entry in fs::read_dir(&self.rt, path)? {
-            add(alloc, &mut names, entry)?;
+        match self.names_in(path) {
+            Ok(names) => Ok(Listing::new(names)),
+            Err(kind) => Err(io::Error::from(kind)),
         }
-        Ok(Listing::new(names))
     }
 }
