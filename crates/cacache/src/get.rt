@@ -94,7 +94,7 @@ pub fn exists_sync<S: Store, C: Clock, N: Names>(
 {
     let path = content_path(env.alloc, cache, sri)?;
     match there_of(env.store.step(Step::Exists(path))) {
-        Ok(there) => Ok(there && !there),
+        Ok(there) => Ok(there),
         Err(Refusal::Fault(_)) => Ok(false),
         Err(Refusal::Memory) => Err(Error::OutOfMemory),
     }
