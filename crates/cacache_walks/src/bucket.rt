@@ -73,7 +73,7 @@ fn add(
     Ok(())
 }
 
-/// The items of a bucket's bytes, each of which is read and hashed once.
+/// The items of a bucket's bytes. Each line is read and hashed once, unless its integrity is unreadable.
 pub(crate) fn items(alloc: Global, bytes: &[u8]) -> errors::Result<Vec<Result<Found, Error>>>
     ensures items { IfOk result (λ items. map plain_item items.items ≡ items_in bytes.now) }
     ensures refused { IfErr result (λ e. e ≡ OutOfMemory) }
