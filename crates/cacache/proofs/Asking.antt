@@ -1,5 +1,5 @@
 -- A question is a run of one step.
-use Rattle.std.proofs.Common.{◌≡◌, inl, inr, ℕ, List, [], ◌∷◌, ◌++◌, Option, None, Some, option_map, refl, sym, ap, subst, ◌∙◌, append-nil}
+use Rattle.std.proofs.Common.{◌≡◌, inl, inr, ℕ, List, [], ◌∷◌, Option, refl, subst, ◌∙◌}
 use Rattle.cacache_core.specs.declared.integrity.digest.Hash.{Hash}
 use Rattle.cacache_base.specs.declared.store.step.Step.TheVariants as steps
 use Rattle.cacache_base.specs.declared.store.answer.Answer.TheVariants as answers
@@ -14,18 +14,14 @@ use Rattle.cacache_calls.specs.Replies.{there_reply}
 use Rattle.cacache_calls.specs.Runs.{Ran}
 use Rattle.cacache_calls.specs.State.{Site}
 use Rattle.cacache_calls.specs.Table.{opening}
-
--- a log that gained nothing
-nothing_more : (log : Option (List LogItem)) → log ≡ option_map (λ items. items ++ []) log
-nothing_more None = refl
-nothing_more (Some items) = ap Some (sym (append-nil items))
+use Rattle.cacache_calls.proofs.Going.{no_gain}
 
 -- the store's answer makes the reply
 asks_once : (site : Site) (i : List Hash) (t : PlainAnswer) (r : Reply) (old new : Option (List LogItem)) → Fits (steps.Exists (content_path site.cache i)) t
     → Logs old new (steps.Exists (content_path site.cache i)) t → r ≡ there_reply (there_in t) → Ran (opening site (commands.Exists i)) r old new
 asks_once site i (answers.There there) r old new fits logs is = ((steps.Exists (content_path site.cache i), answers.There there) ∷ [], (refl, fits, inl (rw is refl)), logs)
 asks_once site i (answers.Failed fault) r old new fits logs is = ((steps.Exists (content_path site.cache i), answers.Failed fault) ∷ [], (refl, fits, inl (rw is refl)), logs)
-asks_once site i (answers.NoMemory back) r old new fits logs is = ([], inr is, logs ∙ nothing_more old)
+asks_once site i (answers.NoMemory back) r old new fits logs is = ([], inr is, logs ∙ no_gain old)
 asks_once site i other r old new fits logs is = absurd fits
 
 -- the path of the step is the content's

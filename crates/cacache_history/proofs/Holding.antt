@@ -104,13 +104,15 @@ module _ (s : Setup) (w : Now) (h : AllHold s w) (luck : Luck) where
 
 -- ---- any record
 
-set_at : (s : Setup) (b : Bool) (x y : Option Call) → CallAt s x → CallAt s y → CallAt s (cond b x y)
-set_at s true x y h k = h
-set_at s false x y h k = k
+-- what holds of both calls holds of the one that a test picks
+pub set_at : (P : Option Call → Type 0) (b : Bool) (x y : Option Call) → P x → P y → P (cond b x y)
+set_at P true x y h k = h
+set_at P false x y h k = k
 
-ended_at : (s : Setup) (reply : Option Reply) (call : Option Call) → CallAt s call → CallAt s (unless_over reply call)
-ended_at s None call h = h
-ended_at s (Some reply) call h = tt
+-- and it holds once the call is over, if it holds of none
+pub ended_at : (P : Option Call → Type 0) → P None → (reply : Option Reply) (call : Option Call) → P call → P (unless_over reply call)
+ended_at P none None call h = h
+ended_at P none (Some reply) call h = none
 
 -- a caller's call, by what is said of it
 pub of_caller : (s : Setup) (call : Call) (o : Option Call) → o ≡ Some call → CallAt s o → CallHolds s call
@@ -144,8 +146,8 @@ module _ (s : Setup) (apart : LieApart (home s) s.outside) where
         rooted = tree.1;
         formed = tree.2;
         right = tree.3;
-        calls = λ k. set_at s (k == caller) _ (w.calls k)
-            (ended_at s reply _ (subst (λ o. CallAt s (option_map (moved w.tree luck made) o)) (sym e) (moved_holds s w h luck made reply call mine may)))
+        calls = λ k. set_at (CallAt s) (k == caller) _ (w.calls k)
+            (ended_at (CallAt s) tt reply _ (subst (λ o. CallAt s (option_map (moved w.tree luck made) o)) (sym e) (moved_holds s w h luck made reply call mine may)))
             (h.calls k);
       }
 
@@ -155,7 +157,7 @@ module _ (s : Setup) (apart : LieApart (home s) s.outside) where
     rooted = h.rooted;
     formed = h.formed;
     right = h.right;
-    calls = λ k. set_at s (k == caller) (Some (begins s w.begun command)) (w.calls k) (begins_hold s w.begun command may.2 may.3) (h.calls k);
+    calls = λ k. set_at (CallAt s) (k == caller) (Some (begins s w.begun command)) (w.calls k) (begins_hold s w.begun command may.2 may.3) (h.calls k);
   }
   next_holds w (Moved caller luck made reply) may h = move_holds w caller luck made reply may.0 may.1 may.2 h
   next_holds w (Stopped caller) may h = record {
@@ -163,7 +165,7 @@ module _ (s : Setup) (apart : LieApart (home s) s.outside) where
     rooted = h.rooted;
     formed = h.formed;
     right = h.right;
-    calls = λ k. set_at s (k == caller) None (w.calls k) tt (h.calls k);
+    calls = λ k. set_at (CallAt s) (k == caller) None (w.calls k) tt (h.calls k);
   }
 
   pub all_hold : (w : Now) (records : List Record) → Legal s w records → AllHold s w → AllHold s (replay s w records)

@@ -1,12 +1,12 @@
 -- Each turn of a call is a move of the history.
-use Rattle.std.proofs.Common.{◌≡◌, ◌==◌, ℕ, Bool, true, false, cond, List, [], ◌∷◌, ◌++◌, Option, None, Some, option_map, refl, sym, subst, ◌∙◌, append_assoc, append-nil}
+use Rattle.std.proofs.Common.{◌≡◌, ◌==◌, ℕ, List, [], ◌∷◌, ◌++◌, Option, None, Some, option_map, refl, sym, subst, ◌∙◌, append_assoc, append-nil}
 use Rattle.cacache_disk.specs.declared.luck.Luck.{Luck}
 use Rattle.cacache_calls.specs.declared.reply.Reply.{Reply}
 use Rattle.cacache_history.specs.declared.record.Record.{Record}
 use Rattle.cacache_history.specs.declared.record.Record.TheVariants.{Began, Moved, Stopped}
 use Rattle.cacache_history.specs.History.{History, Turn, Call, Made, first, begins, turn_of, moved, unless_over, moved_call, next, now_at, Reaches}
 use Rattle.cacache_history.specs.Turns.{EachTurn}
-use Rattle.cacache_history.proofs.Holding.{each_more, replay_more}
+use Rattle.cacache_history.proofs.Holding.{each_more, set_at, ended_at, replay_more}
 
 -- a turn is the move after these records
 pub record TurnAt (h : History) (turn : Turn) : Type 0 where
@@ -23,14 +23,6 @@ abbrev TurnsAt : History → Option Call → Type 0
 TurnsAt h None = Unit {0}
 TurnsAt h (Some call) = EachTurn (TurnAt h) call.turns
 
-set_stands : (h : History) (b : Bool) (x y : Option Call) → TurnsAt h x → TurnsAt h y → TurnsAt h (cond b x y)
-set_stands h true x y a b = a
-set_stands h false x y a b = b
-
-over_stands : (h : History) (reply : Option Reply) (call : Option Call) → TurnsAt h call → TurnsAt h (unless_over reply call)
-over_stands h None call a = a
-over_stands h (Some reply) call a = tt
-
 module _ (h : History) where
   moved_stands : (past later : List Record) (caller : ℕ) (luck : Luck) (made : Option Made) (reply : Option Reply) (o : Option Call)
       → h.records ≡ past ++ Moved caller luck made reply ∷ later → TurnsAt h o → TurnsAt h (option_map (moved (now_at h past).tree luck made) o)
@@ -43,11 +35,11 @@ module _ (h : History) where
   next_stands : (past later : List Record) (r : Record) → h.records ≡ past ++ r ∷ later → ((k : ℕ) → TurnsAt h ((now_at h past).calls k))
       → (k : ℕ) → TurnsAt h ((next h.setup (now_at h past) r).calls k)
   next_stands past later (Began caller command) is a k =
-      set_stands h (k == caller) (Some (begins h.setup (now_at h past).begun command)) ((now_at h past).calls k) tt (a k)
+      set_at (TurnsAt h) (k == caller) (Some (begins h.setup (now_at h past).begun command)) ((now_at h past).calls k) tt (a k)
   next_stands past later (Moved caller luck made reply) is a k =
-      set_stands h (k == caller) (unless_over reply (moved_call (now_at h past) caller luck made)) ((now_at h past).calls k)
-      (over_stands h reply _ (moved_stands past later caller luck made reply ((now_at h past).calls caller) is (a caller))) (a k)
-  next_stands past later (Stopped caller) is a k = set_stands h (k == caller) None ((now_at h past).calls k) tt (a k)
+      set_at (TurnsAt h) (k == caller) (unless_over reply (moved_call (now_at h past) caller luck made)) ((now_at h past).calls k)
+      (ended_at (TurnsAt h) tt reply _ (moved_stands past later caller luck made reply ((now_at h past).calls caller) is (a caller))) (a k)
+  next_stands past later (Stopped caller) is a k = set_at (TurnsAt h) (k == caller) None ((now_at h past).calls k) tt (a k)
 
   calls_stand : (past todo later : List Record) → h.records ≡ past ++ (todo ++ later) → ((k : ℕ) → TurnsAt h ((now_at h past).calls k))
       → (k : ℕ) → TurnsAt h ((now_at h (past ++ todo)).calls k)

@@ -1,5 +1,5 @@
 -- A lookup is a run of one step.
-use Rattle.std.proofs.Common.{◌≡◌, ◌⊎◌, inl, inr, ℕ, List, [], ◌∷◌, ◌++◌, Option, None, Some, option_map, refl, sym, ap, subst, ◌∙◌, append-nil}
+use Rattle.std.proofs.Common.{◌≡◌, ◌⊎◌, inl, inr, ℕ, List, [], ◌∷◌, Option, refl, sym, ap, subst, ◌∙◌}
 use Rattle.cacache_core.specs.declared.errors.Error.TheVariants.{OutOfMemory}
 use Rattle.cacache_core.specs.declared.errors.Fault.TheVariants as faults
 use Rattle.cacache_base.specs.declared.store.step.Step.TheVariants as steps
@@ -16,11 +16,7 @@ use Rattle.cacache_calls.specs.Replies.{find_reply, bucket_shown}
 use Rattle.cacache_calls.specs.Runs.{Ran}
 use Rattle.cacache_calls.specs.State.{Site, State, over}
 use Rattle.cacache_calls.specs.Table.{opening}
-
--- a log that gained nothing
-nothing_more : (log : Option (List LogItem)) → log ≡ option_map (λ items. items ++ []) log
-nothing_more None = refl
-nothing_more (Some items) = ap Some (sym (append-nil items))
+use Rattle.cacache_calls.proofs.Going.{no_gain}
 
 -- the call is over with what was shown, or out of memory ended it
 abbrev Ends : State → Reply → Reply → Type 0
@@ -40,8 +36,8 @@ finds_once site key (answers.Failed faults.NotFound) r old new fits logs is =
     ((steps.ReadAll (bucket_path site.cache key), answers.Failed faults.NotFound) ∷ [], (refl, fits, ends _ (find_reply key (bucket_shown (answers.Failed faults.NotFound))) r refl is), logs)
 finds_once site key (answers.Failed fault) r old new fits logs is =
     ((steps.ReadAll (bucket_path site.cache key), answers.Failed fault) ∷ [], (refl, fits, ends _ (find_reply key (bucket_shown (answers.Failed fault))) r refl is), logs)
-finds_once site key (answers.NoMemory back) r old new fits logs (inl is) = ([], inr is, logs ∙ nothing_more old)
-finds_once site key (answers.NoMemory back) r old new fits logs (inr is) = ([], inr is, logs ∙ nothing_more old)
+finds_once site key (answers.NoMemory back) r old new fits logs (inl is) = ([], inr is, logs ∙ no_gain old)
+finds_once site key (answers.NoMemory back) r old new fits logs (inr is) = ([], inr is, logs ∙ no_gain old)
 finds_once site key other r old new fits logs is = absurd fits
 
 -- the path of the step is the bucket's
