@@ -1,4 +1,4 @@
--- A job's bound on its steps is that of its state.
+-- A phase's bound on its steps is that of its state.
 use Rattle.std.proofs.Common.{◌≡◌, ℕ, ◌+◌, List, Some, ap, sym, ◌∙◌}
 use Rattle.cacache_base.specs.declared.store.plain.PlainFile.{PlainFile}
 use Rattle.cacache_base.specs.declared.store.plain.PlainTemp.{PlainTemp}
@@ -18,7 +18,7 @@ use Rattle.cacache_jobs.specs.Effort.{then_effort, left_to_read, stage_effort, p
 
 module _ {T : Type 0} (temp : T → PlainTemp) where
   then_effort_is : (then : Then T) (s : State) → ThenAt temp then s → effort s ≡ then_effort then
-  then_effort_is (thens.Create number c rest) s e = ap effort e
+  then_effort_is (thens.Create c rest path) s e = ap effort e.2
   then_effort_is (thens.Persist c file path) s e = ap effort e.1
   then_effort_is (thens.Append i line path) s e = ap effort e.4
   then_effort_is (thens.RemoveBucket content bucket) s e = ap effort e.3
@@ -49,7 +49,7 @@ module _ {T : Type 0} (temp : T → PlainTemp) where
   stage_effort_is (stages.Linking c target) step s e w = ap effort e
   stage_effort_is (stages.Walking walk v) step s e w = ap effort e.1
 
--- a job that stands in a state has its bound
+-- a phase has the bound of its state
 pub phase_effort_is : {F T : Type 0} (file : F → PlainFile) (temp : T → PlainTemp) (p : Phase F T) (s : State) → PhaseAt file temp p s → phase_effort file temp p ≡ effort s
 phase_effort_is file temp (phases.Wanting stage step) s e = sym (stage_effort_is temp stage _ s e.state e.wanted)
 phase_effort_is file temp (phases.Over reply) s e = sym (ap effort e)

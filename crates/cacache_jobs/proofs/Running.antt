@@ -1,6 +1,5 @@
--- How a run grows by a step, and how a job follows it.
-use Rattle.std.proofs.Common.{◌≡◌, ◌⊎◌, inl, inr, ◌<◌, List, [], ◌∷◌, ◌++◌, map, Option, Some, None, option_map, false, refl, sym, ◌∙◌, ap, arith, append_assoc, append-nil}
-use Rattle.std.proofs.lemmas.List.{map-append}
+-- How a run grows by a step, and how a call follows it.
+use Rattle.std.proofs.Common.{◌≡◌, ◌⊎◌, inl, inr, ◌<◌, List, [], ◌∷◌, ◌++◌, Option, Some, None, option_map, true, refl, sym, ap, arith, append_assoc, append-nil}
 use Rattle.cacache_core.specs.declared.errors.Error.TheVariants.{OutOfMemory}
 use Rattle.cacache_base.specs.declared.store.plain.PlainFile.{PlainFile}
 use Rattle.cacache_base.specs.declared.store.plain.PlainTemp.{PlainTemp}
@@ -8,7 +7,7 @@ use Rattle.cacache_base.specs.declared.store.log.LogItem.{LogItem}
 use Rattle.cacache_base.specs.declared.store.log.LogItem.TheVariants.{Made}
 use Rattle.cacache_base.specs.declared.store.answer.Answer.TheVariants as answers
 use Rattle.cacache_base.specs.Plain.{PlainStep, PlainAnswer}
-use Rattle.cacache_base.specs.Fits.{Fits, Logs, is_no_memory}
+use Rattle.cacache_base.specs.Fits.{Fits, Logs}
 use Rattle.cacache_calls.specs.declared.reply.Reply.{Reply}
 use Rattle.cacache_calls.specs.declared.reply.Reply.TheVariants.{Refused}
 use Rattle.cacache_calls.specs.State.{State, over}
@@ -22,8 +21,8 @@ use Rattle.cacache_jobs.specs.declared.phase.Phase.TheVariants as phases
 use Rattle.cacache_jobs.specs.declared.job.Standing.{Standing}
 use Rattle.cacache_jobs.specs.declared.job.Standing.TheVariants as standings
 use Rattle.cacache_jobs.specs.Standing.{PhaseAt}
-use Rattle.cacache_jobs.specs.Jobs.{IdleAt, OutAt, LostMemory, GoesOnTo}
-use Rattle.cacache_jobs.specs.Effort.{standing_effort}
+use Rattle.cacache_jobs.specs.Jobs.{IdleAt, OutAt, LostMemory, PhaseGoesTo, GoesOnTo, is_idle}
+use Rattle.cacache_jobs.specs.Effort.{phase_effort}
 use Rattle.cacache_jobs.proofs.Effort.{phase_effort_is}
 
 -- the steps so far lead from the first state to this one
@@ -66,14 +65,18 @@ wants_some s a w =
     omega arith
 
 module _ {F T : Type 0} (file : F → PlainFile) (temp : T → PlainTemp) where
-  pub memory_at : (p : Phase F T) → LostMemory p → PhaseAt file temp p (over (Refused OutOfMemory))
+  memory_at : (p : Phase F T) → LostMemory p → PhaseAt file temp p (over (Refused OutOfMemory))
   memory_at (phases.Wanting stage step) e = absurd e
   memory_at (phases.Over reply) e = ap over (sym e)
 
-  -- where a job is after an answer, or at its beginning
+  -- where a call is after an answer, or at its beginning
+  pub phase_at : (p : Phase F T) (s : State) → PhaseGoesTo file temp p s → PhaseAt file temp p s ⊎ PhaseAt file temp p (over (Refused OutOfMemory))
+  phase_at p s (inl e) = inl e
+  phase_at p s (inr e) = inr (memory_at p e)
+
+  -- the same of a job
   pub turn_at : (p : Standing F T) (s : State) → GoesOnTo file temp p s → IdleAt file temp p s ⊎ IdleAt file temp p (over (Refused OutOfMemory))
-  turn_at (standings.At phase) s (inl e) = inl e
-  turn_at (standings.At phase) s (inr e) = inr (memory_at phase e)
+  turn_at (standings.At phase) s e = phase_at phase s e
   turn_at (standings.Out stage) s e = absurd e
   turn_at standings.Told s e = absurd e
 
@@ -82,39 +85,39 @@ module _ {F T : Type 0} (file : F → PlainFile) (temp : T → PlainTemp) where
   out_wants (standings.Out stage) s a e = e.wanted
   out_wants standings.Told s a e = absurd e
 
-  effort_is : (p : Standing F T) (s : State) → IdleAt file temp p s → standing_effort file temp p ≡ effort s
-  effort_is (standings.At phase) s e = phase_effort_is file temp phase s e
-  effort_is (standings.Out stage) s e = absurd e
-  effort_is standings.Told s e = absurd e
+  -- a job that stands in a state can go on
+  pub stands_idle : (p : Standing F T) (s : State) → IdleAt file temp p s → is_idle p ≡ true
+  stands_idle (standings.At phase) s e = refl
+  stands_idle (standings.Out stage) s e = absurd e
+  stands_idle standings.Told s e = absurd e
 
-  -- the state that a job stands in after an answer, or at its beginning
-  pub turn_stands : (p : Standing F T) (s : State) → GoesOnTo file temp p s → (t : State) × IdleAt file temp p t
-  turn_stands p s e =
-      elim (turn_at p s e) [
+  -- the state that a call is in after an answer, or at its beginning
+  pub phase_stands : (p : Phase F T) (s : State) → PhaseGoesTo file temp p s → (t : State) × PhaseAt file temp p t
+  phase_stands p s e =
+      elim (phase_at p s e) [
         | inl at ↦ (s, at)
         | inr at ↦ (over (Refused OutOfMemory), at)
       ]
 
-  pub turn_reached : (s0 s : State) (old new next : Option (List LogItem)) (q p : Standing F T) (a : PlainStep) (t : PlainAnswer) → Reached s0 old new s → OutAt temp q s a → Fits a t → Logs new next a t → GoesOnTo file temp p (after s t) → (u : State) × IdleAt file temp p u × Reached s0 old next u
-  turn_reached s0 s old new next q p a t x out fits logs e =
-      let y = steps a t x (out_wants q s a out) fits logs in
-      elim (turn_at p (after s t) e) [
+  pub phase_reached : (s0 s : State) (old new next : Option (List LogItem)) (p : Phase F T) (a : PlainStep) (t : PlainAnswer) → Reached s0 old new s → wants s ≡ Some a → Fits a t → Logs new next a t → PhaseGoesTo file temp p (after s t) → (u : State) × PhaseAt file temp p u × Reached s0 old next u
+  phase_reached s0 s old new next p a t x w fits logs e =
+      let y = steps a t x w fits logs in
+      elim (phase_at p (after s t) e) [
         | inl at ↦ (after s t, at, y)
         | inr at ↦ (over (Refused OutOfMemory), at, stops y)
       ]
 
-  pub turn_shrinks : (r q p : Standing F T) (s : State) (a : PlainStep) (t : PlainAnswer) → IdleAt file temp r s → OutAt temp q s a → Fits a t → GoesOnTo file temp p (after s t) → standing_effort file temp p < standing_effort file temp r
-  turn_shrinks r q p s a t now out fits e =
-      let w = out_wants q s a out in
-      elim (turn_at p (after s t) e) [
-        | inl at ↦ rw (effort_is p (after s t) at) (rw (effort_is r s now) (falls s a t w fits))
-        | inr at ↦ rw (effort_is p (over (Refused OutOfMemory)) at) (rw (effort_is r s now) (wants_some s a w))
+  pub phase_shrinks : (r p : Phase F T) (s : State) (a : PlainStep) (t : PlainAnswer) → PhaseAt file temp r s → wants s ≡ Some a → Fits a t → PhaseGoesTo file temp p (after s t) → phase_effort file temp p < phase_effort file temp r
+  phase_shrinks r p s a t now w fits e =
+      elim (phase_at p (after s t) e) [
+        | inl at ↦ rw (phase_effort_is file temp p (after s t) at) (rw (phase_effort_is file temp r s now) (falls s a t w fits))
+        | inr at ↦ rw (phase_effort_is file temp p (over (Refused OutOfMemory)) at) (rw (phase_effort_is file temp r s now) (wants_some s a w))
       ]
 
-  -- a run from the state that a new job stands in is one from its first state
-  pub ran_from : (p : Standing F T) (s : State) (r : Reply) (old new : Option (List LogItem)) → GoesOnTo file temp p s → ((t : State) → IdleAt file temp p t → Ran t r old new) → Ran s r old new
+  -- a run from the state that a call begins in is one from its first state
+  pub ran_from : (p : Phase F T) (s : State) (r : Reply) (old new : Option (List LogItem)) → PhaseGoesTo file temp p s → ((t : State) → PhaseAt file temp p t → Ran t r old new) → Ran s r old new
   ran_from p s r old new e run =
-      elim (turn_at p s e) [
+      elim (phase_at p s e) [
         | inl at ↦ run s at
         | inr at ↦ let h = run (over (Refused OutOfMemory)) at in (h.0, memory_runs s h.0 r h.1, h.2)
       ]

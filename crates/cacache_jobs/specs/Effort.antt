@@ -1,4 +1,4 @@
--- A bound on the steps that a job still takes.
+-- A bound on the steps that a call still takes.
 use Rattle.std.specs.Prelude.{ℕ, ◌+◌, ◌*◌, ◌^◌, length}
 use Rattle.cacache_base.specs.declared.store.plain.PlainFile.{PlainFile}
 use Rattle.cacache_base.specs.declared.store.plain.PlainTemp.{PlainTemp}
@@ -12,13 +12,10 @@ use Rattle.cacache_jobs.specs.declared.stage.Stage.{Stage}
 use Rattle.cacache_jobs.specs.declared.stage.Stage.TheVariants as stages
 use Rattle.cacache_jobs.specs.declared.phase.Phase.{Phase}
 use Rattle.cacache_jobs.specs.declared.phase.Phase.TheVariants as phases
-use Rattle.cacache_jobs.specs.declared.job.Standing.{Standing}
-use Rattle.cacache_jobs.specs.declared.job.Standing.TheVariants as standings
-use Rattle.cacache_jobs.specs.declared.job.Job.{Job}
 
 -- of what follows an errand
 abbrev pub then_effort : {T : Type 0} → Then T → ℕ
-then_effort (thens.Create number c rest) = length rest + 7
+then_effort (thens.Create c rest path) = length rest + 7
 then_effort (thens.Persist c file path) = 4
 then_effort (thens.Append i line path) = 1
 then_effort (thens.RemoveBucket content bucket) = 1
@@ -52,10 +49,3 @@ stage_effort (stages.Walking w v) step =
 abbrev pub phase_effort : {F T : Type 0} → (F → PlainFile) → (T → PlainTemp) → Phase F T → ℕ
 phase_effort file temp (phases.Wanting stage step) = stage_effort stage (plain_step file temp step)
 phase_effort file temp (phases.Over reply) = 0
-
-abbrev pub standing_effort : {F T : Type 0} → (F → PlainFile) → (T → PlainTemp) → Standing F T → ℕ
-standing_effort file temp (standings.At phase) = phase_effort file temp phase
-standing_effort file temp standing = 0
-
-abbrev pub job_effort : {F T : Type 0} → (F → PlainFile) → (T → PlainTemp) → Job F T → ℕ
-job_effort file temp job = standing_effort file temp job.standing

@@ -1,18 +1,20 @@
 -- Which state of the table a job stands in.
-use Rattle.std.specs.Prelude.{◌≡◌, ℕ, List, Some, Result, Ok, Err, length, string_bytes, []}
+use Rattle.std.specs.Prelude.{◌≡◌, ℕ, List, Option, Some, None, Result, Ok, Err, length, string_bytes, []}
 use Rattle.cacache_core.specs.declared.errors.Error.{Error}
+use Rattle.cacache_core.specs.declared.integrity.digest.Hash.{Hash}
 use Rattle.cacache_core.specs.Hashers.{Holds, algorithm_of}
 use Rattle.cacache_core.specs.Pieces.{Compares}
 use Rattle.cacache_base.specs.declared.store.plain.PlainFile.{PlainFile}
 use Rattle.cacache_base.specs.declared.store.plain.PlainTemp.{PlainTemp}
 use Rattle.cacache_base.specs.Plain.{PlainStep, plain_step}
-use Rattle.cacache_calls.specs.Places.{content_path, bucket_path}
+use Rattle.cacache_calls.specs.Places.{content_path, bucket_path, temp_path}
 use Rattle.cacache_calls.specs.State as states
 use Rattle.cacache_calls.specs.State.{State, doing, creating, writing, persisting, confirming, appending, looking, reading, asking, sizing, opening_file, hashing, copying, linking, over, Errand, to_report, to_read, to_export, to_remove, to_verify, to_link}
 use Rattle.cacache_calls.specs.Inserting.{bucket_line}
 use Rattle.cacache_calls.specs.Removing.{remove_bucket}
 use Rattle.cacache_calls.specs.Runs.{plain_reply, EndsAs}
-use Rattle.cacache_calls.specs.declared.reply.Reply.TheVariants.{Done}
+use Rattle.cacache_calls.specs.declared.reply.Reply.{Reply}
+use Rattle.cacache_calls.specs.declared.reply.Reply.TheVariants.{Stored, Done}
 use Rattle.cacache_calls.specs.Table.{wants}
 use Rattle.cacache_walks.specs.Standing.{WalksAt}
 use Rattle.cacache_jobs.specs.declared.storing.Commit.{Commit}
@@ -55,10 +57,15 @@ lookup_of l = record { cache = l.cache; key = l.key; aim = aim_of l.aim }
 abbrev pub content_of : Content → states.Content
 content_of k = record { cache = k.cache; integrity = k.integrity }
 
+-- what an insertion answers: this integrity, or a deletion nothing
+abbrev pub told : Option (List Hash) → Reply
+told (Some i) = Stored i
+told None = Done
+
 -- this entry is on its way, and so is this reply
 abbrev pub Inserts : Insertion → states.Insertion → Type 0
 Inserts i j =
-    (j.cache ≡ i.cache) × (j.entry.key ≡ string_bytes i.key) × (j.reply ≡ plain_reply i.reply)
+    (j.cache ≡ i.cache) × (j.entry.key ≡ string_bytes i.key) × (j.reply ≡ told i.integrity)
 
 abbrev pub target_of : Target → states.Target
 target_of t = record {
@@ -82,9 +89,12 @@ Hashes (hashings.Link hasher target) h bytes =
 
 -- what follows an errand; the path of the next step is kept
 abbrev pub ThenAt : {T : Type 0} → (T → PlainTemp) → Then T → State → Type 0
-ThenAt temp (thens.Create number c rest) s = s ≡ creating number (commit_of c) rest
+ThenAt temp (thens.Create c rest path) s =
+    (number : ℕ) × (path ≡ temp_path c.value.cache number)
+    × (s ≡ creating number (commit_of c.value) rest)
 ThenAt temp (thens.Persist c file path) s =
-    (path ≡ content_path c.cache c.computed) × (s ≡ persisting (commit_of c) (temp file))
+    (path ≡ content_path c.value.cache c.value.computed)
+    × (s ≡ persisting (commit_of c.value) (temp file))
 ThenAt temp (thens.Append i line path) s =
     (j : states.Insertion) × Inserts i j × (line ≡ bucket_line j)
     × (path ≡ bucket_path j.cache j.entry.key) × (s ≡ appending j)
@@ -92,30 +102,31 @@ ThenAt temp (thens.RemoveBucket content bucket) s =
     (cache : List ℕ) × (key : List ℕ) × (bucket ≡ bucket_path cache key)
     × (s ≡ remove_bucket cache key)
 ThenAt temp (thens.Symlink c target path) s =
-    (path ≡ content_path c.cache c.computed) × (s ≡ linking (commit_of c) target)
+    (path ≡ content_path c.value.cache c.value.computed)
+    × (s ≡ linking (commit_of c.value) target)
 ThenAt temp (thens.Finish last) s = s ≡ over Done
 
 -- the call is in this state while the stage's step is out
 abbrev pub StageAt : {T : Type 0} → (T → PlainTemp) → Stage T → State → Type 0
 StageAt temp (stages.Doing then) s =
     (errand : Errand) × (next : State) × ThenAt temp then next × (s ≡ doing errand next)
-StageAt temp (stages.Creating c rest) s = (number : ℕ) × (s ≡ creating number (commit_of c) rest)
-StageAt temp (stages.Writing c rest) s = (file : PlainTemp) × (s ≡ writing (commit_of c) file rest)
-StageAt temp (stages.Persisting c) s = (file : PlainTemp) × (s ≡ persisting (commit_of c) file)
-StageAt temp (stages.Confirming c target fault) s = s ≡ confirming (commit_of c) fault
+StageAt temp (stages.Creating c rest) s = (number : ℕ) × (s ≡ creating number (commit_of c.value) rest)
+StageAt temp (stages.Writing c rest) s = (file : PlainTemp) × (s ≡ writing (commit_of c.value) file rest)
+StageAt temp (stages.Persisting c) s = (file : PlainTemp) × (s ≡ persisting (commit_of c.value) file)
+StageAt temp (stages.Confirming c target fault) s = s ≡ confirming (commit_of c.value) fault
 StageAt temp (stages.Appending i size) s =
     (j : states.Insertion) × Inserts i j × (size ≡ length (bucket_line j)) × (s ≡ appending j)
 StageAt temp (stages.Looking l) s = s ≡ looking (lookup_of l)
 StageAt temp (stages.Reading k) s = s ≡ reading (content_of k)
 StageAt temp (stages.Asking k) s = s ≡ asking (content_of k)
-StageAt temp (stages.Sizing t) s = s ≡ sizing (target_of t)
+StageAt temp (stages.Sizing t) s = s ≡ sizing (target_of t.value)
 StageAt temp (stages.Opening h) s =
-    (purpose : states.Hashing) × Hashes h purpose [] × (s ≡ opening_file purpose)
+    (purpose : states.Hashing) × Hashes h.value purpose [] × (s ≡ opening_file purpose)
 StageAt temp (stages.Hashing h size) s =
-    (purpose : states.Hashing) × (bytes : List ℕ) × Hashes h purpose bytes
+    (purpose : states.Hashing) × (bytes : List ℕ) × Hashes h.value purpose bytes
     × (size ≡ length bytes) × (file : PlainFile) × (s ≡ hashing purpose file bytes)
 StageAt temp (stages.Copying from to verified) s = s ≡ copying from to verified
-StageAt temp (stages.Linking c target) s = s ≡ linking (commit_of c) target
+StageAt temp (stages.Linking c target) s = s ≡ linking (commit_of c.value) target
 StageAt temp (stages.Walking w v) s = WalksAt [] w (Some v) s
 
 -- ---- of a phase

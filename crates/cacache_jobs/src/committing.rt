@@ -7,9 +7,8 @@ ghost use Rattle.cacache_calls.specs.Storing.{persist};
 ghost use Rattle.cacache_calls.specs.declared.reply.Reply.TheVariants.{Refused};
 ghost use Rattle.cacache_jobs.specs.Standing.{commit_of};
 
-use crate::job::Job;
-use crate::run::drive;
-use crate::storing::{Commit, fill_place};
+use crate::run::finish;
+use crate::storing::{Commit, begin_commit};
 use cacache_base::env::Env;
 use cacache_base::store::Store;
 use cacache_calls::Reply;
@@ -29,7 +28,6 @@ pub fn commit_from<S: Store, C, N>(env: &mut Env<S, C, N>, commit: Commit, file:
     ensures names { env.new.names ≡ env.old.names }
     ensures base { env.new.base ≡ env.old.base }
 {
-    let phase = fill_place(env.alloc, commit, file);
-    let job = Job::at(env.alloc, phase);
-    drive(&mut env.store, job)
+    let phase = begin_commit(env.alloc, commit, file);
+    finish(&mut env.store, env.alloc, phase)
 }

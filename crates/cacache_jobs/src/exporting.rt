@@ -26,7 +26,7 @@ pub(crate) fn start<F: FileHandle, T: TempHandle>(
 {
     let from = content_path(alloc, content.cache.as_str(), &content.integrity)?;
     if export.checked {
-        return hashing::verify(content, from, export);
+        return hashing::verify(alloc, content, from, export);
     }
     export_from(export.how, from, export.to, None)
 }

@@ -46,6 +46,7 @@ impl Drop for Hashing {
 
 /// Opens the content at this path, to verify it for an export.
 pub(crate) fn verify<F: FileHandle, T: TempHandle>(
+    alloc: Global,
     content: Content,
     from: Text,
     export: Export,
@@ -55,17 +56,17 @@ pub(crate) fn verify<F: FileHandle, T: TempHandle>(
 {
     let path = from.clone()?;
     let checker = IntegrityChecker::new(content.integrity);
-    let stage = Stage::Opening(Hashing::Verify(checker, from, export));
-    Ok(Phase::Wanting(stage, Step::Open(path)))
+    let hashing = Box::new(alloc, Hashing::Verify(checker, from, export))?;
+    Ok(Phase::Wanting(Stage::Opening(hashing), Step::Open(path)))
 }
 
 /// After the file was to be opened.
 pub(crate) fn opened<F: FileHandle, T: TempHandle>(
     alloc: Global,
-    hashing: Hashing,
+    hashing: Box<Hashing>,
     file: Result<F, Refusal>,
 ) -> errors::Result<Phase<F, T>>
-    ensures { (h : Purpose) → Hashes hashing h []
+    ensures { (h : Purpose) → Hashes hashing.value h []
         → Leads F.seen T.seen result
         (go_on (seen_by F.seen file) fails (λ f. hashing_state h f [])) }
 {
@@ -129,16 +130,16 @@ impl Hashing {
 /// A piece of the file, after so many bytes; no bytes stand for the end.
 fn piece<F: FileHandle, T: TempHandle>(
     alloc: Global,
-    mut hashing: Hashing,
+    mut hashing: Box<Hashing>,
     size: usize,
     got: Got<F>,
 ) -> errors::Result<Phase<F, T>>
-    ensures { (h : Purpose) (bytes : List ℕ) → Hashes hashing h bytes → size ≡ length bytes
+    ensures { (h : Purpose) (bytes : List ℕ) → Hashes hashing.value h bytes → size ≡ length bytes
         → Leads F.seen T.seen result (after_read h bytes (got_as F.seen got)) }
 {
     let Got { file, bytes } = got;
     if bytes.is_empty() {
-        return hashing.end(alloc, size);
+        return Box::into_inner(hashing).end(alloc, size);
     }
     // a longer file has no size that could be told
     let Some(size) = size.checked_add(bytes.len()) else {
@@ -151,11 +152,11 @@ fn piece<F: FileHandle, T: TempHandle>(
 /// After a piece was to be read, so many bytes having been read before.
 pub(crate) fn read<F: FileHandle, T: TempHandle>(
     alloc: Global,
-    hashing: Hashing,
+    hashing: Box<Hashing>,
     size: usize,
     got: Result<Got<F>, Refusal>,
 ) -> errors::Result<Phase<F, T>>
-    ensures { (h : Purpose) (bytes : List ℕ) → Hashes hashing h bytes → size ≡ length bytes
+    ensures { (h : Purpose) (bytes : List ℕ) → Hashes hashing.value h bytes → size ≡ length bytes
         → Leads F.seen T.seen result
         (go_on (seen_by (got_as F.seen) got) fails (after_read h bytes)) }
 {

@@ -6,9 +6,9 @@ ghost use Rattle.cacache_calls.specs.Inserting.{insert as insert_of, insertion a
 ghost use Rattle.cacache_calls.specs.Places.{bucket_path};
 ghost use Rattle.cacache_calls.specs.State.{Insertion as Inserted, appending};
 ghost use Rattle.cacache_entry.specs.View.{entry_view};
-ghost use Rattle.cacache_calls.specs.Runs.{plain_reply, EndsAs};
+ghost use Rattle.cacache_calls.specs.Runs.{EndsAs};
 ghost use Rattle.cacache_jobs.specs.Entries.{entry_with, into_bucket};
-ghost use Rattle.cacache_jobs.specs.Standing.{Leads, PhaseAt, Inserts};
+ghost use Rattle.cacache_jobs.specs.Standing.{Leads, PhaseAt, Inserts, told};
 
 use crate::messages;
 use crate::phase::{Phase, refused};
@@ -29,7 +29,8 @@ use std::alloc::{AllocError, Global};
 pub struct Insertion {
     pub cache: Text,
     pub key: String,
-    pub reply: Reply,
+    /// What the call answers once the entry is there; None of a deletion, which answers nothing.
+    pub integrity: Option<Integrity>,
 }
 
 // Written out for the same reason as a commit's.
@@ -38,7 +39,7 @@ impl Drop for Insertion {
         let Insertion {
             cache: _cache,
             key: _key,
-            reply: _reply,
+            integrity: _integrity,
         } = self;
     }
 }
@@ -46,14 +47,17 @@ impl Drop for Insertion {
 impl Insertion {
     /// What the call answers once the entry is in its bucket.
     fn into_reply(self) -> Reply
-        ensures { result ≡ self.reply }
+        ensures { result ≡ told self.integrity }
     {
         let Insertion {
             cache: _cache,
             key: _key,
-            reply,
+            integrity,
         } = self;
-        reply
+        match integrity {
+            Some(integrity) => Reply::Stored(integrity),
+            None => Reply::Done,
+        }
     }
 }
 
@@ -91,9 +95,11 @@ pub(crate) fn entry_of(
     })
 }
 
-/// The line of an entry that can be written.
+/// The line of an entry that can be written, as its bucket has it.
+///
+/// `SerdeError` where the entry can't be written.
 #[tactic(auto, using(crate::proofs::Refusing::refusal_ends), unfolding(cacache_calls::specs::Inserting::bucket_line, cacache_calls::specs::Inserting::refused_cause))]
-fn line_of(alloc: Global, entry: &SerializableMetadata) -> errors::Result<Bytes>
+pub fn line_of(alloc: Global, entry: &SerializableMetadata) -> errors::Result<Bytes>
     ensures line { IfOk result (λ line. (j : Inserted) → j.entry ≡ entry_view entry.now
         → line ≡ bucket_line j) }
     ensures fits { OnOk result ((j : Inserted) → j.entry ≡ entry_view entry.now
@@ -134,14 +140,19 @@ pub(crate) fn insert<F: FileHandle, T: TempHandle>(
     alloc: Global,
     cache: Text,
     entry: SerializableMetadata,
-    reply: Reply,
+    integrity: Option<Integrity>,
 ) -> errors::Result<Phase<F, T>>
     ensures { (j : Inserted) → j.cache ≡ cache → j.entry ≡ entry_view entry
-        → j.reply ≡ plain_reply reply → Leads F.seen T.seen result (insert_of j) }
+        → j.reply ≡ told integrity → Leads F.seen T.seen result (insert_of j) }
 {
     let line = line_of(alloc, &entry)?;
     let key = key_of(entry);
-    make_bucket(alloc, Insertion { cache, key, reply }, line)
+    let insertion = Insertion {
+        cache,
+        key,
+        integrity,
+    };
+    make_bucket(alloc, insertion, line)
 }
 
 /// The bucket's folder is there: appends the line.
@@ -176,7 +187,8 @@ pub(crate) fn appended<F: FileHandle, T: TempHandle>(
         }
         Err(refusal) => refusal,
     };
-    Err(refused(refusal, messages::appending(alloc, &insertion)))
+    let message = messages::appending(alloc, insertion.cache.as_str(), insertion.key.as_str());
+    Err(refused(refusal, message))
 }
 
 /// The integrity that an insertion without one answers: `sha1-deadbeef`.
@@ -230,11 +242,11 @@ pub(crate) fn begin_insertion<F: FileHandle, T: TempHandle>(
     } = options;
     let cache = Text::from_str(alloc, cache)?;
     let text = text_of(alloc, &integrity)?;
-    let reply = Reply::Stored(answered(alloc, integrity)?);
+    let answered = answered(alloc, integrity)?;
     let size = size.unwrap_or(0);
     let key = key.into_string();
     let entry = entry_of(alloc, key, text, size, moment, metadata, raw_metadata)?;
-    insert(alloc, cache, entry, reply)
+    insert(alloc, cache, entry, Some(answered))
 }
 
 /// Where a deletion begins: its entry is a tombstone.
@@ -250,5 +262,5 @@ pub(crate) fn begin_deletion<F: FileHandle, T: TempHandle>(
     let Delete { key, moment } = delete;
     let key = key.into_string();
     let entry = entry_of(alloc, key, None, 0, moment, null, None)?;
-    insert(alloc, cache, entry, Reply::Done)
+    insert(alloc, cache, entry, None)
 }

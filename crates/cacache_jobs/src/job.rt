@@ -52,7 +52,10 @@ impl<F: Drop, T: Drop> Drop for Job<F, T> {
 }
 
 /// Where a call is that went on so: with an error it is over.
-fn settled<F: FileHandle, T: TempHandle>(phase: errors::Result<Phase<F, T>>) -> Phase<F, T>
+#[inline(always)]
+pub(crate) fn settled<F: FileHandle, T: TempHandle>(
+    phase: errors::Result<Phase<F, T>>,
+) -> Phase<F, T>
     ensures { (s : State) → Leads F.seen T.seen phase s → PhaseGoesTo F.seen T.seen result s }
 {
     match phase {
@@ -115,14 +118,16 @@ impl<F: FileHandle, T: TempHandle> Job<F, T> {
         }
     }
 
-    /// A call that is at this phase; with an error it is over.
-    pub(crate) fn at(alloc: Global, phase: errors::Result<Phase<F, T>>) -> Job<F, T>
-        ensures stands { (s : State) → Leads F.seen T.seen phase s
-            → GoesTo F.seen T.seen result s }
+    /// The phase that the call is at.
+    #[inline(always)]
+    pub(crate) fn into_phase(self) -> (Global, Phase<F, T>)
+        requires { IsTrue (can_go_on self) }
+        ensures { (s : State) → Stands F.seen T.seen self s → PhaseAt F.seen T.seen result.1 s }
     {
-        Job {
-            alloc,
-            standing: Standing::At(settled(phase)),
+        let Job { alloc, standing } = self;
+        match standing {
+            Standing::At(phase) => (alloc, phase),
+            Standing::Out(_) | Standing::Told => unreachable!(),
         }
     }
 

@@ -22,10 +22,11 @@ mod storing;
 mod walking;
 
 pub use committing::commit_from;
+pub use inserting::line_of;
 pub use job::{Job, Next};
 pub use linking::based;
 pub use phase::refused;
-pub use places::{bucket_path, content_path, temp_folder, temp_path};
+pub use places::{bucket_path, bucket_place, content_path, temp_folder, temp_path};
 pub use resuming::link_from;
 pub use run::{call, drive};
 pub use storing::Commit;

@@ -5,7 +5,7 @@ ghost use Rattle.cacache_calls.specs.Common.{go_on, fails};
 ghost use Rattle.cacache_calls.specs.Linking.{based as based_of, target_of as link_target, with_size as sized_target, after_size, commit_for};
 ghost use Rattle.cacache_calls.specs.Places.{content_path as content_path_of};
 ghost use Rattle.cacache_jobs.specs.Opening.{site_of};
-ghost use Rattle.cacache_calls.specs.State.{sizing, linking as linking_state};
+ghost use Rattle.cacache_calls.specs.State.{sizing, opening_file, to_link, linking as linking_state};
 ghost use Rattle.cacache_calls.specs.Storing.{link as link_of};
 ghost use Rattle.cacache_jobs.specs.Standing.{Leads, commit_of, target_of};
 
@@ -120,6 +120,7 @@ pub(crate) fn link<F: FileHandle, T: TempHandle>(
 {
     let place = content_place(alloc, commit.cache.as_str(), &commit.computed)?;
     let Place { folder, path } = place;
+    let commit = Box::new(alloc, commit)?;
     let stage = Stage::Doing(Then::Symlink(commit, target, path));
     Ok(Phase::Wanting(stage, Step::MakeDirs(folder)))
 }
@@ -161,37 +162,45 @@ pub(crate) fn start<F: FileHandle, T: TempHandle>(
         moment,
         options,
     };
+    let target = Box::new(alloc, target)?;
     Ok(Phase::Wanting(Stage::Sizing(target), Step::Size(asked)))
+}
+
+/// Opens the target, to hash it.
+fn open_target<F: FileHandle, T: TempHandle>(
+    alloc: Global,
+    target: Target,
+) -> errors::Result<Phase<F, T>>
+    ensures { Leads F.seen T.seen result (opening_file (to_link (target_of target))) }
+{
+    let path = target.path.clone()?;
+    let hasher = Hasher::new(target.options.algorithm);
+    let hashing = Box::new(alloc, Hashing::Link(hasher, target))?;
+    Ok(Phase::Wanting(Stage::Opening(hashing), Step::Open(path)))
 }
 
 /// After the target's size was to be told: the target is opened, to be hashed.
 pub(crate) fn sized<F: FileHandle, T: TempHandle>(
     alloc: Global,
-    target: Target,
+    target: Box<Target>,
     size: Result<u64, Refusal>,
 ) -> errors::Result<Phase<F, T>>
-    ensures { Leads F.seen T.seen result (go_on size fails (after_size (target_of target))) }
+    ensures { Leads F.seen T.seen result (go_on size fails (after_size (target_of target.value))) }
 {
     match size {
-        Ok(size) => {
-            let path = target.path.clone()?;
-            let target = target.with_size(size as usize);
-            let hasher = Hasher::new(target.options.algorithm);
-            let stage = Stage::Opening(Hashing::Link(hasher, target));
-            Ok(Phase::Wanting(stage, Step::Open(path)))
-        }
+        Ok(size) => open_target(alloc, Box::into_inner(target).with_size(size as usize)),
         Err(refusal) => Err(refused(refusal, messages::sizing(alloc, &target.path))),
     }
 }
 
 /// The content's folder is there: makes the link to the target at the content's path.
 pub(crate) fn symlink<F: FileHandle, T: TempHandle>(
-    commit: Commit,
+    commit: Box<Commit>,
     target: Text,
     path: Text,
 ) -> errors::Result<Phase<F, T>>
-    ensures { path ≡ content_path_of commit.cache commit.computed
-        → Leads F.seen T.seen result (linking_state (commit_of commit) target) }
+    ensures { path ≡ content_path_of commit.value.cache commit.value.computed
+        → Leads F.seen T.seen result (linking_state (commit_of commit.value) target) }
 {
     let named = target.clone()?;
     Ok(Phase::Wanting(Stage::Linking(commit, named), Step::Symlink(target, path)))

@@ -1,6 +1,5 @@
 //! What a call says where a step failed. No contract speaks of these texts; tests show them.
 use crate::hashing::Hashing;
-use crate::inserting::Insertion;
 use crate::places::{bucket_path, bucket_place, content_path, content_place, temp_folder};
 use crate::reading::Content;
 use crate::stage::Last;
@@ -59,14 +58,16 @@ pub(crate) fn arriving(
     Ok(Text::new(message))
 }
 
-pub(crate) fn making_bucket(alloc: Global, insertion: &Insertion) -> Result<Text, AllocError> {
-    let place = bucket_place(alloc, insertion.cache.as_str(), insertion.key.as_str())?;
+/// The folder of a key's bucket wasn't made.
+pub fn making_bucket(alloc: Global, cache: &str, key: &str) -> Result<Text, AllocError> {
+    let place = bucket_place(alloc, cache, key)?;
     let folder = &place.folder;
     Ok(Text::new(format!(in alloc; "Failed to create index bucket directory: {folder:?}")?))
 }
 
-pub(crate) fn appending(alloc: Global, insertion: &Insertion) -> Result<Text, AllocError> {
-    let bucket = bucket_path(alloc, insertion.cache.as_str(), insertion.key.as_str())?;
+/// A line wasn't appended to the bucket of a key, or not whole.
+pub fn appending(alloc: Global, cache: &str, key: &str) -> Result<Text, AllocError> {
+    let bucket = bucket_path(alloc, cache, key)?;
     Ok(Text::new(format!(in alloc; "Failed to write to index bucket at {bucket:?}")?))
 }
 

@@ -20,8 +20,16 @@ pub fn temp_folder(alloc: Global, cache: &str) -> Result<Text, AllocError>
 pub fn temp_path(alloc: Global, cache: &str, number: u64) -> Result<Text, AllocError>
     ensures { IfOk result (λ path. path ≡ temp_path_of cache.now number) }
 {
-    let Place { folder: _, path } = paths::temp_place(alloc, cache, number)?;
-    Ok(path)
+    Ok(temp_place(alloc, cache, number)?.path)
+}
+
+/// The same with its folder.
+#[tactic(auto, unfolding(cacache_calls::specs::Places::temp_path, cacache_calls::specs::Places::temp_folder))]
+pub(crate) fn temp_place(alloc: Global, cache: &str, number: u64) -> Result<Place, AllocError>
+    ensures folder { IfOk result (λ place. place.folder ≡ temp_folder_of cache.now) }
+    ensures path { IfOk result (λ place. place.path ≡ temp_path_of cache.now number) }
+{
+    paths::temp_place(alloc, cache, number)
 }
 
 /// The path of an integrity's content.
@@ -58,7 +66,7 @@ pub fn bucket_path(alloc: Global, cache: &str, key: &str) -> Result<Text, AllocE
 
 /// The same with its folder.
 #[tactic(auto, unfolding(cacache_calls::specs::Places::bucket_path, cacache_calls::specs::Places::bucket_folder))]
-pub(crate) fn bucket_place(alloc: Global, cache: &str, key: &str) -> Result<Place, AllocError>
+pub fn bucket_place(alloc: Global, cache: &str, key: &str) -> Result<Place, AllocError>
     ensures folder { IfOk result (λ place. place.folder ≡ bucket_folder_of cache.now key.now) }
     ensures path { IfOk result (λ place. place.path ≡ bucket_path_of cache.now key.now) }
 {

@@ -7,9 +7,8 @@ ghost use Rattle.cacache_calls.specs.Storing.{link as link_of};
 ghost use Rattle.cacache_calls.specs.declared.reply.Reply.TheVariants.{Refused};
 ghost use Rattle.cacache_jobs.specs.Standing.{commit_of};
 
-use crate::job::Job;
 use crate::linking::link;
-use crate::run::drive;
+use crate::run::finish;
 use crate::storing::Commit;
 use cacache_base::env::Env;
 use cacache_base::store::Store;
@@ -32,6 +31,5 @@ pub fn link_from<S: Store, C, N>(env: &mut Env<S, C, N>, commit: Commit, target:
     ensures base { env.new.base ≡ env.old.base }
 {
     let phase = link(env.alloc, commit, target);
-    let job = Job::at(env.alloc, phase);
-    drive(&mut env.store, job)
+    finish(&mut env.store, env.alloc, phase)
 }

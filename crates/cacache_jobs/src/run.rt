@@ -9,30 +9,59 @@ ghost use Rattle.cacache_calls.specs.declared.reply.Reply.TheVariants.{Refused};
 ghost use Rattle.cacache_jobs.specs.Found.{FindsBytes, ReadsFirst};
 ghost use Rattle.cacache_jobs.specs.Jobs.{Stands};
 ghost use Rattle.cacache_jobs.specs.Opening.{site_of};
+ghost use Rattle.cacache_jobs.specs.Standing.{Leads, PhaseAt};
 
-use crate::job::{Job, Next};
+use crate::job::{Job, settled};
+use crate::opening::open;
+use crate::phase::Phase;
 use cacache_base::env::Env;
 use cacache_base::store::Store;
 use cacache_calls::{Command, Reply};
+use cacache_core::errors;
+use std::alloc::Global;
+
+/// Does the steps of a call from this phase on, until it is over.
+#[inline(always)]
+fn go_on<S: Store>(store: &mut S, alloc: Global, phase: Phase<S::File, S::Temp>) -> Reply
+    requires { (s : State) × PhaseAt S.File.seen S.Temp.seen phase s }
+    ensures { (s : State) → PhaseAt S.File.seen S.Temp.seen phase s
+        → Ran s (plain_reply result) (S.log store.old) (S.log store.new) }
+{
+    let mut phase = phase;
+    'steps: loop {
+        match phase {
+            Phase::Over(reply) => return reply,
+            Phase::Wanting(stage, step) => {
+                let answer = store.step(step);
+                phase = settled(stage.resume(alloc, answer));
+            }
+        }
+    }
+}
+
+/// The same of a call that began so; with an error it is over.
+#[inline(always)]
+pub(crate) fn finish<S: Store>(
+    store: &mut S,
+    alloc: Global,
+    phase: errors::Result<Phase<S::File, S::Temp>>,
+) -> Reply
+    requires { (s : State) × Leads S.File.seen S.Temp.seen phase s }
+    ensures { (s : State) → Leads S.File.seen S.Temp.seen phase s
+        → Ran s (plain_reply result) (S.log store.old) (S.log store.new) }
+{
+    go_on(store, alloc, settled(phase))
+}
 
 /// Does the steps of a call until it is over. The reply is that of a run of the call, and where the store keeps its
 /// log, that run is what the log gained.
-#[inline(always)]
 pub fn drive<S: Store>(store: &mut S, job: Job<S::File, S::Temp>) -> Reply
     requires { (s : State) × Stands S.File.seen S.Temp.seen job s }
     ensures { (s : State) → Stands S.File.seen S.Temp.seen job s
         → Ran s (plain_reply result) (S.log store.old) (S.log store.new) }
 {
-    let mut job = job;
-    'steps: loop {
-        match job.next() {
-            Next::Over(reply) => return reply,
-            Next::Step(step) => {
-                let answer = store.step(step);
-                job.take(answer);
-            }
-        }
-    }
+    let (alloc, phase) = job.into_phase();
+    go_on(store, alloc, phase)
 }
 
 /// Makes a call on a cache from its beginning to its end. The reply is that of a run of the call, and where the store
@@ -61,6 +90,6 @@ pub fn call<S: Store, C, N>(
     ensures names { env.new.names ≡ env.old.names }
     ensures base { env.new.base ≡ env.old.base }
 {
-    let job = Job::new(env.alloc, cache, env.base.as_str(), command, number);
-    drive(&mut env.store, job)
+    let phase = open(env.alloc, cache, env.base.as_str(), number, command);
+    finish(&mut env.store, env.alloc, phase)
 }

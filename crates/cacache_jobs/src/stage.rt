@@ -37,18 +37,19 @@ pub enum Last {
     HardLink(Text, Text),
 }
 
-/// What a call does once its errand is done: a folder was made, or a file removed.
+/// What a call does once its errand is done: a folder was made, or a file removed. It moves with every step, so what is
+/// large is boxed.
 pub enum Then<T> {
-    /// Makes the temporary file of this number; the bytes are still to write.
-    Create(u64, Commit, Bytes),
+    /// Makes the temporary file at this path; the bytes are still to write.
+    Create(Box<Commit>, Bytes, Text),
     /// Moves the temporary file to the content's path.
-    Persist(Commit, T, Text),
+    Persist(Box<Commit>, T, Text),
     /// Appends the line to the bucket at this path.
     Append(Insertion, Bytes, Text),
     /// The content at the first path is removed; removes the bucket at the second.
     RemoveBucket(Text, Text),
     /// Makes the link to the target of the first path at the second, which is the content's.
-    Symlink(Commit, Text, Text),
+    Symlink(Box<Commit>, Text, Text),
     /// The call is over.
     Finish(Last),
 }
@@ -58,7 +59,7 @@ pub enum Then<T> {
 impl<T: Drop> Drop for Then<T> {
     fn drop(self) {
         match self {
-            Then::Create(_, _commit, _rest) => {}
+            Then::Create(_commit, _rest, _path) => {}
             Then::Persist(_commit, _file, _path) => {}
             Then::Append(_insertion, _line, _path) => {}
             Then::RemoveBucket(_content, _bucket) => {}
@@ -72,9 +73,11 @@ impl<T: TempHandle> Then<T> {
     /// Why the errand before this one failed, in words.
     fn message(&self, alloc: Global) -> Result<Text, AllocError> {
         match self {
-            Then::Create(_, commit, _) => messages::making_temps(alloc, commit.cache.as_str()),
+            Then::Create(commit, _, _) => messages::making_temps(alloc, commit.cache.as_str()),
             Then::Persist(commit, _, _) => messages::making_contents(alloc, commit),
-            Then::Append(insertion, _, _) => messages::making_bucket(alloc, insertion),
+            Then::Append(insertion, _, _) => {
+                messages::making_bucket(alloc, insertion.cache.as_str(), insertion.key.as_str())
+            }
             Then::RemoveBucket(content, _) => messages::removing_content(alloc, content),
             Then::Symlink(commit, _, _) => messages::making_links(alloc, commit),
             Then::Finish(last) => messages::finishing(alloc, last),
@@ -86,7 +89,7 @@ impl<T: TempHandle> Then<T> {
         ensures { (next : State) → ThenAt T.seen self next → Leads F.seen T.seen result next }
     {
         match self {
-            Then::Create(number, commit, rest) => storing::create(alloc, number, commit, rest),
+            Then::Create(commit, rest, path) => Ok(storing::create(commit, rest, path)),
             Then::Persist(commit, file, path) => Ok(storing::persist(commit, file, path)),
             Then::Append(insertion, line, path) => Ok(inserting::append(insertion, line, path)),
             Then::RemoveBucket(_content, bucket) => removing::remove_bucket(bucket),
@@ -112,17 +115,18 @@ impl<T: TempHandle> Then<T> {
 }
 
 /// How far a call is: what it does now, and what it needs after that. A temporary file is here while no step carries it.
+/// It moves with every step, so what is large is boxed.
 pub enum Stage<T> {
     /// A folder is made, or a file removed.
     Doing(Then<T>),
     /// The temporary file is made; the bytes are still to write.
-    Creating(Commit, Bytes),
+    Creating(Box<Commit>, Bytes),
     /// These bytes are written.
-    Writing(Commit, Bytes),
+    Writing(Box<Commit>, Bytes),
     /// The temporary file becomes the content.
-    Persisting(Commit),
+    Persisting(Box<Commit>),
     /// That, or the link to this target, failed so; a content that is there all the same will do.
-    Confirming(Commit, Option<Text>, Fault),
+    Confirming(Box<Commit>, Option<Text>, Fault),
     /// The line, of this size, is appended.
     Appending(Insertion, usize),
     /// The bucket is read.
@@ -132,15 +136,15 @@ pub enum Stage<T> {
     /// The store is asked whether the content is there.
     Asking(Content),
     /// The size of the target is asked.
-    Sizing(Target),
+    Sizing(Box<Target>),
     /// The file is opened.
-    Opening(Hashing),
+    Opening(Box<Hashing>),
     /// A piece of the file is read, after so many bytes.
-    Hashing(Hashing, usize),
+    Hashing(Box<Hashing>, usize),
     /// The content at the first path is copied to the second; so many bytes were verified, if any.
     Copying(Text, Text, Option<u64>),
     /// A link to the target becomes the content.
-    Linking(Commit, Text),
+    Linking(Box<Commit>, Text),
     /// A walk does this.
     Walking(Walk, Visit),
 }

@@ -1,9 +1,9 @@
 //! How a commit goes on: its bytes become a content, what was said of it is compared, and with a key its entry follows.
-ghost use Rattle.std.specs.Prelude.{◌≡◌, IfOk, IfErr, drop};
+ghost use Rattle.std.specs.Prelude.{◌≡◌, ℕ, IfOk, IfErr, drop};
 ghost use Rattle.cacache_core.specs.Integrity.{integrity_under};
 ghost use Rattle.cacache_core.specs.declared.errors.Error.TheVariants.{OutOfMemory};
 ghost use Rattle.cacache_calls.specs.Common.{go_on, fails};
-ghost use Rattle.cacache_calls.specs.Places.{content_path as content_path_of};
+ghost use Rattle.cacache_calls.specs.Places.{content_path as content_path_of, temp_path as temp_path_of};
 ghost use Rattle.cacache_calls.specs.State.{Site, creating, persisting, confirming};
 ghost use Rattle.cacache_calls.specs.Storing.{persist as persist_of, write_rest as write_rest_of, placed as placed_of, indexed, after_write, after_confirm, commit_of as put_commit, store as store_of};
 ghost use Rattle.cacache_calls.specs.Seen.{seen_by, written_as};
@@ -13,7 +13,7 @@ use crate::comparing::{compare_integrity, compare_size};
 use crate::inserting::{entry_of, insert};
 use crate::messages;
 use crate::phase::{Phase, refused};
-use crate::places::{content_path, content_place, temp_folder, temp_path};
+use crate::places::{content_path, content_place, temp_place};
 use crate::stage::{Stage, Then};
 use cacache_base::store::{FileHandle, Step, TempHandle};
 use cacache_calls::answers::Written;
@@ -64,8 +64,8 @@ fn computed_of(alloc: Global, algorithm: Algorithm, bytes: &[u8]) -> errors::Res
 }
 
 /// The commit of a put, with its bytes; its integrity is known before its first step.
-fn commit_of(alloc: Global, cache: &str, put: Put) -> errors::Result<(Commit, Bytes)>
-    ensures commit { IfOk result (λ r. commit_of r.0 ≡ put_commit cache.now put) }
+fn commit_of(alloc: Global, cache: &str, put: Put) -> errors::Result<(Box<Commit>, Bytes)>
+    ensures commit { IfOk result (λ r. commit_of r.0.value ≡ put_commit cache.now put) }
     ensures bytes { IfOk result (λ r. r.1 ≡ put.data) }
     ensures err { IfErr result (λ e. e ≡ OutOfMemory) }
 {
@@ -86,7 +86,7 @@ fn commit_of(alloc: Global, cache: &str, put: Put) -> errors::Result<(Commit, By
         moment,
         options,
     };
-    Ok((commit, data))
+    Ok((Box::new(alloc, commit)?, data))
 }
 
 /// Where a put begins.
@@ -99,34 +99,33 @@ pub(crate) fn store<F: FileHandle, T: TempHandle>(
     ensures { (site : Site) → site.cache ≡ cache.now → site.number ≡ number
         → Leads F.seen T.seen result (store_of site put) }
 {
-    let folder = temp_folder(alloc, cache)?;
+    let Place { folder, path } = temp_place(alloc, cache, number)?;
     let (commit, data) = commit_of(alloc, cache, put)?;
     Ok(Phase::Wanting(
-        Stage::Doing(Then::Create(number, commit, data)),
+        Stage::Doing(Then::Create(commit, data, path)),
         Step::MakeDirs(folder),
     ))
 }
 
-/// The folder of temporary files is there: makes the file.
+/// The folder of temporary files is there: makes the file at this path.
 pub(crate) fn create<F: FileHandle, T: TempHandle>(
-    alloc: Global,
-    number: u64,
-    commit: Commit,
+    commit: Box<Commit>,
     rest: Bytes,
-) -> errors::Result<Phase<F, T>>
-    ensures { Leads F.seen T.seen result (creating number (commit_of commit) rest) }
+    path: Text,
+) -> Phase<F, T>
+    ensures { (number : ℕ) → path ≡ temp_path_of commit.value.cache number
+        → PhaseAt F.seen T.seen result (creating number (commit_of commit.value) rest) }
 {
-    let path = temp_path(alloc, commit.cache.as_str(), number)?;
-    Ok(Phase::Wanting(Stage::Creating(commit, rest), Step::CreateTemp(path)))
+    Phase::Wanting(Stage::Creating(commit, rest), Step::CreateTemp(path))
 }
 
 /// The temporary file has all its bytes: makes the content's folder.
-pub(crate) fn fill_place<F: FileHandle, T: TempHandle>(
+fn fill_place<F: FileHandle, T: TempHandle>(
     alloc: Global,
-    commit: Commit,
+    commit: Box<Commit>,
     file: T,
 ) -> errors::Result<Phase<F, T>>
-    ensures { Leads F.seen T.seen result (persist_of (commit_of commit) (T.seen file)) }
+    ensures { Leads F.seen T.seen result (persist_of (commit_of commit.value) (T.seen file)) }
 {
     let place = content_place(alloc, commit.cache.as_str(), &commit.computed)?;
     let Place { folder, path } = place;
@@ -136,14 +135,25 @@ pub(crate) fn fill_place<F: FileHandle, T: TempHandle>(
     ))
 }
 
-/// Writes what is left of the bytes, or goes on to the content's folder.
-fn write_rest<F: FileHandle, T: TempHandle>(
+/// The same of a commit that isn't on its way yet.
+pub(crate) fn begin_commit<F: FileHandle, T: TempHandle>(
     alloc: Global,
     commit: Commit,
     file: T,
+) -> errors::Result<Phase<F, T>>
+    ensures { Leads F.seen T.seen result (persist_of (commit_of commit) (T.seen file)) }
+{
+    fill_place(alloc, Box::new(alloc, commit)?, file)
+}
+
+/// Writes what is left of the bytes, or goes on to the content's folder.
+fn write_rest<F: FileHandle, T: TempHandle>(
+    alloc: Global,
+    commit: Box<Commit>,
+    file: T,
     rest: Bytes,
 ) -> errors::Result<Phase<F, T>>
-    ensures { Leads F.seen T.seen result (write_rest_of (commit_of commit) (T.seen file) rest) }
+    ensures { Leads F.seen T.seen result (write_rest_of (commit_of commit.value) (T.seen file) rest) }
 {
     if rest.is_empty() {
         return fill_place(alloc, commit, file);
@@ -155,12 +165,12 @@ fn write_rest<F: FileHandle, T: TempHandle>(
 /// After the temporary file was to be made.
 pub(crate) fn created<F: FileHandle, T: TempHandle>(
     alloc: Global,
-    commit: Commit,
+    commit: Box<Commit>,
     rest: Bytes,
     temp: Result<T, Refusal>,
 ) -> errors::Result<Phase<F, T>>
     ensures { Leads F.seen T.seen result
-        (go_on (seen_by T.seen temp) fails (λ file. write_rest_of (commit_of commit) file rest)) }
+        (go_on (seen_by T.seen temp) fails (λ file. write_rest_of (commit_of commit.value) file rest)) }
 {
     match temp {
         Ok(file) => write_rest(alloc, commit, file, rest),
@@ -183,12 +193,12 @@ fn left_after(bytes: Bytes, count: usize) -> Bytes
 /// After these bytes were to be written.
 pub(crate) fn written<F: FileHandle, T: TempHandle>(
     alloc: Global,
-    commit: Commit,
+    commit: Box<Commit>,
     rest: Bytes,
     written: Result<Written<T>, Refusal>,
 ) -> errors::Result<Phase<F, T>>
     ensures { Leads F.seen T.seen result
-        (go_on (seen_by (written_as T.seen) written) fails (after_write (commit_of commit) rest)) }
+        (go_on (seen_by (written_as T.seen) written) fails (after_write (commit_of commit.value) rest)) }
 {
     let refusal = match written {
         Ok(Written { file, count }) => {
@@ -204,12 +214,12 @@ pub(crate) fn written<F: FileHandle, T: TempHandle>(
 
 /// The content's folder is there: moves the temporary file to the content's path.
 pub(crate) fn persist<F: FileHandle, T: TempHandle>(
-    commit: Commit,
+    commit: Box<Commit>,
     file: T,
     path: Text,
 ) -> Phase<F, T>
-    ensures { path ≡ content_path_of commit.cache commit.computed
-        → PhaseAt F.seen T.seen result (persisting (commit_of commit) (T.seen file)) }
+    ensures { path ≡ content_path_of commit.value.cache commit.value.computed
+        → PhaseAt F.seen T.seen result (persisting (commit_of commit.value) (T.seen file)) }
 {
     Phase::Wanting(Stage::Persisting(commit), Step::Persist(file, path))
 }
@@ -217,12 +227,12 @@ pub(crate) fn persist<F: FileHandle, T: TempHandle>(
 /// After the content was to arrive at its place: the temporary file itself, or a link to the target.
 pub(crate) fn arrived<F: FileHandle, T: TempHandle>(
     alloc: Global,
-    commit: Commit,
+    commit: Box<Commit>,
     target: Option<Text>,
     done: Result<(), Refusal>,
 ) -> errors::Result<Phase<F, T>>
     ensures { Leads F.seen T.seen result
-        (go_on done (confirming (commit_of commit)) (λ _. placed_of (commit_of commit))) }
+        (go_on done (confirming (commit_of commit.value)) (λ _. placed_of (commit_of commit.value))) }
 {
     match done {
         Ok(()) => placed(alloc, commit),
@@ -237,13 +247,13 @@ pub(crate) fn arrived<F: FileHandle, T: TempHandle>(
 /// After the store was asked whether the content is there all the same; without a yes, the first fault is answered.
 pub(crate) fn confirmed<F: FileHandle, T: TempHandle>(
     alloc: Global,
-    commit: Commit,
+    commit: Box<Commit>,
     target: Option<Text>,
     fault: Fault,
     there: Result<bool, Refusal>,
 ) -> errors::Result<Phase<F, T>>
     ensures { Leads F.seen T.seen result
-        (go_on there (λ _. fails fault) (after_confirm (commit_of commit) fault)) }
+        (go_on there (λ _. fails fault) (after_confirm (commit_of commit.value) fault)) }
 {
     let refusal = match there {
         Ok(true) => return placed(alloc, commit),
@@ -281,18 +291,18 @@ impl Commit {
         let text = Some(integrity.to_string(alloc)?);
         let key = key.into_string();
         let entry = entry_of(alloc, key, text, count, moment, metadata, raw_metadata)?;
-        insert(alloc, cache, entry, Reply::Stored(integrity))
+        insert(alloc, cache, entry, Some(integrity))
     }
 }
 
 /// The content is at its place: what was said of it is compared, the integrity first.
 pub(crate) fn placed<F: FileHandle, T: TempHandle>(
     alloc: Global,
-    commit: Commit,
+    commit: Box<Commit>,
 ) -> errors::Result<Phase<F, T>>
-    ensures { Leads F.seen T.seen result (placed_of (commit_of commit)) }
+    ensures { Leads F.seen T.seen result (placed_of (commit_of commit.value)) }
 {
     compare_integrity(&commit)?;
     compare_size(&commit)?;
-    commit.index(alloc)
+    Box::into_inner(commit).index(alloc)
 }

@@ -1,3 +1,4 @@
+mod Appending
 mod Finding
 mod Links
 mod Linkers

@@ -63,7 +63,7 @@ pub step_on : (s u v : State) (a : PlainStep) (t : PlainAnswer) (old mid new : O
 step_on s u v a t old mid new gone w fits logs told is = rw (← is) (gone_on s u old mid new a t gone w fits logs told)
 
 -- a call that ends so is refused with its error, whatever was lost
-refused_so : (s u : State) (e : Error) (old new : Option (List LogItem)) → Gone s u old new → EndsAs e u → Ran s (Refused (without_message e)) old new
+pub refused_so : (s u : State) (e : Error) (old new : Option (List LogItem)) → Gone s u old new → EndsAs e u → Ran s (Refused (without_message e)) old new
 refused_so s u e old new gone (inl is) = gone_over s old new (Refused (without_message e)) (rw (← is) gone)
 refused_so s u e old new gone (inr is) = rw is (gone_lost s u old new gone)
 
@@ -92,11 +92,11 @@ nothing_ran s log = ([], inr refl, no_gain log)
 
 -- ---- what an answer brought
 
-go_refused : {X : Type 0} (a : Result X Refusal) (refusal : Refusal) (next : X → State) → Err refusal ≡ a → go_on a fails next ≡ refuse refusal fails
+pub go_refused : {X : Type 0} (a : Result X Refusal) (refusal : Refusal) (next : X → State) → Err refusal ≡ a → go_on a fails next ≡ refuse refusal fails
 go_refused (Ok x) refusal next e = absurd cc
 go_refused (Err r) refusal next e = let same : refusal ≡ r = cc in rw same refl
 
-go_gave : {X : Type 0} (a : Result X Refusal) (x : X) (next : X → State) → Ok x ≡ a → go_on a fails next ≡ next x
+pub go_gave : {X : Type 0} (a : Result X Refusal) (x : X) (next : X → State) → Ok x ≡ a → go_on a fails next ≡ next x
 go_gave (Ok y) x next e = let same : x ≡ y = cc in rw same refl
 go_gave (Err r) x next e = absurd cc
 

@@ -1,3 +1,4 @@
+pub mod Reaching
 pub mod Options
 pub mod Replies
 pub mod Writes

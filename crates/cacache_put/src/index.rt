@@ -1,26 +1,28 @@
 //! Calls on the index: entries are inserted, found and deleted.
-ghost use Rattle.std.specs.Prelude.{◌≡◌, None, IfOk};
+ghost use Rattle.std.specs.Prelude.{◌≡◌, ℕ, List, None, IfOk};
 ghost use Rattle.cacache_calls.specs.declared.command.Command.TheVariants as commands;
 ghost use Rattle.cacache_calls.specs.declared.reply.Reply.TheVariants.{Stored};
-ghost use Rattle.cacache_calls.specs.Inserting.{given_or, no_integrity};
+ghost use Rattle.cacache_calls.specs.Inserting.{given_or, no_integrity, deletion};
 ghost use Rattle.cacache_calls.specs.Runs.{reply_of};
+ghost use Rattle.cacache_entry.specs.View.{entry_view};
 ghost use Rattle.cacache_put.specs.Replies.{done as says_done, looked_up, IsShown};
 ghost use Rattle.cacache_put.specs.Writes.{Calls, RunsTimed, insert_of, delete_of};
 
+use crate::adding::add;
 use crate::moment::moment;
 use crate::opts::WriteOpts;
-use crate::replies::done;
 use cacache_base::env::{Clock, Env, Names};
 use cacache_base::store::{Step, Store};
 use cacache_calls::answers::bytes_of;
-use cacache_calls::{Command, Delete, Insert, Refusal, Reply};
+use cacache_calls::{Command, Insert, Refusal, Reply};
 use cacache_core::bytes::Bytes;
 use cacache_core::errors::{self, Error, Fault};
 use cacache_core::integrity::Integrity;
 use cacache_core::text::Text;
-use cacache_entry::{Metadata, latest};
+use cacache_entry::{Metadata, SerializableMetadata, latest};
 use cacache_jobs::{bucket_path, call, messages, refused};
-use std::alloc::Global;
+use serde_json::Value;
+use std::alloc::{AllocError, Global};
 
 /// Makes the call of an insertion.
 fn inserted<S: Store, C, N>(
@@ -102,8 +104,27 @@ pub fn find<S: Store, C: Clock, N: Names>(
     found(env.alloc, cache, key, bytes)
 }
 
+/// The entry that says that the key was deleted.
+fn tombstone(
+    alloc: Global,
+    key: &str,
+    moment: u128,
+) -> std::result::Result<SerializableMetadata, AllocError>
+    ensures { IfOk result (λ entry. (cache : List ℕ)
+        → (deletion cache (delete_of key.now moment)).entry ≡ entry_view entry) }
+{
+    Ok(SerializableMetadata {
+        key: String::from_str(alloc, key)?,
+        integrity: None,
+        time: moment,
+        size: 0,
+        metadata: Value::Null,
+        raw_metadata: None,
+    })
+}
+
 /// Adds a tombstone, which says that the key was deleted; the content stays. Its moment is the clock's, which is asked
-/// once, before the first step.
+/// once, before the first step. It is two steps, which take no job.
 ///
 /// Errors are those of `insert`.
 pub fn delete<S: Store, C: Clock, N: Names>(
@@ -115,6 +136,6 @@ pub fn delete<S: Store, C: Clock, N: Names>(
         (λ moment. commands.Delete (delete_of key.now moment)) (reply_of says_done result) }
 {
     let moment = moment(&mut env.clock, None);
-    let key = Text::from_str(env.alloc, key)?;
-    done(env, cache, Command::Delete(Delete { key, moment }))
+    let tombstone = tombstone(env.alloc, key, moment)?;
+    add(&mut env.store, env.alloc, cache, &tombstone)
 }

@@ -1,6 +1,7 @@
 //! Calls that write: bytes and links into a cache, entries into its index, and removals.
 #![tactic(auto)]
 
+mod adding;
 pub mod index;
 mod linked;
 pub mod linker;

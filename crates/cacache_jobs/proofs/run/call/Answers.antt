@@ -1,20 +1,20 @@
 use Rattle.std.proofs.Common.{◌≡◌}
-use Rattle.cacache_calls.specs.Runs.{plain_reply}
 use Rattle.cacache_calls.specs.State.{Site}
+use Rattle.cacache_calls.specs.Table.{opening}
 use Rattle.cacache_calls.proofs.Promises.{calls_answer}
 use Rattle.cacache_jobs.specs.Opening.{site_of}
-use Rattle.cacache_jobs.proofs.Running.{memory_lost, ran_from, turn_stands}
+use Rattle.cacache_jobs.proofs.Running.{memory_lost}
 use Rattle.cacache_jobs.proofs.Calling.{finds_bytes, reads_first}
 use Rattle.cacache_jobs.proofs.run.call.Goals as goal
 
-pub drive-requires : goal.drive-requires
-drive-requires g c = turn_stands g.S.File.FileHandle.seen g.S.Temp.TempHandle.seen c.new-job.result.standing _ c.new-job.ensures.opens
+pub finish-requires : goal.finish-requires
+finish-requires g c = (opening (site_of c.args.cache.now c.as_str.result.now c.args.number) c.args.command, c.open-phase.ensures)
 
 pub returns-clause-ran : goal.returns-clause-ran
 returns-clause-ran g c =
     let is : c.as_str.result.now ≡ c.args.env.now.base = c.as_str.ensures.same in
-    let opens = rw is at c.new-job.ensures.opens in
-    ran_from g.S.File.FileHandle.seen g.S.Temp.TempHandle.seen c.new-job.result.standing _ (plain_reply c.drive.result) _ _ opens c.drive.ensures
+    let site : Site = site_of c.args.cache.now c.args.env.now.base c.args.number in
+    c.finish.ensures (opening site c.args.command) (rw is at c.open-phase.ensures)
 
 pub returns-clause-found : goal.returns-clause-found
 returns-clause-found g c =

@@ -1,0 +1,17 @@
+use Rattle.cacache_calls.specs.State.{State}
+use Rattle.cacache_jobs.specs.Standing.{PhaseAt}
+use Rattle.cacache_jobs.specs.Effort.{phase_effort}
+use Rattle.cacache_jobs.proofs.Running.{Reached}
+use Rattle.cacache_jobs.proofs.run.go_on.Given as goal
+
+abbrev pub invariant-steps : goal.invariant-steps
+invariant-steps g l =
+    let file = g.S.File.FileHandle.seen in
+    let temp = g.S.Temp.TempHandle.seen in
+    record {
+      stands : (s : State) × PhaseAt file temp l.phase s;
+      reached : (s0 : State) → PhaseAt file temp l.fn.phase s0 → (s : State) × PhaseAt file temp l.phase s × Reached s0 (g.S.Store.log l.fn.store) (g.S.Store.log l.store) s;
+    }
+
+abbrev pub decreases-steps : goal.decreases-steps
+decreases-steps g l = phase_effort g.S.File.FileHandle.seen g.S.Temp.TempHandle.seen l.phase
