@@ -17,6 +17,7 @@ mod removed;
 mod round;
 mod steps;
 mod told;
+mod unindexed;
 mod unopened;
 mod writers;
 mod writes;
