@@ -13,6 +13,9 @@ use std::alloc::{AllocError, Global};
 /// Room for the names behind a cache folder in the path of a SHA-256 content.
 const ROOM: usize = 96;
 
+/// The digits of the longest digest.
+const MOST_DIGITS: usize = 128;
+
 /// The lower-case hex digits.
 const DIGITS: &[u8; 16] = b"0123456789abcdef";
 
@@ -197,8 +200,25 @@ fn push_slash(path: &mut String) -> Result<(), AllocError>
     path.push_str("/")
 }
 
-/// Puts behind a text the lower-case hex digits of some bytes.
+/// Puts behind a text the lower-case hex digits of some bytes: those of a digest, or fewer, all at once.
 fn push_digits(text: &mut String, bytes: &[u8]) -> Result<(), AllocError>
+    ensures { OnOk result
+        (string_bytes text.new ≡ string_bytes text.old ++ encode_lower bytes.now) }
+{
+    let mut room = [0u8; MOST_DIGITS];
+    if bytes.len() <= MOST_DIGITS / 2 {
+        let digits = &mut room[..2 * bytes.len()];
+        if hex::encode_to_slice(bytes, digits).is_ok() {
+            if let Ok(digits) = str::from_utf8(digits) {
+                return text.push_str(digits);
+            }
+        }
+    }
+    push_each(text, bytes)
+}
+
+/// The same one by one, for any number of bytes.
+fn push_each(text: &mut String, bytes: &[u8]) -> Result<(), AllocError>
     ensures { OnOk result
         (string_bytes text.new ≡ string_bytes text.old ++ encode_lower bytes.now) }
 {

@@ -1,6 +1,6 @@
 use Rattle.std.proofs.Common.{◌≡◌, ◌++◌, drop, string_bytes}
 use Rattle.hex.specs.Hex.{encode_lower}
-use Rattle.cacache_core.proofs.paths.push_digits.Given as goal
+use Rattle.cacache_core.proofs.paths.push_each.Given as goal
 
 abbrev pub invariant-loop-byte : goal.invariant-loop-byte
 invariant-loop-byte l =

@@ -1,6 +1,6 @@
 use Rattle.std.proofs.Common.{ℕ, List, ◌++◌, string_bytes, refl, ap, ap₂, ◌∙◌}
 use Rattle.cacache_core.proofs.PathLemmas.{digits_more, digits_done}
-use Rattle.cacache_core.proofs.paths.push_digits.Goals as goal
+use Rattle.cacache_core.proofs.paths.push_each.Goals as goal
 
 pub loop-byte-init : goal.loop-byte-init
 loop-byte-init c = refl
