@@ -35,12 +35,24 @@ pub struct Got<F> {
 fn refusal_of<F: FileHandle, T: TempHandle>(answer: Answer<F, T>) -> Refusal
     ensures { result ≡ refusal_in (plain_answer F.seen T.seen answer) }
 {
+    let refusal = refusal_by(&answer);
+    let_go(answer);
+    refusal
+}
+
+/// The same of an answer that is kept.
+fn refusal_by<F: FileHandle, T: TempHandle>(answer: &Answer<F, T>) -> Refusal
+    ensures { result ≡ refusal_in (plain_answer F.seen T.seen answer.now) }
+{
     match answer {
-        Answer::Failed(fault) => Refusal::Fault(fault),
+        Answer::Failed(fault) => Refusal::Fault(*fault),
         Answer::NoMemory(_) => Refusal::Memory,
         _ => Refusal::Fault(Fault::Device),
     }
 }
+
+/// Lets a value go by a call, whose proof has nothing of the value's parts.
+fn let_go<T: Drop>(_value: T) {}
 
 /// Whether the step was done.
 pub fn done_of<F: FileHandle, T: TempHandle>(answer: Answer<F, T>) -> Result<(), Refusal>

@@ -7,9 +7,16 @@ use std::alloc::AllocError;
 use std::marker::Model;
 
 /// A JSON value. Contracts see its data.
-#[derive(Debug, Drop)]
+#[derive(Debug)]
 pub struct Json {
     value: Value,
+}
+
+// Written out, so that it is a call of its own: whoever lets one go has a proof that doesn't go through a value's variants.
+impl Drop for Json {
+    fn drop(self) {
+        let Json { value: _value } = self;
+    }
 }
 
 impl Model for Json {

@@ -10,9 +10,18 @@ use std::alloc::{AllocError, Global};
 use std::marker::Model;
 
 /// What a lookup found. Contracts see the entry with its integrity.
-#[derive(Debug, Drop)]
+#[derive(Debug)]
 pub struct Found {
     metadata: Metadata,
+}
+
+// Written out for the same reason as that of a JSON value.
+impl Drop for Found {
+    fn drop(self) {
+        let Found {
+            metadata: _metadata,
+        } = self;
+    }
 }
 
 impl Model for Found {

@@ -55,7 +55,7 @@ fn when_done<T: Drop>(done: Result<(), AllocError>, value: T) -> Result<T, Alloc
 }
 
 /// Lets a value go: one call in place of its parts.
-fn let_go<T: Drop>(_value: T) {}
+pub(crate) fn let_go<T: Drop>(_value: T) {}
 
 impl Disk {
     /// A disk that holds nothing but its top folder.

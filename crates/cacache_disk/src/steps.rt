@@ -11,7 +11,7 @@ mod handles;
 mod links;
 
 use crate::change::{Change, Plan};
-use crate::disk::Disk;
+use crate::disk::{Disk, let_go};
 use crate::luck::Luck;
 use crate::stop::Stop;
 use cacache_base::store::{Answer, PlainFile, PlainTemp, Step};
@@ -64,8 +64,11 @@ fn left_over(is_parted: bool, part: Option<usize>, change: Change) -> Change
     ensures { result ≡ left_over is_parted part change }
 {
     match part {
-        None => Change::Nothing,
-        Some(_) => { if is_parted { change } else { Change::Nothing } }
+        Some(_) if is_parted => change,
+        _ => {
+            let_go(change);
+            Change::Nothing
+        }
     }
 }
 
@@ -76,7 +79,8 @@ fn with_luck(step: &Step<PlainFile, PlainTemp>, luck: Luck, plan: Plan) -> Plan
     let Luck::Fail(fault, part) = luck else {
         return plan;
     };
-    let Plan { answer: _, change } = plan;
+    let Plan { answer, change } = plan;
+    let_go(answer);
     Plan {
         answer: Answer::Failed(made_up(fault)),
         change: left_over(is_parted(step), part, change),

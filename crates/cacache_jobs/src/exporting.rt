@@ -5,6 +5,7 @@ ghost use Rattle.cacache_calls.specs.State.{over};
 ghost use Rattle.cacache_calls.specs.declared.reply.Reply.TheVariants.{Copied};
 ghost use Rattle.cacache_jobs.specs.Standing.{Leads, content_of};
 
+use crate::keeping::{beside, let_go};
 use crate::phase::{Phase, refused};
 use crate::places::content_path;
 use crate::reading::Content;
@@ -24,10 +25,12 @@ pub(crate) fn start<F: FileHandle, T: TempHandle>(
 ) -> errors::Result<Phase<F, T>>
     ensures { Leads F.seen T.seen result (export_of (content_of content) export) }
 {
-    let from = content_path(alloc, content.cache.as_str(), &content.integrity)?;
+    let from = content_path(alloc, content.cache.as_str(), &content.integrity);
+    let (from, (content, export)) = beside(from, (content, export))?;
     if export.checked {
         return hashing::verify(alloc, content, from, export);
     }
+    let_go(content);
     export_from(export.how, from, export.to, None)
 }
 

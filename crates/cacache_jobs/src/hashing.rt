@@ -9,6 +9,7 @@ ghost use Rattle.cacache_calls.specs.State.{Content as Named, Hashing as Purpose
 ghost use Rattle.cacache_calls.specs.Seen.{seen_by, got_as};
 ghost use Rattle.cacache_jobs.specs.Standing.{Leads, Hashes, content_of};
 
+use crate::keeping::beside;
 use crate::linking::Target;
 use crate::phase::{Phase, refused};
 use crate::reading::Content;
@@ -54,9 +55,14 @@ pub(crate) fn verify<F: FileHandle, T: TempHandle>(
     ensures { from ≡ content_path_of content.cache content.integrity
         → Leads F.seen T.seen result (opening_file (to_verify (content_of content) export)) }
 {
-    let path = from.clone()?;
-    let checker = IntegrityChecker::new(content.integrity);
-    let hashing = Box::new(alloc, Hashing::Verify(checker, from, export))?;
+    let Content {
+        cache: _cache,
+        integrity,
+    } = content;
+    let path: Result<_, _> = from.clone();
+    let hashing = Hashing::Verify(IntegrityChecker::new(integrity), from, export);
+    let (path, hashing) = beside(path, hashing)?;
+    let hashing = Box::new(alloc, hashing)?;
     Ok(Phase::Wanting(Stage::Opening(hashing), Step::Open(path)))
 }
 

@@ -10,6 +10,7 @@ ghost use Rattle.cacache_calls.specs.Runs.{EndsAs};
 ghost use Rattle.cacache_jobs.specs.Entries.{entry_with, into_bucket};
 ghost use Rattle.cacache_jobs.specs.Standing.{Leads, PhaseAt, Inserts, told};
 
+use crate::keeping::beside;
 use crate::messages;
 use crate::phase::{Phase, refused};
 use crate::places::bucket_place;
@@ -228,6 +229,9 @@ pub(crate) fn begin_insertion<F: FileHandle, T: TempHandle>(
 ) -> errors::Result<Phase<F, T>>
     ensures { Leads F.seen T.seen result (insert_of (insertion_of cache.now insert_)) }
 {
+    let (cache, insert_) = beside(Text::from_str(alloc, cache), insert_)?;
+    let text = text_of(alloc, &insert_.options.integrity);
+    let (text, (cache, insert_)) = beside(text, (cache, insert_))?;
     let Insert {
         key,
         moment,
@@ -240,12 +244,11 @@ pub(crate) fn begin_insertion<F: FileHandle, T: TempHandle>(
         metadata,
         raw_metadata,
     } = options;
-    let cache = Text::from_str(alloc, cache)?;
-    let text = text_of(alloc, &integrity)?;
-    let answered = answered(alloc, integrity)?;
     let size = size.unwrap_or(0);
     let key = key.into_string();
-    let entry = entry_of(alloc, key, text, size, moment, metadata, raw_metadata)?;
+    let entry = entry_of(alloc, key, text, size, moment, metadata, raw_metadata);
+    let (entry, (cache, integrity)) = beside(entry, (cache, integrity))?;
+    let (answered, (cache, entry)) = beside(answered(alloc, integrity), (cache, entry))?;
     insert(alloc, cache, entry, Some(answered))
 }
 

@@ -7,6 +7,7 @@ ghost use Rattle.cacache_jobs.specs.Opening.{site_of};
 ghost use Rattle.cacache_jobs.specs.Jobs.{Stands, HasOut, GoesTo, PhaseGoesTo, HandsOut, Tells, is_step, has_out, can_go_on, reply_in};
 ghost use Rattle.cacache_jobs.specs.Standing.{Leads, PhaseAt};
 
+use crate::keeping::{let_go, set};
 use crate::opening::open;
 use crate::phase::Phase;
 use crate::stage::Stage;
@@ -44,10 +45,8 @@ pub struct Job<F, T> {
 impl<F: Drop, T: Drop> Drop for Job<F, T> {
     #[inline(always)]
     fn drop(self) {
-        let Job {
-            alloc: _,
-            standing: _standing,
-        } = self;
+        let Job { alloc: _, standing } = self;
+        let_go(standing);
     }
 }
 
@@ -141,7 +140,7 @@ impl<F: FileHandle, T: TempHandle> Job<F, T> {
     {
         match replace(&mut self.standing, Standing::Told) {
             Standing::At(Phase::Wanting(stage, step)) => {
-                self.standing = Standing::Out(stage);
+                set(&mut self.standing, Standing::Out(stage));
                 Next::Step(step)
             }
             Standing::At(Phase::Over(reply)) => Next::Over(reply),
@@ -160,7 +159,7 @@ impl<F: FileHandle, T: TempHandle> Job<F, T> {
         match replace(&mut self.standing, Standing::Told) {
             Standing::Out(stage) => {
                 let phase = settled(stage.resume(self.alloc, answer));
-                self.standing = Standing::At(phase);
+                set(&mut self.standing, Standing::At(phase));
             }
             Standing::At(_) | Standing::Told => unreachable!(),
         }
@@ -174,7 +173,12 @@ impl<F: FileHandle, T: TempHandle> Job<F, T> {
             → Stands F.seen T.seen self.new s }
     {
         match replace(&mut self.standing, Standing::Told) {
-            Standing::Out(stage) => self.standing = Standing::At(Phase::Wanting(stage, step)),
+            Standing::Out(stage) => {
+                set(
+                    &mut self.standing,
+                    Standing::At(Phase::Wanting(stage, step)),
+                );
+            }
             Standing::At(_) | Standing::Told => unreachable!(),
         }
     }

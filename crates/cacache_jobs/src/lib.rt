@@ -7,6 +7,7 @@ mod exporting;
 mod hashing;
 mod inserting;
 mod job;
+mod keeping;
 mod linking;
 mod looking;
 pub mod messages;

@@ -10,6 +10,7 @@ ghost use Rattle.cacache_calls.specs.Storing.{link as link_of};
 ghost use Rattle.cacache_jobs.specs.Standing.{Leads, commit_of, target_of};
 
 use crate::hashing::Hashing;
+use crate::keeping::beside;
 use crate::messages;
 use crate::phase::{Phase, refused};
 use crate::places::content_place;
@@ -121,8 +122,10 @@ pub(crate) fn link<F: FileHandle, T: TempHandle>(
     let place = content_place(alloc, commit.cache.as_str(), &commit.computed)?;
     let Place { folder, path } = place;
     let commit = Box::new(alloc, commit)?;
-    let stage = Stage::Doing(Then::Symlink(commit, target, path));
-    Ok(Phase::Wanting(stage, Step::MakeDirs(folder)))
+    Ok(Phase::Wanting(
+        Stage::Doing(Then::Symlink(commit, target, path)),
+        Step::MakeDirs(folder),
+    ))
 }
 
 /// A target that doesn't begin with `/` starts at the base folder.
@@ -146,15 +149,14 @@ pub(crate) fn start<F: FileHandle, T: TempHandle>(
         → Leads F.seen T.seen result
         (sizing (link_target (site_of cache.now base.now number) link)) }
 {
+    let (cache, link) = beside(Text::from_str(alloc, cache), link)?;
     let Link {
         key,
         target,
         moment,
         options,
     } = link;
-    let cache = Text::from_str(alloc, cache)?;
-    let path = based(alloc, base, target)?;
-    let asked = path.clone()?;
+    let (path, (cache, key, options)) = beside(based(alloc, base, target), (cache, key, options))?;
     let target = Target {
         cache,
         key,
@@ -162,6 +164,7 @@ pub(crate) fn start<F: FileHandle, T: TempHandle>(
         moment,
         options,
     };
+    let asked = target.path.clone()?;
     let target = Box::new(alloc, target)?;
     Ok(Phase::Wanting(Stage::Sizing(target), Step::Size(asked)))
 }

@@ -6,6 +6,7 @@ ghost use Rattle.cacache_calls.specs.Looking.{found_for, found_in, after_bucket,
 ghost use Rattle.cacache_calls.specs.State.{looking as looking_state};
 ghost use Rattle.cacache_jobs.specs.Standing.{Leads, lookup_of, aim_of};
 
+use crate::keeping::{beside, let_go};
 use crate::phase::{Phase, refused};
 use crate::places::bucket_path;
 use crate::reading::Content;
@@ -15,8 +16,9 @@ use cacache_base::store::{FileHandle, Step, TempHandle};
 use cacache_calls::{Export, Found, Refusal, Reply};
 use cacache_core::bytes::Bytes;
 use cacache_core::errors::{self, Error, Fault};
+use cacache_core::integrity::Integrity;
 use cacache_core::text::Text;
-use cacache_entry::latest;
+use cacache_entry::{Metadata, latest};
 use std::alloc::Global;
 
 /// What a key is looked up for.
@@ -47,8 +49,24 @@ pub(crate) fn start<F: FileHandle, T: TempHandle>(
 ) -> errors::Result<Phase<F, T>>
     ensures { Leads F.seen T.seen result (looking_state (lookup_of lookup)) }
 {
-    let path = bucket_path(alloc, lookup.cache.as_str(), lookup.key.as_str())?;
+    let path = bucket_path(alloc, lookup.cache.as_str(), lookup.key.as_str());
+    let (path, lookup) = beside(path, lookup)?;
     Ok(Phase::Wanting(Stage::Looking(lookup), Step::ReadAll(path)))
+}
+
+/// The integrity of an entry, whose other parts are let go.
+fn integrity_of(found: Found) -> Integrity
+    ensures { result ≡ found.integrity }
+{
+    let Metadata {
+        key: _key,
+        integrity,
+        time: _,
+        size: _,
+        metadata: _metadata,
+        raw_metadata: _raw_metadata,
+    } = found.into_metadata();
+    integrity
 }
 
 /// What the lookup is for, once it found this entry.
@@ -60,11 +78,12 @@ fn found<F: FileHandle, T: TempHandle>(
     ensures { Leads F.seen T.seen result
         (found_for (lookup_of lookup) (aim_of lookup.aim) (Some found)) }
 {
-    let Lookup { cache, key, aim } = lookup;
-    if let Aim::Report = &aim {
+    if let Aim::Report = &lookup.aim {
+        let_go(lookup);
         return Ok(Phase::Over(Reply::LookedUp(Some(found))));
     }
-    let integrity = found.into_metadata().integrity;
+    let integrity = integrity_of(found);
+    let Lookup { cache, key, aim } = lookup;
     match aim {
         Aim::Read => reading::start(alloc, Content { cache, integrity }),
         Aim::Export(export) => exporting::start(alloc, Content { cache, integrity }, export),
@@ -80,16 +99,21 @@ fn not_found<F: FileHandle, T: TempHandle>(
     ensures { Leads F.seen T.seen result
         (found_for (lookup_of lookup) (aim_of lookup.aim) None) }
 {
-    let Lookup { cache, key, aim } = lookup;
-    match aim {
-        Aim::Report => Ok(Phase::Over(Reply::LookedUp(None))),
-        Aim::Read => Err(Error::EntryNotFound(cache, key)),
-        Aim::Export(_export) => Err(Error::EntryNotFound(cache, key)),
-        Aim::Remove => {
-            let bucket = bucket_path(alloc, cache.as_str(), key.as_str())?;
-            removing::remove_bucket(bucket)
-        }
+    if let Aim::Report = &lookup.aim {
+        let_go(lookup);
+        return Ok(Phase::Over(Reply::LookedUp(None)));
     }
+    if let Aim::Remove = &lookup.aim {
+        let bucket = bucket_path(alloc, lookup.cache.as_str(), lookup.key.as_str());
+        let_go(lookup);
+        return removing::remove_bucket(bucket?);
+    }
+    let Lookup {
+        cache,
+        key,
+        aim: _aim,
+    } = lookup;
+    Err(Error::EntryNotFound(cache, key))
 }
 
 /// What the bytes of the bucket answer to the lookup.
@@ -115,10 +139,14 @@ pub(crate) fn looked<F: FileHandle, T: TempHandle>(
         (go_on bytes (no_bucket (lookup_of lookup)) (after_bucket (lookup_of lookup))) }
 {
     match bytes {
-        Ok(bytes) => match entry_in(alloc, &lookup, bytes.as_slice())? {
-            Some(entry) => found(alloc, lookup, entry),
-            None => not_found(alloc, lookup),
-        },
+        Ok(bytes) => {
+            let entry = entry_in(alloc, &lookup, bytes.as_slice());
+            let (entry, lookup) = beside(entry, lookup)?;
+            match entry {
+                Some(entry) => found(alloc, lookup, entry),
+                None => not_found(alloc, lookup),
+            }
+        }
         Err(Refusal::Fault(Fault::NotFound)) => not_found(alloc, lookup),
         Err(refusal) => {
             let message = messages::looking(alloc, lookup.cache.as_str(), lookup.key.as_str());

@@ -7,20 +7,33 @@ use crate::storing::Commit;
 use cacache_core::text::Text;
 use std::alloc::{AllocError, Global};
 
+/// Some words, and the path that they speak of.
+fn at(alloc: Global, words: &str, path: &Text) -> Result<Text, AllocError> {
+    Ok(Text::new(format!(in alloc; "{words}{path}")?))
+}
+
+/// The same with the path in quotes.
+fn at_quoted(alloc: Global, words: &str, path: &Text) -> Result<Text, AllocError> {
+    Ok(Text::new(format!(in alloc; "{words}{path:?}")?))
+}
+
+/// Some words, and the two paths that they speak of.
+fn between(alloc: Global, words: &str, from: &Text, to: &Text) -> Result<Text, AllocError> {
+    Ok(Text::new(format!(in alloc; "{words}{from} to {to}")?))
+}
+
 /// The folder of temporary files wasn't made.
 pub fn making_temps(alloc: Global, cache: &str) -> Result<Text, AllocError> {
     let folder = temp_folder(alloc, cache)?;
-    Ok(Text::new(format!(in alloc;
-        "Failed to create cache directory for temporary files, at {folder}"
-    )?))
+    let words = "Failed to create cache directory for temporary files, at ";
+    at(alloc, words, &folder)
 }
 
 /// The temporary file wasn't made.
 pub fn creating(alloc: Global, cache: &str) -> Result<Text, AllocError> {
     let folder = temp_folder(alloc, cache)?;
-    Ok(Text::new(format!(in alloc;
-        "Failed to create temp file while initializing a writer, inside {folder}"
-    )?))
+    let words = "Failed to create temp file while initializing a writer, inside ";
+    at(alloc, words, &folder)
 }
 
 pub(crate) fn writing(alloc: Global, commit: &Commit) -> Result<Text, AllocError> {
@@ -36,10 +49,8 @@ pub(crate) fn writing(alloc: Global, commit: &Commit) -> Result<Text, AllocError
 
 pub(crate) fn making_contents(alloc: Global, commit: &Commit) -> Result<Text, AllocError> {
     let place = content_place(alloc, commit.cache.as_str(), &commit.computed)?;
-    let folder = &place.folder;
-    Ok(Text::new(format!(in alloc;
-        "Failed to create destination directory for cache contents, at {folder}"
-    )?))
+    let words = "Failed to create destination directory for cache contents, at ";
+    at(alloc, words, &place.folder)
 }
 
 /// The content didn't arrive at its place: the temporary file, or a link to the target.
@@ -49,62 +60,64 @@ pub(crate) fn arriving(
     target: &Option<Text>,
 ) -> Result<Text, AllocError> {
     let path = content_path(alloc, commit.cache.as_str(), &commit.computed)?;
-    let message = match target {
-        None => format!(in alloc;
-            "Failed to persist cache contents while closing writer, at {path}"
-        )?,
-        Some(target) => format!(in alloc; "Failed to create cache symlink for {target} at {path}")?,
-    };
-    Ok(Text::new(message))
+    match target {
+        None => {
+            let words = "Failed to persist cache contents while closing writer, at ";
+            at(alloc, words, &path)
+        }
+        Some(target) => Ok(Text::new(format!(in alloc;
+            "Failed to create cache symlink for {target} at {path}"
+        )?)),
+    }
 }
 
 /// The folder of a key's bucket wasn't made.
 pub fn making_bucket(alloc: Global, cache: &str, key: &str) -> Result<Text, AllocError> {
     let place = bucket_place(alloc, cache, key)?;
-    let folder = &place.folder;
-    Ok(Text::new(format!(in alloc; "Failed to create index bucket directory: {folder:?}")?))
+    at_quoted(
+        alloc,
+        "Failed to create index bucket directory: ",
+        &place.folder,
+    )
 }
 
 /// A line wasn't appended to the bucket of a key, or not whole.
 pub fn appending(alloc: Global, cache: &str, key: &str) -> Result<Text, AllocError> {
     let bucket = bucket_path(alloc, cache, key)?;
-    Ok(Text::new(format!(in alloc; "Failed to write to index bucket at {bucket:?}")?))
+    at_quoted(alloc, "Failed to write to index bucket at ", &bucket)
 }
 
 /// The bucket of a key couldn't be read.
 pub fn looking(alloc: Global, cache: &str, key: &str) -> Result<Text, AllocError> {
     let bucket = bucket_path(alloc, cache, key)?;
-    Ok(Text::new(format!(in alloc; "Failed to read index bucket entries from {bucket:?}")?))
+    at_quoted(alloc, "Failed to read index bucket entries from ", &bucket)
 }
 
 pub(crate) fn reading(alloc: Global, content: &Content) -> Result<Text, AllocError> {
     let path = content_path(alloc, content.cache.as_str(), &content.integrity)?;
-    Ok(Text::new(format!(in alloc; "Failed to read contents for file at {path}")?))
+    at(alloc, "Failed to read contents for file at ", &path)
 }
 
 /// The content that a key's lookup found wasn't removed.
 pub(crate) fn removing_content(alloc: Global, path: &Text) -> Result<Text, AllocError> {
-    Ok(Text::new(format!(in alloc; "Failed to remove content at {path:?}")?))
+    at_quoted(alloc, "Failed to remove content at ", path)
 }
 
 /// What the call was to do last wasn't done.
 pub(crate) fn finishing(alloc: Global, last: &Last) -> Result<Text, AllocError> {
-    let message = match last {
-        Last::RemoveContent(path) => format!(in alloc; "Failed to remove cache file {path}")?,
-        Last::RemoveBucket(path) => format!(in alloc; "Failed to remove bucket at {path:?}")?,
-        Last::Reflink(from, to) => format!(in alloc;
-            "Failed to reflink cache contents from {from} to {to}"
-        )?,
-        Last::HardLink(from, to) => format!(in alloc;
-            "Failed to link cache contents from {from} to {to}"
-        )?,
-    };
-    Ok(Text::new(message))
+    match last {
+        Last::RemoveContent(path) => at(alloc, "Failed to remove cache file ", path),
+        Last::RemoveBucket(path) => at_quoted(alloc, "Failed to remove bucket at ", path),
+        Last::Reflink(from, to) => {
+            between(alloc, "Failed to reflink cache contents from ", from, to)
+        }
+        Last::HardLink(from, to) => between(alloc, "Failed to link cache contents from ", from, to),
+    }
 }
 
 /// The file at the path, a content or a link's target, wasn't opened.
 pub fn opening(alloc: Global, path: &Text) -> Result<Text, AllocError> {
-    Ok(Text::new(format!(in alloc; "Failed to open reader to {path}")?))
+    at(alloc, "Failed to open reader to ", path)
 }
 
 /// The file that was to be hashed wasn't opened.
@@ -125,26 +138,25 @@ pub fn reading_target(alloc: Global) -> Result<Text, AllocError> {
 
 pub(crate) fn hashing(alloc: Global, hashing: &Hashing) -> Result<Text, AllocError> {
     match hashing {
-        Hashing::Verify(_, from, _) => Ok(Text::new(format!(in alloc;
-            "Failed to read cache contents while verifying integrity for {from}"
-        )?)),
+        Hashing::Verify(_, from, _) => {
+            let words = "Failed to read cache contents while verifying integrity for ";
+            at(alloc, words, from)
+        }
         Hashing::Link(_, _) => reading_target(alloc),
     }
 }
 
 pub(crate) fn copying(alloc: Global, from: &Text, to: &Text) -> Result<Text, AllocError> {
-    Ok(Text::new(format!(in alloc; "Failed to copy cache contents from {from} to {to}")?))
+    between(alloc, "Failed to copy cache contents from ", from, to)
 }
 
 /// The size of a link's target wasn't told.
 pub fn sizing(alloc: Global, path: &Text) -> Result<Text, AllocError> {
-    Ok(Text::new(format!(in alloc; "Failed to get metadata of {path}")?))
+    at(alloc, "Failed to get metadata of ", path)
 }
 
 pub(crate) fn making_links(alloc: Global, commit: &Commit) -> Result<Text, AllocError> {
     let place = content_place(alloc, commit.cache.as_str(), &commit.computed)?;
-    let folder = &place.folder;
-    Ok(Text::new(format!(in alloc;
-        "Failed to create destination directory for linked cache file, at {folder}"
-    )?))
+    let words = "Failed to create destination directory for linked cache file, at ";
+    at(alloc, words, &place.folder)
 }

@@ -8,6 +8,7 @@ ghost use Rattle.cacache_calls.specs.declared.command.Command.TheVariants as com
 ghost use Rattle.cacache_jobs.specs.Opening.{site_of};
 ghost use Rattle.cacache_jobs.specs.Standing.{Leads, aim_of};
 
+use crate::keeping::beside;
 use crate::looking::{Aim, Lookup};
 use crate::phase::Phase;
 use crate::reading::Content;
@@ -87,7 +88,8 @@ fn begin_export<F: FileHandle, T: TempHandle>(
     match source {
         Source::Key(key) => look(alloc, cache, key, Aim::Export(export)),
         Source::Hash(integrity) => {
-            let cache = Text::from_str(alloc, cache)?;
+            let kept = (integrity, export);
+            let (cache, (integrity, export)) = beside(Text::from_str(alloc, cache), kept)?;
             exporting::start(alloc, Content { cache, integrity }, export)
         }
     }

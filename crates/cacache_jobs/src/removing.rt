@@ -6,6 +6,7 @@ ghost use Rattle.cacache_calls.specs.Removing.{remove_content as remove_content_
 ghost use Rattle.cacache_calls.specs.declared.reply.Reply.TheVariants.{Done};
 ghost use Rattle.cacache_jobs.specs.Standing.{Leads};
 
+use crate::keeping::beside;
 use crate::phase::Phase;
 use crate::places::{bucket_path, content_path};
 use crate::stage::{Last, Stage, Then};
@@ -54,9 +55,10 @@ pub(crate) fn remove_key<F: FileHandle, T: TempHandle>(
     ensures { Leads F.seen T.seen result (remove_content_of cache.now integrity.now
         (remove_bucket_of cache.now key.now)) }
 {
-    let bucket = bucket_path(alloc, cache, key)?;
     let content = content_path(alloc, cache, integrity)?;
-    let named = content.clone()?;
+    let named: Result<_, _> = content.clone();
+    let (named, content) = beside(named, content)?;
+    let (bucket, (named, content)) = beside(bucket_path(alloc, cache, key), (named, content))?;
     Ok(Phase::Wanting(
         Stage::Doing(Then::RemoveBucket(named, bucket)),
         Step::RemoveFile(content),

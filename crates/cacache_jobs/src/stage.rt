@@ -7,6 +7,7 @@ ghost use Rattle.cacache_jobs.specs.Standing.{Leads, StageAt, ThenAt};
 
 use crate::hashing::Hashing;
 use crate::inserting::Insertion;
+use crate::keeping::let_go;
 use crate::linking::Target;
 use crate::looking::Lookup;
 use crate::phase::{Phase, refused};
@@ -39,6 +40,7 @@ pub enum Last {
 
 /// What a call does once its errand is done: a folder was made, or a file removed. It moves with every step, so what is
 /// large is boxed.
+#[derive(Drop)]
 pub enum Then<T> {
     /// Makes the temporary file at this path; the bytes are still to write.
     Create(Box<Commit>, Bytes, Text),
@@ -52,21 +54,6 @@ pub enum Then<T> {
     Symlink(Box<Commit>, Text, Text),
     /// The call is over.
     Finish(Last),
-}
-
-// The drops of this file are written out, so that each is a call of its own: whoever lets such a value go has a proof
-// that doesn't go through all its variants.
-impl<T: Drop> Drop for Then<T> {
-    fn drop(self) {
-        match self {
-            Then::Create(_commit, _rest, _path) => {}
-            Then::Persist(_commit, _file, _path) => {}
-            Then::Append(_insertion, _line, _path) => {}
-            Then::RemoveBucket(_content, _bucket) => {}
-            Then::Symlink(_commit, _target, _path) => {}
-            Then::Finish(_last) => {}
-        }
-    }
 }
 
 impl<T: TempHandle> Then<T> {
@@ -109,13 +96,18 @@ impl<T: TempHandle> Then<T> {
     {
         match done {
             Ok(()) => self.start(alloc),
-            Err(refusal) => Err(refused(refusal, self.message(alloc))),
+            Err(refusal) => {
+                let message = self.message(alloc);
+                let_go(self);
+                Err(refused(refusal, message))
+            }
         }
     }
 }
 
 /// How far a call is: what it does now, and what it needs after that. A temporary file is here while no step carries it.
 /// It moves with every step, so what is large is boxed.
+#[derive(Drop)]
 pub enum Stage<T> {
     /// A folder is made, or a file removed.
     Doing(Then<T>),
@@ -147,28 +139,6 @@ pub enum Stage<T> {
     Linking(Box<Commit>, Text),
     /// A walk does this.
     Walking(Walk, Visit),
-}
-
-impl<T: Drop> Drop for Stage<T> {
-    fn drop(self) {
-        match self {
-            Stage::Doing(_then) => {}
-            Stage::Creating(_commit, _rest) => {}
-            Stage::Writing(_commit, _rest) => {}
-            Stage::Persisting(_commit) => {}
-            Stage::Confirming(_commit, _target, _fault) => {}
-            Stage::Appending(_insertion, _size) => {}
-            Stage::Looking(_lookup) => {}
-            Stage::Reading(_content) => {}
-            Stage::Asking(_content) => {}
-            Stage::Sizing(_target) => {}
-            Stage::Opening(_hashing) => {}
-            Stage::Hashing(_hashing, _size) => {}
-            Stage::Copying(_from, _to, _verified) => {}
-            Stage::Linking(_commit, _target) => {}
-            Stage::Walking(_walk, _visit) => {}
-        }
-    }
 }
 
 impl<T: TempHandle> Stage<T> {

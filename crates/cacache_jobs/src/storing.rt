@@ -11,6 +11,7 @@ ghost use Rattle.cacache_jobs.specs.Standing.{Leads, PhaseAt, commit_of};
 
 use crate::comparing::{compare_integrity, compare_size};
 use crate::inserting::{entry_of, insert};
+use crate::keeping::{beside, let_go};
 use crate::messages;
 use crate::phase::{Phase, refused};
 use crate::places::{content_path, content_place, temp_place};
@@ -69,14 +70,15 @@ fn commit_of(alloc: Global, cache: &str, put: Put) -> errors::Result<(Box<Commit
     ensures bytes { IfOk result (λ r. r.1 ≡ put.data) }
     ensures err { IfErr result (λ e. e ≡ OutOfMemory) }
 {
+    let (cache, put) = beside(Text::from_str(alloc, cache), put)?;
+    let computed = computed_of(alloc, put.options.algorithm, put.data.as_slice());
+    let (computed, (cache, put)) = beside(computed, (cache, put))?;
     let Put {
         key,
         data,
         moment,
         options,
     } = put;
-    let cache = Text::from_str(alloc, cache)?;
-    let computed = computed_of(alloc, options.algorithm, data.as_slice())?;
     let count = data.len();
     let commit = Commit {
         cache,
@@ -99,8 +101,8 @@ pub(crate) fn store<F: FileHandle, T: TempHandle>(
     ensures { (site : Site) → site.cache ≡ cache.now → site.number ≡ number
         → Leads F.seen T.seen result (store_of site put) }
 {
-    let Place { folder, path } = temp_place(alloc, cache, number)?;
     let (commit, data) = commit_of(alloc, cache, put)?;
+    let Place { folder, path } = temp_place(alloc, cache, number)?;
     Ok(Phase::Wanting(
         Stage::Doing(Then::Create(commit, data, path)),
         Step::MakeDirs(folder),
@@ -284,13 +286,24 @@ impl Commit {
             raw_metadata,
         } = options;
         let Some(key) = key else {
+            let_go((cache, expected, metadata, raw_metadata));
             return Ok(Phase::Over(Reply::Stored(computed)));
         };
         // the entry has the expected integrity, where there is one
         let integrity = expected.unwrap_or(computed);
-        let text = Some(integrity.to_string(alloc)?);
+        let text = integrity.to_string(alloc);
+        let kept = (cache, key, integrity, metadata, raw_metadata);
+        let (text, (cache, key, integrity, metadata, raw_metadata)) = beside(text, kept)?;
         let key = key.into_string();
-        let entry = entry_of(alloc, key, text, count, moment, metadata, raw_metadata)?;
+        let entry = entry_of(
+            alloc,
+            key,
+            Some(text),
+            count,
+            moment,
+            metadata,
+            raw_metadata,
+        )?;
         insert(alloc, cache, entry, Some(integrity))
     }
 }

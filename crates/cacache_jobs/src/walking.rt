@@ -6,6 +6,7 @@ ghost use Rattle.cacache_calls.specs.Walking.{walk as walk_from, after_visit};
 ghost use Rattle.cacache_walks.specs.Standing.{Counts, WalksAt, visit_of, pending, walk_of};
 ghost use Rattle.cacache_jobs.specs.Standing.{Leads};
 
+use crate::keeping::beside;
 use crate::phase::Phase;
 use crate::stage::Stage;
 use cacache_base::store::{Answer, FileHandle, TempHandle};
@@ -23,7 +24,7 @@ fn go_to<F: FileHandle, T: TempHandle>(
 {
     match visit {
         Some(visit) => {
-            let step = visit.step()?;
+            let (step, (walk, visit)) = beside(visit.step(), (walk, visit))?;
             Ok(Phase::Wanting(Stage::Walking(walk, visit), step))
         }
         None => Ok(Phase::Over(walk.into_reply())),

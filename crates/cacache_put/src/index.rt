@@ -9,6 +9,7 @@ ghost use Rattle.cacache_put.specs.Replies.{done as says_done, looked_up, IsShow
 ghost use Rattle.cacache_put.specs.Writes.{Calls, RunsTimed, insert_of, delete_of};
 
 use crate::adding::add;
+use crate::keeping::beside;
 use crate::moment::moment;
 use crate::opts::WriteOpts;
 use cacache_base::env::{Clock, Env, Names};
@@ -59,7 +60,7 @@ pub fn insert<S: Store, C: Clock, N: Names>(
         (λ moment. commands.Insert (insert_of key.now opts moment)) (reply_of Stored result) }
 {
     let moment = moment(&mut env.clock, opts.set_time());
-    let key = Text::from_str(env.alloc, key)?;
+    let (key, opts) = beside(Text::from_str(env.alloc, key), opts)?;
     let options = opts.into_options(env.alloc)?;
     let insert = Insert {
         key,

@@ -3,6 +3,7 @@
 
 mod adding;
 pub mod index;
+mod keeping;
 mod linked;
 pub mod linker;
 mod linking;

@@ -5,6 +5,7 @@ ghost use Rattle.cacache_calls.specs.Linking.{commit_for};
 ghost use Rattle.cacache_jobs.specs.Standing.{commit_of};
 ghost use Rattle.cacache_put.specs.Linkers.{linked_to, target_at};
 
+use crate::keeping::beside;
 use cacache_calls::Options;
 use cacache_core::integrity::Integrity;
 use cacache_core::text::Text;
@@ -48,9 +49,10 @@ impl Linked {
         ensures { IfOk result
             (λ l. l ≡ linked_to base.now cache.now key target.now time options) }
     {
-        let cache = Text::from_str(alloc, cache)?;
-        let target = Text::from_str(alloc, target)?;
-        let path = based(alloc, base, target)?;
+        let kept = (key, options);
+        let (cache, kept) = beside(Text::from_str(alloc, cache), kept)?;
+        let (target, kept) = beside(Text::from_str(alloc, target), (cache, kept))?;
+        let (path, (cache, (key, options))) = beside(based(alloc, base, target), kept)?;
         Ok(Linked {
             cache,
             key,

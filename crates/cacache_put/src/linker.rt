@@ -14,6 +14,7 @@ ghost use Rattle.cacache_put.specs.Linkers.{HasTaken, OpensLinker, Commits, Stor
 ghost use Rattle.cacache_put.specs.Options.{blank as blank_options};
 ghost use Rattle.cacache_put.specs.Rest.{links};
 
+use crate::keeping::let_go;
 use crate::linked::Linked;
 use crate::moment::moment;
 use crate::put::blank;
@@ -239,6 +240,7 @@ impl<F: OpenedFile> SyncToLinker<F> {
         let moment = moment(&mut env.clock, linked.time);
         // a longer target has no size that could be told
         if count == usize::MAX {
+            let_go((linked, hasher, file));
             return Err(Error::OutOfMemory);
         }
         link_rest(env, linked, hasher, count, file, moment)

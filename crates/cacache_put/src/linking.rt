@@ -3,6 +3,7 @@ ghost use Rattle.std.specs.Prelude.{◌≡◌, None, Some};
 ghost use Rattle.cacache_put.specs.Linkers.{OpensLinker, asks_file, linked_to};
 ghost use Rattle.cacache_put.specs.Options.{options_of};
 
+use crate::keeping::beside;
 use crate::linked::Linked;
 use crate::linker::{SyncToLinker, open_target};
 use crate::opts::WriteOpts;
@@ -32,8 +33,8 @@ impl WriteOpts {
     {
         let alloc = env.alloc;
         let time = self.set_time();
-        let key = Some(Text::from_str(alloc, key)?);
-        let options = self.into_options(alloc)?;
+        let (key, opts) = beside(Text::from_str(alloc, key), self)?;
+        let (options, key) = beside(opts.into_options(alloc), Some(key))?;
         let linked = Linked::new(alloc, env.base.as_str(), cache, key, target, time, options)?;
         open_target(alloc, &mut env.store, linked)
     }

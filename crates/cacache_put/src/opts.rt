@@ -4,6 +4,7 @@ ghost use Rattle.serde_json.specs.View.{view};
 ghost use Rattle.cacache_put.specs.Options.{nothing_said, options_of};
 ghost use Rattle.cacache_put.specs.Writers.{Opens};
 
+use crate::keeping::beside;
 use crate::writer::{SyncWriter, open_writer};
 use cacache_base::env::{Clock, Env, Names};
 use cacache_base::store::Store;
@@ -45,6 +46,16 @@ impl Model for WriteOpts {
       raw_metadata = option_map (λ v. v.items) o.raw_metadata;
       time = o.time;
     } };
+}
+
+/// Bytes that may be absent, which are moved.
+fn shared(alloc: Global, bytes: Option<Vec<u8>>) -> Result<Option<Bytes>, AllocError>
+    ensures { IfOk result (λ shared. shared ≡ option_map (λ v. v.items) bytes) }
+{
+    match bytes {
+        Some(bytes) => Ok(Some(Bytes::new(alloc, bytes)?)),
+        None => Ok(None),
+    }
 }
 
 impl WriteOpts {
@@ -137,8 +148,8 @@ impl WriteOpts {
             self result }
     {
         let number = env.names.fresh();
-        let key = Some(Text::from_str(env.alloc, key)?);
-        open_writer(env.alloc, &mut env.store, cache, number, key, self)
+        let (key, opts) = beside(Text::from_str(env.alloc, key), self)?;
+        open_writer(env.alloc, &mut env.store, cache, number, Some(key), opts)
     }
 
     /// Opens a writer that commits without a key, with these options. A number is asked once, before the first step.
@@ -168,10 +179,8 @@ impl WriteOpts {
             raw_metadata,
             time: _,
         } = self;
-        let raw_metadata = match raw_metadata {
-            Some(bytes) => Some(Bytes::new(alloc, bytes)?),
-            None => None,
-        };
+        let kept = (integrity, metadata);
+        let (raw_metadata, (integrity, metadata)) = beside(shared(alloc, raw_metadata), kept)?;
         Ok(Options {
             algorithm,
             size,

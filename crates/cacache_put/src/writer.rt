@@ -10,6 +10,7 @@ ghost use Rattle.cacache_content.specs.Writing.{HasTaken, GoesOn, Removes, Takes
 ghost use Rattle.cacache_put.specs.Options.{nothing_said};
 ghost use Rattle.cacache_put.specs.Writers.{OpensAt, Opens, Commits, commit_of};
 
+use crate::keeping::{beside, let_go};
 use crate::moment::moment_of;
 use crate::opts::WriteOpts;
 use cacache_base::env::{Clock, Env, Names};
@@ -46,8 +47,9 @@ pub(crate) fn open_writer<S: Store>(
         (S.log store.old) (S.log store.new) number }
 {
     let time = opts.set_time();
-    let options = opts.into_options(alloc)?;
-    let writer = open(alloc, store, cache, options.algorithm, number)?;
+    let (options, key) = beside(opts.into_options(alloc), key)?;
+    let writer = open(alloc, store, cache, options.algorithm, number);
+    let (writer, (key, options)) = beside(writer, (key, options))?;
     Ok(SyncWriter {
         writer,
         key,
@@ -130,10 +132,11 @@ impl<T: TempFile> SyncWriter<T> {
     {
         let SyncWriter {
             writer,
-            key: _key,
+            key,
             time: _,
-            options: _options,
+            options,
         } = self;
+        let_go((key, options));
         abandon(env.alloc, &mut env.store, writer)
     }
 }

@@ -34,7 +34,7 @@ pub(crate) fn note(records: &mut Vec<Record>, last: Record)
     requires { vec_len records.old < vec_capacity records.old }
     ensures { records.new.items ≡ records.old.items ++ last ∷ [] }
 {
-    let _ = records.push(last);
+    let_go(records.push(last));
 }
 
 /// Puts a call in its caller's place, or none.
@@ -93,3 +93,6 @@ pub(crate) fn lift(calls: &mut Vec<Option<Call>>, caller: usize) -> Call
         None => unreachable!(),
     }
 }
+
+/// Lets a value go by a call, whose proof has nothing of the value's parts.
+pub(crate) fn let_go<T: Drop>(_value: T) {}

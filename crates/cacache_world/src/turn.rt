@@ -3,6 +3,7 @@ ghost use Rattle.std.specs.Prelude.{IsTrue, IfOk};
 ghost use Rattle.cacache_jobs.specs.Jobs.{can_go_on};
 ghost use Rattle.cacache_world.specs.Turned.{GoesOn, IsTurn, IsSaid, AreOwn, AreParts};
 
+use crate::callers::let_go;
 use crate::event::Move;
 use cacache_base::store::{PlainAnswer, PlainFile, PlainStep, PlainTemp};
 use cacache_calls::Reply;
@@ -38,10 +39,13 @@ fn twice(alloc: Global, reply: Reply) -> (Reply, Reply)
 {
     match reply.copy(alloc) {
         Ok(copy) => (reply, copy),
-        Err(_) => (
-            Reply::Refused(Error::OutOfMemory),
-            Reply::Refused(Error::OutOfMemory),
-        ),
+        Err(_) => {
+            let_go(reply);
+            (
+                Reply::Refused(Error::OutOfMemory),
+                Reply::Refused(Error::OutOfMemory),
+            )
+        }
     }
 }
 
@@ -52,7 +56,13 @@ fn own_reply(alloc: Global, job: &Call) -> Result<Option<(Reply, Reply)>, AllocE
     match job.reply() {
         Some(reply) => {
             let said = reply.copy(alloc)?;
-            Ok(Some((said, reply.copy(alloc)?)))
+            match reply.copy(alloc) {
+                Ok(copy) => Ok(Some((said, copy))),
+                Err(error) => {
+                    let_go(said);
+                    Err(error)
+                }
+            }
         }
         None => Ok(None),
     }

@@ -9,7 +9,7 @@ ghost use Rattle.cacache_history.specs.declared.record.Record.TheVariants.{Began
 ghost use Rattle.cacache_world.specs.Kept.{setup_of, history_of, last, AreApart, Adds, MovesOn};
 ghost use Rattle.cacache_world.specs.Faults.{CantMove, CantBegin, CantOpen};
 
-use crate::callers::{held, idle, lift, make_room, note, place};
+use crate::callers::{held, idle, let_go, lift, make_room, note, place};
 use crate::event::{Move, WorldFault};
 use crate::outside::planted;
 use crate::starting::prepared;
@@ -126,7 +126,10 @@ impl World {
             &command,
         ) {
             Ok(job) => job,
-            Err(fault) => return Err(fault),
+            Err(fault) => {
+                let_go(command);
+                return Err(fault);
+            }
         };
         note(&mut self.records, Record::Began(caller, command));
         place(&mut self.calls, caller, Some(job));

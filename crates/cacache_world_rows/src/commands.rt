@@ -138,36 +138,6 @@ fn options_of(
     }
 }
 
-/// A call that commits a content, or its entry alone.
-fn commit_of(
-    kind: &str,
-    key: Text,
-    data: Bytes,
-    algorithm: Algorithm,
-    integrity: Integrity,
-    moment: u128,
-) -> Command {
-    let (key, options) = match kind {
-        "insert" => (key, options_of(algorithm, Some(integrity), None)),
-        "insert_raw" => (key, options_of(algorithm, Some(integrity), Some(data))),
-        _ => {
-            let key = if kind == "put" { Some(key) } else { None };
-            let options = options_of(algorithm, None, None);
-            return Command::Put(Put {
-                key,
-                data,
-                moment,
-                options,
-            });
-        }
-    };
-    Command::Insert(Insert {
-        key,
-        moment,
-        options,
-    })
-}
-
 /// A link to a random target.
 fn link_of(
     alloc: Global,
@@ -201,6 +171,91 @@ fn random_content(random: &mut Random, kind: &str) -> Sample {
     CONTENTS.get(random.below(count)).copied().unwrap_or(HELLO)
 }
 
+/// A call on a key alone.
+fn on_key(alloc: Global, kind: &str, name: &str, moment: u128) -> Result<Command, AllocError> {
+    let key = Text::from_str(alloc, name)?;
+    Ok(match kind {
+        "delete" => Command::Delete(Delete { key, moment }),
+        "find" => Command::Find(key),
+        "get" => Command::Get(key),
+        _ => Command::RemoveFully(key),
+    })
+}
+
+/// A call on a content alone.
+fn on_hash(alloc: Global, kind: &str, sample: Sample) -> Result<Command, AllocError> {
+    let (_, _, text) = sample;
+    let integrity = integrity_of(alloc, text)?;
+    Ok(match kind {
+        "get_hash" => Command::GetHash(integrity),
+        "exists" => Command::Exists(integrity),
+        _ => Command::RemoveHash(integrity),
+    })
+}
+
+/// An export of the key's content, or of this one.
+fn export_of(
+    alloc: Global,
+    random: &mut Random,
+    kind: &str,
+    name: &str,
+    sample: Sample,
+) -> Result<Command, AllocError> {
+    let export = random_export(alloc, random)?;
+    let (_, _, text) = sample;
+    let source = match kind {
+        "export" => Source::Key(Text::from_str(alloc, name)?),
+        _ => Source::Hash(integrity_of(alloc, text)?),
+    };
+    Ok(Command::Export(source, export))
+}
+
+/// A put of this content, under the key or under none.
+fn put_of(
+    alloc: Global,
+    kind: &str,
+    name: &str,
+    sample: Sample,
+    moment: u128,
+) -> Result<Command, AllocError> {
+    let (text, algorithm, _) = sample;
+    let key = if kind == "put" {
+        Some(Text::from_str(alloc, name)?)
+    } else {
+        None
+    };
+    let data = Bytes::new(alloc, Vec::from_slice(alloc, text.as_bytes())?)?;
+    Ok(Command::Put(Put {
+        key,
+        data,
+        moment,
+        options: options_of(algorithm, None, None),
+    }))
+}
+
+/// The entry of this content alone, with the bytes beside it or without.
+fn insert_of(
+    alloc: Global,
+    kind: &str,
+    name: &str,
+    sample: Sample,
+    moment: u128,
+) -> Result<Command, AllocError> {
+    let (text, algorithm, integrity) = sample;
+    let raw = if kind == "insert_raw" {
+        Some(Bytes::new(alloc, Vec::from_slice(alloc, text.as_bytes())?)?)
+    } else {
+        None
+    };
+    let integrity = integrity_of(alloc, integrity)?;
+    let key = Text::from_str(alloc, name)?;
+    Ok(Command::Insert(Insert {
+        key,
+        moment,
+        options: options_of(algorithm, Some(integrity), raw),
+    }))
+}
+
 /// A call of this kind on a random key and content.
 pub(crate) fn random_command(
     alloc: Global,
@@ -209,26 +264,25 @@ pub(crate) fn random_command(
 ) -> Result<Command, AllocError> {
     let moment = random.below(1_000_000) as u128;
     let name = random.pick(&KEYS).copied().unwrap_or("a");
-    let (text, algorithm, integrity) = random_content(random, kind);
-    let key = Text::from_str(alloc, name)?;
-    let integrity = integrity_of(alloc, integrity)?;
-    let data = Bytes::new(alloc, Vec::from_slice(alloc, text.as_bytes())?)?;
-    Ok(match kind {
-        "delete" => Command::Delete(Delete { key, moment }),
-        "find" => Command::Find(key),
-        "get" => Command::Get(key),
-        "get_hash" => Command::GetHash(integrity),
-        "exists" => Command::Exists(integrity),
-        "export" => Command::Export(Source::Key(key), random_export(alloc, random)?),
-        "export_hash" => Command::Export(Source::Hash(integrity), random_export(alloc, random)?),
-        "link" => link_of(alloc, random, Some(key), algorithm, moment)?,
-        "link_hash" => link_of(alloc, random, None, algorithm, moment)?,
-        "ls" => Command::Ls,
-        "remove_hash" => Command::RemoveHash(integrity),
-        "remove_fully" => Command::RemoveFully(key),
-        "clear" => Command::Clear,
-        _ => commit_of(kind, key, data, algorithm, integrity, moment),
-    })
+    let sample = random_content(random, kind);
+    match kind {
+        "ls" => Ok(Command::Ls),
+        "clear" => Ok(Command::Clear),
+        "delete" | "find" | "get" | "remove_fully" => on_key(alloc, kind, name, moment),
+        "get_hash" | "exists" | "remove_hash" => on_hash(alloc, kind, sample),
+        "export" | "export_hash" => export_of(alloc, random, kind, name, sample),
+        "link" | "link_hash" => {
+            let key = if kind == "link" {
+                Some(Text::from_str(alloc, name)?)
+            } else {
+                None
+            };
+            let (_, algorithm, _) = sample;
+            link_of(alloc, random, key, algorithm, moment)
+        }
+        "insert" | "insert_raw" => insert_of(alloc, kind, name, sample, moment),
+        _ => put_of(alloc, kind, name, sample, moment),
+    }
 }
 
 /// A random luck, which is mostly plain. The line of an entry has some 200 bytes.

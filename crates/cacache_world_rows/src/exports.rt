@@ -22,9 +22,9 @@ impl<'h> Story<'h> {
                 self.want("no reply before the export")
             }
             Err(error) => {
-                let text = shown_error(self.alloc, &error)?;
+                let text = shown_error(self.alloc, &error);
                 let_go(error);
-                self.want(text.as_str())
+                self.want(text?.as_str())
             }
         }
     }
@@ -63,10 +63,13 @@ impl<'h> Story<'h> {
             (Step::Read(_, _), Answer::Got(_, piece), _) => self.verify(content, piece, luck),
             (Step::Copy(from, to), _, How::Copy)
             | (Step::Reflink(from, to), _, How::Reflink)
-            | (Step::HardLink(from, to), _, How::HardLink)
-                if value.is_place(content, from)? && *to == export.to => self.exported(
-                value, content, export,
-            ),
+            | (Step::HardLink(from, to), _, How::HardLink) => {
+                if value.is_place(content, from)? && *to == export.to {
+                    self.exported(value, content, export)
+                } else {
+                    self.want("no such step of an export")
+                }
+            }
             _ => self.want("no such step of an export"),
         }
     }

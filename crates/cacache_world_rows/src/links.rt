@@ -10,8 +10,16 @@ use cacache_core::bytes::Bytes;
 use cacache_core::errors::Error;
 use cacache_core::text::Text;
 use cacache_disk::Luck;
-use cacache_rows::set;
-use std::alloc::AllocError;
+use cacache_rows::{let_go, set};
+use std::alloc::{AllocError, Global};
+
+/// A target of another size than was asked, as a reply says it.
+fn mismatch(alloc: Global, wanted: usize, found: usize) -> Result<String, AllocError> {
+    let error = Error::SizeMismatch(wanted, found);
+    let text = shown_error(alloc, &error);
+    let_go(error);
+    text
+}
 
 impl<'h> Story<'h> {
     /// After the size of the target was asked.
@@ -40,7 +48,7 @@ impl<'h> Story<'h> {
             return self.want("no link at another place");
         }
         if count != self.size {
-            let text = shown_error(self.alloc, &Error::SizeMismatch(self.size, count))?;
+            let text = mismatch(self.alloc, self.size, count)?;
             return self.want(text.as_str());
         }
         self.may_add = true;

@@ -50,6 +50,12 @@ fn differing(rt: &impl Print, alloc: Global, row: Row, counts: &mut Counts) -> i
     Ok(count)
 }
 
+/// Prints what was counted.
+fn told(rt: &impl Print, name: &str, tally: &Tally) -> io::Result<()> {
+    println!(rt; "    {name}: {}", tally.shown()?)?;
+    Ok(())
+}
+
 /// Tries a row and prints what it counted: whether nothing differs.
 fn holds(rt: &impl Print, alloc: Global, line: &str) -> io::Result<bool> {
     println!(rt; "{line}")?;
@@ -57,17 +63,18 @@ fn holds(rt: &impl Print, alloc: Global, line: &str) -> io::Result<bool> {
         println!(rt; "    not read")?;
         return Ok(false);
     };
-    let mut counts = Counts {
-        begun: Tally::new(alloc),
-        replies: Tally::new(alloc),
-        events: Tally::new(alloc),
-    };
-    let count = differing(rt, alloc, row, &mut counts)?;
+    let mut counts = Counts::new(alloc);
+    counted(rt, alloc, row, &mut counts)
+}
+
+/// The same of a row that was read, which counts here.
+fn counted(rt: &impl Print, alloc: Global, row: Row, counts: &mut Counts) -> io::Result<bool> {
+    let count = differing(rt, alloc, row, counts)?;
     let word = if count == 0 { "ok" } else { "wrong" };
     println!(rt; "    {word}: {} lists, {count} differences", row.lists)?;
-    println!(rt; "    begun: {}", counts.begun.shown()?)?;
-    println!(rt; "    replies: {}", counts.replies.shown()?)?;
-    println!(rt; "    events: {}", counts.events.shown()?)?;
+    told(rt, "begun", &counts.begun)?;
+    told(rt, "replies", &counts.replies)?;
+    told(rt, "events", &counts.events)?;
     Ok(count == 0)
 }
 

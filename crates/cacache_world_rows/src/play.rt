@@ -17,19 +17,50 @@ use cacache_world::{Record, World, WorldFault};
 use std::alloc::{AllocError, Global};
 
 /// What is counted.
-#[derive(Drop)]
 pub(crate) struct Counts {
     pub(crate) begun: Tally,
     pub(crate) replies: Tally,
     pub(crate) events: Tally,
 }
 
+// Written out here and below, so that it is a call of its own: whoever lets one go has a proof that doesn't go through its
+// parts.
+impl Drop for Counts {
+    fn drop(self) {
+        let Counts {
+            begun: _begun,
+            replies: _replies,
+            events: _events,
+        } = self;
+    }
+}
+
+impl Counts {
+    /// Nothing yet.
+    pub(crate) fn new(alloc: Global) -> Counts {
+        Counts {
+            begun: Tally::new(alloc),
+            replies: Tally::new(alloc),
+            events: Tally::new(alloc),
+        }
+    }
+}
+
 /// The model in the midst of a history: what the cache holds, and the call of each caller.
-#[derive(Drop)]
 struct Model<'h> {
     alloc: Global,
     value: Value,
     stories: Vec<Option<Story<'h>>>,
+}
+
+impl<'h> Drop for Model<'h> {
+    fn drop(self) {
+        let Model {
+            alloc: _,
+            value: _value,
+            stories: _stories,
+        } = self;
+    }
 }
 
 /// A world with so many callers; None where memory was refused.
@@ -144,27 +175,57 @@ impl<'h> Model<'h> {
             Record::Began(caller, command) => {
                 let story = Story::new(self.alloc, command)?;
                 self.place(*caller, Some(story));
+                Ok(None)
             }
-            Record::Stopped(caller) => self.place(*caller, None),
+            Record::Stopped(caller) => {
+                self.place(*caller, None);
+                Ok(None)
+            }
             Record::Moved(caller, luck, made, reply) => {
                 if let Some((step, answer)) = made {
-                    count_step(counts, step, *luck, answer)?;
-                    if self.value.files.is_wrong(step, *luck, answer) {
-                        return Ok(Some(format!(in self.alloc; "{step:?} gave {answer:?}")?));
-                    }
-                    self.value.change(step, *luck, answer)?;
-                    if let Some(Some(story)) = self.stories.get_mut(*caller) {
-                        story.see(&self.value, step, *luck, answer)?;
+                    let difference = self.stepped(*caller, step, *luck, answer, counts)?;
+                    if difference.is_some() {
+                        return Ok(difference);
                     }
                 }
-                if let Some(reply) = reply {
-                    let came = shown_reply(self.alloc, reply)?;
-                    counts.replies.count(cut(came.as_str()).0)?;
-                    return self.reply(*caller, came.as_str());
+                match reply {
+                    Some(reply) => self.replied(*caller, reply, counts),
+                    None => Ok(None),
                 }
             }
         }
+    }
+
+    /// A step of a caller's call was made: how it went otherwise than it is to, if so.
+    fn stepped(
+        &mut self,
+        caller: usize,
+        step: &PlainStep,
+        luck: Luck,
+        answer: &PlainAnswer,
+        counts: &mut Counts,
+    ) -> Result<Option<String>, AllocError> {
+        count_step(counts, step, luck, answer)?;
+        if self.value.files.is_wrong(step, luck, answer) {
+            return Ok(Some(format!(in self.alloc; "{step:?} gave {answer:?}")?));
+        }
+        self.value.change(step, luck, answer)?;
+        if let Some(Some(story)) = self.stories.get_mut(caller) {
+            story.see(&self.value, step, luck, answer)?;
+        }
         Ok(None)
+    }
+
+    /// A caller's call replied: how it did otherwise than it was to, if so.
+    fn replied(
+        &self,
+        caller: usize,
+        reply: &Reply,
+        counts: &mut Counts,
+    ) -> Result<Option<String>, AllocError> {
+        let came = shown_reply(self.alloc, reply)?;
+        counts.replies.count(cut(came.as_str()).0)?;
+        self.reply(caller, came.as_str())
     }
 }
 
@@ -187,6 +248,23 @@ fn judged(
     }
 }
 
+/// Plays a list of random events in this world: how the model differs from it, if it does.
+fn played_in(
+    alloc: Global,
+    world: &mut World,
+    row: Row,
+    random: &mut Random,
+    counts: &mut Counts,
+) -> Result<Option<String>, AllocError> {
+    for _ in 0..row.events {
+        let caller = random.below(row.callers);
+        if !event(alloc, world, random, caller, counts)? {
+            return Ok(Some(String::from_str(alloc, "a call that may not begin")?));
+        }
+    }
+    judged(alloc, row.callers, world, counts)
+}
+
 /// Plays a list of random events: how the model differs from it, if it does.
 pub(crate) fn played(
     alloc: Global,
@@ -197,11 +275,5 @@ pub(crate) fn played(
     let Some(mut world) = world_of(alloc, row.callers) else {
         return Err(AllocError);
     };
-    for _ in 0..row.events {
-        let caller = random.below(row.callers);
-        if !event(alloc, &mut world, random, caller, counts)? {
-            return Ok(Some(String::from_str(alloc, "a call that may not begin")?));
-        }
-    }
-    judged(alloc, row.callers, &world, counts)
+    played_in(alloc, &mut world, row, random, counts)
 }

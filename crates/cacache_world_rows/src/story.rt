@@ -15,7 +15,6 @@ use cacache_rows::{let_go, set};
 use std::alloc::{AllocError, Global};
 
 /// A call, and the reply that it is to give if it is over now.
-#[derive(Drop)]
 pub(crate) struct Story<'h> {
     pub(crate) alloc: Global,
     command: &'h Command,
@@ -31,9 +30,33 @@ pub(crate) struct Story<'h> {
     pub(crate) wanted: String,
 }
 
+// Written out, so that it is a call of its own: whoever lets one go has a proof that doesn't go through its parts.
+impl<'h> Drop for Story<'h> {
+    fn drop(self) {
+        let Story {
+            alloc: _,
+            command: _,
+            found: _found,
+            open: _open,
+            whole: _whole,
+            size: _,
+            may_add: _,
+            wanted: _wanted,
+        } = self;
+    }
+}
+
 /// Why a step shows nothing, if so. That a file is missing shows what is so.
 fn hidden_by(answer: &PlainAnswer) -> Option<Fault> {
     fault_in(answer).filter(|fault| *fault != Fault::NotFound)
+}
+
+/// The integrity of this text, if there is one.
+fn found_in(alloc: Global, text: &Option<String>) -> Result<Option<Integrity>, AllocError> {
+    match text {
+        Some(text) => Ok(Some(integrity_of(alloc, text.as_str())?)),
+        None => Ok(None),
+    }
 }
 
 impl<'h> Story<'h> {
@@ -79,7 +102,9 @@ impl<'h> Story<'h> {
         match (step, fault_in(answer)) {
             (Step::ReadAll(path), None | Some(Fault::NotFound)) => {
                 if let Some(entry) = value.newest(path)? {
-                    self.item(shown_entry(self.alloc, &entry)?.as_str())?;
+                    let shown = shown_entry(self.alloc, &entry);
+                    let_go(entry);
+                    return self.item(shown?.as_str());
                 }
                 Ok(())
             }
@@ -100,14 +125,18 @@ impl<'h> Story<'h> {
         let Some(entry) = value.newest(path)? else {
             return self.want(none);
         };
-        self.want(shown_entry(self.alloc, &entry)?.as_str())?;
-        if let Some(text) = &entry.integrity {
-            set(
-                &mut self.found,
-                Some(integrity_of(self.alloc, text.as_str())?),
-            );
+        let shown = shown_entry(self.alloc, &entry);
+        let found = found_in(self.alloc, &entry.integrity);
+        let_go(entry);
+        self.find(shown?.as_str(), found?)
+    }
+
+    /// The lookup finds this, of this content.
+    fn find(&mut self, shown: &str, found: Option<Integrity>) -> Result<(), AllocError> {
+        if found.is_some() {
+            set(&mut self.found, found);
         }
-        Ok(())
+        self.want(shown)
     }
 
     /// After a content was read.
@@ -126,9 +155,9 @@ impl<'h> Story<'h> {
         match integrity.check(self.alloc, bytes.as_slice()) {
             Ok(_) => self.want(shown_bytes(self.alloc, bytes.as_slice())?.as_str()),
             Err(error) => {
-                let text = shown_error(self.alloc, &error)?;
+                let text = shown_error(self.alloc, &error);
                 let_go(error);
-                self.want(text.as_str())
+                self.want(text?.as_str())
             }
         }
     }
@@ -201,7 +230,7 @@ impl<'h> Story<'h> {
         }
     }
 
-    /// After a step of the call: the reply that it leads to.
+    /// After a step of the call: the reply that it leads to. An export goes on with what its lookup found.
     pub(crate) fn see(
         &mut self,
         value: &Value,
@@ -209,18 +238,35 @@ impl<'h> Story<'h> {
         luck: Luck,
         answer: &PlainAnswer,
     ) -> Result<(), AllocError> {
-        match (self.command, step, self.found.take()) {
+        let found = self.found.take();
+        let seen = self.see_by(value, found.as_ref(), step, luck, answer);
+        if found.is_some() && matches!(self.command, Command::Export(_, _)) {
+            set(&mut self.found, found);
+        } else {
+            let_go(found);
+        }
+        seen
+    }
+
+    /// The same, where a lookup found this.
+    fn see_by(
+        &mut self,
+        value: &Value,
+        found: Option<&Integrity>,
+        step: &PlainStep,
+        luck: Luck,
+        answer: &PlainAnswer,
+    ) -> Result<(), AllocError> {
+        match (self.command, step, found) {
             (Command::Ls, _, _) => self.list(value, step, answer),
-            (Command::Get(_), Step::ReadAll(_), Some(found)) => self.read(value, &found, answer),
+            (Command::Get(_), Step::ReadAll(_), Some(found)) => self.read(value, found, answer),
             (Command::GetHash(integrity), _, _) => self.read(value, integrity, answer),
             (Command::Export(Source::Hash(content), export), _, _) => self.export(
                 value, content, export, step, luck, answer,
             ),
-            (Command::Export(_, export), _, Some(found)) => {
-                self.export(value, &found, export, step, luck, answer)?;
-                set(&mut self.found, Some(found));
-                Ok(())
-            }
+            (Command::Export(_, export), _, Some(found)) => self.export(
+                value, found, export, step, luck, answer,
+            ),
             (_, Step::ReadAll(path), _) => self.look(value, path, answer),
             (Command::Exists(integrity), _, _) => self.ask(value, integrity, answer),
             (Command::Link(link), _, _) => self.link(value, link, step, luck, answer),

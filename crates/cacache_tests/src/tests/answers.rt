@@ -19,11 +19,16 @@ pub fn refused(alloc: Global, error: &Error) -> Result<String, Fail> {
     })
 }
 
+/// The same of an error that is let go.
+fn gone(alloc: Global, error: Error) -> Result<String, Fail> {
+    refused(alloc, &error)
+}
+
 /// A line on what was stored.
 pub fn stored(alloc: Global, answer: Result<Integrity, Error>) -> Result<String, Fail> {
     match answer {
         Ok(integrity) => Ok(format!(in alloc; "stored {integrity}")?),
-        Err(error) => refused(alloc, &error),
+        Err(error) => gone(alloc, error),
     }
 }
 
@@ -31,7 +36,7 @@ pub fn stored(alloc: Global, answer: Result<Integrity, Error>) -> Result<String,
 pub fn read(alloc: Global, answer: Result<Vec<u8>, Error>) -> Result<String, Fail> {
     match answer {
         Ok(bytes) => Ok(format!(in alloc; "read {:?}", bytes.as_slice())?),
-        Err(error) => refused(alloc, &error),
+        Err(error) => gone(alloc, error),
     }
 }
 
@@ -39,7 +44,7 @@ pub fn read(alloc: Global, answer: Result<Vec<u8>, Error>) -> Result<String, Fai
 pub fn done(alloc: Global, answer: Result<(), Error>) -> Result<String, Fail> {
     match answer {
         Ok(()) => Ok(String::from_str(alloc, "done")?),
-        Err(error) => refused(alloc, &error),
+        Err(error) => gone(alloc, error),
     }
 }
 
@@ -47,7 +52,7 @@ pub fn done(alloc: Global, answer: Result<(), Error>) -> Result<String, Fail> {
 pub fn there(alloc: Global, answer: Result<bool, Error>) -> Result<String, Fail> {
     match answer {
         Ok(there) => Ok(format!(in alloc; "{there}")?),
-        Err(error) => refused(alloc, &error),
+        Err(error) => gone(alloc, error),
     }
 }
 
@@ -56,7 +61,7 @@ pub fn has(alloc: Global, answer: Result<Option<Integrity>, Error>) -> Result<St
     match answer {
         Ok(Some(integrity)) => Ok(format!(in alloc; "has {integrity}")?),
         Ok(None) => Ok(String::from_str(alloc, "none")?),
-        Err(error) => refused(alloc, &error),
+        Err(error) => gone(alloc, error),
     }
 }
 
@@ -73,7 +78,7 @@ pub fn found(alloc: Global, answer: Result<Option<Metadata>, Error>) -> Result<S
     match answer {
         Ok(Some(found)) => entry(alloc, &found),
         Ok(None) => Ok(String::from_str(alloc, "none")?),
-        Err(error) => refused(alloc, &error),
+        Err(error) => gone(alloc, error),
     }
 }
 
@@ -81,8 +86,29 @@ pub fn found(alloc: Global, answer: Result<Option<Metadata>, Error>) -> Result<S
 fn item(alloc: Global, item: Result<Metadata, Error>) -> Result<String, Fail> {
     match item {
         Ok(found) => entry(alloc, &found),
-        Err(error) => refused(alloc, &error),
+        Err(error) => gone(alloc, error),
     }
+}
+
+/// A line on each item.
+fn lines_of<S: Store, C, N>(alloc: Global, items: Ls<S, C, N>) -> Result<Vec<String>, Fail>
+    requires { IsListing S.log items }
+{
+    let mut lines = Vec::new(alloc);
+    for found in items {
+        lines.push(item(alloc, found)?)?;
+    }
+    Ok(lines)
+}
+
+/// The lines, each with a semicolon behind it.
+fn joined(alloc: Global, lines: &[String]) -> Result<String, Fail> {
+    let mut line = String::new(alloc);
+    for item in lines {
+        line.push_str(item.as_str())?;
+        line.push_str("; ")?;
+    }
+    Ok(line)
 }
 
 /// A line on a listing: its items in the order of their lines, each with a semicolon behind it.
@@ -92,19 +118,12 @@ pub fn listed<S: Store, C, N>(
 ) -> Result<String, Fail>
     requires { IfOk answer (λ ls. IsListing S.log ls) }
 {
-    let items = match answer {
-        Ok(items) => items,
-        Err(error) => return refused(alloc, &error),
-    };
-    let mut lines = Vec::new(alloc);
-    for found in items {
-        lines.push(item(alloc, found)?)?;
+    match answer {
+        Ok(items) => {
+            let mut lines = lines_of(alloc, items)?;
+            lines.sort()?;
+            joined(alloc, &lines)
+        }
+        Err(error) => gone(alloc, error),
     }
-    lines.sort()?;
-    let mut line = String::new(alloc);
-    for item in &lines {
-        line.push_str(item.as_str())?;
-        line.push_str("; ")?;
-    }
-    Ok(line)
 }

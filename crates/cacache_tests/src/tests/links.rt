@@ -93,13 +93,18 @@ fn links_in_folders(rt: HostRuntime) -> Result<(), Fail> {
 /// cache of its own.
 fn steps_of_links(alloc: Global) -> Result<(usize, usize, usize), Fail> {
     let mut env = based(alloc, MemStore::new(alloc)?, "/")?;
+    steps_on(&mut env)
+}
+
+/// The same in this environment.
+fn steps_on(env: &mut On<MemStore>) -> Result<(usize, usize, usize), Fail> {
     env.store.plant("/w/t", b"hello world")?;
     let first = env.store.log().len();
-    let_go(cacache::link_to_sync(&mut env, "c", "k", "/w/t")?);
+    let_go(cacache::link_to_sync(env, "c", "k", "/w/t")?);
     let second = env.store.log().len();
-    let_go(cacache::link_to_sync(&mut env, "c", "k", "/w/t")?);
+    let_go(cacache::link_to_sync(env, "c", "k", "/w/t")?);
     let third = env.store.log().len();
-    let_go(cacache::link_to_hash_sync(&mut env, "d", "/w/t")?);
+    let_go(cacache::link_to_hash_sync(env, "d", "/w/t")?);
     let last = env.store.log().len();
     Ok((
         second.wrapping_sub(first),

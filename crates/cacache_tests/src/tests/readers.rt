@@ -126,11 +126,22 @@ fn readers_in_folders(rt: HostRuntime) -> Result<(), Fail> {
 /// What is told of a reader that read only `hello`.
 fn half_read<S: Store + Drop>(alloc: Global, store: S) -> Result<String, Fail> {
     let mut env = on(alloc, store)?;
-    put(&mut env)?;
-    let mut reader = opened(&mut env, true)?;
+    half_read_in(&mut env)
+}
+
+/// The same in this environment.
+fn half_read_in<S: Store>(env: &mut On<S>) -> Result<String, Fail> {
+    put(env)?;
+    let mut reader = opened(env, true)?;
+    read_five(&mut reader)?;
+    checked(env.alloc, reader.check())
+}
+
+/// Reads five bytes.
+fn read_five<F: OpenedFile>(reader: &mut SyncReader<F>) -> Result<(), Fail> {
     let mut part = [0; 5];
     reader.read_exact(&mut part)?;
-    checked(alloc, reader.check())
+    Ok(())
 }
 
 #[test]
@@ -165,15 +176,29 @@ fn after_spoiling<S: Store + Drop>(
     replaced: bool,
 ) -> Result<String, Fail> {
     let mut env = on(alloc, store)?;
-    put(&mut env)?;
-    let mut reader = opened(&mut env, false)?;
-    let mut part = [0; 5];
-    reader.read_exact(&mut part)?;
-    spoil(&mut env, replaced)?;
-    let mut rest = String::new(alloc);
+    spoilt_in(&mut env, replaced)
+}
+
+/// The same in this environment.
+fn spoilt_in<S: Store>(env: &mut On<S>, replaced: bool) -> Result<String, Fail> {
+    put(env)?;
+    let mut reader = opened(env, false)?;
+    let rest = rest_of(env, &mut reader, replaced)?;
+    let check = checked(env.alloc, reader.check())?;
+    Ok(format!(in env.alloc; "{rest} {check}")?)
+}
+
+/// What the reader gives after `hello`, when its content is spoilt.
+fn rest_of<S: Store>(
+    env: &mut On<S>,
+    reader: &mut SyncReader<S::File>,
+    replaced: bool,
+) -> Result<String, Fail> {
+    read_five(reader)?;
+    spoil(env, replaced)?;
+    let mut rest = String::new(env.alloc);
     reader.read_to_string(&mut rest)?;
-    let check = checked(alloc, reader.check())?;
-    Ok(format!(in alloc; "{rest} {check}")?)
+    Ok(rest)
 }
 
 #[test]
@@ -190,9 +215,15 @@ fn a_reader_gives_what_it_opened(rt: HostRuntime) -> Result<(), Fail> {
 /// The messages of openings of a key and of a content that aren't there, in a cache that no test writes.
 fn missing<S: Store + Drop>(alloc: Global, store: S) -> Result<(String, String), Fail> {
     let mut env = on(alloc, store)?;
-    let by_key = unopened(alloc, SyncReader::open(&mut env, "none", "key"))?;
+    missing_in(&mut env)
+}
+
+/// The same in this environment.
+fn missing_in<S: Store>(env: &mut On<S>) -> Result<(String, String), Fail> {
+    let alloc = env.alloc;
+    let by_key = unopened(alloc, SyncReader::open(env, "none", "key"))?;
     let sri = Integrity::parse(alloc, HELLO_WORLD)?;
-    let by_hash = unopened(alloc, open(&mut env, "none", sri))?;
+    let by_hash = unopened(alloc, open(env, "none", sri))?;
     Ok((by_key, by_hash))
 }
 

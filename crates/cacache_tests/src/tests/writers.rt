@@ -309,11 +309,16 @@ const NOTHING: [Row<'static>; 1] = [(
 /// A writer that is abandoned, and how many temporary files there are then.
 fn abandons<S: Store + Drop>(alloc: Global, store: S) -> Result<String, Fail> {
     let mut env = on(alloc, store)?;
-    let opened = WriteOpts::new().open_hash_sync(&mut env, "abandoned");
-    let line = abandoned(&mut env, opened, &["hello", " world"])?;
-    let left = count_in(&mut env, "abandoned/tmp")?;
-    let line = format!(in alloc; "{line}, {left:?} left")?;
-    and_then(&mut env, "abandoned", line, &NOTHING)
+    abandons_in(&mut env)
+}
+
+/// The same in this environment.
+fn abandons_in<S: Store>(env: &mut On<S>) -> Result<String, Fail> {
+    let opened = WriteOpts::new().open_hash_sync(env, "abandoned");
+    let line = abandoned(env, opened, &["hello", " world"])?;
+    let left = count_in(env, "abandoned/tmp")?;
+    let line = format!(in env.alloc; "{line}, {left:?} left")?;
+    and_then(env, "abandoned", line, &NOTHING)
 }
 
 #[test]
