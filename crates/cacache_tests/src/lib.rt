@@ -1,5 +1,19 @@
-//! Tests of the calls, over real folders and over a disk in memory. There is nothing else here.
+//! Tests of what rows can't say: stores of a test's own, worlds, and the example of the README. There is nothing else here.
 #![tactic(auto)]
 
 #[cfg(test)]
-mod tests;
+mod making;
+#[cfg(test)]
+mod playing;
+#[cfg(test)]
+mod readme;
+#[cfg(test)]
+mod reads;
+#[cfg(test)]
+mod still;
+#[cfg(test)]
+mod turns;
+#[cfg(test)]
+mod worlds;
+#[cfg(test)]
+mod writes;

@@ -2,7 +2,7 @@
 ghost use Rattle.std.specs.Prelude.{None};
 ghost use Rattle.cacache.specs.Stores.{Fits, plain_step, plain_answer};
 
-use crate::tests::on;
+use crate::still::on;
 use cacache::Integrity;
 use cacache::bytes::Bytes;
 use cacache::content::read::{Reader, open};

@@ -1,5 +1,5 @@
-//! Tries rows on the program, each on a disk in memory and on real folders. Each row of standard input has three
-//! columns with bars between them:
+//! Tries rows on the public calls and on the program, each on a disk in memory and on real folders. Each row of standard
+//! input has three columns with bars between them:
 //!
 //!     ACT | INPUT | RESULT
 //!
@@ -8,10 +8,21 @@
 #![tactic(auto)]
 
 mod acts;
+mod calls;
+mod exports;
+mod lines;
+mod linkers;
+mod options;
+mod place;
 mod places;
+mod program;
+mod puts;
+mod readers;
 mod row;
 mod streams;
+mod told;
 mod words;
+mod writers;
 
 use cacache_rows::run;
 use places::Places;

@@ -1,24 +1,14 @@
-//! What a row does: it runs the program, or looks at its start without words.
+//! Runs of the program, and its start without words.
+use crate::place::On;
 use crate::row::Row;
 use crate::streams::{Input, Output};
 use crate::words::{bytes_of, shown, words_of};
-use cacache::env::{Clock, CountNames, Env};
 use cacache::store::Store;
 use cacache_program::{run, without_words};
 use cacache_rows::Flaw;
 use cacache_rows::words::{cut, number_of};
 use std::alloc::{AllocError, Global};
 use std::io::{self, ErrorKind};
-
-/// A clock that stands still.
-#[derive(Drop)]
-pub(crate) struct FixedClock(pub(crate) u64);
-
-impl Clock for FixedClock {
-    fn now(&mut self) -> u64 {
-        self.0
-    }
-}
 
 /// Room for more than any row prints.
 const AMPLE: usize = 1_000_000;
@@ -57,10 +47,7 @@ fn told(alloc: Global, status: u8, output: &[u8], errors: &[u8]) -> Result<Strin
 }
 
 /// What a run of the program gives.
-pub(crate) fn ran<S: Store>(
-    env: &mut Env<S, FixedClock, CountNames>,
-    row: Row<'_>,
-) -> Result<String, Flaw> {
+pub(crate) fn ran<S: Store>(env: &mut On<S>, row: Row<'_>) -> Result<String, Flaw> {
     let alloc = env.alloc;
     let asked = run_of(row.act)?;
     let words = words_of(alloc, asked.words)?;

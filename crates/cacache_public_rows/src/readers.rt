@@ -1,0 +1,118 @@
+//! Contents that are read in pieces: how the reader is opened, the cache, the key or the integrity's text, how many
+//! bytes are read at first, and what is done then. The input is the path of the content where that is spoilt.
+use crate::calls::integrity_of;
+use crate::lines::refused;
+use crate::place::{On, plant, remove_file};
+use crate::words::shown;
+use cacache::content::read::open;
+use cacache::store::{OpenedFile, Store};
+use cacache::{Algorithm, Result as Answered, SyncReader};
+use cacache_rows::Flaw;
+use cacache_rows::words::{cut, number_of};
+use std::alloc::{AllocError, Global};
+use std::io::Read;
+
+/// A reader that is opened in one of the ways, where the word is one.
+fn opened<S: Store>(
+    env: &mut On<S>,
+    way: &str,
+    cache: &str,
+    what: &str,
+) -> Result<Answered<SyncReader<S::File>>, Flaw> {
+    match way {
+        "open" => Ok(SyncReader::open(env, cache, what)),
+        "open_hash" => {
+            let sri = integrity_of(env.alloc, what)?;
+            Ok(SyncReader::open_hash(env, cache, sri))
+        }
+        "content" => {
+            let sri = integrity_of(env.alloc, what)?;
+            Ok(open(env, cache, sri))
+        }
+        _ => Err(Flaw::NotRead),
+    }
+}
+
+/// The line on a check.
+fn checked(alloc: Global, answer: Answered<Algorithm>) -> Result<String, AllocError> {
+    match answer {
+        Ok(algorithm) => format!(in alloc; "checked {algorithm}"),
+        Err(error) => refused(alloc, error),
+    }
+}
+
+/// The line on so many bytes of a reader, or on its failure.
+pub(crate) fn first_of<R: Read>(
+    alloc: Global,
+    reader: &mut R,
+    count: usize,
+) -> Result<String, AllocError> {
+    let mut bytes = vec![in alloc; 0; count]?;
+    match reader.read_exact(&mut bytes) {
+        Ok(()) => shown(alloc, &bytes),
+        Err(_) => String::from_str(alloc, "failed"),
+    }
+}
+
+/// The line on the rest of a reader, or on its failure.
+fn rest_of<R: Read>(alloc: Global, reader: &mut R) -> Result<String, AllocError> {
+    let mut text = String::new(alloc);
+    match reader.read_to_string(&mut text) {
+        Ok(_) => shown(alloc, text.as_str().as_bytes()),
+        Err(_) => String::from_str(alloc, "failed"),
+    }
+}
+
+/// What is done between the first bytes and the rest: `gone` removes the content, and `anew` makes it anew as `hello`.
+fn spoil<S: Store>(env: &mut On<S>, then: &str, path: &str) -> Result<(), AllocError> {
+    let _done = match then {
+        "gone" => remove_file(env, path)?,
+        "anew" => plant(env, path, b"hello")?,
+        _ => true,
+    };
+    Ok(())
+}
+
+/// The lines on the first bytes of a reader, and on the rest, which `stop` leaves out.
+fn parts_of<S: Store>(
+    env: &mut On<S>,
+    reader: &mut SyncReader<S::File>,
+    then: &str,
+    count: usize,
+    path: &str,
+) -> Result<String, AllocError> {
+    let alloc = env.alloc;
+    let first = first_of(alloc, reader, count)?;
+    if then == "stop" {
+        return Ok(first);
+    }
+    spoil(env, then, path)?;
+    let rest = rest_of(alloc, reader)?;
+    format!(in alloc; "{first}, {rest}")
+}
+
+/// The line on a reader that was opened.
+fn told<S: Store>(
+    env: &mut On<S>,
+    reader: SyncReader<S::File>,
+    words: &str,
+    path: &str,
+) -> Result<String, Flaw> {
+    let (count, then) = cut(words);
+    let count = number_of(count)?;
+    let mut reader = reader;
+    let parts = parts_of(env, &mut reader, then, count, path)?;
+    let check = checked(env.alloc, reader.check())?;
+    Ok(format!(in env.alloc; "{parts}, {check}")?)
+}
+
+/// The line on a reader.
+pub(crate) fn read<S: Store>(env: &mut On<S>, words: &str, path: &str) -> Result<String, Flaw> {
+    let (way, words) = cut(words);
+    let (cache, words) = cut(words);
+    let (what, words) = cut(words);
+    match opened(env, way, cache, what)? {
+        Ok(reader) => told(env, reader, words, path),
+        Err(error) => Ok(refused(env.alloc, error)?),
+    }
+}
