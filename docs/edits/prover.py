@@ -1,0 +1,134 @@
+"""How `try` asks the prover, and what it makes of the answer."""
+import os
+import pathlib
+import re
+import shutil
+import subprocess
+import sys
+
+from edits import crates
+
+KIT = pathlib.Path(os.environ.get("KIT") or pathlib.Path(shutil.which("rt")).resolve().parent.parent)
+JOBS = os.environ.get("EDITS_JOBS", "2")  # how many functions the prover checks side by side
+LIMIT = 3600  # seconds for one check
+
+# What a proof file says that names what an edit took away: no contract refused the edit then.
+NAMES = re.compile(r"(\./)?proofs/.*(has no field|is not in scope|has no `|was not admitted)")
+
+
+def root_of(tree, crate):
+    """The root file of a crate."""
+    return "src/main.rt" if (tree / "crates" / crate / "src/main.rt").exists() else "src/lib.rt"
+
+
+def over_libraries(tree, crate):
+    """The words that name the libraries below a crate: those of the tree, and the kit's."""
+    listed = crates()
+    below, todo = [], list(listed[crate])
+    while todo:
+        name = todo.pop()
+        if name in listed and name not in below:
+            below.append(name)
+            todo += listed[name]
+
+    def place(name):
+        return tree / "crates" / name / "out/rlib" if name in listed else KIT / "rlibs"
+
+    words = []
+    for name in ["std", *listed[crate]]:
+        words += ["--extern", f"{name}={place(name)}/{name}.rlib"]
+    for folder in [KIT / "rlibs", *map(place, below)]:
+        words += ["-L", f"dependency={folder}"]
+    words += ["--antt-project", KIT / "rattle/logic/antt-project.json", "--logic-built", KIT / "logic_built"]
+    return [*words, "--links", f"{crate}=", "--jobs", JOBS]
+
+
+def prover(tree, crate, mode, *words):
+    """The prover's answer on a crate of a tree, over the libraries that stand built: its status and its lines."""
+    command = [KIT / "bin/rattle", mode, "--crate-name", crate, root_of(tree, crate), *over_libraries(tree, crate), *words]
+    how = {"cwd": tree / "crates" / crate, "stdin": subprocess.DEVNULL, "stdout": subprocess.PIPE, "stderr": subprocess.STDOUT}
+    try:
+        ran = subprocess.run(command, text=True, errors="replace", timeout=LIMIT, **how)
+    except subprocess.TimeoutExpired:
+        return None, ["no answer in time"]
+    lines = ran.stdout.rstrip("\n").split("\n")
+    return ran.returncode, [it for it in lines if not it.startswith("so far: ")]
+
+
+def checked(tree, crate, names):
+    """The prover's answer on these functions, types or modules of a crate, over what earlier checks of this run kept."""
+    return prover(tree, crate, "check", "--incremental", "out/incremental", *(word for name in names for word in ("--only", name)))
+
+
+def library(tree, crate):
+    """Builds the library of a crate, after those below it."""
+    made = tree / "crates" / crate / "out/rlib" / f"{crate}.rlib"
+    if made.exists():
+        return
+    for name in crates()[crate]:
+        if name in crates():
+            library(tree, name)
+    made.parent.mkdir(parents=True, exist_ok=True)
+    status, lines = prover(tree, crate, "build", "--statements", "--empty-contracts", "-o", str(made))
+    if status != 0 or not made.exists():
+        sys.exit(f"{crate}: its library can't be built: {lines[-1]}")
+
+
+def unknown(lines):
+    """The name of which the prover knows no function, if it says so."""
+    said = (re.search(r"has no function `([^`]*)`", it) for it in lines)
+    return next((it[1] for it in said if it), None)
+
+
+def unread(lines, path):
+    """The first line that says that a text couldn't be read: then no contract was tried."""
+    for line in lines:
+        at = re.match(r"(?:\./)?(\S+?):\d+:\d+: error(?:\[[\w-]+\])?: (?:(`[^`]*`): )?(.*)", line)
+        if at and (at[1] == path or at[1].startswith(("src/", "specs/"))):
+            said = re.sub(r"`[^`]*`", "", at[3])
+            if not at[2] or re.search(r"is not in scope|has no field|is no name|operand is missing|expected the end|cannot continue", said):
+                return line
+    return None
+
+
+def has_verdict(lines):
+    """Whether the prover came to the proofs at all."""
+    return any(re.match(r"only=\d+ proved=\d+|logic=not-proved", it) for it in lines)
+
+
+def fallen(lines, function):
+    """What the prover says of a function whose own goals aren't all proved; None where they are, or only rest on another function."""
+    for line in lines:
+        at = re.match(r"fn \w+::(\S+): (not proved|no proof: .*`search` did not prove)", line)
+        if at and (function is None or at[1] == function):
+            return line
+    return None
+
+
+def told_of(lines, function):
+    """The errors and notes on a function: those of its own proof files, or on all functions where there is none."""
+    told = [it for it in lines if re.match(r"(note: )?\S+:\d+:\d+:", it)]
+    told = [it for it in told if ": error" in it or it.startswith("note: ")] or told
+    if function is not None:
+        own = "proofs/" + function.replace("::", "/") + "/"
+        told = [it for it in told if own in it or not re.match(r"(\./)?proofs/", it)]
+    return told
+
+
+def judged(status, lines, path, function=None):
+    """Whether the answer on an edit is a refusal by the prover, and what to say of it. With a function, it is about that one alone."""
+    if status == 0:
+        return False, "NOT REFUSED"
+    if unread(lines, path):
+        return False, f"NOT READ: {unread(lines, path)[:160]}"
+    if status != 1 or not has_verdict(lines):
+        return False, f"NOT TRIED: {next((it for it in lines if 'error' in it), lines[-1])[:160]}"
+    if any(re.match(r"fn \S+: could not tell", it) for it in lines):
+        return False, "NO VERDICT: the prover could not tell"
+    fell = fallen(lines, function)
+    if not fell:
+        return False, f"NOT TRIED: no goal was refused: {next((it for it in lines if it.startswith('fn ') and ': proved' not in it), '')[:160]}"
+    told = told_of(lines, function)
+    if ": not proved" in fell and told and all(NAMES.match(it) for it in told):
+        return False, f"SAYS LITTLE: only a proof file names what the edit took away: {told[0][:120]}"
+    return True, f"refused: {next((it for it in told if not NAMES.match(it)), fell)[:140] if function is None else fell[:140]}"
