@@ -4,7 +4,7 @@ use crate::exports::exported;
 use crate::linkers::linked;
 use crate::place::{MOMENT, On, held, make_folder, make_link, names_in, plant, remove_file};
 use crate::program::{ran, without};
-use crate::puts::put;
+use crate::puts::{driven, put};
 use crate::readers::read;
 use crate::row::Row;
 use crate::words::{bytes_of, shown};
@@ -65,6 +65,7 @@ pub(crate) fn made<S: Store>(env: &mut On<S>, row: Row<'_>) -> Result<String, Fl
         ("at", act) => made_at(env, act, row),
         ("asked", act) => asked(env, act, row),
         ("put", act) => put(env, act, row.input),
+        ("drive", act) => driven(env, act, row.input),
         ("writer", act) => written(env, act, row.input),
         ("reader", act) => read(env, act, row.input),
         ("linker", act) => linked(env, act),

@@ -171,7 +171,7 @@ fn linked<S: Store>(
     }))
 }
 
-/// The line on a call by key, whose key may have `\t` and the like; on a link, or on a call of a whole cache.
+/// The line on a call by key, on a link, or on a call of a whole cache.
 fn without_bytes<S: Store>(
     env: &mut On<S>,
     name: &str,
@@ -184,8 +184,7 @@ fn without_bytes<S: Store>(
     if let Some(line) = linked(env, name, cache, what)? {
         return Ok(Some(line));
     }
-    let key = string_of(env.alloc, what)?;
-    by_key(env, name, cache, key.as_str())
+    by_key(env, name, cache, what)
 }
 
 /// The line on a call by integrity.
@@ -195,16 +194,27 @@ fn hashed<S: Store>(env: &mut On<S>, name: &str, words: &str) -> Result<Option<S
     by_hash(env, name, cache, &sri)
 }
 
-/// The line on the call of the row.
+/// The line on the call of the row, whose words may have `\t` and the like.
 pub(crate) fn called<S: Store>(env: &mut On<S>, row: Row<'_>) -> Result<String, Flaw> {
     let (name, words) = cut(row.act);
+    let words = string_of(env.alloc, words)?;
+    called_with(env, name, words.as_str(), row.input)
+}
+
+/// The line on the call of this name with these words and this input.
+fn called_with<S: Store>(
+    env: &mut On<S>,
+    name: &str,
+    words: &str,
+    input: &str,
+) -> Result<String, Flaw> {
     if name == "insert" {
         return inserted(env, words);
     }
     if let Some(line) = without_bytes(env, name, words)? {
         return Ok(line);
     }
-    let bytes = bytes_of(env.alloc, row.input)?;
+    let bytes = bytes_of(env.alloc, input)?;
     if let Some(line) = storing(env, name, words, &bytes)? {
         return Ok(line);
     }

@@ -1,10 +1,10 @@
-//! Puts that are handed to `jobs::call` as commands.
+//! Puts as commands, which `jobs::call` makes, or `jobs::drive` as a job.
 use crate::calls::integrity_of;
 use crate::lines::{refused, stored};
 use crate::place::On;
 use crate::words::bytes_of;
 use cacache::bytes::Bytes;
-use cacache::jobs::{Command, Json, Options, Put, Reply, call};
+use cacache::jobs::{Command, Job, Json, Options, Put, Reply, call, drive};
 use cacache::store::Store;
 use cacache::text::Text;
 use cacache::{Algorithm, Integrity, Value};
@@ -51,21 +51,35 @@ fn replied(alloc: Global, reply: Reply) -> Result<String, AllocError> {
     }
 }
 
-/// The line on a put at the moment 1: its cache, its key, an expected size and an expected integrity.
-pub(crate) fn put<S: Store>(env: &mut On<S>, words: &str, input: &str) -> Result<String, Flaw> {
-    let alloc = env.alloc;
-    let (cache, words) = cut(words);
+/// The put of these bytes, in words, at the moment 1: its key, an expected size and an expected integrity.
+fn put_of(alloc: Global, words: &str, input: &str) -> Result<Command, Flaw> {
     let (key, words) = cut(words);
     let (size, integrity) = cut(words);
     let size = size_of(size)?;
     let data = Bytes::new(alloc, bytes_of(alloc, input)?)?;
     let key = Text::from_str(alloc, key)?;
     let options = said(size, expected(alloc, integrity)?);
-    let command = Command::Put(Put {
+    Ok(Command::Put(Put {
         key: Some(key),
         data,
         moment: 1,
         options,
-    });
+    }))
+}
+
+/// The line on a put that is called: its cache, its key, an expected size and an expected integrity.
+pub(crate) fn put<S: Store>(env: &mut On<S>, words: &str, input: &str) -> Result<String, Flaw> {
+    let alloc = env.alloc;
+    let (cache, words) = cut(words);
+    let command = put_of(alloc, words, input)?;
     Ok(replied(alloc, call(env, cache, command, 0))?)
+}
+
+/// The same of a put that is driven as a job.
+pub(crate) fn driven<S: Store>(env: &mut On<S>, words: &str, input: &str) -> Result<String, Flaw> {
+    let alloc = env.alloc;
+    let (cache, words) = cut(words);
+    let command = put_of(alloc, words, input)?;
+    let job = Job::new(alloc, cache, env.base.as_str(), command, 0);
+    Ok(replied(alloc, drive(&mut env.store, job))?)
 }
