@@ -4,6 +4,8 @@
 #[cfg(test)]
 mod making;
 #[cfg(test)]
+mod order;
+#[cfg(test)]
 mod playing;
 #[cfg(test)]
 mod readme;

@@ -1,13 +1,13 @@
-//! A reader over a store whose open file fails one read.
+//! A reader and a linker over a store whose open file fails one read.
 ghost use Rattle.std.specs.Prelude.{None};
 ghost use Rattle.cacache.specs.Stores.{Fits, plain_step, plain_answer};
 
 use crate::still::on;
-use cacache::Integrity;
 use cacache::bytes::Bytes;
 use cacache::content::read::{Reader, open};
 use cacache::errors::Fault;
 use cacache::store::{Answer, FileHandle, OpenedFile, PlainFile, PlainTemp, Step, Store};
+use cacache::{Error, Integrity, WriteOpts};
 use std::alloc::Global;
 use std::io;
 use std::io::{ErrorKind, Read};
@@ -75,8 +75,8 @@ impl Store for FailingStore {
     }
 }
 
-/// A reader of `hello world`, whose read of this number fails.
-fn opened(alloc: Global, fails: usize) -> Result<Reader<Failing>, Fail> {
+/// A store with a file of `hello world`, whose read of this number fails.
+fn failing(alloc: Global, fails: usize) -> Result<FailingStore, Fail> {
     let bytes = Bytes::new(alloc, Vec::from_slice(alloc, b"hello world")?)?;
     let file = PlainFile {
         left: 11,
@@ -87,7 +87,12 @@ fn opened(alloc: Global, fails: usize) -> Result<Reader<Failing>, Fail> {
         fails,
         reads: 0,
     });
-    let mut env = on(alloc, FailingStore { file })?;
+    Ok(FailingStore { file })
+}
+
+/// A reader of `hello world`, whose read of this number fails.
+fn opened(alloc: Global, fails: usize) -> Result<Reader<Failing>, Fail> {
+    let mut env = on(alloc, failing(alloc, fails)?)?;
     let sri = Integrity::parse(alloc, "sha256-uU0nuZNNPgilLlLX2n2r+sSE7+N6U4DukIj3rOLvzek=")?;
     Ok(open(&mut env, "c", sri)?)
 }
@@ -128,6 +133,31 @@ fn a_reader_goes_on_after_a_failed_read(rt: HostRuntime) -> Result<(), Fail> {
     assert_eq!(rt;
         at_the_end.as_str(),
         "[Some(5), Some(5), Some(1), None, Some(0)] [104, 101, 108, 108, 111, 32, 119, 111, 114, 108, 100] true"
+    );
+    Ok(())
+}
+
+/// What a link says whose commit can't read the target.
+fn unlinked(alloc: Global) -> Result<String, Fail> {
+    let mut env = on(alloc, failing(alloc, 0)?)?;
+    let Ok(linker) = WriteOpts::new().link_to_hash_sync(&mut env, "c", "/t") else {
+        return Ok(String::from_str(alloc, "not opened")?);
+    };
+    match linker.commit(&mut env) {
+        Err(Error::IoError(fault, text)) => Ok(format!(in alloc; "{fault:?}: {text}")?),
+        other => {
+            let_go(other);
+            Ok(String::from_str(alloc, "no failed step")?)
+        }
+    }
+}
+
+#[test]
+fn a_failed_read_ends_a_link(rt: HostRuntime) -> Result<(), Fail> {
+    let line = unlinked(rt.alloc())?;
+    assert_eq!(rt;
+        line.as_str(),
+        "Device: Failed to read target file contents while calculating integrity"
     );
     Ok(())
 }
