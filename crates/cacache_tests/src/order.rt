@@ -2,6 +2,7 @@
 ghost use Rattle.std.specs.Prelude.{None};
 ghost use Rattle.cacache.specs.Stores.{Fits, plain_step, plain_answer};
 
+use crate::still::let_go;
 use cacache::env::{Clock, Env, Names};
 use cacache::index::{delete, insert};
 use cacache::store::{Answer, MemStore, PlainFile, PlainTemp, Step, Store};
@@ -74,9 +75,6 @@ impl Names for Noting<'_> {
 }
 
 type Noted<'a> = Env<Counting<'a>, Noting<'a>, Noting<'a>>;
-
-/// Lets a value go.
-fn let_go<T: Drop>(_value: T) {}
 
 /// Opens a writer, and commits it as a call of its own.
 fn write(env: &mut Noted<'_>, steps: &Cell<u64>) {

@@ -2,7 +2,7 @@
 ghost use Rattle.std.specs.Prelude.{None};
 ghost use Rattle.cacache.specs.Stores.{Fits, plain_step, plain_answer};
 
-use crate::still::on;
+use crate::still::{let_go, on};
 use cacache::bytes::Bytes;
 use cacache::content::read::{Reader, open};
 use cacache::errors::Fault;
@@ -47,9 +47,6 @@ impl OpenedFile for Failing {
 struct FailingStore {
     file: Option<Failing>,
 }
-
-/// Lets a value go.
-fn let_go<T: Drop>(_value: T) {}
 
 impl Store for FailingStore {
     type File = Failing;

@@ -1,4 +1,4 @@
-//! An environment whose clock stands still.
+//! An environment whose clock stands still, and values that are let go.
 use cacache::env::{Clock, CountNames, Env};
 use cacache::store::Store;
 use std::alloc::Global;
@@ -21,3 +21,6 @@ pub(crate) fn on<S: Store + Drop>(
 ) -> Result<Env<S, FixedClock, CountNames>, Fail> {
     Ok(Env::new(alloc, store, FixedClock(1000), CountNames::from(0), ".")?)
 }
+
+/// Lets a value go: one call in place of its parts, which a proof would go through.
+pub(crate) fn let_go<T: Drop>(_value: T) {}

@@ -2,7 +2,7 @@
 ghost use Rattle.std.specs.Prelude.{None};
 ghost use Rattle.cacache.specs.Stores.{Fits, plain_step, plain_answer};
 
-use crate::still::on;
+use crate::still::{let_go, on};
 use cacache::WriteOpts;
 use cacache::bytes::Bytes;
 use cacache::errors::Fault;
@@ -58,9 +58,6 @@ impl ShortStore {
         self.bytes = bytes;
     }
 }
-
-/// Lets a value go.
-fn let_go<T: Drop>(_value: T) {}
 
 impl Store for ShortStore {
     type File = PlainFile;
