@@ -73,7 +73,7 @@ impl Store for FailingStore {
 }
 
 /// A store with a file of `hello world`, whose read of this number fails.
-fn failing(alloc: Global, fails: usize) -> Result<FailingStore, Fail> {
+fn failing_store(alloc: Global, fails: usize) -> Result<FailingStore, Fail> {
     let bytes = Bytes::new(alloc, Vec::from_slice(alloc, b"hello world")?)?;
     let file = PlainFile {
         left: 11,
@@ -89,7 +89,7 @@ fn failing(alloc: Global, fails: usize) -> Result<FailingStore, Fail> {
 
 /// A reader of `hello world`, whose read of this number fails.
 fn opened(alloc: Global, fails: usize) -> Result<Reader<Failing>, Fail> {
-    let mut env = on(alloc, failing(alloc, fails)?)?;
+    let mut env = on(alloc, failing_store(alloc, fails)?)?;
     let sri = Integrity::parse(alloc, "sha256-uU0nuZNNPgilLlLX2n2r+sSE7+N6U4DukIj3rOLvzek=")?;
     Ok(open(&mut env, "c", sri)?)
 }
@@ -136,7 +136,7 @@ fn a_reader_goes_on_after_a_failed_read(rt: HostRuntime) -> Result<(), Fail> {
 
 /// What a link says whose commit can't read the target.
 fn unlinked(alloc: Global) -> Result<String, Fail> {
-    let mut env = on(alloc, failing(alloc, 0)?)?;
+    let mut env = on(alloc, failing_store(alloc, 0)?)?;
     let Ok(linker) = WriteOpts::new().link_to_hash_sync(&mut env, "c", "/t") else {
         return Ok(String::from_str(alloc, "not opened")?);
     };
