@@ -1,14 +1,6 @@
 //! The acts of rows.
-use crate::entries::{alike, found, found_of_text, torn, torn_text};
-use crate::errors::{context, error, fault, is_other};
-use crate::integrities::{
-    algorithm, check, computed, integrity, length, of_data, of_pieces, order, shares,
-};
-use crate::lines::line;
-use crate::lookups::{again, latest};
-use crate::parts::{compare, environment, numbers, text};
-use crate::paths::{bucket, content, joined, temp};
 use crate::words::text_of;
+use crate::{entries, errors, integrities, lines, lookups, parts, paths};
 use cacache_rows::words::{cut, string_of, written_out};
 use cacache_rows::{Flaw, Outcome, Trial};
 use std::alloc::Global;
@@ -19,54 +11,55 @@ pub(crate) struct Acts {
     pub(crate) alloc: Global,
 }
 
-/// What an act on a bucket's bytes gives.
-fn of_entries(alloc: Global, act: &str, given: &str) -> Result<String, Flaw> {
-    match act {
-        "line" => line(alloc, given),
-        "entries" => found(alloc, given),
-        "torn" => torn(alloc, given),
-        "text" => found_of_text(alloc, given),
-        "torn-text" => torn_text(alloc, given),
-        "alike" => alike(alloc, given),
-        "latest" => latest(alloc, given),
-        "again" => again(alloc, given),
-        _ => Err(Flaw::NotRead),
-    }
-}
-
-/// What an act on a path, an error or a small part gives.
+/// What an act on entries, a path, an error or a small part gives.
 fn of_others(alloc: Global, act: &str, given: &str) -> Result<String, Flaw> {
     match act {
-        "content" => content(alloc, given),
-        "bucket" => bucket(alloc, given),
-        "temp" => temp(alloc, given),
-        "join" => joined(alloc, given),
-        "error" => error(alloc, given),
-        "context" => context(alloc, given),
-        "fault" => fault(alloc, given),
-        "is-other" => is_other(alloc, given),
-        "text-parts" => text(alloc, given),
-        "compare" => compare(alloc, given),
-        "numbers" => numbers(alloc, given),
-        "environment" => environment(alloc, given),
-        _ => of_entries(alloc, act, given),
+        "content" => paths::content(alloc, given),
+        "bucket" => paths::bucket(alloc, given),
+        "temp" => paths::temp(alloc, given),
+        "join" => paths::joined(alloc, given),
+        "string" => parts::text(alloc, given),
+        "compare" => parts::compare(alloc, given),
+        "number" => parts::number(alloc, given),
+        "environment" => parts::environment(alloc, given),
+        "error" => errors::error(alloc, given),
+        "kind" => errors::kind(alloc, given),
+        "fault" => errors::fault(alloc, given),
+        "context" => errors::context(alloc, given),
+        "line" => lines::line(alloc, given),
+        "entries" => entries::found(alloc, given),
+        "torn" => entries::torn(alloc, given),
+        "text" => entries::text(alloc, given),
+        "torn-text" => entries::torn_text(alloc, given),
+        "alike" => entries::alike(alloc, given),
+        "latest" => lookups::latest(alloc, given),
+        "again" => lookups::again(alloc, given),
+        _ => Err(Flaw::NotRead),
     }
 }
 
 /// What an act gives.
 fn got(alloc: Global, act: &str, given: &str) -> Result<String, Flaw> {
     match act {
-        "algorithm" => algorithm(alloc, given),
-        "order" => order(alloc, given),
-        "digest" => of_data(alloc, given),
-        "integrity" => integrity(alloc, given),
-        "length" => length(alloc, given),
-        "pieces" => of_pieces(alloc, given),
-        "computed" => computed(alloc, given),
-        "check" => check(alloc, given),
-        "shares" => shares(alloc, given),
+        "algorithm" => integrities::algorithm(alloc, given),
+        "order" => integrities::order(alloc, given),
+        "digest" => integrities::digest(alloc, given),
+        "computed" => integrities::computed(alloc, given),
+        "integrity" => integrities::integrity(alloc, given),
+        "length" => integrities::length(alloc, given),
+        "address" => integrities::address(alloc, given),
+        "check" => integrities::check(alloc, given),
+        "shares" => integrities::shares(alloc, given),
+        "build" => integrities::build(alloc, given),
+        "check-pieces" => integrities::check_pieces(alloc, given),
         _ => of_others(alloc, act, given),
     }
+}
+
+/// A text with its line feeds, tabs and NULs written out.
+fn visible(alloc: Global, text: Result<String, Flaw>) -> Result<String, Flaw> {
+    let text = text?;
+    Ok(written_out(alloc, text.as_str())?)
 }
 
 impl Trial for Acts {
@@ -77,11 +70,8 @@ impl Trial for Acts {
             return Err(Flaw::NotRead);
         };
         let (act, given) = cut(given);
-        let got = got(alloc, act, given)?;
-        let wanted = text_of(alloc, wanted)?;
-        Ok(Outcome {
-            wanted: written_out(alloc, wanted.as_str())?,
-            got: written_out(alloc, got.as_str())?,
-        })
+        let wanted = visible(alloc, text_of(alloc, wanted))?;
+        let got = visible(alloc, got(alloc, act, given))?;
+        Ok(Outcome { wanted, got })
     }
 }

@@ -1,5 +1,5 @@
 //! The entries that bytes hold.
-use crate::words::{bytes_of, given};
+use crate::words::{bytes_of, given, printed, two};
 use cacache_entry::{SerializableMetadata, entries};
 use cacache_rows::Flaw;
 use cacache_rows::words::column;
@@ -7,31 +7,41 @@ use sha2::{Digest, Sha256};
 use std::alloc::{AllocError, Global};
 use std::hash::{DefaultHasher, Hash, Hasher};
 
-/// The times of entries, one behind the other.
-fn times(alloc: Global, found: &[SerializableMetadata]) -> Result<String, AllocError> {
-    if found.is_empty() {
-        return String::from_str(alloc, "none");
-    }
-    let mut times = String::new(alloc);
-    for entry in found {
-        if !times.is_empty() {
-            times.push(' ')?;
-        }
-        times.push_str(entry.time.to_string(alloc)?.as_str())?;
-    }
-    Ok(times)
-}
-
-/// The times of the entries that bytes hold.
-fn times_in(alloc: Global, bytes: &[u8]) -> Result<String, Flaw> {
+/// How many entries bytes hold, and the time of the last.
+fn held(alloc: Global, bytes: &[u8]) -> Result<String, Flaw> {
     let found = given(entries(alloc, bytes))?;
-    Ok(times(alloc, &found)?)
+    match found.last() {
+        Some(entry) => two(alloc, found.len(), entry.time),
+        None => printed(alloc, "none"),
+    }
 }
 
-/// The times of the entries that a word's bytes hold.
+/// How many entries a word's bytes hold, and the time of the last.
 pub(crate) fn found(alloc: Global, word: &str) -> Result<String, Flaw> {
     let bytes = bytes_of(alloc, word)?;
-    times_in(alloc, &bytes)
+    held(alloc, &bytes)
+}
+
+/// What two runs of bytes hold, one behind the other.
+fn held_by_both(alloc: Global, front: &[u8], back: &[u8]) -> Result<String, Flaw> {
+    let mut bytes = Vec::from_slice(alloc, front)?;
+    bytes.extend_from_slice(back)?;
+    held(alloc, &bytes)
+}
+
+/// At how many cuts the bytes hold what a word says, where these bytes lie behind the cut.
+pub(crate) fn torn(alloc: Global, columns: &str) -> Result<String, Flaw> {
+    let (whole, rest) = column(columns)?;
+    let (back, wanted) = column(rest)?;
+    let whole = bytes_of(alloc, whole)?;
+    let back = bytes_of(alloc, back)?;
+    let mut count = 0u64;
+    for cut in 0..whole.len() {
+        if held_by_both(alloc, &whole[..cut], &back)?.as_str() == wanted {
+            count = count.saturating_add(1);
+        }
+    }
+    printed(alloc, count)
 }
 
 /// The line of a text, under its own digest.
@@ -44,64 +54,28 @@ fn line_of(alloc: Global, text: &[u8]) -> Result<Vec<u8>, AllocError> {
     Ok(line)
 }
 
-/// The times of the entries that the line of a text holds.
-fn times_of_text(alloc: Global, text: &[u8]) -> Result<String, Flaw> {
+/// What the line of a text holds.
+fn held_by_line(alloc: Global, text: &[u8]) -> Result<String, Flaw> {
     let line = line_of(alloc, text)?;
-    times_in(alloc, &line)
+    held(alloc, &line)
 }
 
-/// The times of the entries that the line of a word's bytes holds.
-pub(crate) fn found_of_text(alloc: Global, word: &str) -> Result<String, Flaw> {
-    let text = bytes_of(alloc, word)?;
-    times_of_text(alloc, &text)
+/// How many entries the line of a text holds, and the time of the last.
+pub(crate) fn text(alloc: Global, word: &str) -> Result<String, Flaw> {
+    held_by_line(alloc, word.as_bytes())
 }
 
-/// What is done with a torn text.
-#[derive(Clone, Copy)]
-enum Reading<'a> {
-    /// It is given its own digest.
-    Digested,
-    /// These bytes are put behind it.
-    Before(&'a [u8]),
-}
-
-/// The times of the entries that a torn text holds.
-fn times_of_torn(alloc: Global, front: &[u8], reading: Reading<'_>) -> Result<String, Flaw> {
-    match reading {
-        Reading::Digested => times_of_text(alloc, front),
-        Reading::Before(back) => {
-            let mut bytes = Vec::from_slice(alloc, front)?;
-            bytes.extend_from_slice(back)?;
-            times_in(alloc, &bytes)
+/// At how many cuts the line of the text before the cut holds what a word says.
+pub(crate) fn torn_text(alloc: Global, columns: &str) -> Result<String, Flaw> {
+    let (whole, wanted) = column(columns)?;
+    let whole = whole.as_bytes();
+    let mut count = 0u64;
+    for cut in 0..whole.len() {
+        if held_by_line(alloc, &whole[..cut])?.as_str() == wanted {
+            count = count.saturating_add(1);
         }
     }
-}
-
-/// The times of the entries that each torn text holds, from the empty one on.
-fn times_at_cuts(alloc: Global, whole: &[u8], reading: Reading<'_>) -> Result<String, Flaw> {
-    let length = whole.len();
-    let first = times_of_torn(alloc, b"", reading)?;
-    for cut in 0..length {
-        let times = times_of_torn(alloc, &whole[..cut], reading)?;
-        if times != first {
-            return Ok(format!(in alloc; "{first}, but {times} at {cut}")?);
-        }
-    }
-    Ok(format!(in alloc; "{first} at each of {length} cuts")?)
-}
-
-/// The times of the entries that each torn piece of bytes holds, with these behind it.
-pub(crate) fn torn(alloc: Global, columns: &str) -> Result<String, Flaw> {
-    let (whole, back) = column(columns)?;
-    let whole = bytes_of(alloc, whole)?;
-    let back = bytes_of(alloc, back)?;
-    times_at_cuts(alloc, &whole, Reading::Before(&back))
-}
-
-/// The times of the entries that each torn text holds, under its own digest.
-pub(crate) fn torn_text(alloc: Global, word: &str) -> Result<String, Flaw> {
-    let whole = bytes_of(alloc, word)?;
-    times_at_cuts(alloc, &whole, Reading::Digested)
+    printed(alloc, count)
 }
 
 /// What an entry's hash is.
@@ -111,14 +85,23 @@ fn hash_of(entry: &SerializableMetadata) -> u64 {
     state.finish()
 }
 
-/// Whether the first and the last entry of a word's bytes are equal, and whether they hash equally too.
+/// Whether two entries are equal, and whether they hash equally too.
+fn are_alike(alloc: Global, found: &[SerializableMetadata]) -> Result<String, Flaw> {
+    match found {
+        [one, other] => {
+            let are_equal = *one == *other;
+            two(
+                alloc,
+                are_equal,
+                are_equal && hash_of(one) == hash_of(other),
+            )
+        }
+        _ => Err(Flaw::NotRead),
+    }
+}
+
+/// Whether the two entries of a word's bytes are equal, and whether they hash equally too.
 pub(crate) fn alike(alloc: Global, word: &str) -> Result<String, Flaw> {
-    let bytes = bytes_of(alloc, word)?;
-    let found = given(entries(alloc, &bytes))?;
-    let (Some(one), Some(other)) = (found.first(), found.last()) else {
-        return Err(Flaw::NotRead);
-    };
-    let are_equal = *one == *other;
-    let are_alike = are_equal && hash_of(one) == hash_of(other);
-    Ok(format!(in alloc; "{are_equal} {are_alike}")?)
+    let found = given(entries(alloc, word.as_bytes()))?;
+    are_alike(alloc, &found)
 }

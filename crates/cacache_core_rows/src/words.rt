@@ -1,10 +1,10 @@
-//! Words as bytes and texts, and what calls give.
+//! Words as bytes and texts, and values as texts.
 use cacache_core::errors::Error;
 use cacache_rows::words::is_nothing;
 use cacache_rows::{Flaw, let_go};
 use hex::FromHex;
-use std::alloc::{AllocError, Global};
-use std::fmt::Display;
+use std::alloc::Global;
+use std::fmt::{self, Debug, Display, Formatter, Write};
 
 /// A word as it stands: `-` is the empty one.
 pub(crate) fn plain(word: &str) -> &str {
@@ -20,15 +20,13 @@ fn push_part(bytes: &mut Vec<u8>, part: &str) -> Result<(), Flaw> {
         return Err(Flaw::NotRead);
     };
     bytes.extend_from_slice(&byte)?;
-    bytes.extend_from_slice(rest.as_bytes())?;
-    Ok(())
+    Ok(bytes.extend_from_slice(rest.as_bytes())?)
 }
 
 /// The bytes of a word, in which `\xNN` is a byte with these two digits.
 pub(crate) fn bytes_of(alloc: Global, word: &str) -> Result<Vec<u8>, Flaw> {
     let mut parts = plain(word).split("\\x");
-    let mut bytes = Vec::new(alloc);
-    bytes.extend_from_slice(parts.next().unwrap_or("").as_bytes())?;
+    let mut bytes = Vec::from_slice(alloc, parts.next().unwrap_or("").as_bytes())?;
     for part in parts {
         push_part(&mut bytes, part)?;
     }
@@ -37,11 +35,7 @@ pub(crate) fn bytes_of(alloc: Global, word: &str) -> Result<Vec<u8>, Flaw> {
 
 /// The text of a word.
 pub(crate) fn text_of(alloc: Global, word: &str) -> Result<String, Flaw> {
-    let bytes = bytes_of(alloc, word)?;
-    match String::from_utf8(bytes) {
-        Ok(text) => Ok(text),
-        Err(_) => Err(Flaw::NotRead),
-    }
+    given(String::from_utf8(bytes_of(alloc, word)?))
 }
 
 /// What a call gives, where nothing is wrong.
@@ -55,17 +49,47 @@ pub(crate) fn given<T, E: Drop>(came: Result<T, E>) -> Result<T, Flaw> {
     }
 }
 
+/// What a value prints as.
+pub(crate) fn printed<T: Display + Drop>(alloc: Global, value: T) -> Result<String, Flaw> {
+    given(value.to_string(alloc))
+}
+
 /// What a value prints as, or what the error says.
 pub(crate) fn told<T: Display + Drop>(
     alloc: Global,
     came: Result<T, Error>,
-) -> Result<String, AllocError> {
+) -> Result<String, Flaw> {
     match came {
-        Ok(value) => value.to_string(alloc),
-        Err(error) => {
-            let text = error.to_string(alloc);
-            let_go(error);
-            text
-        }
+        Ok(value) => printed(alloc, value),
+        Err(error) => printed(alloc, error),
+    }
+}
+
+/// What two values print as.
+pub(crate) fn two<A: Display + Drop, B: Display + Drop>(
+    alloc: Global,
+    one: A,
+    other: B,
+) -> Result<String, Flaw> {
+    given(format!(in alloc; "{one} {other}"))
+}
+
+/// What three values print as.
+pub(crate) fn three<A: Display + Drop, B: Display + Drop, C: Display + Drop>(
+    alloc: Global,
+    one: A,
+    other: B,
+    third: C,
+) -> Result<String, Flaw> {
+    given(format!(in alloc; "{one} {other} {third}"))
+}
+
+/// A value that is printed as `Debug` does.
+#[derive(Drop)]
+pub(crate) struct Debugged<T>(pub(crate) T);
+
+impl<T: Debug> Display for Debugged<T> {
+    fn fmt<W: Write>(&self, f: &mut Formatter<W>) -> fmt::Result {
+        write!(f, "{:?}", self.0)
     }
 }
