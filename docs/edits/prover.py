@@ -97,12 +97,18 @@ def has_verdict(lines):
 
 
 def fallen(lines, function):
-    """What the prover says of a function whose own goals aren't all proved; None where they are, or only rest on another function."""
+    """What the prover says of a function whose own goals aren't all proved; None where they are, or where that may only rest on another function."""
+    own = r"not proved(?!; it calls)|no proof: .*`search` did not prove"
     for line in lines:
-        at = re.match(r"fn \w+::(\S+): (not proved|no proof: .*`search` did not prove)", line)
-        if at and (function is None or at[1] == function):
+        at = re.match(rf"fn \w+::(\S+): (?:{own if function else 'not proved|no proof: .*`search` did not prove'})", line)
+        if at and function in (None, at[1]):
             return line
     return None
+
+
+def leans(lines, function):
+    """Whether the prover says of a function that it calls another one that isn't proved."""
+    return any(re.match(rf"fn \w+::{re.escape(function)}: .*it calls", it) for it in lines)
 
 
 def told_of(lines, function):
