@@ -4,7 +4,7 @@ use crate::playing::{Act, Row, played};
 use cacache_core::errors::Fault;
 use cacache_disk::Luck;
 use cacache_world::World;
-use std::alloc::AllocError;
+use std::alloc::{AllocError, Global};
 use std::test::Fail;
 
 /// The callers.
@@ -50,7 +50,7 @@ fn bucket_holds(world: &World, text: &str) -> Result<bool, AllocError> {
     })
 }
 
-/// The third move writes the content.
+/// The third move writes the content; one that takes nothing ends the call.
 const NOTHING_WRITTEN: &[Row] = &[
     (
         A,
@@ -62,14 +62,6 @@ const NOTHING_WRITTEN: &[Row] = &[
     (A, Act::Find("b"), 1, Luck::Plain, "nothing"),
     (A, Act::GetHash(HELLO), 1, Luck::Plain, "NotFound"),
 ];
-
-#[test]
-fn a_write_of_nothing_puts_nothing(rt: HostRuntime) -> Result<(), Fail> {
-    let mut world = world_of(rt.alloc(), 1)?;
-    let came = played(rt.alloc(), &mut world, NOTHING_WRITTEN)?;
-    assert_eq!(rt; came.as_str(), "");
-    Ok(())
-}
 
 /// The fifth move persists the content. The sixth of the second put asks for it.
 const PUT_TWICE: &[Row] = &[
@@ -92,14 +84,6 @@ const PUT_TWICE: &[Row] = &[
     (A, Act::Find("b"), 1, Luck::Plain, FOUND_B),
 ];
 
-#[test]
-fn a_failed_persist_is_none_of_a_content_that_is_there(rt: HostRuntime) -> Result<(), Fail> {
-    let mut world = world_of(rt.alloc(), 1)?;
-    let came = played(rt.alloc(), &mut world, PUT_TWICE)?;
-    assert_eq!(rt; came.as_str(), "");
-    Ok(())
-}
-
 /// The seventh move appends the entry.
 const IN_SIGHT: &[Row] = &[
     (A, Act::Put("a", "one"), 5, Luck::Plain, "more"),
@@ -114,15 +98,7 @@ const IN_SIGHT: &[Row] = &[
     (B, Act::Find("x"), 1, Luck::Plain, FOUND_X),
 ];
 
-#[test]
-fn an_entry_is_seen_when_its_line_is_whole(rt: HostRuntime) -> Result<(), Fail> {
-    let mut world = world_of(rt.alloc(), 4)?;
-    let came = played(rt.alloc(), &mut world, IN_SIGHT)?;
-    assert_eq!(rt; came.as_str(), "");
-    assert!(rt; bucket_holds(&world, TORN_AND_WHOLE)?);
-    Ok(())
-}
-
+/// A call that is given up keeps what it did.
 const STOPPED: &[Row] = &[
     (A, Act::Put("a", "one"), 5, Luck::Plain, "more"),
     (A, Act::Stop, 0, Luck::Plain, "more"),
@@ -130,15 +106,7 @@ const STOPPED: &[Row] = &[
     (B, Act::Find("a"), 1, Luck::Plain, "nothing"),
 ];
 
-#[test]
-fn a_call_that_stops_keeps_what_it_did(rt: HostRuntime) -> Result<(), Fail> {
-    let mut world = world_of(rt.alloc(), 2)?;
-    let came = played(rt.alloc(), &mut world, STOPPED)?;
-    assert_eq!(rt; came.as_str(), "");
-    Ok(())
-}
-
-/// A line has some 200 bytes.
+/// An append that failed may have taken all. A line has some 200 bytes.
 const TOOK_ALL: &[Row] = &[
     (
         A,
@@ -149,14 +117,6 @@ const TOOK_ALL: &[Row] = &[
     ),
     (B, Act::Find("a"), 1, Luck::Plain, FOUND_A),
 ];
-
-#[test]
-fn an_append_that_failed_may_have_taken_all(rt: HostRuntime) -> Result<(), Fail> {
-    let mut world = world_of(rt.alloc(), 2)?;
-    let came = played(rt.alloc(), &mut world, TOOK_ALL)?;
-    assert_eq!(rt; came.as_str(), "");
-    Ok(())
-}
 
 /// A removal reads the entry, then removes its content, then the bucket.
 const REMOVED: &[Row] = &[
@@ -169,10 +129,75 @@ const REMOVED: &[Row] = &[
     (A, Act::GetHash(TWO), 1, Luck::Plain, "read two"),
 ];
 
+/// A failed persist asks for the content, which isn't there.
+const NOT_PERSISTED: &[Row] = &[
+    (
+        A,
+        Act::Put("a", "hello world"),
+        5,
+        Luck::Fail(Fault::Device, None),
+        "more",
+    ),
+    (A, Act::Go, 1, Luck::Plain, "Device"),
+];
+
+/// A short write is continued.
+const WRITTEN_IN_TWO: &[Row] = &[
+    (A, Act::Put("a", "hello world"), 3, Luck::Take(3), "more"),
+    (A, Act::Go, 5, Luck::Plain, STORED_HELLO),
+];
+
+const STORIES: [&[Row]; 6] = [
+    NOTHING_WRITTEN,
+    PUT_TWICE,
+    STOPPED,
+    TOOK_ALL,
+    REMOVED,
+    NOT_PERSISTED,
+];
+
+/// What comes of the rows in a world of their own, with four callers.
+fn told(alloc: Global, rows: &[Row]) -> Result<String, AllocError> {
+    let mut world = world_of(alloc, 4)?;
+    played(alloc, &mut world, rows)
+}
+
 #[test]
-fn a_removal_takes_the_entry_of_a_put_in_its_midst(rt: HostRuntime) -> Result<(), Fail> {
-    let mut world = world_of(rt.alloc(), 3)?;
-    let came = played(rt.alloc(), &mut world, REMOVED)?;
+fn stories_come_out_as_they_are_told(rt: HostRuntime) -> Result<(), Fail> {
+    for rows in STORIES {
+        let came = told(rt.alloc(), rows)?;
+        assert_eq!(rt; came.as_str(), "");
+    }
+    Ok(())
+}
+
+/// What comes of an entry in sight, and whether its bucket then holds the torn line and the whole one.
+fn in_sight(alloc: Global) -> Result<(String, bool), AllocError> {
+    let mut world = world_of(alloc, 4)?;
+    let came = played(alloc, &mut world, IN_SIGHT)?;
+    let holds = bucket_holds(&world, TORN_AND_WHOLE)?;
+    Ok((came, holds))
+}
+
+#[test]
+fn an_entry_is_seen_when_its_line_is_whole(rt: HostRuntime) -> Result<(), Fail> {
+    let (came, holds) = in_sight(rt.alloc())?;
     assert_eq!(rt; came.as_str(), "");
+    assert!(rt; holds);
+    Ok(())
+}
+
+/// What comes of a short write, and how many records there are then.
+fn continued(alloc: Global) -> Result<(String, usize), AllocError> {
+    let mut world = world_of(alloc, 4)?;
+    let came = played(alloc, &mut world, WRITTEN_IN_TWO)?;
+    Ok((came, world.history().len()))
+}
+
+#[test]
+fn a_short_write_is_continued(rt: HostRuntime) -> Result<(), Fail> {
+    let (came, records) = continued(rt.alloc())?;
+    assert_eq!(rt; came.as_str(), "");
+    assert_eq!(rt; records, 9);
     Ok(())
 }
