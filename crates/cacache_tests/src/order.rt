@@ -1,30 +1,36 @@
 //! Calls ask the clock and the numbers before their first step.
-ghost use Rattle.std.specs.Prelude.{None};
+ghost use Rattle.cacache.specs.Stores.{Fits, Logs, plain_step, plain_answer};
 
 use crate::still::let_go;
 use cacache::env::{Clock, Env, Names};
 use cacache::index::{delete, insert};
-use cacache::store::{Answer, MemStore, PlainFile, PlainTemp, Step, Store};
+use cacache::store::{Answer, MemStore, Step, Store};
 use cacache::{SyncWriter, WriteOpts};
 use std::alloc::Global;
 use std::cell::Cell;
 use std::test::Fail;
 
-/// A store in memory that counts its steps.
+/// A store that counts its steps.
 #[derive(Drop)]
-struct Counting<'a> {
-    store: MemStore,
+struct Counting<'a, S> {
+    store: S,
     steps: &'a Cell<u64>,
 }
 
-impl Store for Counting<'_> {
-    type File = PlainFile;
+impl<'a, S: Store> Store for Counting<'a, S> {
+    type File = S::File;
 
-    type Temp = PlainTemp;
+    type Temp = S::Temp;
 
-    ghost log = { λ _. None };
+    ghost log = { λ it. S.log it.store };
 
-    fn step(&mut self, step: Step<PlainFile, PlainTemp>) -> Answer<PlainFile, PlainTemp> {
+    fn step(&mut self, step: Step<S::File, S::Temp>) -> Answer<S::File, S::Temp>
+        ensures fits { Fits (plain_step S.File.seen S.Temp.seen step)
+            (plain_answer S.File.seen S.Temp.seen result) }
+        ensures logged { Logs (S.log self.old.store) (S.log self.new.store)
+            (plain_step S.File.seen S.Temp.seen step)
+            (plain_answer S.File.seen S.Temp.seen result) }
+    {
         self.steps.set(self.steps.get().saturating_add(1));
         self.store.step(step)
     }
@@ -70,7 +76,7 @@ impl Names for Noting<'_> {
     }
 }
 
-type Noted<'a> = Env<Counting<'a>, Noting<'a>, Noting<'a>>;
+type Noted<'a> = Env<Counting<'a, MemStore>, Noting<'a>, Noting<'a>>;
 
 /// Opens a writer, and commits it as a call of its own.
 fn write(env: &mut Noted<'_>, steps: &Cell<u64>) {
