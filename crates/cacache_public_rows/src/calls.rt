@@ -10,8 +10,8 @@ use cacache::content::rm::rm;
 use cacache::index::{delete, find, insert, ls};
 use cacache::store::Store;
 use cacache::{Algorithm, Integrity, RemoveOpts};
-use cacache_rows::Flaw;
 use cacache_rows::words::{cut, string_of};
+use cacache_rows::{Flaw, let_go};
 use std::alloc::Global;
 
 /// A cache, and what stands behind it in a row: a key, or the text of an integrity.
@@ -90,7 +90,10 @@ fn on_cache<S: Store>(env: &mut On<S>, name: &str, cache: &str) -> Result<Option
 pub(crate) fn algorithm_of(name: &str) -> Result<Algorithm, Flaw> {
     match Algorithm::parse(name) {
         Ok(algorithm) => Ok(algorithm),
-        Err(_) => Err(Flaw::NotRead),
+        Err(error) => {
+            let_go(error);
+            Err(Flaw::NotRead)
+        }
     }
 }
 
@@ -99,7 +102,10 @@ pub(crate) fn integrity_of(alloc: Global, text: &str) -> Result<Integrity, Flaw>
     let text = text.replace(alloc, ",", " ")?;
     match Integrity::parse(alloc, text.as_str()) {
         Ok(integrity) => Ok(integrity),
-        Err(_) => Err(Flaw::NotRead),
+        Err(error) => {
+            let_go(error);
+            Err(Flaw::NotRead)
+        }
     }
 }
 

@@ -80,6 +80,6 @@ pub(crate) fn driven<S: Store>(env: &mut On<S>, words: &str, input: &str) -> Res
     let alloc = env.alloc;
     let (cache, words) = cut(words);
     let command = put_of(alloc, words, input)?;
-    let job = Job::new(alloc, cache, env.base.as_str(), command, 0);
+    let job = Job::try_new(alloc, cache, env.base.as_str(), command, 0)?;
     Ok(replied(alloc, drive(&mut env.store, job))?)
 }
