@@ -125,6 +125,9 @@ def judged(status, lines, path, function=None):
     """Whether the answer on an edit is a refusal by the prover, and what to say of it. With a function, it is about that one alone."""
     if status == 0:
         return False, "NOT REFUSED"
+    ring = next((it for it in lines if "is in a cycle of calls" in it), None)
+    if ring and function is None:
+        return True, f"refused: the function isn't proved to return: {ring[:120]}"
     if unread(lines, path):
         return False, f"NOT READ: {unread(lines, path)[:160]}"
     if status != 1 or not has_verdict(lines):
