@@ -60,14 +60,19 @@ def checked(tree, crate, names):
     return prover(tree, crate, "check", "--incremental", "out/incremental", *(word for name in names for word in ("--only", name)))
 
 
+def libraries_below(tree, crate):
+    """Builds the libraries that a crate lists."""
+    for name in crates()[crate]:
+        if name in crates():
+            library(tree, name)
+
+
 def library(tree, crate):
     """Builds the library of a crate, after those below it."""
     made = tree / "crates" / crate / "out/rlib" / f"{crate}.rlib"
     if made.exists():
         return
-    for name in crates()[crate]:
-        if name in crates():
-            library(tree, name)
+    libraries_below(tree, crate)
     made.parent.mkdir(parents=True, exist_ok=True)
     status, lines = prover(tree, crate, "build", "--statements", "--empty-contracts", "-o", str(made))
     if status != 0 or not made.exists():
