@@ -18,6 +18,7 @@ use Rattle.cacache_calls.specs.declared.command.Command.{Command}
 use Rattle.cacache_calls.specs.declared.command.Command.TheVariants as commands
 use Rattle.cacache_calls.specs.declared.command.Link.{Link}
 use Rattle.cacache_calls.specs.declared.reply.Reply.{Reply}
+use Rattle.cacache_calls.specs.declared.reply.Reply.TheVariants.{Stored}
 use Rattle.cacache_calls.specs.Places.{content_path}
 use Rattle.cacache_calls.specs.State.{Commit}
 use Rattle.cacache_calls.specs.Storing.{insertion_of, commit_of}
@@ -37,7 +38,7 @@ use Rattle.cacache_history.specs.Turns.{EachTurn}
 use Rattle.cacache_history.specs.Values.{steps_of, value_at, opening_value, KeepContent, IsThere, HasDigest}
 use Rattle.cacache_history.specs.Reading.{content_at, unless_failed}
 use Rattle.cacache_history.specs.Commits.{Deed, does, finds, deeds_of_act, finds_in, deeds_of, deeds, IsContent, IsAdded, Adds, AddsAfter, CommitsAs, LinksAs, IsCase}
-use Rattle.cacache_history.specs.Entries.{NamesOwn, IsAmong, Added, IsContentOf, NamesContent, EntriesNameContents}
+use Rattle.cacache_history.specs.Entries.{NamesOwn, IsAmong, Added, IsContentOf, NamesContent, EntriesNameContents, address_of_put, PutsLeaveContents}
 use Rattle.cacache_history.proofs.Carrying.{Own, own_bytes, own_link, put_own}
 use Rattle.cacache_history.proofs.Digests.{digest_hash}
 use Rattle.cacache_history.proofs.Holding.{TurnHolds, TurnsHold}
@@ -45,7 +46,8 @@ use Rattle.cacache_history.proofs.Values.{value_follows_acts, contents_stay, con
 use Rattle.cacache_history.proofs.Runs.{reached}
 use Rattle.cacache_history.proofs.Reading.{content_below, there_at}
 use Rattle.cacache_history.proofs.Commits.{commits_are_cases}
-use Rattle.cacache_history.proofs.Turned.{TurnAt, reached_turns}
+use Rattle.cacache_history.specs.Places.{TurnAt}
+use Rattle.cacache_history.proofs.Turned.{reached_turns}
 
 -- ---- deeds
 
@@ -292,3 +294,16 @@ module _ (h : History) (legal : IsLegal h) (call : Call) (reply : Option Reply) 
 pub entries_name_contents : (h : History) → IsLegal h → EntriesNameContents h
 entries_name_contents h legal call reply reaches own e added =
     of_command h legal call reply reaches e added call.command own (commits_are_cases h legal call reply reaches)
+
+pub puts_leave_contents : (h : History) → IsLegal h → PutsLeaveContents h
+puts_leave_contents h legal call i p reaches is keeps =
+    let a = address_of_put p in
+    let is_hash : IsHash (address_of_put p) = digest_hash p.options.algorithm p.data in
+    let commits : CommitsAs (commit_of h.setup.cache p) (put_own (own_bytes p.data [])) (deeds call.turns) (Some (Stored i))
+    = subst (λ command. IsCase (site_of h.setup call.number) command (deeds call.turns) (Some (Stored i))) is (commits_are_cases h legal call (Some (Stored i)) reaches) in
+    elim commits [
+      | inl nothing ↦ absurd nothing.1
+      | inr c ↦
+          let done = done_at h c.0 call.turns (reached h legal call (Some (Stored i)) reaches).holds.turns (reached_turns h call (Some (Stored i)) reaches) (subst (IsAmong c.0) (sym c.3) (inl refl)) in
+          content_right h legal a is_hash (content_stays h legal a is_hash (commit_of h.setup.cache p) (own_bytes p.data []) c.0 refl c.2 done keeps)
+    ]

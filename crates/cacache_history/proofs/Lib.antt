@@ -15,3 +15,11 @@ pub mod Commits
 pub mod Righted
 pub mod Turned
 pub mod Entries
+pub mod Told
+pub mod Keyed
+pub mod Owned
+pub mod Bucketed
+pub mod Walks
+pub mod Once
+pub mod Keys
+pub mod Listings

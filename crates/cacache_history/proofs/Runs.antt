@@ -11,6 +11,7 @@ use Rattle.cacache_history.specs.declared.record.Record.TheVariants.{Moved}
 use Rattle.cacache_history.specs.Setup.{site_of}
 use Rattle.cacache_history.specs.History.{Call, Now, History, Made, moved, now_at, Ends, MayMove, IsLegal, Reaches}
 use Rattle.cacache_history.specs.Turns.{made_in}
+use Rattle.cacache_history.specs.Places.{CallsAreRuns}
 use Rattle.cacache_history.proofs.Holding.{CallHolds, of_caller, moved_holds, held_at, legal_after}
 
 -- what holds of a call that a history reaches, and how it ends
@@ -43,6 +44,9 @@ reply_run h call r x =
           (subst (λ s. Goes (opening (site_of h.setup call.number) call.command) (made_in call.turns) s) e x.holds.goes))
       | inr e ↦ inl e
     ]
+
+pub calls_are_runs : (h : History) → IsLegal h → CallsAreRuns h
+calls_are_runs h legal call r reaches = reply_run h call r (reached h legal call (Some r) reaches)
 
 -- every call made a run that out of memory may end
 pub lost_run : (h : History) (call : Call) (reply : Option Reply) → Reached h call reply

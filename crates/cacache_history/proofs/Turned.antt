@@ -4,20 +4,10 @@ use Rattle.cacache_disk.specs.declared.luck.Luck.{Luck}
 use Rattle.cacache_calls.specs.declared.reply.Reply.{Reply}
 use Rattle.cacache_history.specs.declared.record.Record.{Record}
 use Rattle.cacache_history.specs.declared.record.Record.TheVariants.{Began, Moved, Stopped}
-use Rattle.cacache_history.specs.History.{History, Turn, Call, Made, first, begins, turn_of, moved, unless_over, moved_call, next, now_at, Reaches}
+use Rattle.cacache_history.specs.History.{History, Call, Made, first, begins, turn_of, moved, unless_over, moved_call, next, now_at, Reaches}
 use Rattle.cacache_history.specs.Turns.{EachTurn}
+use Rattle.cacache_history.specs.Places.{TurnAt, TurnsAreMoves}
 use Rattle.cacache_history.proofs.Holding.{each_more, set_at, ended_at, replay_more}
-
--- a turn is the move after these records
-pub record TurnAt (h : History) (turn : Turn) : Type 0 where
-  pub before : List Record
-  pub later : List Record
-  pub caller : ℕ
-  pub luck : Luck
-  pub made : Made
-  pub reply : Option Reply
-  pub is : h.records ≡ before ++ Moved caller luck (Some made) reply ∷ later
-  pub turn_is : turn ≡ turn_of (now_at h before).tree luck made
 
 abbrev TurnsAt : History → Option Call → Type 0
 TurnsAt h None = Unit {0}
@@ -55,3 +45,6 @@ module _ (h : History) where
       subst (TurnsAt h) r.stands
       (moved_stands r.before r.later r.caller r.luck r.made reply ((now_at h r.before).calls r.caller) r.is
       (calls_stand [] r.before (Moved r.caller r.luck r.made reply ∷ r.later) r.is (λ k. tt) r.caller))
+
+pub turns_are_moves : (h : History) → TurnsAreMoves h
+turns_are_moves h = reached_turns h

@@ -1,13 +1,16 @@
 -- Entries that commits add, and the contents that they name.
 use Rattle.std.specs.Prelude.{◌≡◌, ◌⊎◌, List, [], ◌∷◌, Option, None, Some}
 use Rattle.cacache_core.specs.declared.integrity.digest.Hash.{Hash}
-use Rattle.cacache_core.specs.Integrity.{address}
+use Rattle.cacache_core.specs.Digests.{digest}
+use Rattle.cacache_core.specs.Integrity.{address, hash_of}
 use Rattle.cacache_core.specs.PathNames.{Names}
 use Rattle.cacache_core.specs.Texts.{text_of}
 use Rattle.cacache_entry.specs.Entry.{Entry}
 use Rattle.cacache_calls.specs.declared.command.Command.{Command}
 use Rattle.cacache_calls.specs.declared.command.Command.TheVariants as commands
+use Rattle.cacache_calls.specs.declared.command.Put.{Put}
 use Rattle.cacache_calls.specs.declared.reply.Reply.{Reply}
+use Rattle.cacache_calls.specs.declared.reply.Reply.TheVariants.{Stored}
 use Rattle.cacache_laws.specs.Value.{Blob, InFile, AtLink}
 use Rattle.cacache_laws.specs.Acts.{AddEntries}
 use Rattle.cacache_history.specs.Setup.{home}
@@ -48,3 +51,14 @@ abbrev pub EntriesNameContents : History → Type 0
 EntriesNameContents h =
     (call : Call) (reply : Option Reply) → Reaches h call reply → NamesOwn call.command
     → (e : Entry) → Added e call → NamesContent h e
+
+-- the address of a put's bytes
+abbrev pub address_of_put : Put → Hash
+address_of_put p = hash_of p.options.algorithm (digest p.options.algorithm p.data)
+
+-- what a put stored is there, with a key or without, unless a step removed it
+abbrev pub PutsLeaveContents : History → Type 0
+PutsLeaveContents h =
+    (call : Call) (i : List Hash) (p : Put) → Reaches h call (Some (Stored i))
+    → call.command ≡ commands.Put p → KeepContent (home h.setup) (address_of_put p) (steps_of h.records)
+    → IsContentOf (address_of_put p) ((value_at h h.records).contents (address_of_put p))

@@ -5,3 +5,6 @@ pub mod Values
 pub mod Reading
 pub mod Commits
 pub mod Entries
+pub mod Buckets
+pub mod Listings
+pub mod Places

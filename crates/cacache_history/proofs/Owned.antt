@@ -1,0 +1,211 @@
+-- The entries of a bucket are those of its own keys.
+use Rattle.std.proofs.Common.{◌≡◌, ℕ, Bool, true, false, cond, nat_le, List, [], ◌∷◌, ◌++◌, Option, None, Some, option_map, fold, filter_map, map, Result, Ok, Err, bytes_eq, length, take, refl, sym, ap, subst, ◌∙◌}
+use Rattle.std.specs.Prelude.{All, IfSome, unwrap_or}
+use Rattle.std.specs.List.{cons_option, list_any}
+use Rattle.std.proofs.lemmas.Bool.{leb-true, leb-false}
+use Rattle.std.proofs.lemmas.List.{append_cancel_left}
+use Rattle.std.proofs.lemmas.List.Elements.{All-nil, All-cons, All-head, All-tail, All-append}
+use Rattle.std.proofs.lemmas.Slice.Eq.{bytes_eq-Decides}
+use Rattle.sha1.specs.Sha1.{sha1}
+use Rattle.cacache_core.specs.declared.errors.Fault.{Fault}
+use Rattle.cacache_core.specs.declared.errors.Fault.TheVariants as faults
+use Rattle.cacache_core.specs.declared.integrity.digest.Hash.{Hash}
+use Rattle.cacache_core.specs.PathNames.{Names, names_of, names_below}
+use Rattle.cacache_core.specs.Paths.{joined, bucket_names}
+use Rattle.cacache_core.proofs.PathLemmas.{keys_have_digests}
+use Rattle.cacache_core.proofs.PathTexts.{paths_differ}
+use Rattle.cacache_base.specs.declared.store.step.Step.TheVariants as steps
+use Rattle.cacache_base.specs.declared.store.answer.Answer.TheVariants as answers
+use Rattle.cacache_base.specs.Plain.{PlainStep, PlainAnswer}
+use Rattle.cacache_disk.specs.declared.luck.Luck.{Luck}
+use Rattle.cacache_disk.specs.Tree.{Tree}
+use Rattle.cacache_disk.specs.Apply.{apply}
+use Rattle.cacache_disk.proofs.Maps.{same_path-true}
+use Rattle.cacache_entry.specs.Entry.{Entry, line_of}
+use Rattle.cacache_entry.specs.Bucket.{entries_of}
+use Rattle.cacache_entry.specs.Fits.{IsEntry, Fits}
+use Rattle.cacache_entry.specs.Latest.{Found, found_of, answer_of_integrity, answer_of, after_entry, latest}
+use Rattle.cacache_calls.specs.declared.answers.Refusal.{Refusal}
+use Rattle.cacache_calls.specs.declared.answers.Refusal.TheVariants as refusals
+use Rattle.cacache_calls.specs.State.{Item}
+use Rattle.cacache_calls.specs.Walking.{once, items_of, failed}
+use Rattle.cacache_laws.specs.Kinds.{is_path_of}
+use Rattle.cacache_laws.specs.Value.{Value, wide_value}
+use Rattle.cacache_laws.specs.Acts.{Act, Nothing, PutBytes, PutLink, AddEntries, Drop, MakeFolders, DropFolder, act_at, act_with, act_if_done, folders_left, amount_left, act_of, change, list_of}
+use Rattle.cacache_laws.specs.Placed.{Placed, Proper}
+use Rattle.cacache_laws.specs.Opening.{IsOpening}
+use Rattle.cacache_laws.proofs.Lines.{whole_line, torn_line}
+use Rattle.cacache_laws.proofs.Traces.{steps_act}
+use Rattle.cacache_history.specs.Setup.{Setup}
+use Rattle.cacache_history.specs.History.{Turn}
+use Rattle.cacache_history.specs.Reading.{entries_at, shown, by_entries}
+use Rattle.cacache_history.specs.Buckets.{HoldOwn}
+use Rattle.cacache_history.specs.Listings.{IsFound}
+
+-- an entry of this bucket
+abbrev pub OfBucket : List ℕ → Entry → Type 0
+OfBucket key e = sha1 e.key ≡ sha1 key
+
+-- ---- acts
+
+-- an act that adds entries to their own buckets alone
+abbrev AddsOwn : Option Names → Act → Type 0
+AddsOwn home (AddEntries path new) = (key : List ℕ) → is_path_of home (bucket_names key) path ≡ true → All (OfBucket key) new
+AddsOwn home act = Unit {0}
+
+added_own : (P : Entry → Type 0) (b : Bool) (o : Option (List Entry)) (new : List Entry) → (b ≡ true → All P new) → All P (list_of o) → All P (list_of (cond b (Some (list_of o ++ new)) o))
+added_own P true o new n h = All-append P (list_of o) new h (n refl)
+added_own P false o new n h = h
+
+dropped_own : (P : Entry → Type 0) (b : Bool) (o : Option (List Entry)) → All P (list_of o) → All P (list_of (cond b None o))
+dropped_own P true o h = All-nil P
+dropped_own P false o h = h
+
+change_own : (home : Option Names) (v : Value) (act : Act) → AddsOwn home act → HoldOwn v.buckets → HoldOwn (change home act v).buckets
+change_own home v (AddEntries path new) a h key = added_own (OfBucket key) (is_path_of home (bucket_names key) path) (v.buckets (sha1 key)) new (a key) (h key)
+change_own home v (Drop path) a h key = dropped_own (OfBucket key) (is_path_of home (bucket_names key) path) (v.buckets (sha1 key)) (h key)
+change_own home v Nothing a h key = h key
+change_own home v (PutBytes path bytes) a h key = h key
+change_own home v (PutLink path target) a h key = h key
+change_own home v (MakeFolders path count) a h key = h key
+change_own home v (DropFolder path) a h key = h key
+
+-- ---- the acts of steps
+
+-- an append is of an entry's line, to the bucket of its key
+pub record OwnLine (home : Option Names) (path bytes : List ℕ) : Type 0 where
+  pub entry : Entry
+  pub formed : IsEntry entry
+  pub fits : Fits entry
+  pub same : bytes ≡ line_of entry
+  pub here : names_of path ≡ names_below home (bucket_names entry.key)
+
+abbrev pub AppendsOwn : Option Names → PlainStep → Type 0
+AppendsOwn home (steps.Append p bytes) = OwnLine home p bytes
+AppendsOwn home step = Unit {0}
+
+-- two keys whose buckets have one path
+one_bucket : (cache : List ℕ) (home : Option Names) (a key : List ℕ) (names : Names) → names_below home (bucket_names a) ≡ Ok names → is_path_of home (bucket_names key) names ≡ true → sha1 a ≡ sha1 key
+one_bucket cache None a key names e is = absurd cc
+one_bucket cache (Some folder) a key names e is =
+    let there : folder ++ bucket_names a ≡ names = cc in
+    let same = append_cancel_left folder (bucket_names key) (bucket_names a) (same_path-true (folder ++ bucket_names key) names is ∙ sym there) in
+    (paths_differ.buckets cache (sha1 a) (sha1 key) (keys_have_digests a) (keys_have_digests key)).0 (ap (joined cache) (sym same))
+
+left_own : (P : Entry → Type 0) (e : Entry) (count : ℕ) (b : Bool) → IsEntry e → Fits e → P e → nat_le (length (line_of e)) count ≡ b → All P (entries_of (take count (line_of e)))
+left_own P e count true formed fits own is = subst (All P) (sym (whole_line e count formed fits (leb-true _ _ is))) (All-cons P e [] own (All-nil P))
+left_own P e count false formed fits own is = subst (All P) (sym (torn_line e count formed fits (leb-false _ _ is))) (All-nil P)
+
+at_own : (home : Option Names) (r : Result Names Fault) (act : Names → Act) → ((names : Names) → r ≡ Ok names → AddsOwn home (act names)) → AddsOwn home (act_at r act)
+at_own home (Ok names) act h = h names refl
+at_own home (Err fault) act h = tt
+
+with_own : {A : Type 0} (home : Option Names) (o : Option A) (act : A → Act) → ((x : A) → AddsOwn home (act x)) → AddsOwn home (act_with o act)
+with_own home None act h = tt
+with_own home (Some x) act h = h x
+
+done_own : (home : Option Names) (a : PlainAnswer) (act : Act) → AddsOwn home act → AddsOwn home (act_if_done a act)
+done_own home answers.Done act h = h
+done_own home other act h = tt
+
+line_own : (home : Option Names) (p bytes : List ℕ) → OwnLine home p bytes → (names : Names) → names_of p ≡ Ok names → (count : ℕ) → AddsOwn home (AddEntries names (entries_of (take count bytes)))
+line_own home p bytes line names is count key here =
+    subst (λ b. All (OfBucket key) (entries_of (take count b))) (sym line.same)
+    (left_own (OfBucket key) line.entry count (nat_le (length (line_of line.entry)) count) line.formed line.fits
+    (one_bucket [] home line.entry.key key names (sym line.here ∙ is) here) refl)
+
+step_adds_own : (home : Option Names) (step : PlainStep) (luck : Luck) (a : PlainAnswer) → AppendsOwn home step → AddsOwn home (act_of step luck a)
+step_adds_own home (steps.Append p bytes) luck a own = at_own home (names_of p) _ (λ names is. with_own home (amount_left luck a) _ (λ count. line_own home p bytes own names is count))
+step_adds_own home (steps.MakeDirs p) luck a own = at_own home (names_of p) _ (λ names is. with_own home (folders_left names luck a) (MakeFolders names) (λ count. tt))
+step_adds_own home (steps.Persist f p) luck a own = done_own home a _ (at_own home (names_of p) _ (λ names is. with_own home f.bytes (PutBytes names) (λ bytes. tt)))
+step_adds_own home (steps.Symlink target p) luck a own = done_own home a _ (at_own home (names_of p) _ (λ names is. tt))
+step_adds_own home (steps.RemoveFile p) luck a own = done_own home a _ (at_own home (names_of p) _ (λ names is. tt))
+step_adds_own home (steps.RemoveDir p) luck a own = done_own home a _ (at_own home (names_of p) _ (λ names is. tt))
+step_adds_own home (steps.CreateTemp p) luck a own = tt
+step_adds_own home (steps.Write f bytes) luck a own = tt
+step_adds_own home (steps.ReadAll p) luck a own = tt
+step_adds_own home (steps.Open p) luck a own = tt
+step_adds_own home (steps.Read f max) luck a own = tt
+step_adds_own home (steps.Exists p) luck a own = tt
+step_adds_own home (steps.Size p) luck a own = tt
+step_adds_own home (steps.Copy p q) luck a own = tt
+step_adds_own home (steps.Reflink p q) luck a own = tt
+step_adds_own home (steps.HardLink p q) luck a own = tt
+step_adds_own home (steps.ReadDir p) luck a own = tt
+
+-- ---- trees
+
+abbrev pub TreeOwn : Option Names → Tree → Type 0
+TreeOwn home t = HoldOwn (wide_value home t).buckets
+
+pub step_own : (home : Option Names) (t : Tree) (step : PlainStep) (luck : Luck) → Placed home t → Proper home step → AppendsOwn home step → TreeOwn home t → TreeOwn home (apply t step luck).1
+step_own home t step luck placed proper own h =
+    subst (λ v. HoldOwn v.buckets) (sym (steps_act home t step luck placed proper))
+    (change_own home (wide_value home t) (act_of step luck (apply t step luck).0) (step_adds_own home step luck (apply t step luck).0 own) h)
+
+pub opening_own : (home : Option Names) (t : Tree) → IsOpening home t → TreeOwn home t
+opening_own home t o key = subst (λ v. All (OfBucket key) (list_of (v.buckets (sha1 key)))) (sym o.nothing) (All-nil (OfBucket key))
+
+-- ---- what is listed is what a lookup finds
+
+abbrev HasKey : List ℕ → Option Found → Type 0
+HasKey key found = IfSome found (λ f. f.key ≡ key)
+
+answered_key : (key : List ℕ) (e : Entry) (found : Option Found) (o : Option (Option (List Hash))) → e.key ≡ key → HasKey key found → HasKey key (unwrap_or (option_map (option_map (found_of e)) o) found)
+answered_key key e found None is h = h
+answered_key key e found (Some None) is h = tt
+answered_key key e found (Some (Some i)) is h = is
+
+entry_key : (key : List ℕ) (e : Entry) (found : Option Found) (b : Bool) → bytes_eq e.key key ≡ b → HasKey key found → HasKey key (unwrap_or (cond b (answer_of e e.integrity) None) found)
+entry_key key e found true is h = answered_key key e found (answer_of_integrity e.integrity) ((bytes_eq-Decides e.key key).0 is) h
+entry_key key e found false is h = h
+
+fold_key : (key : List ℕ) (found : Option Found) (es : List Entry) → HasKey key found → HasKey key (fold (after_entry key) found es)
+fold_key key found [] h = h
+fold_key key found (e ∷ es) h = fold_key key (after_entry key found e) es (entry_key key e found (bytes_eq e.key key) refl h)
+
+pub latest_key : (key : List ℕ) (es : List Entry) (f : Found) → latest key es ≡ Some f → f.key ≡ key
+latest_key key es f is = subst (HasKey key) is (fold_key key None es tt)
+
+pub once_all : (P : List ℕ → Type 0) (ks : List (List ℕ)) → All P ks → All P (once ks)
+once_all P [] all = all
+once_all P (k ∷ ks) all = by (list_any (bytes_eq k) ks) (once_all P ks (All-tail P k ks all))
+  where
+    by : (b : Bool) → All P (once ks) → All P (cond b (once ks) (k ∷ once ks))
+    by true h = h
+    by false h = All-cons P k (once ks) (All-head P k ks all) h
+
+pub all_keys : (key : List ℕ) (es : List Entry) → All (OfBucket key) es → All (λ k. sha1 k ≡ sha1 key) (map (λ e. e.key) es)
+all_keys key [] all = All-nil (λ k. sha1 k ≡ sha1 key)
+all_keys key (e ∷ es) all = All-cons (λ k. sha1 k ≡ sha1 key) e.key (map (λ e. e.key) es) (All-head (OfBucket key) e es all) (all_keys key es (All-tail (OfBucket key) e es all))
+
+module _ (s : Setup) (turn : Turn) (key : List ℕ) where
+  key_found : (k : List ℕ) → sha1 k ≡ sha1 key → (o : Option Found) → latest k (entries_at s (sha1 key) turn) ≡ o → (rest : List Item) → All (IsFound s turn) rest
+      → All (IsFound s turn) (cons_option (option_map Ok o) rest)
+  key_found k own None is rest h = h
+  key_found k own (Some f) is rest h =
+      let same : f.key ≡ k = latest_key k (entries_at s (sha1 key) turn) f is in
+      let found : latest f.key (entries_at s (sha1 f.key) turn) ≡ Some f
+      = ap (λ j. latest j (entries_at s (sha1 j) turn)) same ∙ ap (λ d. latest k (entries_at s d turn)) own ∙ is in
+      All-cons (IsFound s turn) (Ok f) rest found h
+
+  keys_found : (ks : List (List ℕ)) → All (λ k. sha1 k ≡ sha1 key) ks → All (IsFound s turn) (filter_map (λ k. option_map Ok (latest k (entries_at s (sha1 key) turn))) ks)
+  keys_found [] all = All-nil (IsFound s turn)
+  keys_found (k ∷ ks) all =
+      key_found k (All-head (λ j. sha1 j ≡ sha1 key) k ks all) (latest k (entries_at s (sha1 key) turn)) refl
+      (filter_map (λ j. option_map Ok (latest j (entries_at s (sha1 key) turn))) ks) (keys_found ks (All-tail (λ j. sha1 j ≡ sha1 key) k ks all))
+
+  items_found : All (OfBucket key) (entries_at s (sha1 key) turn) → All (IsFound s turn) (items_of (entries_at s (sha1 key) turn))
+  items_found all =
+      keys_found (once (map (λ e. e.key) (entries_at s (sha1 key) turn)))
+      (once_all (λ k. sha1 k ≡ sha1 key) (map (λ e. e.key) (entries_at s (sha1 key) turn)) (all_keys key (entries_at s (sha1 key) turn) all))
+
+  refused_found : (refusal : Refusal) → All (IsFound s turn) (by_entries (Err refusal))
+  refused_found (refusals.Fault fault) = All-cons (IsFound s turn) (failed fault) [] tt (All-nil (IsFound s turn))
+  refused_found refusals.Memory = All-nil (IsFound s turn)
+
+  pub bucket_found : (a : PlainAnswer) → All (OfBucket key) (entries_at s (sha1 key) turn) → All (IsFound s turn) (by_entries (shown a (Ok (entries_at s (sha1 key) turn))))
+  bucket_found (answers.Failed faults.NotFound) all = items_found all
+  bucket_found (answers.Failed fault) all = refused_found (refusals.Fault fault)
+  bucket_found (answers.NoMemory step) all = refused_found refusals.Memory
+  bucket_found other all = items_found all
