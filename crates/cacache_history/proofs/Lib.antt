@@ -23,3 +23,5 @@ pub mod Walks
 pub mod Once
 pub mod Keys
 pub mod Listings
+pub mod Readers
+pub mod Headline

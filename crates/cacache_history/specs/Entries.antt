@@ -39,12 +39,17 @@ IsContentOf a None = ⊥
 IsContentOf a (Some (InFile bytes)) = HasDigest a bytes
 IsContentOf a (Some (AtLink target)) = Unit {0}
 
+-- there is one at the end, unless a step removed it
+abbrev pub IsLeft : History → Hash → Type 0
+IsLeft h a =
+    KeepContent (home h.setup) a (steps_of h.records)
+    → IsContentOf a ((value_at h h.records).contents a)
+
 -- what an entry names is there, unless a step removed it
 abbrev pub NamesContent : History → Entry → Type 0
 NamesContent h e =
     (i : List Hash) × (a : Hash) × (e.integrity ≡ Some (text_of i)) × (address i ≡ Some a)
-    × (KeepContent (home h.setup) a (steps_of h.records)
-    → IsContentOf a ((value_at h h.records).contents a))
+    × IsLeft h a
 
 -- each entry of such a commit names a content that is there, unless a step removed it
 abbrev pub EntriesNameContents : History → Type 0
@@ -56,9 +61,8 @@ EntriesNameContents h =
 abbrev pub address_of_put : Put → Hash
 address_of_put p = hash_of p.options.algorithm (digest p.options.algorithm p.data)
 
--- what a put stored is there, with a key or without, unless a step removed it
+-- what a put stored that answered is there, with a key or without, unless a step removed it
 abbrev pub PutsLeaveContents : History → Type 0
 PutsLeaveContents h =
     (call : Call) (i : List Hash) (p : Put) → Reaches h call (Some (Stored i))
-    → call.command ≡ commands.Put p → KeepContent (home h.setup) (address_of_put p) (steps_of h.records)
-    → IsContentOf (address_of_put p) ((value_at h h.records).contents (address_of_put p))
+    → call.command ≡ commands.Put p → IsLeft h (address_of_put p)

@@ -8,3 +8,5 @@ pub mod Entries
 pub mod Buckets
 pub mod Listings
 pub mod Places
+pub mod Readers
+pub mod Headline

@@ -1,10 +1,6 @@
 //! Events in their order.
 ghost use Rattle.std.specs.Prelude.{◌≡◌, OnOk, OnErr, IfErr};
-ghost use Rattle.cacache_history.specs.Entries.{EntriesNameContents};
-ghost use Rattle.cacache_history.specs.History.{IsLegal};
-ghost use Rattle.cacache_history.specs.Reading.{RepliesReadValue, IoErrorsHaveCauses};
-ghost use Rattle.cacache_history.specs.Values.{ValueFollowsActs, BucketsOnlyGrow, ContentsStay, ContentsAreRight};
-ghost use Rattle.cacache_history.specs.Commits.{CommitsAreCases};
+ghost use Rattle.cacache_history.specs.Headline.{Headline};
 ghost use Rattle.cacache_world.specs.Played.{Happens, HappenAll, CantBe, StopAt};
 
 use crate::event::{Event, WorldFault};
@@ -30,7 +26,8 @@ impl World {
         }
     }
 
-    /// Makes the events in their order, up to the first that can't be.
+    /// Makes the events in their order, up to the first that can't be. The claim as a whole holds of
+    /// what happened: see `Headline`.
     ///
     /// # Errors
     ///
@@ -38,15 +35,7 @@ impl World {
     pub fn play(&mut self, events: &[Event]) -> Result<(), WorldFault>
         ensures all { OnOk result (HappenAll events.now self.old self.new) }
         ensures until { IfErr result (λ fault. StopAt events.now self.old self.new fault) }
-        ensures legal { IsLegal self.new }
-        ensures values { ValueFollowsActs self.new }
-        ensures buckets { BucketsOnlyGrow self.new }
-        ensures contents { ContentsStay self.new }
-        ensures digests { ContentsAreRight self.new }
-        ensures replies { RepliesReadValue self.new }
-        ensures commits { CommitsAreCases self.new }
-        ensures entries { EntriesNameContents self.new }
-        ensures causes { IoErrorsHaveCauses self.new }
+        ensures headline { Headline self.new }
     {
         let outcome = self.run(events);
         self.stands();

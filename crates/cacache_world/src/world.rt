@@ -1,10 +1,6 @@
 //! Callers whose calls take turns on one disk.
 ghost use Rattle.std.specs.Prelude.{◌≡◌, IfOk, IfErr, OnOk, OnErr, []};
-ghost use Rattle.cacache_history.specs.Entries.{EntriesNameContents};
-ghost use Rattle.cacache_history.specs.History.{IsLegal};
-ghost use Rattle.cacache_history.specs.Reading.{RepliesReadValue, IoErrorsHaveCauses};
-ghost use Rattle.cacache_history.specs.Values.{ValueFollowsActs, BucketsOnlyGrow, ContentsStay, ContentsAreRight};
-ghost use Rattle.cacache_history.specs.Commits.{CommitsAreCases};
+ghost use Rattle.cacache_history.specs.Headline.{Headline};
 ghost use Rattle.cacache_history.specs.declared.record.Record.TheVariants.{Began, Stopped};
 ghost use Rattle.cacache_world.specs.Kept.{setup_of, history_of, last, AreApart, Adds, MovesOn};
 ghost use Rattle.cacache_world.specs.Faults.{CantMove, CantBegin, CantOpen};
@@ -87,17 +83,9 @@ impl World {
         })
     }
 
-    /// What holds of every world. Nothing is done.
+    /// The claim as a whole holds of every world: see `Headline`. Nothing is done.
     pub fn stands(&self)
-        ensures legal { IsLegal self.now }
-        ensures values { ValueFollowsActs self.now }
-        ensures buckets { BucketsOnlyGrow self.now }
-        ensures contents { ContentsStay self.now }
-        ensures digests { ContentsAreRight self.now }
-        ensures replies { RepliesReadValue self.now }
-        ensures commits { CommitsAreCases self.now }
-        ensures entries { EntriesNameContents self.now }
-        ensures causes { IoErrorsHaveCauses self.now }
+        ensures headline { Headline self.now }
     {
         let _records = &self.records;
     }

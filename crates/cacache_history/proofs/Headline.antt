@@ -1,0 +1,35 @@
+-- The claim as a whole, of every legal history.
+use Rattle.cacache_history.specs.History.{History, IsLegal}
+use Rattle.cacache_history.specs.Headline.{Headline}
+use Rattle.cacache_history.proofs.Bucketed.{buckets_are_of_keys, buckets_hold_own}
+use Rattle.cacache_history.proofs.Commits.{commits_are_cases}
+use Rattle.cacache_history.proofs.Entries.{entries_name_contents, puts_leave_contents}
+use Rattle.cacache_history.proofs.Listings.{listings_read_value}
+use Rattle.cacache_history.proofs.Readers.{readers_do_nothing, reads_are_verified}
+use Rattle.cacache_history.proofs.Replies.{replies_read_value, io_errors_are_caused}
+use Rattle.cacache_history.proofs.Runs.{calls_are_runs}
+use Rattle.cacache_history.proofs.Turned.{turns_are_moves}
+use Rattle.cacache_history.proofs.Values.{value_follows_acts, buckets_only_grow, contents_stay, contents_are_right}
+use Rattle.cacache_history.proofs.Walks.{index_is_shallow}
+
+pub headline : (h : History) → IsLegal h → Headline h
+headline h legal = record {
+  legal = legal;
+  turns = turns_are_moves h;
+  runs = calls_are_runs h legal;
+  values = value_follows_acts h legal;
+  buckets = buckets_only_grow h legal;
+  keyed = buckets_are_of_keys h legal;
+  shallow = index_is_shallow h legal;
+  own = buckets_hold_own h legal;
+  contents = contents_stay h legal;
+  digests = contents_are_right h legal;
+  replies = replies_read_value h legal;
+  listings = listings_read_value h legal;
+  verified = reads_are_verified h legal;
+  readers = readers_do_nothing h legal;
+  commits = commits_are_cases h legal;
+  entries = entries_name_contents h legal;
+  stored = puts_leave_contents h legal;
+  causes = io_errors_are_caused h legal;
+}

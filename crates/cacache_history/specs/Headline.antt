@@ -1,0 +1,57 @@
+-- The claim as a whole.
+use Rattle.cacache_history.specs.Buckets.{BucketsAreOfKeys, IndexIsShallow, BucketsHoldOwn}
+use Rattle.cacache_history.specs.Commits.{CommitsAreCases}
+use Rattle.cacache_history.specs.Entries.{EntriesNameContents, PutsLeaveContents}
+use Rattle.cacache_history.specs.History.{History, IsLegal}
+use Rattle.cacache_history.specs.Listings.{ListingsReadValue}
+use Rattle.cacache_history.specs.Places.{TurnsAreMoves, CallsAreRuns}
+use Rattle.cacache_history.specs.Readers.{ReadersDoNothing, ReadsAreVerified}
+use Rattle.cacache_history.specs.Reading.{RepliesReadValue, IoErrorsHaveCauses}
+use Rattle.cacache_history.specs.Values.{ValueFollowsActs, BucketsOnlyGrow, ContentsStay, ContentsAreRight}
+
+-- Over every interleaving of callers' store steps, with failed steps, short appends and callers
+-- stopped anywhere, lookups, reads and listings answer by one map of contents and one list of whole
+-- entries per bucket; a commit puts nothing, its content, or its content and then its entry, the
+-- last whenever it answers Ok; and whatever bytes the files hold, a verified read answers Ok only
+-- with bytes that meet its integrity.
+pub record Headline (h : History) : Type 0 where
+  -- each record may come at its place: any caller's next step, as the disk answers it there
+  pub legal : IsLegal h
+  -- each turn of a call is a move of the history, on the tree of its place
+  pub turns : TurnsAreMoves h
+  -- each reply is that of a run of its call, or out of memory
+  pub runs : CallsAreRuns h
+  -- one value: the cache begins with nothing, and holds what the acts of the steps made
+  pub values : ValueFollowsActs h
+  -- while a bucket isn't removed, its list of entries only grows at the end
+  pub buckets : BucketsOnlyGrow h
+  -- what stands where a bucket may stand is the bucket of some key
+  pub keyed : BucketsAreOfKeys h
+  -- no folder of the index lies more than two names below it
+  pub shallow : IndexIsShallow h
+  -- each entry has a key of its bucket
+  pub own : BucketsHoldOwn h
+  -- while a content isn't removed, there is one at its address
+  pub contents : ContentsStay h
+  -- a content that is bytes has the digest of its address
+  pub digests : ContentsAreRight h
+  -- lookups, reads, questions, listings and checked exports answer by the value at their steps
+  pub replies : RepliesReadValue h
+  -- a listing answers just what the buckets of keys held that it read, and leaves none out
+  pub listings : ListingsReadValue h
+  -- bytes are answered only where they meet the integrity
+  pub verified : ReadsAreVerified h
+  -- a call that reads does nothing to the value
+  pub readers : ReadersDoNothing h
+  -- a commit did nothing, put its content, or put its content and then its entry
+  pub commits : CommitsAreCases h
+  -- the entry that a commit added names a content that is there, unless a step removed it
+  pub entries : EntriesNameContents h
+  -- so is the content of a put that answered, with a key or without
+  pub stored : PutsLeaveContents h
+  -- each `IoError` has a cause in its call's own steps
+  pub causes : IoErrorsHaveCauses h
+
+-- so it is of every legal history
+abbrev pub HeadlineHolds : Type 0
+HeadlineHolds = (h : History) → IsLegal h → Headline h
