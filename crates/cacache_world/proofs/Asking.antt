@@ -1,7 +1,6 @@
 -- Which commands a call may begin with, and which entries are well-formed.
 use Rattle.std.proofs.Common.{◌≡◌, ℕ, ◌<◌, ◌^◌, Bool, true, false, List, [], ◌∷◌, Option, None, Some, length, refl, sym, ap, subst, ◌∙◌, arith}
 use Rattle.std.specs.Prelude.{IsUtf8, codes, nat_le, if◌then◌else◌}
-use Rattle.std.specs.Bool.{Decides}
 use Rattle.std.proofs.lemmas.Str.{IsUtf8-append, IsUtf8-from_ascii, IsUtf8-nil}
 use Rattle.json.proofs.Printed.Utf8.{IsUtf8-are_ascii}
 use Rattle.base64.specs.Engines.{standard}
@@ -30,7 +29,7 @@ use Rattle.cacache_calls.specs.Inserting.{entry_of, given_text, given_size, refu
 use Rattle.cacache_calls.specs.Linking.{based}
 use Rattle.cacache_history.specs.History.{NamesSource}
 use Rattle.cacache_history.specs.Setup.{Setup, may_export, is_outside}
-use Rattle.cacache_world.specs.Admitted.{MayAsk, FormsEntries}
+use Rattle.cacache_world.specs.Admitted.{MayAsk, Judges, FormsEntries}
 
 name_utf8 : (a : Algorithm) → IsUtf8 (name_of a)
 name_utf8 Sha1 = IsUtf8-are_ascii (name_of Sha1) refl
@@ -101,19 +100,12 @@ may_insert s n i small forms = (λ written. forms _ _ (text_utf8 i.options.integ
 pub may_delete : (s : Setup) (n : ℕ) (d : deletes.Delete) → IsUtf8 d.key → MayAsk s n (commands.Delete d)
 may_delete s n d utf8 = (λ _. record { key = utf8; integrity = tt; size = omega arith; metadata = IsJson-null; raw_metadata = tt }, tt)
 
--- a test that says what holds
-pub yes : (P : Type 0) → P → Decides true P
-yes P here = (λ e. here, λ p. refl)
-
-no : (P : Type 0) → (P → ⊥) → Decides false P
-no P none = (λ e. absurd cc, λ p. absurd (none p))
-
-pub decides_link : (s : Setup) (n : ℕ) (l : links.Link) (leads : Bool) → leads ≡ is_outside s (based (codes "/") l.target)
-    → ((key : List ℕ) → l.key ≡ Some key → FormsEntries key l.moment l.options) → Decides leads (MayAsk s n (commands.Link l))
+pub judges_link : (s : Setup) (n : ℕ) (l : links.Link) (leads : Bool) → leads ≡ is_outside s (based (codes "/") l.target)
+    → ((key : List ℕ) → l.key ≡ Some key → FormsEntries key l.moment l.options) → Judges leads s n (commands.Link l)
 unfolding refused_cause
-decides_link s n l true is forms = yes _ ((record { here = refl; formed = λ bytes small key e written. forms key e _ _ (integrity_utf8 _) small written }, sym is), tt)
-decides_link s n l false is forms = no _ (λ may. let differ : true ≡ false = sym may.0.1 ∙ sym is in absurd cc)
+judges_link s n l true is forms = ((record { here = refl; formed = λ bytes small key e written. forms key e _ _ (integrity_utf8 _) small written }, sym is), tt)
+judges_link s n l false is forms = sym is
 
-pub decides_export : (s : Setup) (n : ℕ) (source : Source) (e : exports.Export) (may : Bool) → may ≡ may_export s e.to → NamesSource source → Decides may (MayAsk s n (commands.Export source e))
-decides_export s n source e true is named = yes _ (sym is, named)
-decides_export s n source e false is named = no _ (λ may. let differ : true ≡ false = sym may.0 ∙ sym is in absurd cc)
+pub judges_export : (s : Setup) (n : ℕ) (source : Source) (e : exports.Export) (may : Bool) → may ≡ may_export s e.to → NamesSource source → Judges may s n (commands.Export source e)
+judges_export s n source e true is named = (sym is, named)
+judges_export s n source e false is named = sym is

@@ -238,19 +238,19 @@ is_free : (h : History) (t : Tree) (b : ℕ) (jobs : List (Option DiskJob)) (cal
 is_free h t b jobs caller k e = (e.0, no_call (slice_get jobs caller) _ e.1 (k.calls caller))
 
 pub cant_begin : (h : History) (t : Tree) (b : ℕ) (jobs : List (Option DiskJob)) (caller : ℕ) (command : Command) (fault : WorldFault) → Keeps h t b jobs
-    → IsUnready h.setup.callers jobs caller h.setup b command fault → CantBegin h caller command fault
+    → IsUnready h.setup.callers jobs caller h.setup command fault → CantBegin h caller command fault
 cant_begin h t b jobs caller command faults.NoCaller k e = e
 cant_begin h t b jobs caller command faults.Busy k e = keeps_call h t b jobs caller e.0 k e.1
 cant_begin h t b jobs caller command faults.Idle k e = absurd e
-cant_begin h t b jobs caller command faults.BadCommand k e = (is_free h t b jobs caller k e.0, λ may. e.1 (subst (λ n. MayAsk h.setup n command) k.begun may))
+cant_begin h t b jobs caller command faults.BadCommand k e = (is_free h t b jobs caller k e.0, e.1)
 cant_begin h t b jobs caller command faults.OutOfMemory k e = is_free h t b jobs caller k e
 
 -- ---- why no call is ready
 
-pub away_unready : (count : ℕ) (jobs : List (Option DiskJob)) (caller : ℕ) (s : Setup) (n : ℕ) (command : Command) (fault : WorldFault) → IsFreeAt count jobs caller → IsTurnedAway s n command fault
-    → IsUnready count jobs caller s n command fault
-away_unready count jobs caller s n command faults.NoCaller free e = absurd e
-away_unready count jobs caller s n command faults.Busy free e = absurd e
-away_unready count jobs caller s n command faults.Idle free e = e
-away_unready count jobs caller s n command faults.BadCommand free e = (free, e)
-away_unready count jobs caller s n command faults.OutOfMemory free e = free
+pub away_unready : (count : ℕ) (jobs : List (Option DiskJob)) (caller : ℕ) (s : Setup) (command : Command) (fault : WorldFault) → IsFreeAt count jobs caller → IsTurnedAway s command fault
+    → IsUnready count jobs caller s command fault
+away_unready count jobs caller s command faults.NoCaller free e = absurd e
+away_unready count jobs caller s command faults.Busy free e = absurd e
+away_unready count jobs caller s command faults.Idle free e = e
+away_unready count jobs caller s command faults.BadCommand free e = (free, e)
+away_unready count jobs caller s command faults.OutOfMemory free e = free

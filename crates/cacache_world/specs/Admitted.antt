@@ -1,10 +1,12 @@
 -- Which commands a call may begin with, and which entries may be written.
-use Rattle.std.specs.Prelude.{◌≡◌, ◌<◌, ◌^◌, ℕ, List, Option, None}
+use Rattle.std.specs.Prelude.{◌≡◌, ◌<◌, ◌^◌, ℕ, Bool, true, false, List, Option, None, codes}
 use Rattle.cacache_entry.specs.Entry.{Entry}
 use Rattle.cacache_entry.specs.Fits.{IsUtf8IfAny, IsEntry, cause_of}
 use Rattle.cacache_calls.specs.declared.command.Command.{Command}
+use Rattle.cacache_calls.specs.declared.command.Command.TheVariants as commands
 use Rattle.cacache_calls.specs.declared.command.Options.{Options}
 use Rattle.cacache_calls.specs.Inserting.{entry_of}
+use Rattle.cacache_calls.specs.Linking.{based}
 use Rattle.cacache_calls.specs.Sound.{MayBegin}
 use Rattle.cacache_history.specs.Setup.{Setup, site_of, may_export, is_outside}
 use Rattle.cacache_history.specs.History.{NamesIntegrity}
@@ -16,11 +18,23 @@ abbrev pub MayAsk : Setup → ℕ → Command → Type 0
 MayAsk s number command =
     MayBegin (site_of s number) (may_export s) (is_outside s) command × NamesIntegrity command
 
--- why a command is turned away: no call begins with it, or memory was refused
-abbrev pub IsTurnedAway : Setup → ℕ → Command → WorldFault → Type 0
-IsTurnedAway s number command faults.BadCommand = MayAsk s number command → ⊥
-IsTurnedAway s number command faults.OutOfMemory = Unit {0}
-IsTurnedAway s number command fault = ⊥
+-- no call begins with it: an export that doesn't go apart from the cache and from each outside
+-- file, or a link to no outside file
+abbrev pub IsBad : Setup → Command → Type 0
+IsBad s (commands.Export source e) = may_export s e.to ≡ false
+IsBad s (commands.Link l) = is_outside s (based (codes "/") l.target) ≡ false
+IsBad s command = ⊥
+
+-- a test that says whether a call may begin with a command
+abbrev pub Judges : Bool → Setup → ℕ → Command → Type 0
+Judges true s number command = MayAsk s number command
+Judges false s number command = IsBad s command
+
+-- why a command is turned away: it is bad, or memory was refused
+abbrev pub IsTurnedAway : Setup → Command → WorldFault → Type 0
+IsTurnedAway s command faults.BadCommand = IsBad s command
+IsTurnedAway s command faults.OutOfMemory = Unit {0}
+IsTurnedAway s command fault = ⊥
 
 -- an entry that is well-formed, if it can be written
 abbrev pub IsFormed : Entry → Type 0

@@ -11,7 +11,7 @@ use Rattle.cacache_world.specs.declared.event.WorldFault.{WorldFault}
 use Rattle.cacache_world.specs.declared.event.WorldFault.TheVariants as faults
 use Rattle.cacache_world.specs.Turned.{DiskJob}
 use Rattle.cacache_world.specs.Kept.{setup_of, last}
-use Rattle.cacache_world.specs.Admitted.{MayAsk}
+use Rattle.cacache_world.specs.Admitted.{IsBad}
 
 -- ---- what the list of jobs shows
 
@@ -33,14 +33,14 @@ IsBusyFault count jobs caller faults.Busy =
 IsBusyFault count jobs caller fault = ⊥
 
 -- why no call of the command is ready to begin here
-abbrev pub IsUnready : ℕ → List (Option DiskJob) → ℕ → Setup → ℕ → Command → WorldFault → Type 0
-IsUnready count jobs caller s number command faults.NoCaller = count ≤ caller
-IsUnready count jobs caller s number command faults.Busy =
+abbrev pub IsUnready : ℕ → List (Option DiskJob) → ℕ → Setup → Command → WorldFault → Type 0
+IsUnready count jobs caller s command faults.NoCaller = count ≤ caller
+IsUnready count jobs caller s command faults.Busy =
     (job : DiskJob) × (slice_get jobs caller ≡ Some (Some job))
-IsUnready count jobs caller s number command faults.Idle = ⊥
-IsUnready count jobs caller s number command faults.BadCommand =
-    IsFreeAt count jobs caller × (MayAsk s number command → ⊥)
-IsUnready count jobs caller s number command faults.OutOfMemory = IsFreeAt count jobs caller
+IsUnready count jobs caller s command faults.Idle = ⊥
+IsUnready count jobs caller s command faults.BadCommand =
+    IsFreeAt count jobs caller × IsBad s command
+IsUnready count jobs caller s command faults.OutOfMemory = IsFreeAt count jobs caller
 
 -- ---- what the history says
 
@@ -63,8 +63,7 @@ abbrev pub CantBegin : History → ℕ → Command → WorldFault → Type 0
 CantBegin h caller command faults.NoCaller = h.setup.callers ≤ caller
 CantBegin h caller command faults.Busy = HasCall h caller
 CantBegin h caller command faults.Idle = ⊥
-CantBegin h caller command faults.BadCommand =
-    IsFree h caller × (MayAsk h.setup (last h).begun command → ⊥)
+CantBegin h caller command faults.BadCommand = IsFree h caller × IsBad h.setup command
 CantBegin h caller command faults.OutOfMemory = IsFree h caller
 
 -- ---- outside files

@@ -22,9 +22,9 @@ HappenAll [] h h' = h' ≡ h
 HappenAll (event ∷ events) h h' =
     (next : History) × Happens event h next × HappenAll events next h'
 
--- why an event can't be; memory may be refused for any
+-- why an event can't be; of a beginning memory may be refused before anything else is looked at
 abbrev pub CantBe : Event → History → WorldFault → Type 0
-CantBe event h faults.OutOfMemory = Unit {0}
+CantBe (events.Begin caller command) h faults.OutOfMemory = Unit {0}
 CantBe (events.Begin caller command) h fault = CantBegin h caller command fault
 CantBe (events.Move caller luck) h fault = CantMove h caller fault
 CantBe (events.Stop caller) h fault = CantMove h caller fault

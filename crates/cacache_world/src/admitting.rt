@@ -1,6 +1,5 @@
 //! Which commands a call may begin with.
 ghost use Rattle.std.specs.Prelude.{◌≡◌, ◌<◌, ◌^◌, IfOk, IfErr, OnOk, ℕ, List, Some, codes, length};
-ghost use Rattle.std.specs.Bool.{Decides};
 ghost use Rattle.cacache_calls.specs.Inserting.{given_size};
 ghost use Rattle.cacache_calls.specs.Linking.{based as based_of};
 ghost use Rattle.cacache_core.specs.Integrity.{IsIntegrity};
@@ -8,7 +7,7 @@ ghost use Rattle.cacache_calls.specs.declared.command.Command.TheVariants as com
 ghost use Rattle.cacache_history.specs.History.{NamesSource};
 ghost use Rattle.cacache_history.specs.Setup.{Setup, is_outside as is_outside_of};
 ghost use Rattle.cacache_world.specs.Kept.{setup_of};
-ghost use Rattle.cacache_world.specs.Admitted.{MayAsk, IsTurnedAway, FormsEntries};
+ghost use Rattle.cacache_world.specs.Admitted.{MayAsk, Judges, IsTurnedAway, FormsEntries};
 
 use crate::entries::form;
 use crate::event::WorldFault;
@@ -92,9 +91,9 @@ fn may_begin_export(
     source: &Source,
     export: &Export,
 ) -> Result<bool, AllocError>
-    ensures { IfOk result (λ may. (callers n : ℕ) → Decides may
-        (MayAsk (setup_of cache.now outside.now callers) n
-        (commands.Export source.now export.now))) }
+    ensures { IfOk result (λ may. (callers n : ℕ)
+        → Judges may (setup_of cache.now outside.now callers) n
+        (commands.Export source.now export.now)) }
 {
     known_source(source);
     let may = may_take(alloc, cache, outside, export.to.as_str())?;
@@ -136,8 +135,8 @@ fn leads_outside(
 
 /// Whether a link may begin: its target is one of the outside files.
 fn may_begin_link(alloc: Global, outside: &[(Text, Bytes)], link: &Link) -> Result<bool, AllocError>
-    ensures { IfOk result (λ may. (cache : List ℕ) (callers n : ℕ) → Decides may
-        (MayAsk (setup_of cache outside.now callers) n (commands.Link link.now))) }
+    ensures { IfOk result (λ may. (cache : List ℕ) (callers n : ℕ)
+        → Judges may (setup_of cache outside.now callers) n (commands.Link link.now)) }
 {
     form_link(alloc, link)?;
     let leads = leads_outside(alloc, outside, &link.target)?;
@@ -151,8 +150,8 @@ fn may_begin(
     outside: &[(Text, Bytes)],
     command: &Command,
 ) -> Result<bool, AllocError>
-    ensures { IfOk result (λ may. (callers n : ℕ) → Decides may
-        (MayAsk (setup_of cache.now outside.now callers) n command.now)) }
+    ensures { IfOk result (λ may. (callers n : ℕ)
+        → Judges may (setup_of cache.now outside.now callers) n command.now) }
 {
     match command {
         Command::Find(_)
@@ -194,8 +193,8 @@ pub(crate) fn admit(
 ) -> Result<(), WorldFault>
     ensures may { OnOk result ((callers n : ℕ)
         → MayAsk (setup_of cache.now outside.now callers) n command.now) }
-    ensures why { IfErr result (λ fault. (callers n : ℕ)
-        → IsTurnedAway (setup_of cache.now outside.now callers) n command.now fault) }
+    ensures why { IfErr result (λ fault. (callers : ℕ)
+        → IsTurnedAway (setup_of cache.now outside.now callers) command.now fault) }
 {
     match may_begin(alloc, cache, outside, command) {
         Ok(true) => Ok(()),

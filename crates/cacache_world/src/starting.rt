@@ -49,8 +49,8 @@ pub(crate) fn prepared(
         StandsIn job (opening (site_of cache.now (codes "/") number) command.now)) }
     ensures items { records.new.items ≡ records.old.items }
     ensures room { OnOk result (vec_len records.new < vec_capacity records.new) }
-    ensures why { IfErr result (λ fault. (callers n : ℕ) → IsUnready (vec_len calls.now)
-        calls.now.items caller (setup_of cache.now outside.now callers) n command.now fault) }
+    ensures why { IfErr result (λ fault. (callers : ℕ) → IsUnready (vec_len calls.now)
+        calls.now.items caller (setup_of cache.now outside.now callers) command.now fault) }
 {
     match free(calls, caller) {
         Ok(()) => {}

@@ -1,31 +1,29 @@
 use Rattle.std.proofs.Common.{ℕ, sym, subst}
 use Rattle.std.specs.Prelude.{IfOk}
-use Rattle.std.specs.Bool.{Decides}
 use Rattle.cacache_world.specs.Kept.{setup_of}
-use Rattle.cacache_world.specs.Admitted.{MayAsk}
-use Rattle.cacache_world.proofs.Asking.{yes}
+use Rattle.cacache_world.specs.Admitted.{MayAsk, Judges}
 use Rattle.cacache_world.proofs.admitting.may_begin.Goals as goal
 
 pub returns-in_ok-admit_put-in-Put : goal.returns-in_ok-admit_put-in-Put
 returns-in_ok-admit_put-in-Put c = λ callers n.
     let s = setup_of c.args.cache.now c.args.outside.now callers in
-    yes _ (subst (λ command. MayAsk s n command) (sym c.in-Put.is) (c.in_ok-admit_put-in-Put.ensures s n))
+    subst (λ command. MayAsk s n command) (sym c.in-Put.is) (c.in_ok-admit_put-in-Put.ensures s n)
 
 pub returns-in_ok-admit_insert-in-Insert : goal.returns-in_ok-admit_insert-in-Insert
 returns-in_ok-admit_insert-in-Insert c = λ callers n.
     let s = setup_of c.args.cache.now c.args.outside.now callers in
-    yes _ (subst (λ command. MayAsk s n command) (sym c.in-Insert.is) (c.in_ok-admit_insert-in-Insert.ensures s n))
+    subst (λ command. MayAsk s n command) (sym c.in-Insert.is) (c.in_ok-admit_insert-in-Insert.ensures s n)
 
 pub returns-in-Delete : goal.returns-in-Delete
 returns-in-Delete c = λ callers n.
     let s = setup_of c.args.cache.now c.args.outside.now callers in
-    yes _ (subst (λ command. MayAsk s n command) (sym c.in-Delete.is) (c.admit_delete.ensures s n))
+    subst (λ command. MayAsk s n command) (sym c.in-Delete.is) (c.admit_delete.ensures s n)
 
 pub returns-in_ok-may-in-Link : goal.returns-in_ok-may-in-Link
 returns-in_ok-may-in-Link c = λ callers n.
-    subst (λ command. Decides c.in_ok-may-in-Link.may (MayAsk (setup_of c.args.cache.now c.args.outside.now callers) n command)) (sym c.in-Link.is) (c.in_ok-may-in-Link.ensures c.args.cache.now callers n)
+    subst (λ command. Judges c.in_ok-may-in-Link.may (setup_of c.args.cache.now c.args.outside.now callers) n command) (sym c.in-Link.is) (c.in_ok-may-in-Link.ensures c.args.cache.now callers n)
 
 pub returns-in-Export : goal.returns-in-Export
 returns-in-Export c =
-    subst (λ command. IfOk c.may_begin_export.result (λ may. (callers : ℕ) → (n : ℕ) → Decides may (MayAsk (setup_of c.args.cache.now c.args.outside.now callers) n command)))
+    subst (λ command. IfOk c.may_begin_export.result (λ may. (callers : ℕ) → (n : ℕ) → Judges may (setup_of c.args.cache.now c.args.outside.now callers) n command))
     (sym c.in-Export.is) c.may_begin_export.ensures

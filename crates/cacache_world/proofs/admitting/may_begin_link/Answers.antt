@@ -1,7 +1,7 @@
 use Rattle.cacache_world.specs.Kept.{setup_of}
-use Rattle.cacache_world.proofs.Asking.{decides_link}
+use Rattle.cacache_world.proofs.Asking.{judges_link}
 use Rattle.cacache_world.proofs.admitting.may_begin_link.Goals as goal
 
 pub returns : goal.returns
 returns c = λ cache callers n.
-    decides_link (setup_of cache c.args.outside.now callers) n c.args.link.now c.in_ok-leads.leads (c.in_ok-leads.ensures cache callers) c.in_ok-form_link.ensures
+    judges_link (setup_of cache c.args.outside.now callers) n c.args.link.now c.in_ok-leads.leads (c.in_ok-leads.ensures cache callers) c.in_ok-form_link.ensures

@@ -9,6 +9,6 @@ returns-in-Ok-started-clause-may c = λ callers n.
     subst (λ cache. MayAsk (setup_of cache c.args.outside.now callers) n c.args.command.now) c.as_str.ensures.same (c.in-Ok-admit.ensures.may callers n)
 
 pub returns-in-Err-admit-clause-why : goal.returns-in-Err-admit-clause-why
-returns-in-Err-admit-clause-why c = λ callers n.
-    away_unready _ _ _ (setup_of c.args.cache.now c.args.outside.now callers) n c.args.command.now c.in-Err-admit.fault (c.in-Ok.ensures.within, c.in-Ok.ensures.free)
-    (subst (λ cache. IsTurnedAway (setup_of cache c.args.outside.now callers) n c.args.command.now c.in-Err-admit.fault) c.as_str.ensures.same (c.in-Err-admit.ensures.why callers n))
+returns-in-Err-admit-clause-why c = λ callers.
+    away_unready _ _ _ (setup_of c.args.cache.now c.args.outside.now callers) c.args.command.now c.in-Err-admit.fault (c.in-Ok.ensures.within, c.in-Ok.ensures.free)
+    (subst (λ cache. IsTurnedAway (setup_of cache c.args.outside.now callers) c.args.command.now c.in-Err-admit.fault) c.as_str.ensures.same (c.in-Err-admit.ensures.why callers))

@@ -32,5 +32,5 @@ returns-in-Err-clause-why c =
     let w = c.self.inside in
     subst (λ h. CantBegin h c.args.caller c.args.command c.in-Err.fault) c.self.view_is
     (cant_begin (told w) w.disk w.begun w.calls.items c.args.caller c.args.command c.in-Err.fault c.self.invariant
-    (subst (λ files. IsUnready (vec_len w.calls) w.calls.items c.args.caller (setup_of w.cache files (vec_len w.calls)) w.begun c.args.command c.in-Err.fault) c.as_slice.ensures.value
-    (c.in-Err.ensures.why (vec_len w.calls) w.begun)))
+    (subst (λ files. IsUnready (vec_len w.calls) w.calls.items c.args.caller (setup_of w.cache files (vec_len w.calls)) c.args.command c.in-Err.fault) c.as_slice.ensures.value
+    (c.in-Err.ensures.why (vec_len w.calls))))
