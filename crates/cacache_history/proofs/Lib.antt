@@ -25,3 +25,4 @@ pub mod Keys
 pub mod Listings
 pub mod Readers
 pub mod Headline
+pub mod Cases

@@ -10,3 +10,4 @@ pub mod Listings
 pub mod Places
 pub mod Readers
 pub mod Headline
+pub mod Cases

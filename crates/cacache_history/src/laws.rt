@@ -1,4 +1,7 @@
-//! What holds of every legal history, on a function that does nothing.
+//! What holds of every legal history, on functions that do nothing.
+ghost use Rattle.std.specs.Prelude.{List, ℕ};
+ghost use Rattle.cacache_disk.specs.declared.luck.Luck.{Luck};
+ghost use Rattle.cacache_history.specs.Cases.{CasesHold, LookupCases};
 ghost use Rattle.cacache_history.specs.Headline.{HeadlineHolds};
 
 /// The claim as a whole, of every legal history: see `Headline`.
@@ -11,4 +14,12 @@ ghost use Rattle.cacache_history.specs.Headline.{HeadlineHolds};
 /// removed it that content is there. An `IoError` has a cause in its call's own steps.
 pub fn history_laws()
     ensures headline { HeadlineHolds }
+{}
+
+/// What may come in a legal history, case by case: no second call of a busy caller, no step, answer
+/// or reply but the call's own, and no export or link to a path that isn't allowed. And one history: a
+/// lookup on a disk that holds nothing is legal with its own reply, and not with an entry.
+pub fn legal_cases()
+    ensures cases { CasesHold }
+    ensures lookups { (cache key : List ℕ) (luck : Luck) → LookupCases cache key luck }
 {}

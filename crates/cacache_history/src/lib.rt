@@ -5,5 +5,5 @@
 mod laws;
 mod record;
 
-pub use laws::history_laws;
+pub use laws::{history_laws, legal_cases};
 pub use record::Record;
