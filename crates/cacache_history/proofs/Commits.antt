@@ -8,7 +8,7 @@ use Rattle.cacache_calls.specs.declared.command.Command.{Command}
 use Rattle.cacache_calls.specs.declared.command.Command.TheVariants as commands
 use Rattle.cacache_calls.specs.declared.reply.Reply.{Reply}
 use Rattle.cacache_calls.specs.declared.reply.Reply.TheVariants as replies
-use Rattle.cacache_calls.specs.Effects.{Effect, stored, sent, effects_of, IsRefused, TookAll, Inserts, Indexes, Commits, Links}
+use Rattle.cacache_calls.specs.Effects.{Effect, stored, sent, effects_of, IsRefused, DoesNothing, TookAll, Inserts, Indexes, Commits}
 use Rattle.cacache_calls.specs.Inserting.{insertion, deletion, bucket_line, refused_cause}
 use Rattle.cacache_calls.specs.Linking.{target_of, commit_for}
 use Rattle.cacache_calls.specs.Places.{content_path, bucket_path}
@@ -17,15 +17,16 @@ use Rattle.cacache_calls.specs.Sound.{FormedIfWritten, SoundTarget, MayBegin}
 use Rattle.cacache_calls.specs.State.{Commit, Insertion, Target}
 use Rattle.cacache_calls.specs.Storing.{insertion_of, commit_of}
 use Rattle.cacache_calls.specs.Table.{opening}
-use Rattle.cacache_calls.proofs.Effects.{puts_commit, links_commit, inserts_send, deletes_send}
+use Rattle.cacache_calls.proofs.Effects.{puts_commit, inserts_send, deletes_send}
 use Rattle.cacache_laws.specs.Acts.{AddEntries}
 use Rattle.cacache_history.specs.Setup.{Setup, site_of, may_export, is_outside}
 use Rattle.cacache_history.specs.History.{History, Turn, IsLegal}
 use Rattle.cacache_history.specs.Turns.{made_in, EachTurn}
-use Rattle.cacache_history.specs.Commits.{Deed, does, finds, deeds, IsContent, IsNotOk, Adds, AddsAfter, CommitsAs, LinksAs, IsCase, CommitsAreCases}
+use Rattle.cacache_history.specs.Commits.{Deed, does, finds, deeds, IsContent, IsNotOk, Adds, AddsAfter, CommitsAs, ReadsTarget, LinksAs, IsCase, CommitsAreCases}
 use Rattle.cacache_history.proofs.Carrying.{Own, own_bytes, own_link, put_own, own_of, Makes}
 use Rattle.cacache_history.proofs.Deeds.{PutsAt, SendsEntry, Realizes, turns_realize}
 use Rattle.cacache_history.proofs.Holding.{TurnsHold}
+use Rattle.cacache_history.proofs.Linked.{CommitsOf, links_read}
 use Rattle.cacache_history.proofs.Runs.{reached, reply_run, lost_run}
 
 content_deed : (own : Own) (c : Commit) (d : Deed) → PutsAt own (content_path c.cache c.computed) d → IsContent c (put_own own) d
@@ -59,18 +60,22 @@ module _ (own : Own) (reply : Option Reply) (r : Reply) (refused : IsRefused r �
       inr (k.0, k.1, content_deed own c k.0 k.3, k.2, adds_after c c.key h.0 k.1 formed k.4 h.2)
 
 module _ (s : Setup) (n : ℕ) (reply : Option Reply) (r : Reply) (refused : IsRefused r → IsNotOk reply) where
-  links : (t : Target) (es : List Effect) (ds : List Deed) → SoundTarget (site_of s n) t → Realizes (own_link t.path) es ds → Links t es r → LinksAs t ds reply
-  links t es ds sound real (inl h) = inl (subst (λ x. Realizes (own_link t.path) x ds) h.0 real, refused h.1)
-  links t es ds sound real (inr h) = inr (h.0, h.1, commits (own_link t.path) reply r refused (commit_for t h.0) es ds (sound.formed h.0 h.1) real h.2)
+  links : (t : Target) (turns : List Turn) → SoundTarget (site_of s n) t → Realizes (own_link t.path) (effects_of (made_in turns)) (deeds turns)
+      → DoesNothing (effects_of (made_in turns)) r ⊎ ReadsTarget t.path (CommitsOf r t (made_in turns)) (made_in turns) → LinksAs t turns reply
+  links t turns sound real (inl h) = inl (subst (λ x. Realizes (own_link t.path) x (deeds turns)) h.0 real, refused h.1)
+  links t turns sound real (inr h) =
+      let w = h.3 in
+      let small = w.5.0 in
+      inr (h.0, h.1, h.2, (w.0, w.1, w.2, w.3, w.4, (small, commits (own_link t.path) reply r refused (commit_for t w.1) (effects_of (made_in turns)) (deeds turns) (sound.formed w.1 small) real w.5.1)))
 
   pub cases : (command : Command) (turns : List Turn) → MayBegin (site_of s n) (may_export s) (is_outside s) command → TurnsHold s turns
-      → EachTurn (λ turn. Makes (own_of (site_of s n) command) turn.move.step) turns → Runs (opening (site_of s n) command) (made_in turns) r → IsCase (site_of s n) command (deeds turns) reply
+      → EachTurn (λ turn. Makes (own_of (site_of s n) command) turn.move.step) turns → Runs (opening (site_of s n) command) (made_in turns) r → IsCase (site_of s n) command turns reply
   cases (commands.Put p) turns may hold makes run =
       commits (own_bytes p.data (content_path s.cache (integrity_under p.options.algorithm p.data))) reply r refused (commit_of s.cache p) (effects_of (made_in turns)) (deeds turns) may (turns_realize s (own_bytes p.data (content_path s.cache (integrity_under p.options.algorithm p.data))) turns hold makes)
       (puts_commit (site_of s n) p (made_in turns) r run)
   cases (commands.Link l) turns may hold makes run =
-      links (target_of (site_of s n) l) (effects_of (made_in turns)) (deeds turns) may.0 (turns_realize s (own_link (target_of (site_of s n) l).path) turns hold makes)
-      (links_commit (site_of s n) l (made_in turns) r run)
+      links (target_of (site_of s n) l) turns may.0 (turns_realize s (own_link (target_of (site_of s n) l).path) turns hold makes)
+      (links_read (site_of s n) l (made_in turns) r run)
   cases (commands.Insert i) turns may hold makes run =
       adds (own_bytes [] []) reply r refused (insertion s.cache i) (effects_of (made_in turns)) (deeds turns) may (turns_realize s (own_bytes [] []) turns hold makes)
       (inserts_send (site_of s n) i (made_in turns) r run)

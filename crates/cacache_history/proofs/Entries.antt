@@ -281,12 +281,13 @@ module _ (h : History) (legal : IsLegal h) (call : Call) (reply : Option Reply) 
         λ keeps. content_right h legal a is_hash (content_stays h legal a is_hash c own b.content path b.is done keeps),
       )
 
-  of_link : (l : Link) → l.options.integrity ≡ None → LinksAs (target_of (site_of h.setup call.number) l) (deeds call.turns) reply → NamesContent h e
+  of_link : (l : Link) → l.options.integrity ≡ None → LinksAs (target_of (site_of h.setup call.number) l) call.turns reply → NamesContent h e
   of_link l none (inl nothing) = absurd (subst (IsAmong (does (AddEntries added.0 (e ∷ [])))) nothing.0 added.1)
   of_link l none (inr h0) =
-      commit_names (commit_for (target_of (site_of h.setup call.number) l) h0.0) (own_link (target_of (site_of h.setup call.number) l).path) l.options.algorithm h0.0 refl refl none h0.2
+      let w = h0.3 in
+      commit_names (commit_for (target_of (site_of h.setup call.number) l) w.1) (own_link (target_of (site_of h.setup call.number) l).path) l.options.algorithm w.1 refl refl none w.5.1
 
-  of_command : (command : Command) → NamesOwn command → IsCase (site_of h.setup call.number) command (deeds call.turns) reply → NamesContent h e
+  of_command : (command : Command) → NamesOwn command → IsCase (site_of h.setup call.number) command call.turns reply → NamesContent h e
   of_command (commands.Put p) none commits = commit_names (commit_of h.setup.cache p) (own_bytes p.data []) p.options.algorithm p.data refl refl none commits
   of_command (commands.Link l) none links = of_link l none links
   of_command other none is = absurd none
@@ -300,7 +301,7 @@ puts_leave_contents h legal call i p reaches is keeps =
     let a = address_of_put p in
     let is_hash : IsHash (address_of_put p) = digest_hash p.options.algorithm p.data in
     let commits : CommitsAs (commit_of h.setup.cache p) (put_own (own_bytes p.data [])) (deeds call.turns) (Some (Stored i))
-    = subst (λ command. IsCase (site_of h.setup call.number) command (deeds call.turns) (Some (Stored i))) is (commits_are_cases h legal call (Some (Stored i)) reaches) in
+    = subst (λ command. IsCase (site_of h.setup call.number) command call.turns (Some (Stored i))) is (commits_are_cases h legal call (Some (Stored i)) reaches) in
     elim commits [
       | inl nothing ↦ absurd nothing.1
       | inr c ↦

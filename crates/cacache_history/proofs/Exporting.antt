@@ -33,7 +33,7 @@ use Rattle.cacache_history.proofs.Reading.{bucket_below, content_below, shows, b
 found_integrity : (s : Setup) (found : Found) (r : Result (Option Found) Refusal) → r ≡ Ok (Some found) → FoundHas s r → IsIntegrity found.integrity
 found_integrity s found r e h = let same : FoundHas s (Ok (Some found)) = subst (FoundHas s) e h in same
 
-on_disks : (s : Setup) (turns : List Turn) → TurnsHold s turns → OnDisks (made_in turns)
+pub on_disks : (s : Setup) (turns : List Turn) → TurnsHold s turns → OnDisks (made_in turns)
 on_disks s [] hold = tt
 on_disks s (turn ∷ turns) hold = ((turn.place, turn.move.luck, hold.0.answered), on_disks s turns hold.1)
 

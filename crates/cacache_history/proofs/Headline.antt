@@ -4,6 +4,7 @@ use Rattle.cacache_history.specs.Headline.{Headline}
 use Rattle.cacache_history.proofs.Bucketed.{buckets_are_of_keys, buckets_hold_own}
 use Rattle.cacache_history.proofs.Commits.{commits_are_cases}
 use Rattle.cacache_history.proofs.Entries.{entries_name_contents, puts_leave_contents}
+use Rattle.cacache_history.proofs.Links.{links_were_right, links_are_right}
 use Rattle.cacache_history.proofs.Listings.{listings_read_value}
 use Rattle.cacache_history.proofs.Readers.{readers_do_nothing, reads_are_verified}
 use Rattle.cacache_history.proofs.Replies.{replies_read_value, io_errors_are_caused}
@@ -24,6 +25,8 @@ headline h legal = record {
   own = buckets_hold_own h legal;
   contents = contents_stay h legal;
   digests = contents_are_right h legal;
+  linked = links_were_right h legal;
+  links = links_are_right h legal;
   replies = replies_read_value h legal;
   listings = listings_read_value h legal;
   verified = reads_are_verified h legal;

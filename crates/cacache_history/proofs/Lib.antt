@@ -11,6 +11,7 @@ pub mod Opening
 pub mod Exporting
 pub mod Replies
 pub mod Deeds
+pub mod Linked
 pub mod Commits
 pub mod Righted
 pub mod Turned
@@ -24,5 +25,6 @@ pub mod Once
 pub mod Keys
 pub mod Listings
 pub mod Readers
+pub mod Links
 pub mod Headline
 pub mod Cases

@@ -36,7 +36,7 @@ use Rattle.cacache_history.proofs.Digests.{digest_hash}
 -- ---- acts
 
 -- the bytes, put at these names, have the digest of each address there
-abbrev RightAt : Option Names → List ℕ → Names → Type 0
+abbrev pub RightAt : Option Names → List ℕ → Names → Type 0
 RightAt folder bytes names = (h : Hash) → IsHash h → is_path_of folder (content_names h) names ≡ true → HasDigest h bytes
 
 -- an act that puts only such contents
@@ -87,7 +87,7 @@ one_address cache (Some folder) g h names p q e is =
 of_digest : (a : Algorithm) (bytes : List ℕ) (h : Hash) → h ≡ hash_of a (digest a bytes) → HasDigest h bytes
 of_digest a bytes h e = rw e refl
 
-put_at : (cache : List ℕ) (a : Algorithm) (bytes : List ℕ) (names : Names) → names_of (content_path cache (integrity_under a bytes)) ≡ Ok names → RightAt (home_of cache) bytes names
+pub put_at : (cache : List ℕ) (a : Algorithm) (bytes : List ℕ) (names : Names) → names_of (content_path cache (integrity_under a bytes)) ≡ Ok names → RightAt (home_of cache) bytes names
 unfolding content_path
 put_at cache a bytes names e h is here =
     let g = hash_of a (digest a bytes) in

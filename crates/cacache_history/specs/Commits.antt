@@ -14,10 +14,13 @@ use Rattle.cacache_calls.specs.State.{Site, Commit, Insertion, Target}
 use Rattle.cacache_calls.specs.Inserting.{insertion, deletion}
 use Rattle.cacache_calls.specs.Storing.{insertion_of, commit_of}
 use Rattle.cacache_calls.specs.Linking.{commit_for, target_of}
+use Rattle.cacache_calls.specs.Runs.{Moves}
+use Rattle.cacache_calls.specs.Verifying.{ReadsWhole}
 use Rattle.cacache_laws.specs.Acts.{Act, Nothing, PutBytes, PutLink, AddEntries, Drop, MakeFolders, DropFolder, act_of}
 use Rattle.cacache_laws.specs.Traces.{Move}
 use Rattle.cacache_history.specs.Setup.{site_of}
 use Rattle.cacache_history.specs.History.{History, Turn, Call, Reaches}
+use Rattle.cacache_history.specs.Turns.{made_in}
 
 -- ---- deeds
 
@@ -92,24 +95,34 @@ CommitsAs c put ds reply =
     ⊎ ((content : Deed) × (more : List Deed) × IsContent c put content × (ds ≡ content ∷ more)
     × AddsAfter c c.key more reply)
 
--- a link's commit is that of bytes that were read, and its content a link to the target
-abbrev pub LinksAs : Target → List Deed → Option Reply → Type 0
-LinksAs t ds reply =
-    DidNothing ds reply
-    ⊎ ((bytes : List ℕ) × (length bytes < 2 ^ 64)
-    × CommitsAs (commit_for t bytes) (λ names. PutLink names t.path) ds reply)
+-- the moves begin with the target's size and then read it to its end; this is so of its bytes
+abbrev pub ReadsTarget : List ℕ → (List ℕ → Type 0) → Moves → Type 0
+ReadsTarget path P moves =
+    (n : ℕ) × (more : Moves) × (moves ≡ (steps.Size path, answers.Length n) ∷ more)
+    × ReadsWhole path P more
+
+-- a link's commit is that of bytes of this count, and its content a link to the target
+abbrev pub LinksTo : Target → List Turn → Option Reply → List ℕ → Type 0
+LinksTo t turns reply bytes =
+    (length bytes < 2 ^ 64)
+    × CommitsAs (commit_for t bytes) (λ names. PutLink names t.path) (deeds turns) reply
+
+-- a link did nothing, or its commit is that of all bytes that the call itself read from the target
+abbrev pub LinksAs : Target → List Turn → Option Reply → Type 0
+LinksAs t turns reply =
+    DidNothing (deeds turns) reply ⊎ ReadsTarget t.path (LinksTo t turns reply) (made_in turns)
 
 -- what a call of this command did, by the reply that it has so far
-abbrev pub IsCase : Site → Command → List Deed → Option Reply → Type 0
-IsCase site (commands.Put p) ds reply =
-    CommitsAs (commit_of site.cache p) (λ names. PutBytes names p.data) ds reply
-IsCase site (commands.Link l) ds reply = LinksAs (target_of site l) ds reply
-IsCase site (commands.Insert i) ds reply = Adds (insertion site.cache i) ds reply
-IsCase site (commands.Delete d) ds reply = Adds (deletion site.cache d) ds reply
-IsCase site command ds reply = Unit {0}
+abbrev pub IsCase : Site → Command → List Turn → Option Reply → Type 0
+IsCase site (commands.Put p) turns reply =
+    CommitsAs (commit_of site.cache p) (λ names. PutBytes names p.data) (deeds turns) reply
+IsCase site (commands.Link l) turns reply = LinksAs (target_of site l) turns reply
+IsCase site (commands.Insert i) turns reply = Adds (insertion site.cache i) (deeds turns) reply
+IsCase site (commands.Delete d) turns reply = Adds (deletion site.cache d) (deeds turns) reply
+IsCase site command turns reply = Unit {0}
 
 -- each commit did one of the cases, whether it is over or was left on its way
 abbrev pub CommitsAreCases : History → Type 0
 CommitsAreCases h =
     (call : Call) (reply : Option Reply) → Reaches h call reply
-    → IsCase (site_of h.setup call.number) call.command (deeds call.turns) reply
+    → IsCase (site_of h.setup call.number) call.command call.turns reply

@@ -3,6 +3,7 @@ use Rattle.cacache_history.specs.Buckets.{BucketsAreOfKeys, IndexIsShallow, Buck
 use Rattle.cacache_history.specs.Commits.{CommitsAreCases}
 use Rattle.cacache_history.specs.Entries.{EntriesNameContents, PutsLeaveContents}
 use Rattle.cacache_history.specs.History.{History, IsLegal}
+use Rattle.cacache_history.specs.Links.{LinksWereRight, LinksAreRight}
 use Rattle.cacache_history.specs.Listings.{ListingsReadValue}
 use Rattle.cacache_history.specs.Places.{TurnsAreMoves, CallsAreRuns}
 use Rattle.cacache_history.specs.Readers.{ReadersDoNothing, ReadsAreVerified}
@@ -35,6 +36,10 @@ pub record Headline (h : History) : Type 0 where
   pub contents : ContentsStay h
   -- a content that is bytes has the digest of its address
   pub digests : ContentsAreRight h
+  -- one that is a link is of bytes that its target once held
+  pub linked : LinksWereRight h
+  -- and so has the digest of its address while the target's bytes are the same
+  pub links : LinksAreRight h
   -- lookups, reads, questions, listings and checked exports answer by the value at their steps
   pub replies : RepliesReadValue h
   -- a listing answers just what the buckets of keys held that it read, and leaves none out

@@ -9,5 +9,6 @@ pub mod Buckets
 pub mod Listings
 pub mod Places
 pub mod Readers
+pub mod Links
 pub mod Headline
 pub mod Cases

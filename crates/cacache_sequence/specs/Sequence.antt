@@ -19,7 +19,7 @@ use Rattle.cacache_laws.specs.Traces.{Move, acts}
 use Rattle.cacache_laws.specs.Value.{wide_value, cache_part, value_of_tree}
 use Rattle.cacache_history.specs.Setup.{Setup, site_of, home, may_export, is_outside}
 use Rattle.cacache_history.specs.History.{Turn, turn_of, NamesIntegrity}
-use Rattle.cacache_history.specs.Commits.{deeds, IsCase}
+use Rattle.cacache_history.specs.Commits.{IsCase}
 use Rattle.cacache_history.specs.Reading.{ReadsValue}
 
 -- a call that was made: its command, its number, the steps that it made, and its reply
@@ -94,7 +94,7 @@ pub record Answers (s : Setup) (t : Tree) (call : Call) : Type 0 where
       (call.reply ≡ Refused OutOfMemory)
       ⊎ ReadsValue s call.command (turns_on t call.moves) (plain_reply call.reply)
   pub commits :
-      IsCase (site_of s call.number) call.command (deeds (turns_on t call.moves)) (Some call.reply)
+      IsCase (site_of s call.number) call.command (turns_on t call.moves) (Some call.reply)
   pub causes : HasCause (own_of call.command) call.moves (plain_reply call.reply)
 
 -- each call answers so on the tree that the calls before it left, and the last of these trees
