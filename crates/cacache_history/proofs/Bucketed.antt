@@ -45,7 +45,7 @@ pub record Keeps (s : Setup) (t : Tree) : Type 0 where
   pub own : TreeOwn (home s) t
 
 module _ (s : Setup) (apart : LieApart (home s) s.outside) where
-  move_keyed : (w : Now) (luck : Luck) (made : Option Made) (reply : Option Reply) (call : Call) → AllHold s w → CallHolds s call → MayMove w.tree call.state luck made reply
+  pub move_keyed : (w : Now) (luck : Luck) (made : Option Made) (reply : Option Reply) (call : Call) → AllHold s w → CallHolds s call → MayMove w.tree call.state luck made reply
       → Keeps s w.tree → Keeps s (moved_tree w.tree luck made)
   move_keyed w luck None reply call h mine may k = k
   move_keyed w luck (Some made) reply call h mine may k =

@@ -302,6 +302,16 @@ module _ (s : Setup) (r : Reply) where
       let g = runs_rest (opening (site_of s n) commands.Ls) turns hold keyed run refl (omega arith) (top, ([], All-nil IsProperName, omega arith, refl, refl)) tt in
       (g.0, g.1, elim g.2 [ inl e ↦ inl e | inr e ↦ inr (e.0, λ near key each. e.1 near key each (top_covers key)) ])
 
+-- ---- listings that are over
+
+-- what a run answers, unless out of memory ended it
+pub over_lists : (s : Setup) (n : ℕ) (turns : List Turn) (r : Reply) → TurnsHold s turns → EachTurn (KeyedTurn s) turns → Runs (opening (site_of s n) commands.Ls) (made_in turns) (plain_reply r)
+    → ListsValue s turns (Some r)
+over_lists s n turns r hold keyed run =
+    let l = runs_list s (plain_reply r) n turns hold keyed run in
+    let none = none_twice s (plain_reply r) n turns hold keyed run in
+    (l.0, l.1, none, no_key_twice s turns l.0 keyed none l.1, elim l.2 [ inl e ↦ inl (memory_plain r e) | inr e ↦ inr (record { answers = e.0; finds = e.1 }) ])
+
 -- ---- listings of a history
 
 pub listings_read_value : (h : History) → IsLegal h → ListingsReadValue h
@@ -325,8 +335,5 @@ listings_read_value h legal call reply reaches is = by reply reaches
               let none = none_twice h.setup (Refused OutOfMemory) call.number call.turns x.holds.turns keyed run in
               (l.0, l.1, none, no_key_twice h.setup call.turns l.0 keyed none l.1, inl e)
           | inr made ↦
-              let run = subst (λ command. Runs (opening (site_of h.setup call.number) command) (made_in call.turns) (plain_reply r)) is made in
-              let l = runs_list h.setup (plain_reply r) call.number call.turns x.holds.turns keyed run in
-              let none = none_twice h.setup (plain_reply r) call.number call.turns x.holds.turns keyed run in
-              (l.0, l.1, none, no_key_twice h.setup call.turns l.0 keyed none l.1, elim l.2 [ inl e ↦ inl (memory_plain r e) | inr e ↦ inr (record { answers = e.0; finds = e.1 }) ])
+              over_lists h.setup call.number call.turns r x.holds.turns keyed (subst (λ command. Runs (opening (site_of h.setup call.number) command) (made_in call.turns) (plain_reply r)) is made)
         ]

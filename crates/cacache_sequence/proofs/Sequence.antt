@@ -22,9 +22,13 @@ use Rattle.cacache_history.specs.Setup.{Setup, site_of, home, may_export, is_out
 use Rattle.cacache_history.specs.History.{Turn, Now, Ends, MayMove, NamesIntegrity, begins, moved, turn_of}
 use Rattle.cacache_history.specs.History as histories
 use Rattle.cacache_history.specs.Turns.{made_in, EachTurn}
+use Rattle.cacache_history.proofs.Bucketed.{Keeps, KeyedTurn, move_keyed}
 use Rattle.cacache_history.proofs.Holding.{AllHold, CallHolds, TurnsHold, begins_hold, moved_holds, made_proper, tree_holds}
 use Rattle.cacache_history.proofs.Carrying.{own_of, Makes}
 use Rattle.cacache_history.proofs.Formed.{opening_formed}
+use Rattle.cacache_history.proofs.Keyed.{opening_keyed}
+use Rattle.cacache_history.proofs.Listings.{over_lists}
+use Rattle.cacache_history.proofs.Owned.{opening_own}
 use Rattle.cacache_history.proofs.Righted.{opening_right}
 use Rattle.cacache_history.proofs.Runs.{memory_plain}
 use Rattle.cacache_history.proofs.Replies.{reads_value}
@@ -81,6 +85,8 @@ record RunHolds (s : Setup) (t : Tree) (moves : Moves) (call : histories.Call) :
   pub calls : CallHolds s (on_its_way t moves call)
   pub tree : AllHold s (alone (tree_on t moves))
   pub trace : IsTrace (home s) t (plain_moves moves)
+  pub keeps : Keeps s (tree_on t moves)
+  pub keyed : EachTurn (KeyedTurn s) (turns_on t moves)
 
 -- how a run goes on, as a move of a world
 run_ends : (st : State) (moves : Moves) (r : Reply) → Runs st moves (plain_reply r) → (reply : Option Reply) × Ends st reply
@@ -89,19 +95,22 @@ run_ends st [] r (inr e) = (Some r, inr (memory_plain r e))
 run_ends st (m ∷ moves) r run = (None, (m.0, run.0))
 
 module _ (s : Setup) (apart : LieApart (home s) s.outside) where
-  run_holds : (t : Tree) (moves : Moves) (r : Reply) (call : histories.Call) → AllHold s (alone t) → CallHolds s call → Runs call.state moves (plain_reply r) → AreAnswered t moves
+  run_holds : (t : Tree) (moves : Moves) (r : Reply) (call : histories.Call) → AllHold s (alone t) → Keeps s t → CallHolds s call → Runs call.state moves (plain_reply r) → AreAnswered t moves
       → RunHolds s t moves call
-  run_holds t [] r call tree mine run answered = record { calls = mine; tree = tree; trace = tt }
-  run_holds t (m ∷ moves) r call tree mine run answered =
+  run_holds t [] r call tree keeps mine run answered = record { calls = mine; tree = tree; trace = tt; keeps = keeps; keyed = tt }
+  run_holds t (m ∷ moves) r call tree keeps mine run answered =
       let e = run_ends (after call.state m.1) moves r run.2 in
       let may : MayMove t call.state Plain (Some m) e.0 = (run.0, answered.0, run.1, e.1) in
       let holds = tree_holds s apart (alone t) Plain (Some m) e.0 call tree mine may in
       let next : AllHold s (alone (apply t m.0 Plain).1) = record { placed = holds.0; rooted = holds.1; formed = holds.2; right = holds.3; calls = λ k. tt } in
-      let more = run_holds (apply t m.0 Plain).1 moves r (moved t Plain (Some m) call) next (moved_holds s (alone t) tree Plain (Some m) e.0 call mine may) run.2 answered.1 in
+      let kept = move_keyed s apart (alone t) Plain (Some m) e.0 call tree mine may keeps in
+      let more = run_holds (apply t m.0 Plain).1 moves r (moved t Plain (Some m) call) next kept (moved_holds s (alone t) tree Plain (Some m) e.0 call mine may) run.2 answered.1 in
       record {
         calls = more.calls;
         tree = more.tree;
         trace = (made_proper s apart t Plain m e.0 call mine may, answered.0, more.trace);
+        keeps = more.keeps;
+        keyed = (keeps, more.keyed);
       }
 
   -- ---- a call
@@ -116,12 +125,12 @@ module _ (s : Setup) (apart : LieApart (home s) s.outside) where
       (subst (λ c. EachTurn (λ turn. Makes (own_of (site_of s call.number) c) turn.move.step) now.turns) (same_command t call.moves start)
       (subst (λ n. EachTurn (λ turn. Makes (own_of (site_of s n) now.command) turn.move.step) now.turns) (same_number t call.moves start) holds.makes))
 
-  call_answers : (t : Tree) (call : Call) → AllHold s (alone t) → MayBegin (site_of s call.number) (may_export s) (is_outside s) call.command → NamesIntegrity call.command
+  call_answers : (t : Tree) (call : Call) → AllHold s (alone t) → Keeps s t → MayBegin (site_of s call.number) (may_export s) (is_outside s) call.command → NamesIntegrity call.command
       → Runs (opening (site_of s call.number) call.command) call.moves (plain_reply call.reply) → AreAnswered t call.moves
-      → Answers s t call × AllHold s (alone (tree_on t call.moves))
-  call_answers t call tree may named run answered =
+      → Answers s t call × AllHold s (alone (tree_on t call.moves)) × Keeps s (tree_on t call.moves)
+  call_answers t call tree keeps may named run answered =
       let start = begins s call.number call.command in
-      let holds = run_holds t call.moves call.reply start tree (begins_hold s call.number call.command may named) run answered in
+      let holds = run_holds t call.moves call.reply start tree keeps (begins_hold s call.number call.command may named) run answered in
       let turns = turns_on t call.moves in
       let made : made_in turns ≡ call.moves = turns_made t call.moves in
       let hold : TurnsHold s turns = subst (TurnsHold s) (turns_gained t call.moves start) holds.calls.turns in
@@ -134,28 +143,32 @@ module _ (s : Setup) (apart : LieApart (home s) s.outside) where
             | inl e ↦ inl (memory_plain call.reply e)
             | inr reads ↦ inr reads
           ];
+          listings = λ is.
+              over_lists s call.number turns call.reply hold holds.keyed
+              (subst (λ command. Runs (opening (site_of s call.number) command) (made_in turns) (plain_reply call.reply)) is ran);
           commits = cases s call.number (Some call.reply) (plain_reply call.reply) (plain_refused call.reply) call.command turns may hold (makes_own t call holds.calls) ran;
           causes = io_errors_have_causes (site_of s call.number) call.command call.moves (plain_reply call.reply) run;
         },
         holds.tree,
+        holds.keeps,
       )
 
   -- ---- all calls
 
-  calls_answer : (old : List LogItem) (calls : List Call) (new : List LogItem) → MayBeMade s calls → AreMade s old calls new → IsReplayable bare new → AllHold s (alone (replay bare old))
+  calls_answer : (old : List LogItem) (calls : List Call) (new : List LogItem) → MayBeMade s calls → AreMade s old calls new → IsReplayable bare new → AllHold s (alone (replay bare old)) → Keeps s (replay bare old)
       → AllAnswer s (replay bare old) calls (replay bare new)
-  calls_answer old [] new may made logged tree = ap (replay bare) made
-  calls_answer old (call ∷ calls) new may made logged tree =
+  calls_answer old [] new may made logged tree keeps = ap (replay bare) made
+  calls_answer old (call ∷ calls) new may made logged tree keeps =
       let moves = map (λ m. Made m.0 m.1) call.moves in
       let rest = calls_lengthen s made.0 calls new made.2 in
       let whole : new ≡ old ++ (moves ++ rest.more) = rest.is ∙ ap (λ log. log ++ rest.more) made.1.gained ∙ append_assoc old moves rest.more in
       let answered = moves_answered (replay bare old) call.moves rest.more (replayable_rest bare old (moves ++ rest.more) (subst (IsReplayable bare) whole logged)) in
       let leads : replay bare made.0 ≡ tree_on (replay bare old) call.moves
       = ap (replay bare) made.1.gained ∙ replay_more bare old moves ∙ moves_lead (replay bare old) call.moves in
-      let one = call_answers (replay bare old) call tree may.0 may.1 made.1.run answered in (
+      let one = call_answers (replay bare old) call tree keeps may.0 may.1 made.1.run answered in (
         one.0,
         subst (λ t. AllAnswer s t calls (replay bare new)) leads
-            (calls_answer made.0 calls new may.2 made.2 logged (subst (λ t. AllHold s (alone t)) (sym leads) one.1)),
+            (calls_answer made.0 calls new may.2 made.2 logged (subst (λ t. AllHold s (alone t)) (sym leads) one.1) (subst (Keeps s) (sym leads) one.2)),
       )
 
 pub sequences_answer : SequencesAnswer
@@ -166,3 +179,4 @@ sequences_answer s calls log apart may made logged =
     let o = files_open (home s) s.outside (replay bare (planted_log s.outside)) apart opens in
     calls_answer s apart (planted_log s.outside) calls log may made logged
     (record { placed = o.placed; rooted = o.rooted; formed = opening_formed (home s) (replay bare (planted_log s.outside)) o; right = opening_right (home s) (replay bare (planted_log s.outside)) o; calls = λ caller. tt })
+    (record { keyed = opening_keyed (home s) (replay bare (planted_log s.outside)) o; own = opening_own (home s) (replay bare (planted_log s.outside)) o })
