@@ -34,7 +34,8 @@ use Rattle.cacache_history.specs.declared.record.Record.{Record}
 use Rattle.cacache_history.specs.declared.record.Record.TheVariants.{Began, Moved, Stopped}
 use Rattle.cacache_history.specs.Setup.{Setup}
 use Rattle.cacache_history.specs.History.{History, Turn, Call, Made, begins, turn_of, moved, now_at, Ends, MayMove, MayCome, IsLegal, Reaches}
-use Rattle.cacache_history.specs.Reading.{entries_at, shown, bucket_read, FindsHeld, ReadsValue}
+use Rattle.cacache_history.specs.Reading.{entries_at, shown, bucket_read}
+use Rattle.cacache_history.specs.Replies.{FindsHeld, ReadsValue}
 use Rattle.cacache_history.specs.Cases.{Comes, call_at, Steps, BusyCases, IdleCases, BeginCases, CasesHold, lookup_made, lookup_alone, LookupCases}
 use Rattle.cacache_history.proofs.Holding.{first_opens, legal_after}
 use Rattle.cacache_history.proofs.Replies.{replies_read_value}

@@ -26,7 +26,8 @@ use Rattle.cacache_calls.specs.declared.command.Source.TheVariants as sources
 use Rattle.cacache_calls.specs.Verifying.{Verifies, VerifiesContent}
 use Rattle.cacache_history.specs.History.{NamesSource}
 use Rattle.cacache_laws.specs.Shows.{blob_bytes}
-use Rattle.cacache_history.specs.Reading.{content_at, VerifiesHeld, ExportsHeld}
+use Rattle.cacache_history.specs.Reading.{content_at}
+use Rattle.cacache_history.specs.Replies.{VerifiesHeld, ExportsHeld}
 use Rattle.cacache_history.proofs.Opening.{EachAsks, OnDisks, gives_all}
 use Rattle.cacache_history.proofs.Reading.{bucket_below, content_below, shows, bucket_at_turn, first_turn, FoundHas, bucket_has}
 

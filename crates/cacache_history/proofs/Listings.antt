@@ -35,9 +35,9 @@ use Rattle.cacache_history.specs.History.{Turn, History, IsLegal, Reaches}
 use Rattle.cacache_history.specs.Turns.{made_in, EachTurn}
 use Rattle.cacache_history.specs.Reading.{bucket_read, by_entries}
 use Rattle.cacache_history.proofs.Holding.{TurnHolds, TurnsHold}
-use Rattle.cacache_history.proofs.Reading.{bucket_below, lists_buckets}
+use Rattle.cacache_history.proofs.Reading.{bucket_below, lists_bucket}
 use Rattle.cacache_history.proofs.Runs.{reached, reply_run, lost_run, memory_plain}
-use Rattle.cacache_history.specs.Listings.{IsIndexFolder, IsFound, TurnGives, TurnsGive, count_in, names_given, is_past, listing_of, AnyTurn, HasBucket, ReadsBucket, FailsAbove, FindsBuckets, ListsValue, ListingsReadValue}
+use Rattle.cacache_history.specs.Listings.{IsIndexFolder, IsFound, TurnGives, TurnsGive, count_in, names_given, is_past, listing_of, AnyTurn, HasBucket, ReadsBucket, FailsAbove, FindsBuckets, ListsHeld, ListsValue, ListingsReadValue}
 use Rattle.cacache_history.proofs.Owned.{bucket_found}
 use Rattle.cacache_history.proofs.Once.{none_twice}
 use Rattle.cacache_history.proofs.Keys.{no_key_twice}
@@ -233,7 +233,7 @@ module _ (s : Setup) (r : Reply) where
   bucket_gives : (turn : Turn) (p : List ℕ) (v : Visits s (read_bucket p)) → TurnHolds s turn → KeyedTurn s turn → steps.ReadAll p ≡ turn.move.step → TurnGives s turn turn.move.step (by_bucket (bytes_in turn.move.answer))
   bucket_gives turn p v holds keyed is =
       let path : turn.move.step ≡ steps.ReadAll (bucket_path s.cache v.0) = sym is ∙ ap steps.ReadAll v.1 in
-      let shown = (lists_buckets s (turn ∷ []) (holds, tt)).0 (bucket_path s.cache v.0) (sha1 v.0) path (bucket_below s v.0) in
+      let shown = lists_bucket s turn holds (bucket_path s.cache v.0) (sha1 v.0) path (bucket_below s v.0) in
       let same : by_bucket (bytes_in turn.move.answer) ≡ by_entries (bucket_read s (sha1 v.0) turn) = sym (ap (λ x. given_by x turn.move.answer) path) ∙ shown in
       step_gives turn (steps.ReadAll p) (by_bucket (bytes_in turn.move.answer)) is
       (v.0, v.1, same, subst (All (IsFound s turn)) (sym same) (bucket_found s turn v.0 turn.move.answer (keyed.own v.0)))
@@ -305,12 +305,15 @@ module _ (s : Setup) (r : Reply) where
 -- ---- listings that are over
 
 -- what a run answers, unless out of memory ended it
-pub over_lists : (s : Setup) (n : ℕ) (turns : List Turn) (r : Reply) → TurnsHold s turns → EachTurn (KeyedTurn s) turns → Runs (opening (site_of s n) commands.Ls) (made_in turns) (plain_reply r)
-    → ListsValue s turns (Some r)
-over_lists s n turns r hold keyed run =
-    let l = runs_list s (plain_reply r) n turns hold keyed run in
-    let none = none_twice s (plain_reply r) n turns hold keyed run in
-    (l.0, l.1, none, no_key_twice s turns l.0 keyed none l.1, elim l.2 [ inl e ↦ inl (memory_plain r e) | inr e ↦ inr (record { answers = e.0; finds = e.1 }) ])
+pub lists : (s : Setup) (n : ℕ) (turns : List Turn) (r : Reply) → TurnsHold s turns → EachTurn (KeyedTurn s) turns → Runs (opening (site_of s n) commands.Ls) (made_in turns) r
+    → (r ≡ Refused OutOfMemory) ⊎ ListsHeld s turns r
+lists s n turns r hold keyed run =
+    let l = runs_list s r n turns hold keyed run in
+    let none = none_twice s r n turns hold keyed run in
+    elim l.2 [
+      | inl e ↦ inl e
+      | inr e ↦ inr (l.0, l.1, none, no_key_twice s turns l.0 keyed none l.1, record { answers = e.0; finds = e.1 })
+    ]
 
 -- ---- listings of a history
 
@@ -335,5 +338,8 @@ listings_read_value h legal call reply reaches is = by reply reaches
               let none = none_twice h.setup (Refused OutOfMemory) call.number call.turns x.holds.turns keyed run in
               (l.0, l.1, none, no_key_twice h.setup call.turns l.0 keyed none l.1, inl e)
           | inr made ↦
-              over_lists h.setup call.number call.turns r x.holds.turns keyed (subst (λ command. Runs (opening (site_of h.setup call.number) command) (made_in call.turns) (plain_reply r)) is made)
+              let run = subst (λ command. Runs (opening (site_of h.setup call.number) command) (made_in call.turns) (plain_reply r)) is made in
+              let l = runs_list h.setup (plain_reply r) call.number call.turns x.holds.turns keyed run in
+              let none = none_twice h.setup (plain_reply r) call.number call.turns x.holds.turns keyed run in
+              (l.0, l.1, none, no_key_twice h.setup call.turns l.0 keyed none l.1, elim l.2 [ inl e ↦ inl (memory_plain r e) | inr e ↦ inr (record { answers = e.0; finds = e.1 }) ])
         ]

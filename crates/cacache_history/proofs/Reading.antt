@@ -34,8 +34,9 @@ use Rattle.cacache_laws.specs.Shows.{ReadsShow, ShowsBucket, ShowsContent, Shows
 use Rattle.cacache_laws.proofs.Shows.{trees_show}
 use Rattle.cacache_history.specs.Setup.{Setup, home}
 use Rattle.cacache_history.specs.History.{Turn}
-use Rattle.cacache_history.specs.Turns.{made_in, EachTurn}
-use Rattle.cacache_history.specs.Reading.{entries_at, unless_failed, shown, as_refusal, bucket_read, content_read, there_read, OneTurn, FindsHeld, ReadsHeld, AsksHeld, ReadsNext, GetsHeld, by_entries, ListsBucket}
+use Rattle.cacache_history.specs.Turns.{made_in}
+use Rattle.cacache_history.specs.Reading.{entries_at, unless_failed, shown, as_refusal, bucket_read, content_read, there_read, by_entries}
+use Rattle.cacache_history.specs.Replies.{OneTurn, FindsHeld, ReadsHeld, AsksHeld, ReadsNext, GetsHeld}
 use Rattle.cacache_history.proofs.Spelled.{HasIntegrity, latest_has}
 use Rattle.cacache_history.proofs.Holding.{TurnHolds, TurnsHold}
 
@@ -188,6 +189,13 @@ module _ (s : Setup) where
 
 -- ---- listings
 
+-- a turn that reads the file of a bucket lists what the bucket holds
+abbrev pub ListsBucket : Setup → Turn → Type 0
+ListsBucket s turn =
+    (path digest : List ℕ) → turn.move.step ≡ steps.ReadAll path
+    → NamesBelow (home s) (bucket_names_of digest) path
+    → given_by turn.move.step turn.move.answer ≡ by_entries (bucket_read s digest turn)
+
 items_is : (a : PlainAnswer) (r : Result (List Entry) Refusal) → bucket_shown a ≡ r → by_bucket (bytes_in a) ≡ by_entries r
 unfolding items_in
 items_is a r e = by (bytes_in a) ∙ ap by_entries e
@@ -198,10 +206,6 @@ items_is a r e = by (bytes_in a) ∙ ap by_entries e
     by (Err (refusals.Fault fault)) = refl
     by (Err refusals.Memory) = refl
 
-lists_bucket : (s : Setup) (turn : Turn) → TurnHolds s turn → ListsBucket s turn
+pub lists_bucket : (s : Setup) (turn : Turn) → TurnHolds s turn → ListsBucket s turn
 lists_bucket s turn h path digest is below =
     ap (λ x. given_by x turn.move.answer) is ∙ items_is turn.move.answer (bucket_read s digest turn) (bucket_at_turn s turn h path digest is below)
-
-pub lists_buckets : (s : Setup) (turns : List Turn) → TurnsHold s turns → EachTurn (ListsBucket s) turns
-lists_buckets s [] hold = tt
-lists_buckets s (turn ∷ turns) hold = (lists_bucket s turn hold.0, lists_buckets s turns hold.1)

@@ -9,22 +9,23 @@ use Rattle.cacache_calls.specs.Causes.{HasCause, own_of}
 use Rattle.cacache_calls.specs.Runs.{Runs, plain_reply}
 use Rattle.cacache_calls.specs.Table.{opening}
 use Rattle.cacache_calls.proofs.Replies.{finds_shown, gets_shown, reads_shown, exists_shown}
-use Rattle.cacache_calls.proofs.Listing.{lists_shown}
 use Rattle.cacache_calls.proofs.Causes.{io_errors_have_causes}
 use Rattle.cacache_history.specs.Setup.{Setup, site_of}
 use Rattle.cacache_history.specs.History.{Turn, History, NamesIntegrity, IsLegal}
-use Rattle.cacache_history.specs.Turns.{made_in}
-use Rattle.cacache_history.specs.Reading.{ReadsValue, RepliesReadValue, IoErrorsHaveCauses}
+use Rattle.cacache_history.specs.Turns.{made_in, EachTurn}
+use Rattle.cacache_history.specs.Replies.{ReadsValue, RepliesReadValue, IoErrorsHaveCauses}
 use Rattle.cacache_history.proofs.Holding.{TurnsHold}
 use Rattle.cacache_history.proofs.Runs.{reached, reply_run, memory_plain}
 use Rattle.cacache_calls.specs.declared.reply.Reply.TheVariants as replies
 use Rattle.cacache_calls.specs.Verifying.{Verifies, UnlessRefused}
 use Rattle.cacache_calls.proofs.Verifying.{exports_verify}
 use Rattle.std.proofs.Common.{Bool, true, false}
-use Rattle.cacache_history.specs.Reading.{ExportsHeld, IfChecked}
+use Rattle.cacache_history.specs.Replies.{ExportsHeld, IfChecked}
 use Rattle.cacache_history.proofs.Opening.{run_asks}
 use Rattle.cacache_history.proofs.Exporting.{exports}
-use Rattle.cacache_history.proofs.Reading.{finds, reads, asks, gets, lists_buckets}
+use Rattle.cacache_history.proofs.Bucketed.{KeyedTurn, turns_keyed}
+use Rattle.cacache_history.proofs.Listings.{lists}
+use Rattle.cacache_history.proofs.Reading.{finds, reads, asks, gets}
 
 module _ (s : Setup) (n : ℕ) where
   if_checked : (b : Bool) (X : Type 0) → (b ≡ true → X) → IfChecked b X
@@ -35,23 +36,23 @@ module _ (s : Setup) (n : ℕ) where
   unless_refused X Y (replies.Refused e) h x = tt
   unless_refused X Y r h x = h x
 
-  pub reads_value : (command : Command) (turns : List Turn) (r : Reply) → NamesIntegrity command → TurnsHold s turns → Runs (opening (site_of s n) command) (made_in turns) r
+  pub reads_value : (command : Command) (turns : List Turn) (r : Reply) → NamesIntegrity command → TurnsHold s turns → EachTurn (KeyedTurn s) turns → Runs (opening (site_of s n) command) (made_in turns) r
       → (r ≡ Refused OutOfMemory) ⊎ ReadsValue s command turns r
-  reads_value (commands.Find key) turns r named hold run =
+  reads_value (commands.Find key) turns r named hold keyed run =
       elim (finds_shown (site_of s n) key (made_in turns) r run) [ inl e ↦ inl e | inr h ↦ inr (finds s key turns r hold h) ]
-  reads_value (commands.Get key) turns r named hold run =
+  reads_value (commands.Get key) turns r named hold keyed run =
       elim (gets_shown (site_of s n) key (made_in turns) r run) [ inl e ↦ inl e | inr h ↦ inr (gets s key turns r h.0 h.1 hold h.2 h.3) ]
-  reads_value (commands.GetHash i) turns r named hold run =
+  reads_value (commands.GetHash i) turns r named hold keyed run =
       elim (reads_shown (site_of s n) i (made_in turns) r run) [ inl e ↦ inl e | inr h ↦ inr (reads s i turns r named hold h) ]
-  reads_value (commands.Exists i) turns r named hold run =
+  reads_value (commands.Exists i) turns r named hold keyed run =
       elim (exists_shown (site_of s n) i (made_in turns) r run) [ inl e ↦ inl e | inr h ↦ inr (asks s i turns r named hold h) ]
-  reads_value commands.Ls turns r named hold run = inr (lists_shown (site_of s n) (made_in turns) r run, lists_buckets s turns hold)
-  reads_value (commands.Export source e) turns r named hold run =
+  reads_value commands.Ls turns r named hold keyed run = lists s n turns r hold keyed run
+  reads_value (commands.Export source e) turns r named hold keyed run =
       inr (if_checked e.checked _ (λ checked.
       unless_refused (Verifies s.cache source (made_in turns) r) (ExportsHeld s source turns r) r
       (exports s source turns r named hold (run_asks (opening (site_of s n) (commands.Export source e)) (made_in turns) r run))
       (exports_verify (site_of s n) source e (made_in turns) r checked run)))
-  reads_value other turns r named hold run = inr tt
+  reads_value other turns r named hold keyed run = inr tt
 
 pub replies_read_value : (h : History) → IsLegal h → RepliesReadValue h
 replies_read_value h legal call r reaches =
@@ -59,7 +60,7 @@ replies_read_value h legal call r reaches =
     elim (reply_run h call r x) [
       | inl e ↦ inl e
       | inr run ↦
-          elim (reads_value h.setup call.number call.command call.turns (plain_reply r) x.holds.named x.holds.turns run) [
+          elim (reads_value h.setup call.number call.command call.turns (plain_reply r) x.holds.named x.holds.turns (turns_keyed h legal call (Some r) reaches) run) [
             | inl e ↦ inl (memory_plain r e)
             | inr reads ↦ inr reads
           ]

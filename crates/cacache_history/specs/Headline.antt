@@ -7,7 +7,7 @@ use Rattle.cacache_history.specs.Links.{LinksWereRight, LinksAreRight}
 use Rattle.cacache_history.specs.Listings.{ListingsReadValue}
 use Rattle.cacache_history.specs.Places.{TurnsAreMoves, CallsAreRuns}
 use Rattle.cacache_history.specs.Readers.{ReadersDoNothing, ReadsAreVerified}
-use Rattle.cacache_history.specs.Reading.{RepliesReadValue, IoErrorsHaveCauses}
+use Rattle.cacache_history.specs.Replies.{RepliesReadValue, IoErrorsHaveCauses}
 use Rattle.cacache_history.specs.Values.{ValueFollowsActs, BucketsOnlyGrow, ContentsStay, ContentsAreRight}
 
 -- Over every interleaving of callers' store steps, with failed steps, short appends and callers

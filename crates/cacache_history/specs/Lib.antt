@@ -7,6 +7,7 @@ pub mod Commits
 pub mod Entries
 pub mod Buckets
 pub mod Listings
+pub mod Replies
 pub mod Places
 pub mod Readers
 pub mod Links

@@ -128,15 +128,22 @@ NoKeyTwice (Err error ∷ items) = NoKeyTwice items
 
 -- ---- of a history
 
--- a listing that is over answered what its turns gave, and they found each bucket
+-- a listing that is over answers what its turns gave, and they found each bucket
 pub record Lists (s : Setup) (turns : List Turn) (items : List Item) (r : Reply) : Type 0 where
-  pub answers : plain_reply r ≡ Listed (listing_of turns items)
+  pub answers : r ≡ Listed (listing_of turns items)
   pub finds : is_past turns items ≡ false → FindsBuckets s turns
 
--- unless memory was refused
+-- it answers by the buckets of keys, each read once and each key listed once
+abbrev pub ListsHeld : Setup → List Turn → Reply → Type 0
+ListsHeld s turns r =
+    (items : List Item) × TurnsGive s turns items × NoneTwice turns × NoKeyTwice items
+    × Lists s turns items r
+
+-- what is answered so far, unless memory was refused
 abbrev pub AnswersListing : Setup → List Turn → List Item → Option Reply → Type 0
 AnswersListing s turns items None = Unit {0}
-AnswersListing s turns items (Some r) = (r ≡ Refused OutOfMemory) ⊎ Lists s turns items r
+AnswersListing s turns items (Some r) =
+    (r ≡ Refused OutOfMemory) ⊎ Lists s turns items (plain_reply r)
 
 abbrev pub ListsValue : Setup → List Turn → Option Reply → Type 0
 ListsValue s turns reply =

@@ -27,7 +27,6 @@ use Rattle.cacache_history.proofs.Holding.{AllHold, CallHolds, TurnsHold, begins
 use Rattle.cacache_history.proofs.Carrying.{own_of, Makes}
 use Rattle.cacache_history.proofs.Formed.{opening_formed}
 use Rattle.cacache_history.proofs.Keyed.{opening_keyed}
-use Rattle.cacache_history.proofs.Listings.{over_lists}
 use Rattle.cacache_history.proofs.Owned.{opening_own}
 use Rattle.cacache_history.proofs.Righted.{opening_right}
 use Rattle.cacache_history.proofs.Runs.{memory_plain}
@@ -139,13 +138,10 @@ module _ (s : Setup) (apart : LieApart (home s) s.outside) where
         record {
           disk = answered;
           acts = ap (value_of_tree (home s)) (sym (moves_after t call.moves)) ∙ traces_act (home s) t (plain_moves call.moves) tree.placed holds.trace;
-          reads = elim (reads_value s call.number call.command turns (plain_reply call.reply) named hold ran) [
+          reads = elim (reads_value s call.number call.command turns (plain_reply call.reply) named hold holds.keyed ran) [
             | inl e ↦ inl (memory_plain call.reply e)
             | inr reads ↦ inr reads
           ];
-          listings = λ is.
-              over_lists s call.number turns call.reply hold holds.keyed
-              (subst (λ command. Runs (opening (site_of s call.number) command) (made_in turns) (plain_reply call.reply)) is ran);
           commits = cases s call.number (Some call.reply) (plain_reply call.reply) (plain_refused call.reply) call.command turns may hold (makes_own t call holds.calls) ran;
           causes = io_errors_have_causes (site_of s call.number) call.command call.moves (plain_reply call.reply) run;
         },

@@ -8,7 +8,6 @@ use Rattle.cacache_disk.specs.Tree.{Tree}
 use Rattle.cacache_disk.specs.Apply.{apply}
 use Rattle.cacache_memory.specs.Replay.{tree_of, IsLog}
 use Rattle.cacache_calls.specs.declared.command.Command.{Command}
-use Rattle.cacache_calls.specs.declared.command.Command.TheVariants.{Ls}
 use Rattle.cacache_calls.specs.declared.reply.Reply.{Reply}
 use Rattle.cacache_calls.specs.declared.reply.Reply.TheVariants.{Refused}
 use Rattle.cacache_calls.specs.Causes.{HasCause, own_of}
@@ -21,8 +20,7 @@ use Rattle.cacache_laws.specs.Value.{wide_value, cache_part, value_of_tree}
 use Rattle.cacache_history.specs.Setup.{Setup, site_of, home, may_export, is_outside}
 use Rattle.cacache_history.specs.History.{Turn, turn_of, NamesIntegrity}
 use Rattle.cacache_history.specs.Commits.{IsCase}
-use Rattle.cacache_history.specs.Listings.{ListsValue}
-use Rattle.cacache_history.specs.Reading.{ReadsValue}
+use Rattle.cacache_history.specs.Replies.{ReadsValue}
 
 -- a call that was made: its command, its number, the steps that it made, and its reply
 pub record Call : Type 0 where
@@ -95,7 +93,6 @@ pub record Answers (s : Setup) (t : Tree) (call : Call) : Type 0 where
   pub reads :
       (call.reply ≡ Refused OutOfMemory)
       ⊎ ReadsValue s call.command (turns_on t call.moves) (plain_reply call.reply)
-  pub listings : call.command ≡ Ls → ListsValue s (turns_on t call.moves) (Some call.reply)
   pub commits :
       IsCase (site_of s call.number) call.command (turns_on t call.moves) (Some call.reply)
   pub causes : HasCause (own_of call.command) call.moves (plain_reply call.reply)
