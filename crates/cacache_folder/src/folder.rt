@@ -1,8 +1,9 @@
 //! Real folders as a store.
-ghost use Rattle.std.specs.Prelude.{◌≡◌, None, IfOk};
+ghost use Rattle.std.specs.Prelude.{◌≡◌, false, None, IfOk};
 ghost use Rattle.cacache_base.specs.Plain.{plain_step, plain_answer};
-ghost use Rattle.cacache_base.specs.Fits.{Fits};
+ghost use Rattle.cacache_base.specs.Fits.{Fits, is_no_memory};
 ghost use Rattle.cacache_folder.specs.Handles.{seen_file, seen_temp};
+ghost use Rattle.cacache_folder.specs.Parts.{HandsBackWhole};
 
 mod again;
 mod answers;
@@ -53,8 +54,10 @@ impl<R: Files + AllocGlobal + Clone + Drop> FolderStore<R> {
 
     /// Does a step that asks about files and folders, or one that is answered by `Done`.
     fn asked<F: FileHandle, T: TempHandle>(&self, step: &Step<F, T>) -> io::Result<Answer<F, T>>
-        ensures { IfOk result (λ answer.
+        ensures fits { IfOk result (λ answer.
             Fits (plain_step F.seen T.seen step.now) (plain_answer F.seen T.seen answer)) }
+        ensures done { IfOk result (λ answer.
+            is_no_memory (plain_answer F.seen T.seen answer) ≡ false) }
     {
         Ok(match step {
             Step::Exists(path) => Answer::There(self.exists(path.as_str())?),
@@ -69,8 +72,10 @@ impl<R: Files + AllocGlobal + Clone + Drop> FolderStore<R> {
 
     /// Does a step that has no file of its own.
     fn done<F: FileHandle, T: TempHandle>(&self, step: &Step<F, T>) -> io::Result<Answer<F, T>>
-        ensures { IfOk result (λ answer.
+        ensures fits { IfOk result (λ answer.
             Fits (plain_step F.seen T.seen step.now) (plain_answer F.seen T.seen answer)) }
+        ensures done { IfOk result (λ answer.
+            is_no_memory (plain_answer F.seen T.seen answer) ≡ false) }
     {
         Ok(match step {
             Step::Append(path, bytes) => {
@@ -92,6 +97,8 @@ impl<R: Files + AllocGlobal + Clone + Drop> Store for FolderStore<R> {
 
     fn step(&mut self, step: Step<Self::File, Self::Temp>) -> Answer<Self::File, Self::Temp>
         ensures fits { Fits (plain_step seen_file seen_temp step)
+            (plain_answer seen_file seen_temp result) }
+        ensures whole { HandsBackWhole (plain_step seen_file seen_temp step)
             (plain_answer seen_file seen_temp result) }
     {
         match step {

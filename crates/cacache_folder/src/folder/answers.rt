@@ -2,6 +2,7 @@
 ghost use Rattle.cacache_base.specs.Plain.{plain_step, plain_answer};
 ghost use Rattle.cacache_base.specs.Fits.{Fits};
 ghost use Rattle.cacache_folder.specs.Handles.{seen_file, seen_temp};
+ghost use Rattle.cacache_folder.specs.Parts.{HandsBackWhole};
 
 use crate::folder::faults::refused;
 use crate::folder::opened::FolderFile;
@@ -18,7 +19,9 @@ pub(crate) fn created<F: FileHandle, W: Write + Drop>(
     created: io::Result<W>,
     path: Text,
 ) -> Answer<F, FolderTemp<W>>
-    ensures { Fits (plain_step F.seen (seen_temp {F = W}) (Step.CreateTemp path))
+    ensures fits { Fits (plain_step F.seen (seen_temp {F = W}) (Step.CreateTemp path))
+        (plain_answer F.seen seen_temp result) }
+    ensures whole { HandsBackWhole (plain_step F.seen (seen_temp {F = W}) (Step.CreateTemp path))
         (plain_answer F.seen seen_temp result) }
 {
     match created {
@@ -32,7 +35,9 @@ pub(crate) fn written<F: FileHandle, W: Write + Drop>(
     temp: FolderTemp<W>,
     bytes: Bytes,
 ) -> Answer<F, FolderTemp<W>>
-    ensures { Fits (plain_step F.seen seen_temp (Step.Write temp bytes))
+    ensures fits { Fits (plain_step F.seen seen_temp (Step.Write temp bytes))
+        (plain_answer F.seen seen_temp result) }
+    ensures whole { HandsBackWhole (plain_step F.seen seen_temp (Step.Write temp bytes))
         (plain_answer F.seen seen_temp result) }
 {
     let mut temp = temp;
@@ -48,7 +53,9 @@ pub(crate) fn moved<F: FileHandle, T: TempHandle>(
     temp: T,
     path: Text,
 ) -> Answer<F, T>
-    ensures { Fits (plain_step F.seen T.seen (Step.Persist temp path))
+    ensures fits { Fits (plain_step F.seen T.seen (Step.Persist temp path))
+        (plain_answer F.seen T.seen result) }
+    ensures whole { HandsBackWhole (plain_step F.seen T.seen (Step.Persist temp path))
         (plain_answer F.seen T.seen result) }
 {
     match moved {
@@ -62,7 +69,9 @@ pub(crate) fn readable<F: Read + Drop, T: TempHandle>(
     opened: io::Result<F>,
     path: Text,
 ) -> Answer<FolderFile<F>, T>
-    ensures { Fits (plain_step (seen_file {F = F}) T.seen (Step.Open path))
+    ensures fits { Fits (plain_step (seen_file {F = F}) T.seen (Step.Open path))
+        (plain_answer seen_file T.seen result) }
+    ensures whole { HandsBackWhole (plain_step (seen_file {F = F}) T.seen (Step.Open path))
         (plain_answer seen_file T.seen result) }
 {
     match opened {
@@ -77,7 +86,9 @@ pub(crate) fn given<F: Read + Drop, T: TempHandle>(
     file: FolderFile<F>,
     max: usize,
 ) -> Answer<FolderFile<F>, T>
-    ensures { Fits (plain_step seen_file T.seen (Step.Read file max))
+    ensures fits { Fits (plain_step seen_file T.seen (Step.Read file max))
+        (plain_answer seen_file T.seen result) }
+    ensures whole { HandsBackWhole (plain_step seen_file T.seen (Step.Read file max))
         (plain_answer seen_file T.seen result) }
 {
     let mut file = file;

@@ -1,29 +1,37 @@
 //! Answers to steps that the system refused.
+ghost use Rattle.std.specs.Prelude.{◌≡◌};
 ghost use Rattle.cacache_base.specs.Plain.{plain_step, plain_answer};
 ghost use Rattle.cacache_base.specs.Fits.{Fits};
+ghost use Rattle.cacache_folder.specs.Parts.{may_do_a_part as does_a_part, HandsBackWhole};
 
 use cacache_base::store::{Answer, FileHandle, Step, TempHandle};
 use cacache_core::errors::Fault;
 use std::io;
 use std::io::ErrorKind;
 
-/// Whether the step may change something and then fail: it makes some of the folders, the file, or a part of a copy.
-fn may_do_a_part<F, T>(step: &Step<F, T>) -> bool {
+/// Whether the step may change something and then fail: it makes some of the folders, the empty file, the file or a
+/// part of its line, or a part of a copy.
+fn may_do_a_part<F: FileHandle, T: TempHandle>(step: &Step<F, T>) -> bool
+    ensures { result ≡ does_a_part (plain_step F.seen T.seen step.now) }
+{
     matches!(
         step,
-        Step::MakeDirs(_) | Step::Append(_, _) | Step::Copy(_, _)
+        Step::MakeDirs(_) | Step::CreateTemp(_) | Step::Append(_, _) | Step::Copy(_, _)
     )
 }
 
 /// Drops a value. A call keeps the many ways to drop a step out of its callers' proofs.
 pub(crate) fn let_go<T: Drop>(_value: T) {}
 
-/// The answer to a step that failed with this error.
+/// The answer to a step that failed with this error. Out of memory hands the step back only if nothing can have
+/// changed.
 pub(crate) fn refused<F: FileHandle, T: TempHandle>(
     error: io::Error,
     step: Step<F, T>,
 ) -> Answer<F, T>
-    ensures { Fits (plain_step F.seen T.seen step) (plain_answer F.seen T.seen result) }
+    ensures fits { Fits (plain_step F.seen T.seen step) (plain_answer F.seen T.seen result) }
+    ensures whole { HandsBackWhole (plain_step F.seen T.seen step)
+        (plain_answer F.seen T.seen result) }
 {
     let kind = error.kind();
     if kind == ErrorKind::OutOfMemory && !may_do_a_part(&step) {
