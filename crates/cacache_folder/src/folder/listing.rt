@@ -1,6 +1,7 @@
 //! What is in a folder.
-ghost use Rattle.std.specs.Prelude.{◌≡◌, ◌==◌, ◌↔◌, IfOk, IfSome, IsTrue};
+ghost use Rattle.std.specs.Prelude.{◌≡◌, ◌==◌, ◌↔◌, IfOk, IfErr, IfSome, IsTrue};
 ghost use Rattle.std.specs.List.{list_any};
+ghost use Rattle.std.specs.IoError.{error_kind};
 ghost use Rattle.cacache_core.specs.PathNames.{ends_name, IsProperName};
 ghost use Rattle.cacache_base.specs.Fits.{AreProperNames};
 
@@ -45,6 +46,21 @@ fn kind_of(found: FileType) -> Kind {
     }
 }
 
+/// The kind that an entry is listed with; None if it was removed since the folder was read. An entry whose kind can't
+/// be had is listed as a file: the step on it will say why.
+fn listed_kind(found: io::Result<FileType>) -> io::Result<Option<Kind>>
+    ensures memory { IfErr result (λ e. error_kind e ≡ ErrorKind.OutOfMemory) }
+{
+    match found {
+        Ok(found) => Ok(Some(kind_of(found))),
+        Err(e) => match e.kind() {
+            ErrorKind::NotFound => Ok(None),
+            ErrorKind::OutOfMemory => Err(e),
+            _ => Ok(Some(Kind::File)),
+        },
+    }
+}
+
 /// The entry's name and kind; None if it was removed since the folder was read.
 fn name_of<R: Files + Clone + Drop>(
     alloc: Global,
@@ -56,10 +72,8 @@ fn name_of<R: Files + Clone + Drop>(
     if !is_proper(name) {
         return Err(io::Error::from(ErrorKind::InvalidFilename));
     }
-    let kind = match entry.file_type() {
-        Ok(found) => kind_of(found),
-        Err(e) if e.kind() == ErrorKind::NotFound => return Ok(None),
-        Err(e) => return Err(e),
+    let Some(kind) = listed_kind(entry.file_type())? else {
+        return Ok(None);
     };
     let name = Text::from_str(alloc, name)?;
     Ok(Some(Name { name, kind }))
