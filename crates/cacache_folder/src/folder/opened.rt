@@ -1,5 +1,8 @@
 //! Open files of real folders.
-ghost use Rattle.std.specs.Prelude.{◌≡◌, ◌+◌, ◌-◌, ◌^◌, ◌≤◌, IfOk, OnErr, length};
+ghost use Rattle.std.specs.Prelude.{◌≡◌, ◌+◌, ◌-◌, ◌^◌, ◌≤◌, ◌<◌, None, IfOk, IsErr, OnErr, length};
+ghost use Rattle.std.specs.Io.{ReadsAtMost};
+ghost use Rattle.std.specs.Io.KnownBytes.{ReadConsumes};
+ghost use Rattle.cacache_base.specs.Handles.{LeftFalls};
 
 use crate::folder::again::read_again;
 use cacache_base::store::{FileHandle, OpenedFile};
@@ -12,7 +15,8 @@ use std::sync::Arc;
 /// The most bytes that one read asks for. The buffer of a read is filled with zeros first.
 const PIECE: usize = 128 * 1024;
 
-/// An open file of real folders. It gives at most 2^64 - 1 bytes, and fails if there are more.
+/// An open file of real folders. It gives at most 2^64 - 1 bytes. A read behind them fails, and never says that the
+/// file ended.
 #[derive(Drop)]
 pub struct FolderFile<F> {
     file: F,
@@ -60,7 +64,12 @@ impl<F: Read + Drop> FileHandle for FolderFile<F> {
 }
 
 impl<F: Read + Drop> OpenedFile for FolderFile<F> {
-    fn read_some(&mut self, buf: &mut [u8]) -> io::Result<usize> {
+    fn read_some(&mut self, buf: &mut [u8]) -> io::Result<usize>
+        ensures bound { ReadsAtMost result buf.new }
+        ensures left { LeftFalls self.old.left self.new.left result }
+        ensures bytes { ReadConsumes None None result buf.new }
+        ensures over { self.old.left ≡ 0 → 0 < length buf.old → IsErr result }
+    {
         if self.left == 0 && !buf.is_empty() {
             return Err(io::Error::from(ErrorKind::FileTooLarge));
         }
