@@ -1,8 +1,21 @@
 //! The system's time.
-ghost use Rattle.std.specs.Prelude.{◌≡◌};
+ghost use Rattle.std.specs.Prelude.{◌≡◌, ◌-◌, ◌/◌, ◌^◌, MatchResult, min};
+ghost use Rattle.std.specs.Duration.{as_nanos};
 
 use cacache_base::env::Clock;
-use std::time::Clock as SystemTimes;
+use std::io;
+use std::time::{Clock as SystemTimes, Duration};
+
+/// The time in milliseconds that the system's answer says.
+fn millis_of(answer: io::Result<Duration>) -> u64
+    ensures { MatchResult answer
+        (λ since. result ≡ min (as_nanos since / 1_000_000) (2 ^ 64 - 1)) (λ _. result ≡ 0) }
+{
+    match answer {
+        Ok(since) => u64::try_from(since.as_millis()).unwrap_or(u64::MAX),
+        Err(_) => 0,
+    }
+}
 
 /// The system's clock. It answers 0 where the system has no time or one before 1970, and 2^64 - 1 milliseconds where
 /// there are more.
@@ -22,9 +35,6 @@ impl<R: SystemTimes + Drop> SystemClock<R> {
 
 impl<R: SystemTimes + Drop> Clock for SystemClock<R> {
     fn now(&mut self) -> u64 {
-        match self.rt.since_1970() {
-            Ok(since) => u64::try_from(since.as_millis()).unwrap_or(u64::MAX),
-            Err(_) => 0,
-        }
+        millis_of(self.rt.since_1970())
     }
 }
