@@ -71,6 +71,7 @@ fn counted(alloc: Global, names: &Listing) -> Result<String, AllocError> {
 fn shown<F, T>(alloc: Global, answer: &Answer<F, T>) -> Result<String, AllocError> {
     match answer {
         Answer::Done => String::from_str(alloc, "Done"),
+        Answer::NoMemory(_) => String::from_str(alloc, "NoMemory"),
         Answer::Temp(_) => String::from_str(alloc, "Temp"),
         Answer::File(_) => String::from_str(alloc, "File"),
         Answer::Took(count) => format!(in alloc; "Took {count}"),

@@ -29,7 +29,8 @@ pub fn taken(notes: &Notes, alloc: Global) -> String {
         .unwrap_or(String::new(alloc))
 }
 
-/// The system's runtime, but its files behave in ways of their own.
+/// The system's runtime, but its files behave in ways of their own. No memory is found to open a file `full`, and the
+/// names of each folder are made up: `a`, and in a folder `odd` one more.
 #[derive(Clone, Drop)]
 pub struct Watched {
     host: HostRuntime,
@@ -135,18 +136,23 @@ impl OpenFile for WatchedFile {
     }
 }
 
+/// The names of a folder.
+const NAMES: &[u8] = b".\0..\0a\0";
+
 /// The names of a folder, of which the last isn't UTF-8.
 const ODD: &[u8] = b".\0..\0a\0\xff\0";
 
-/// A folder with odd names.
+/// An open folder with made-up names, of whose bytes so many were given.
 #[derive(Drop)]
-pub struct OddNames {
+pub struct MadeUp {
+    is_odd: bool,
     given: usize,
 }
 
-impl Read for OddNames {
+impl Read for MadeUp {
     fn read(&mut self, buf: &mut [u8]) -> io::Result<usize> {
-        let mut rest = ODD.get(self.given..).unwrap_or(b"");
+        let names = if self.is_odd { ODD } else { NAMES };
+        let mut rest = names.get(self.given..).unwrap_or(b"");
         let count = rest.read(buf)?;
         self.given = self.given.saturating_add(count);
         Ok(count)
@@ -156,19 +162,23 @@ impl Read for OddNames {
 impl Files for Watched {
     type File = WatchedFile;
 
-    type Dir = OddNames;
+    type Dir = MadeUp;
 
     fn open_file(&self, how: &OpenOptions, path: &str) -> io::Result<WatchedFile> {
         let asked = format!(in self.host.alloc(); "{how:?}")?;
         note(&self.notes, asked.as_str())?;
+        if path.ends_with("/full") {
+            return Err(io::Error::from(ErrorKind::OutOfMemory));
+        }
         let notes = self.notes.clone()?;
         let file = self.host.open_file(how, path)?;
         let ways = self.ways;
         Ok(WatchedFile { file, ways, notes })
     }
 
-    fn open_dir(&self, _path: &str) -> io::Result<OddNames> {
-        Ok(OddNames { given: 0 })
+    fn open_dir(&self, path: &str) -> io::Result<MadeUp> {
+        let is_odd = path.ends_with("/odd/");
+        Ok(MadeUp { is_odd, given: 0 })
     }
 
     fn metadata(&self, path: &str) -> io::Result<Metadata> {
@@ -178,7 +188,10 @@ impl Files for Watched {
 
     fn symlink_metadata(&self, path: &str) -> io::Result<Metadata> {
         note(&self.notes, "symlink_metadata")?;
-        self.host.symlink_metadata(path)
+        match self.ways.fault {
+            Some(kind) => Err(io::Error::from(kind)),
+            None => self.host.symlink_metadata(path),
+        }
     }
 
     fn copy(&self, from: &str, to: &str) -> io::Result<u64> {

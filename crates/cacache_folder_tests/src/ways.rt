@@ -13,7 +13,7 @@ use std::{fs, io};
 /// The ways of an open file.
 #[derive(Clone, Copy)]
 pub struct Ways {
-    /// Why each read and write fails.
+    /// Why each read and write fails, and the question what kind of thing an entry of a folder is.
     pub fault: Option<ErrorKind>,
     /// How many reads and writes are interrupted, before one goes through.
     pub interruptions: u32,
@@ -34,6 +34,14 @@ const PLAIN: Ways = Ways {
 /// Each read and write fails.
 const BROKEN: Ways = Ways {
     fault: Some(ErrorKind::NotADirectory),
+    interruptions: 0,
+    most: usize::MAX,
+    size: None,
+};
+
+/// Each read and write is refused for memory.
+const FULL: Ways = Ways {
+    fault: Some(ErrorKind::OutOfMemory),
     interruptions: 0,
     most: usize::MAX,
     size: None,
@@ -78,7 +86,7 @@ const CREATE: &str =
 /// A step with its answer, how it opens a file, and what else it asks for.
 type Row = (Ways, &'static str, &'static str, &'static str);
 
-const ASKED: [Row; 9] = [
+const ASKED: [Row; 10] = [
     (PLAIN, "Append /file one: Took 3", APPEND, "write;"),
     (PLAIN, "Append /file two: Took 3", APPEND, "write;"),
     (PLAIN, "ReadAll /file: Bytes onetwo", READ, "read;read;"),
@@ -86,7 +94,13 @@ const ASKED: [Row; 9] = [
     (PLAIN, "CreateTemp /temp: Temp", CREATE, ""),
     (PLAIN, "CreateTemp /temp: Failed AlreadyExists", CREATE, ""),
     (PLAIN, "RemoveFile /temp: Done", "", "remove_file;"),
-    (PLAIN, "ReadDir /: Failed Device", "", "symlink_metadata;"),
+    (PLAIN, "ReadDir /: Names 0 0 0", "", "symlink_metadata;"),
+    (
+        PLAIN,
+        "ReadDir /odd: Failed Device",
+        "",
+        "symlink_metadata;",
+    ),
     (PLAIN, "Persist /temp /moved: Done", CREATE, "write;rename;"),
 ];
 
@@ -132,7 +146,7 @@ const INTERRUPTED: [Row; 9] = [
     ),
 ];
 
-const FAILED: [Row; 3] = [
+const FAILED: [Row; 4] = [
     (PLAIN, "Append /file hello: Took 5", APPEND, "write;"),
     (
         BROKEN,
@@ -141,6 +155,17 @@ const FAILED: [Row; 3] = [
         "",
     ),
     (BROKEN, "ReadAll /file: Failed NotADirectory", READ, ""),
+    (BROKEN, "ReadDir /: Names 1 0 0", "", "symlink_metadata;"),
+];
+
+const REFUSED: [Row; 7] = [
+    (PLAIN, "Append /file hello: Took 5", APPEND, "write;"),
+    (PLAIN, "CreateTemp /full: Failed Device", CREATE, ""),
+    (PLAIN, "Append /full one: Failed Device", APPEND, ""),
+    (PLAIN, "ReadAll /full: NoMemory", READ, ""),
+    (FULL, "Append /file more: Failed Device", APPEND, ""),
+    (FULL, "ReadAll /file: NoMemory", READ, ""),
+    (FULL, "ReadDir /: NoMemory", "", "symlink_metadata;"),
 ];
 
 /// Does the step of a line, and returns how the line ends and what was asked for.
@@ -201,4 +226,9 @@ fn an_interrupted_call_is_tried_again(rt: HostRuntime) -> Result<(), Fail> {
 #[test]
 fn a_failed_read_or_write_is_an_error(rt: HostRuntime) -> Result<(), Fail> {
     all_come(rt, "failed", &FAILED)
+}
+
+#[test]
+fn a_step_that_may_have_done_a_part_is_not_handed_back(rt: HostRuntime) -> Result<(), Fail> {
+    all_come(rt, "refused-memory", &REFUSED)
 }
