@@ -1,5 +1,5 @@
 -- What a call does to its environment, and what a writing call puts.
-use Rattle.std.specs.Prelude.{◌≡◌, ℕ, List, Option, None, Some}
+use Rattle.std.specs.Prelude.{◌≡◌, ◌<◌, ◌^◌, ℕ, List, Option, None, Some}
 use Rattle.cacache_core.specs.declared.integrity.algorithm.Algorithm.{Algorithm}
 use Rattle.cacache_base.specs.declared.env.Env.{Env}
 use Rattle.cacache_base.specs.declared.store.log.LogItem.{LogItem}
@@ -36,9 +36,14 @@ delete_of key moment = record { key = key; moment = moment }
 
 -- ---- what a call does: its moments and numbers are those of the environment, before and after
 
+-- the clock was asked for the moment, once
+abbrev pub AsksMoment : {C : Type 0} → (C → Option (List ℕ)) → C → C → ℕ → Type 0
+AsksMoment moments old new moment =
+    AddsAnswer (moments old) (moments new) moment × (moment < 2 ^ 64)
+
 -- the moment is the one that was set; where none was, the clock was asked for it, once
 abbrev pub HasMoment : {C : Type 0} → (C → Option (List ℕ)) → Option ℕ → C → C → ℕ → Type 0
-HasMoment moments None old new moment = AddsAnswer (moments old) (moments new) moment
+HasMoment moments None old new moment = AsksMoment moments old new moment
 HasMoment moments (Some time) old new moment = (new ≡ old) × (moment ≡ time)
 
 -- the moment of a commit: without a key the clock isn't asked
@@ -80,6 +85,6 @@ module _ {S C N : Type 0} (log : S → Option (List LogItem)) where
       → (ℕ → Put) → Reply → Type 0
   RunsPut moments numbers old new cache put reply =
       (moment number : ℕ)
-      × AddsAnswer (moments old.clock) (moments new.clock) moment
+      × AsksMoment moments old.clock new.clock moment
       × AddsAnswer (numbers old.names) (numbers new.names) number
       × Steps old new cache number (commands.Put (put moment)) reply
