@@ -1,5 +1,5 @@
 -- What may come in a legal history, case by case, and one history.
-use Rattle.std.proofs.Common.{◌≡◌, ◌⊎◌, inl, inr, ℕ, List, [], ◌∷◌, ◌++◌, Option, None, Some, option_map, Result, Ok, Err, refl, sym, ap, subst, ◌∙◌, arith}
+use Rattle.std.proofs.Common.{◌≡◌, ◌⊎◌, inl, inr, ℕ, List, [], ◌∷◌, ◌++◌, Option, None, Some, option_map, Result, Ok, Err, refl, sym, ap, subst, ◌∙◌, codes, arith}
 use Rattle.sha1.specs.Sha1.{sha1}
 use Rattle.cacache_core.specs.declared.errors.Fault.{Fault}
 use Rattle.cacache_core.specs.declared.errors.Fault.TheVariants as faults
@@ -160,7 +160,7 @@ looked cache key (Err refusals.Memory) = refl
 
 lookup_legal : (cache key : List ℕ) (luck : Luck) → IsLegal (lookup_alone cache key luck (find_reply key (bucket_shown (lookup_made cache key luck).1)))
 lookup_legal cache key luck =
-    let s : Setup = record { cache = cache; outside = []; callers = 1 } in
+    let s : Setup = record { cache = cache; base = codes "/"; outside = []; callers = 1 } in
     record {
       apart = tt;
       opens = refl;

@@ -1,6 +1,6 @@
 -- What may come in a legal history, case by case, and one history: whoever drops a case from
 -- `IsLegal` breaks a law here.
-use Rattle.std.specs.Prelude.{◌≡◌, ◌⊎◌, ◌<◌, ℕ, List, [], ◌∷◌, ◌++◌, Option, None, Some, true}
+use Rattle.std.specs.Prelude.{◌≡◌, ◌⊎◌, ◌<◌, ℕ, List, [], ◌∷◌, ◌++◌, Option, None, Some, true, codes}
 use Rattle.sha1.specs.Sha1.{sha1}
 use Rattle.cacache_core.specs.declared.errors.Error.TheVariants.{OutOfMemory}
 use Rattle.cacache_base.specs.declared.store.step.Step.TheVariants.{ReadAll}
@@ -115,7 +115,7 @@ lookup_made cache key luck =
 -- its only caller looks a key up there, and has this reply
 abbrev pub lookup_alone : List ℕ → List ℕ → Luck → Reply → History
 lookup_alone cache key luck reply = record {
-  setup = record { cache = cache; outside = []; callers = 1 };
+  setup = record { cache = cache; base = codes "/"; outside = []; callers = 1 };
   records =
       Began 0 (commands.Find key)
       ∷ Moved 0 luck (Some (lookup_made cache key luck)) (Some reply) ∷ [];

@@ -1,19 +1,21 @@
 -- What callers share, and where their exports and links may lead.
-use Rattle.std.specs.Prelude.{ℕ, Bool, true, false, ◌&&◌, ◌||◌, List, [], ◌∷◌, Option, None, Some, Result, Ok, Err, bytes_eq, codes, if◌then◌else◌}
+use Rattle.std.specs.Prelude.{ℕ, Bool, true, false, ◌&&◌, ◌||◌, List, [], ◌∷◌, Option, None, Some, Result, Ok, Err, bytes_eq, if◌then◌else◌}
 use Rattle.cacache_core.specs.declared.errors.Fault.{Fault}
 use Rattle.cacache_core.specs.PathNames.{Names, names_of, home_of}
 use Rattle.cacache_disk.specs.Tree.{same_path}
 use Rattle.cacache_calls.specs.State.{Site}
 
--- the cache, the files that links may lead to, and how many callers there are
+-- the cache, the folder where relative link targets start, the files that links may lead to, and
+-- how many callers there are
 pub record Setup : Type 0 where
   pub cache : List ℕ
+  pub base : List ℕ
   pub outside : List (List ℕ × List ℕ)
   pub callers : ℕ
 
--- where the call with this number works: relative link targets start at the top folder
+-- where the call with this number works
 abbrev pub site_of : Setup → ℕ → Site
-site_of s number = record { cache = s.cache; base = codes "/"; number = number }
+site_of s number = record { cache = s.cache; base = s.base; number = number }
 
 -- the names of the cache's folder
 abbrev pub home : Setup → Option Names

@@ -1,6 +1,6 @@
 -- Which commands a call may begin with, and which entries are well-formed.
 use Rattle.std.proofs.Common.{◌≡◌, ℕ, ◌<◌, ◌^◌, Bool, true, false, List, [], ◌∷◌, Option, None, Some, length, refl, sym, ap, subst, ◌∙◌, arith}
-use Rattle.std.specs.Prelude.{IsUtf8, codes, nat_le, if◌then◌else◌}
+use Rattle.std.specs.Prelude.{IsUtf8, nat_le, if◌then◌else◌}
 use Rattle.std.proofs.lemmas.Str.{IsUtf8-append, IsUtf8-from_ascii, IsUtf8-nil}
 use Rattle.json.proofs.Printed.Utf8.{IsUtf8-are_ascii}
 use Rattle.base64.specs.Engines.{standard}
@@ -100,7 +100,7 @@ may_insert s n i small forms = (λ written. forms _ _ (text_utf8 i.options.integ
 pub may_delete : (s : Setup) (n : ℕ) (d : deletes.Delete) → IsUtf8 d.key → MayAsk s n (commands.Delete d)
 may_delete s n d utf8 = (λ _. record { key = utf8; integrity = tt; size = omega arith; metadata = IsJson-null; raw_metadata = tt }, tt)
 
-pub judges_link : (s : Setup) (n : ℕ) (l : links.Link) (leads : Bool) → leads ≡ is_outside s (based (codes "/") l.target)
+pub judges_link : (s : Setup) (n : ℕ) (l : links.Link) (leads : Bool) → leads ≡ is_outside s (based s.base l.target)
     → ((key : List ℕ) → l.key ≡ Some key → FormsEntries key l.moment l.options) → Judges leads s n (commands.Link l)
 unfolding refused_cause
 judges_link s n l true is forms = ((record { here = refl; formed = λ bytes small key e written. forms key e _ _ (integrity_utf8 _) small written }, sym is), tt)

@@ -1,5 +1,5 @@
 -- Which commands a call may begin with, and which entries may be written.
-use Rattle.std.specs.Prelude.{◌≡◌, ◌<◌, ◌^◌, ℕ, Bool, true, false, List, Option, None, codes}
+use Rattle.std.specs.Prelude.{◌≡◌, ◌<◌, ◌^◌, ℕ, Bool, true, false, List, Option, None}
 use Rattle.cacache_entry.specs.Entry.{Entry}
 use Rattle.cacache_entry.specs.Fits.{IsUtf8IfAny, IsEntry, cause_of}
 use Rattle.cacache_calls.specs.declared.command.Command.{Command}
@@ -22,7 +22,7 @@ MayAsk s number command =
 -- file, or a link to no outside file
 abbrev pub IsBad : Setup → Command → Type 0
 IsBad s (commands.Export source e) = may_export s e.to ≡ false
-IsBad s (commands.Link l) = is_outside s (based (codes "/") l.target) ≡ false
+IsBad s (commands.Link l) = is_outside s (based s.base l.target) ≡ false
 IsBad s command = ⊥
 
 -- a test that says whether a call may begin with a command

@@ -1,5 +1,5 @@
 -- What each world keeps, and what its events add.
-use Rattle.std.specs.Prelude.{◌≡◌, ℕ, List, [], ◌++◌, ◌∷◌, Option, None, Some, slice_get, slice_set, take, true, vec_len, IsTrue}
+use Rattle.std.specs.Prelude.{◌≡◌, ℕ, List, [], ◌++◌, ◌∷◌, Option, None, Some, codes, slice_get, slice_set, take, true, vec_len, IsTrue}
 use Rattle.cacache_disk.specs.declared.luck.Luck.{Luck}
 use Rattle.cacache_disk.specs.Tree.{Tree}
 use Rattle.cacache_calls.specs.State.{over}
@@ -16,10 +16,10 @@ use Rattle.cacache_world.specs.Turned.{DiskJob, StandsIn, told_by}
 
 -- ---- what a world tells
 
--- what callers share in a world of these parts
+-- what callers share in a world of these parts: relative link targets start at the top folder
 abbrev pub setup_of : List ℕ → List (List ℕ × List ℕ) → ℕ → Setup
 setup_of cache outside callers =
-    record { cache = cache; outside = outside; callers = callers }
+    record { cache = cache; base = codes "/"; outside = outside; callers = callers }
 
 abbrev pub history_of : Setup → List Record → History
 history_of setup records = record { setup = setup; records = records }
