@@ -28,3 +28,4 @@ pub mod Readers
 pub mod Links
 pub mod Headline
 pub mod Cases
+pub mod Utf8

@@ -1,18 +1,11 @@
 -- Which commands a call may begin with, and which entries are well-formed.
-use Rattle.std.proofs.Common.{◌≡◌, ℕ, ◌<◌, ◌^◌, Bool, true, false, List, [], ◌∷◌, Option, None, Some, length, refl, sym, ap, subst, ◌∙◌, arith}
+use Rattle.std.proofs.Common.{◌≡◌, ℕ, ◌<◌, ◌^◌, Bool, true, false, List, Option, None, Some, length, refl, sym, ap, subst, ◌∙◌, arith}
 use Rattle.std.specs.Prelude.{IsUtf8, nat_le, if◌then◌else◌}
-use Rattle.std.proofs.lemmas.Str.{IsUtf8-append, IsUtf8-from_ascii, IsUtf8-nil}
-use Rattle.json.proofs.Printed.Utf8.{IsUtf8-are_ascii}
-use Rattle.base64.specs.Engines.{standard}
-use Rattle.base64.proofs.EngineFacts.{IsAscii-encode_of}
 use Rattle.serde_json.specs.Data.{null}
 use Rattle.serde_json.specs.Written.{has_float}
 use Rattle.cacache_core.specs.declared.errors.SerdeCause.{SerdeCause}
 use Rattle.cacache_core.specs.declared.errors.SerdeCause.TheVariants.{TimeTooLarge, NotWhole, TooDeep}
-use Rattle.cacache_core.specs.declared.integrity.algorithm.Algorithm.{Algorithm}
-use Rattle.cacache_core.specs.declared.integrity.algorithm.Algorithm.TheVariants.{Sha1, Sha256, Sha384, Sha512}
 use Rattle.cacache_core.specs.declared.integrity.digest.Hash.{Hash}
-use Rattle.cacache_core.specs.Texts.{name_of, hash_text, text_of}
 use Rattle.cacache_entry.specs.Entry.{Entry}
 use Rattle.cacache_entry.specs.Fits.{IsUtf8IfAny, AreBytes, IsJson, IsEntry, cause_of}
 use Rattle.cacache_entry.proofs.Causes.{is_deep}
@@ -29,24 +22,8 @@ use Rattle.cacache_calls.specs.Inserting.{entry_of, given_text, given_size, refu
 use Rattle.cacache_calls.specs.Linking.{based}
 use Rattle.cacache_history.specs.History.{NamesSource}
 use Rattle.cacache_history.specs.Setup.{Setup, may_export, is_outside}
+use Rattle.cacache_history.proofs.Utf8.{integrity_utf8}
 use Rattle.cacache_world.specs.Admitted.{MayAsk, Judges, FormsEntries}
-
-name_utf8 : (a : Algorithm) → IsUtf8 (name_of a)
-name_utf8 Sha1 = IsUtf8-are_ascii (name_of Sha1) refl
-name_utf8 Sha256 = IsUtf8-are_ascii (name_of Sha256) refl
-name_utf8 Sha384 = IsUtf8-are_ascii (name_of Sha384) refl
-name_utf8 Sha512 = IsUtf8-are_ascii (name_of Sha512) refl
-
-hash_utf8 : (h : Hash) → IsUtf8 (hash_text h)
-hash_utf8 h =
-    IsUtf8-append (name_of h.algorithm) _ (name_utf8 h.algorithm)
-    (IsUtf8-append (45 ∷ []) _ (IsUtf8-are_ascii (45 ∷ []) refl) (IsUtf8-from_ascii _ (IsAscii-encode_of standard h.digest)))
-
--- the text of an integrity is UTF-8
-integrity_utf8 : (i : List Hash) → IsUtf8 (text_of i)
-integrity_utf8 [] = IsUtf8-nil
-integrity_utf8 (h ∷ []) = hash_utf8 h
-integrity_utf8 (h ∷ g ∷ hs) = IsUtf8-append (hash_text h) _ (hash_utf8 h) (IsUtf8-append (32 ∷ []) _ (IsUtf8-are_ascii (32 ∷ []) refl) (integrity_utf8 (g ∷ hs)))
 
 text_utf8 : (o : Option (List Hash)) → IsUtf8IfAny (given_text o)
 text_utf8 None = tt
