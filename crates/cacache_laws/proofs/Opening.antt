@@ -128,6 +128,12 @@ module _ (home : Option Names) (t : Tree) (bytes : List ℕ) (placed : Placed ho
       let k = of_names (λ n. path_kind home n ≡ Elsewhere) path f.0 apart f.1 in
       planted_at h.0 new (ends h.0) (ap (path_kind home) (sym (o.1 ∙ n.1)) ∙ k) (ap (λ q. dirs_fault t [] (above_last q)) (sym (o.1 ∙ n.1)) ∙ o.0) (ap (λ q. is_folder (look t q)) (sym n.1) ∙ n.0) cc
 
+-- so whoever plants one leaves the tree placed, and what the cache holds
+pub planted_apart : (home : Option Names) (t new : Tree) (path bytes : List ℕ) → Placed home t → Rooted t → IsFor home Elsewhere path → planted t path bytes ≡ Ok new
+    → Placed home new × (value_of_tree home new ≡ value_of_tree home t)
+unfolding Grows
+planted_apart home t new path bytes placed rooted apart e = planted_grows home t bytes placed rooted path new apart e
+
 grown : (home : Option Names) (t new : Tree) (files : List (List ℕ × List ℕ)) → IsOpening home t → LieApart home files → with_files t files ≡ Ok new
     → IsOpening home new
 unfolding Grows
