@@ -50,18 +50,19 @@ cut_keyed home t p h q node k is = cut_at (look t q) node (same_path q p) (h q n
 
 -- ---- folders on the way
 
-make_at : (home : Option Names) (above rest : Names) (t : Tree) (here : Option Node) (count : ℕ) (b : Bool) → path_kind home above ≡ Way → BucketsHaveKeys home t
+pub make_at : (home : Option Names) (above rest : Names) (t : Tree) (here : Option Node) (count : ℕ) (b : Bool) → (path_kind home above ≡ Bucket → ⊥) → BucketsHaveKeys home t
     → ((new : Tree) (count : ℕ) → BucketsHaveKeys home new → BucketsHaveKeys home (make_some new above rest count))
     → BucketsHaveKeys home (make_some (if_missing here (cond b t (put t above Folder)) t) above rest (if_missing here (count - 1) count))
-make_at home above rest t None count true k h more = more t (count - 1) h
-make_at home above rest t None count false k h more = more (put t above Folder) (count - 1) (put_keyed home t above Folder (λ e. let no : Way ≡ Bucket = sym k ∙ e in absurd cc) h)
-make_at home above rest t (Some node) count b k h more = more t count h
+make_at home above rest t None count true other h more = more t (count - 1) h
+make_at home above rest t None count false other h more = more (put t above Folder) (count - 1) (put_keyed home t above Folder (λ e. absurd (other e)) h)
+make_at home above rest t (Some node) count b other h more = more t count h
 
 make_keyed : (home : Option Names) (t : Tree) (above rest : Names) (count : ℕ) → path_kind home (above ++ rest) ≡ Way → BucketsHaveKeys home t
     → BucketsHaveKeys home (make_some t above rest count)
 make_keyed home t above [] count k h = h
 make_keyed home t above (name ∷ rest) count k h =
-    make_at home (above ++ name ∷ []) rest t (look t (above ++ name ∷ [])) count (count == 0) (way_here home above rest name k) h
+    make_at home (above ++ name ∷ []) rest t (look t (above ++ name ∷ [])) count (count == 0)
+    (λ e. let no : Way ≡ Bucket = sym (way_here home above rest name k) ∙ e in cc) h
     (λ new count g. make_keyed home new (above ++ name ∷ []) rest count (further home Way above rest name k) g)
 
 dirs_ok : (t : Tree) (path : List ℕ) (names : Names) → dirs t path ≡ Ok names → names_of path ≡ Ok names

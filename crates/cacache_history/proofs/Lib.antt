@@ -18,6 +18,7 @@ pub mod Turned
 pub mod Entries
 pub mod Told
 pub mod Keyed
+pub mod Planted
 pub mod Owned
 pub mod Bucketed
 pub mod Walks
