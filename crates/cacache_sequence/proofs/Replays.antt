@@ -36,7 +36,7 @@ moves_answered t (m ∷ moves) more h = (h.0, moves_answered (apply t m.0 Plain)
 -- ---- files
 
 -- a file that was planted without a fault
-planted_so : (t : Tree) (r : Result Tree Fault) → result_err r ≡ None → r ≡ Ok (changed t r)
+pub planted_so : (t : Tree) (r : Result Tree Fault) → result_err r ≡ None → r ≡ Ok (changed t r)
 planted_so t (Ok new) e = refl
 planted_so t (Err fault) e = absurd cc
 

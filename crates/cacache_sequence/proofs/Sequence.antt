@@ -14,14 +14,15 @@ use Rattle.cacache_calls.specs.State.{State}
 use Rattle.cacache_calls.specs.Table.{after, opening}
 use Rattle.cacache_calls.proofs.Causes.{io_errors_have_causes}
 use Rattle.cacache_laws.specs.Opening.{LieApart}
-use Rattle.cacache_laws.specs.Traces.{IsTrace, tree_after}
-use Rattle.cacache_laws.specs.Value.{value_of_tree}
+use Rattle.cacache_laws.specs.Traces.{IsTrace, tree_after, acts}
+use Rattle.cacache_laws.specs.Value.{wide_value, cache_part, value_of_tree}
 use Rattle.cacache_laws.proofs.Opening.{files_open}
 use Rattle.cacache_laws.proofs.Traces.{traces_act}
 use Rattle.cacache_history.specs.Setup.{Setup, site_of, home, may_export, is_outside}
-use Rattle.cacache_history.specs.History.{Turn, Now, Ends, MayMove, NamesIntegrity, begins, moved, turn_of}
+use Rattle.cacache_history.specs.History.{Now, Ends, MayMove, NamesIntegrity, begins, moved, turn_of}
 use Rattle.cacache_history.specs.History as histories
 use Rattle.cacache_history.specs.Turns.{made_in, EachTurn}
+use Rattle.cacache_history.specs.Commits.{deeds}
 use Rattle.cacache_history.proofs.Bucketed.{Keeps, KeyedTurn, move_keyed}
 use Rattle.cacache_history.proofs.Holding.{AllHold, CallHolds, TurnsHold, begins_hold, moved_holds, made_proper, tree_holds}
 use Rattle.cacache_history.proofs.Carrying.{own_of, Makes}
@@ -32,7 +33,9 @@ use Rattle.cacache_history.proofs.Righted.{opening_right}
 use Rattle.cacache_history.proofs.Runs.{memory_plain}
 use Rattle.cacache_history.proofs.Replies.{reads_value}
 use Rattle.cacache_history.proofs.Commits.{cases, plain_refused}
-use Rattle.cacache_sequence.specs.Sequence.{Call, AreMade, MayBeMade, planted_log, tree_on, turns_on, AreAnswered, plain_moves, Answers, AllAnswer, RunsAreCalls, SequencesAnswer}
+use Rattle.cacache_sequence.specs.Sequence.{Call, AreMade, MayBeMade, planted_log, tree_on, turns_on, AreAnswered, plain_moves, Alike, after_deeds, Answers, IsSound, AllAnswer, RunsAreCalls, OpeningsAreSound, CallsAnswer, SequencesAnswer}
+use Rattle.cacache_sequence.proofs.Alike.{moves_alike}
+use Rattle.cacache_sequence.proofs.Found.{found_before}
 use Rattle.cacache_sequence.proofs.Replays.{replay_more, replayable_rest, moves_lead, moves_answered, files_lead, calls_lengthen}
 
 -- the moves of a run, as those of a call
@@ -124,6 +127,13 @@ module _ (s : Setup) (apart : LieApart (home s) s.outside) where
       (subst (λ c. EachTurn (λ turn. Makes (own_of (site_of s call.number) c) turn.move.step) now.turns) (same_command t call.moves start)
       (subst (λ n. EachTurn (λ turn. Makes (own_of (site_of s n) now.command) turn.move.step) now.turns) (same_number t call.moves start) holds.makes))
 
+  call_follows : (t : Tree) (call : Call) → value_of_tree (home s) (tree_on t call.moves) ≡ cache_part (home s) (acts (home s) (wide_value (home s) t) (plain_moves call.moves))
+      → Alike (value_of_tree (home s) (tree_on t call.moves)) (after_deeds (home s) (deeds (turns_on t call.moves)) (value_of_tree (home s) t))
+  call_follows t call e =
+      let same : Alike (wide_value (home s) t) (value_of_tree (home s) t) = record { contents = λ a. refl; lists = λ d. refl } in
+      let h = moves_alike (home s) t call.moves (wide_value (home s) t) (value_of_tree (home s) t) same in
+      subst (λ v. Alike v (after_deeds (home s) (deeds (turns_on t call.moves)) (value_of_tree (home s) t))) (sym e) (record { contents = h.contents; lists = h.lists })
+
   call_answers : (t : Tree) (call : Call) → AllHold s (alone t) → Keeps s t → MayBegin (site_of s call.number) (may_export s) (is_outside s) call.command → NamesIntegrity call.command
       → Runs (opening (site_of s call.number) call.command) call.moves (plain_reply call.reply) → AreAnswered t call.moves
       → Answers s t call × AllHold s (alone (tree_on t call.moves)) × Keeps s (tree_on t call.moves)
@@ -138,6 +148,8 @@ module _ (s : Setup) (apart : LieApart (home s) s.outside) where
         record {
           disk = answered;
           acts = ap (value_of_tree (home s)) (sym (moves_after t call.moves)) ∙ traces_act (home s) t (plain_moves call.moves) tree.placed holds.trace;
+          follows = call_follows t call (ap (value_of_tree (home s)) (sym (moves_after t call.moves)) ∙ traces_act (home s) t (plain_moves call.moves) tree.placed holds.trace);
+          found = λ a more is e. found_before s a is more t call.moves tree.placed holds.trace hold e;
           reads = elim (reads_value s call.number call.command turns (plain_reply call.reply) named hold holds.keyed ran) [
             | inl e ↦ inl (memory_plain call.reply e)
             | inr reads ↦ inr reads
@@ -176,3 +188,36 @@ sequences_answer s calls log apart may made logged =
     calls_answer s apart (planted_log s.outside) calls log may made logged
     (record { placed = o.placed; rooted = o.rooted; formed = opening_formed (home s) (replay bare (planted_log s.outside)) o; right = opening_right (home s) (replay bare (planted_log s.outside)) o; calls = λ caller. tt })
     (record { keyed = opening_keyed (home s) (replay bare (planted_log s.outside)) o; own = opening_own (home s) (replay bare (planted_log s.outside)) o })
+
+-- ---- one call
+
+-- a sound tree, while no call is on its way
+holds_alone : (s : Setup) (t : Tree) → IsSound (home s) t → AllHold s (alone t)
+holds_alone s t sound = record { placed = sound.placed; rooted = sound.rooted; formed = sound.formed; right = sound.right; calls = λ caller. tt }
+
+keeps_alone : (s : Setup) (t : Tree) → IsSound (home s) t → Keeps s t
+keeps_alone s t sound = record { keyed = sound.keyed; own = sound.own }
+
+sound_alone : (s : Setup) (t : Tree) → AllHold s (alone t) → Keeps s t → IsSound (home s) t
+sound_alone s t hold keeps = record { placed = hold.placed; rooted = hold.rooted; formed = hold.formed; right = hold.right; keyed = keeps.keyed; own = keeps.own }
+
+pub openings_are_sound : OpeningsAreSound
+openings_are_sound folder t o = record {
+  placed = o.placed;
+  rooted = o.rooted;
+  formed = opening_formed folder t o;
+  right = opening_right folder t o;
+  keyed = opening_keyed folder t o;
+  own = opening_own folder t o;
+}
+
+pub calls_answer_alone : CallsAnswer
+unfolding tree_of IsLog
+calls_answer_alone s call old new apart may sound made logged =
+    let moves = map (λ m. Made m.0 m.1) call.moves in
+    let all : new ≡ old ++ (moves ++ []) = made.gained ∙ ap (λ l. old ++ l) (sym (append-nil (map (λ m. Made m.0 m.1) call.moves))) in
+    let answered = moves_answered (replay bare old) call.moves [] (replayable_rest bare old (moves ++ []) (subst (IsReplayable bare) all logged)) in
+    let leads : replay bare new ≡ tree_on (replay bare old) call.moves
+    = ap (replay bare) made.gained ∙ replay_more bare old moves ∙ moves_lead (replay bare old) call.moves in
+    let one = call_answers s apart (replay bare old) call (holds_alone s (replay bare old) sound) (keeps_alone s (replay bare old) sound) may.0 may.1 made.run answered in
+    (one.0, subst (IsSound (home s)) (sym leads) (sound_alone s (tree_on (replay bare old) call.moves) one.1 one.2), leads)

@@ -1,1 +1,5 @@
 pub mod Sequence
+pub mod Replies
+pub mod Stored
+pub mod Failures
+pub mod Caches

@@ -1,26 +1,36 @@
 -- Calls that are made one after another on one store in memory.
-use Rattle.std.specs.Prelude.{◌≡◌, ◌⊎◌, ℕ, List, [], ◌∷◌, ◌++◌, Some, map}
+use Rattle.std.specs.Prelude.{◌≡◌, ◌⊎◌, ℕ, List, [], ◌∷◌, ◌++◌, Option, Some, map, All}
 use Rattle.cacache_core.specs.declared.errors.Error.TheVariants.{OutOfMemory}
+use Rattle.cacache_core.specs.declared.integrity.digest.Hash.{Hash}
+use Rattle.cacache_core.specs.Integrity.{IsHash}
+use Rattle.cacache_core.specs.PathNames.{Names}
 use Rattle.cacache_base.specs.declared.store.log.LogItem.{LogItem}
 use Rattle.cacache_base.specs.declared.store.log.LogItem.TheVariants.{Made, Foreign}
 use Rattle.cacache_disk.specs.declared.luck.Luck.TheVariants.{Plain}
 use Rattle.cacache_disk.specs.Tree.{Tree}
 use Rattle.cacache_disk.specs.Apply.{apply}
+use Rattle.cacache_disk.specs.Rooted.{Rooted}
+use Rattle.cacache_entry.specs.Fits.{IsEntry}
 use Rattle.cacache_memory.specs.Replay.{tree_of, IsLog}
 use Rattle.cacache_calls.specs.declared.command.Command.{Command}
 use Rattle.cacache_calls.specs.declared.reply.Reply.{Reply}
 use Rattle.cacache_calls.specs.declared.reply.Reply.TheVariants.{Refused}
 use Rattle.cacache_calls.specs.Causes.{HasCause, own_of}
+use Rattle.cacache_calls.specs.Places.{content_path}
 use Rattle.cacache_calls.specs.Runs.{Moves, Runs, Ran, plain_reply}
 use Rattle.cacache_calls.specs.Sound.{MayBegin}
 use Rattle.cacache_calls.specs.Table.{opening}
-use Rattle.cacache_laws.specs.Opening.{LieApart}
+use Rattle.cacache_laws.specs.Acts.{list_of, change}
+use Rattle.cacache_laws.specs.Opening.{LieApart, IsOpening}
+use Rattle.cacache_laws.specs.Placed.{Placed}
 use Rattle.cacache_laws.specs.Traces.{Move, acts}
-use Rattle.cacache_laws.specs.Value.{wide_value, cache_part, value_of_tree}
+use Rattle.cacache_laws.specs.Value.{Value, wide_value, cache_part, value_of_tree}
 use Rattle.cacache_history.specs.Setup.{Setup, site_of, home, may_export, is_outside}
 use Rattle.cacache_history.specs.History.{Turn, turn_of, NamesIntegrity}
-use Rattle.cacache_history.specs.Commits.{IsCase}
+use Rattle.cacache_history.specs.Buckets.{BucketsHaveKeys, HoldOwn}
+use Rattle.cacache_history.specs.Commits.{Deed, does, finds, deeds, IsCase}
 use Rattle.cacache_history.specs.Replies.{ReadsValue}
+use Rattle.cacache_history.specs.Values.{AreRight, IsThere}
 
 -- a call that was made: its command, its number, the steps that it made, and its reply
 pub record Call : Type 0 where
@@ -84,18 +94,57 @@ plain_moves (m ∷ moves) = record { step = m.0; luck = Plain; answer = m.1 } �
 
 -- ---- what holds of each call
 
--- a call on this tree: the value follows its acts, and its reply is what its turns show
+-- the same contents and the same entries; folders and buckets without entries are left aside
+pub record Alike (v w : Value) : Type 0 where
+  pub contents : (a : Hash) → v.contents a ≡ w.contents a
+  pub lists : (digest : List ℕ) → list_of (v.buckets digest) ≡ list_of (w.buckets digest)
+
+-- the value after these deeds: what is done changes it, what is found doesn't
+abbrev pub after_deeds : Option Names → List Deed → Value → Value
+after_deeds folder [] v = v
+after_deeds folder (does act ∷ ds) v = after_deeds folder ds (change folder act v)
+after_deeds folder (finds path ∷ ds) v = after_deeds folder ds v
+
+-- a call on this tree: the value follows its acts, contents and entries follow its deeds alone,
+-- what its first deed finds was there before, and its reply is what its turns show
 pub record Answers (s : Setup) (t : Tree) (call : Call) : Type 0 where
   pub disk : AreAnswered t call.moves
   pub acts :
       value_of_tree (home s) (tree_on t call.moves)
       ≡ cache_part (home s) (acts (home s) (wide_value (home s) t) (plain_moves call.moves))
+  pub follows :
+      Alike (value_of_tree (home s) (tree_on t call.moves))
+      (after_deeds (home s) (deeds (turns_on t call.moves)) (value_of_tree (home s) t))
+  pub found : (a : Hash) (more : List Deed) → IsHash a
+      → deeds (turns_on t call.moves) ≡ finds (content_path s.cache (a ∷ [])) ∷ more
+      → IsThere ((value_of_tree (home s) t).contents a)
   pub reads :
       (call.reply ≡ Refused OutOfMemory)
       ⊎ ReadsValue s call.command (turns_on t call.moves) (plain_reply call.reply)
   pub commits :
       IsCase (site_of s call.number) call.command (turns_on t call.moves) (Some call.reply)
   pub causes : HasCause (own_of call.command) call.moves (plain_reply call.reply)
+
+-- calls may be made on this tree, and each leaves such a tree
+pub record IsSound (folder : Option Names) (t : Tree) : Type 0 where
+  pub placed : Placed folder t
+  pub rooted : Rooted t
+  pub formed : (digest : List ℕ) → All IsEntry (list_of ((wide_value folder t).buckets digest))
+  pub right : AreRight (wide_value folder t).contents
+  pub keyed : BucketsHaveKeys folder t
+  pub own : HoldOwn (wide_value folder t).buckets
+
+-- a tree that a cache begins in is one
+abbrev pub OpeningsAreSound : Type 0
+OpeningsAreSound = (folder : Option Names) (t : Tree) → IsOpening folder t → IsSound folder t
+
+-- a call that is made on a sound tree answers so, and leaves a sound tree
+abbrev pub CallsAnswer : Type 0
+CallsAnswer =
+    (s : Setup) (call : Call) (old new : List LogItem) → LieApart (home s) s.outside
+    → MayBeMade s (call ∷ []) → IsSound (home s) (tree_of old) → IsMade s old call new → IsLog new
+    → Answers s (tree_of old) call × IsSound (home s) (tree_of new)
+    × (tree_of new ≡ tree_on (tree_of old) call.moves)
 
 -- each call answers so on the tree that the calls before it left, and the last of these trees
 abbrev pub AllAnswer : Setup → Tree → List Call → Tree → Type 0

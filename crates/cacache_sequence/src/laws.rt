@@ -1,15 +1,45 @@
-//! What holds of calls in sequence, on a function that does nothing.
-ghost use Rattle.cacache_sequence.specs.Sequence.{RunsAreCalls, SequencesAnswer};
+//! What holds of calls in sequence, on functions that do nothing.
+ghost use Rattle.cacache_sequence.specs.Sequence.{OpeningsAreSound, RunsAreCalls, CallsAnswer, SequencesAnswer};
+ghost use Rattle.cacache_sequence.specs.Replies.{RepliesFollow, ReadsKeep};
+ghost use Rattle.cacache_sequence.specs.Stored.{PutsStore, DeletesAdd};
+ghost use Rattle.cacache_sequence.specs.Failures.{CallsFailOnly};
+ghost use Rattle.cacache_sequence.specs.Caches.{FreshIsEmpty, EmptyHasNothing, CachesLast, WritesLast, ReadsKey, ReadsContent, FindsKey, RemovalsLast, ReadsNone, ClearingsEmpty, PlantsLast, CallsGrow, GrowthsJoin, ExcusesLast};
 
-/// Any calls are made one after another, on a store in memory that held nothing but files apart from
-/// the cache. Each of their steps had the disk's answer on the tree that the calls before it left.
-/// What the cache holds changes by the acts of those steps, each reply of a call that reads is what
-/// the cache held then, a listing reads the buckets of keys and answers what they held, each commit
-/// did nothing, put its content, or put its content and then its entry, and an `IoError` has a cause.
+/// Calls on a store in memory, one after another. A call that is made on a sound tree answers by what
+/// the cache holds there, and leaves a sound tree; the store of a new cache has one. What the cache
+/// holds changes by the acts of the call's steps. The reply of a call that reads is what the cache held
+/// then; a listing reads the buckets of keys and answers what they held. A commit did nothing, put its
+/// content, or put its content and then its entry. An `IoError` has a cause.
 ///
-/// A call's moves are what the log gained by it: so says the clause `ran` of `call`, whose base
-/// folder is `/` here. The log is that of a disk: so says `replayable` of `MemStore::log`.
+/// A call's moves are what the log gained by it: so says the clause `ran` of `call`, whose base folder
+/// is the setup's. The log is that of a disk: so says `replayable` of `MemStore::log`.
 pub fn sequence_laws()
+    ensures openings { OpeningsAreSound }
     ensures calls { RunsAreCalls }
+    ensures one { CallsAnswer }
+    ensures replies { RepliesFollow }
+    ensures keeps { ReadsKeep }
+    ensures puts { PutsStore }
+    ensures deletes { DeletesAdd }
+    ensures fails { CallsFailOnly }
     ensures sequences { SequencesAnswer }
+{}
+
+/// The same in words of somebody who uses a cache in a store in memory, call by call: what he wrote is
+/// there, what he removed isn't, and a call fails for a step of its own or for memory.
+pub fn cache_laws()
+    ensures fresh { FreshIsEmpty }
+    ensures empty { EmptyHasNothing }
+    ensures last { CachesLast }
+    ensures writes { WritesLast }
+    ensures reads { ReadsKey }
+    ensures reads_content { ReadsContent }
+    ensures finds { FindsKey }
+    ensures removes { RemovalsLast }
+    ensures reads_none { ReadsNone }
+    ensures clears { ClearingsEmpty }
+    ensures plants { PlantsLast }
+    ensures grows { CallsGrow }
+    ensures joins { GrowthsJoin }
+    ensures excuses { ExcusesLast }
 {}

@@ -1,0 +1,24 @@
+-- Steps that read leave the tree.
+use Rattle.std.proofs.Common.{◌≡◌, ℕ, List, Result, Ok, Err, refl}
+use Rattle.cacache_core.specs.declared.errors.Fault.{Fault}
+use Rattle.cacache_core.specs.declared.errors.Fault.TheVariants as faults
+use Rattle.cacache_base.specs.declared.store.step.Step.TheVariants as steps
+use Rattle.cacache_base.specs.declared.store.answer.Answer.TheVariants as answers
+use Rattle.cacache_base.specs.Plain.{PlainAnswer}
+use Rattle.cacache_disk.specs.declared.luck.Luck.TheVariants.{Plain}
+use Rattle.cacache_disk.specs.Tree.{Tree, listing}
+use Rattle.cacache_disk.specs.Found.{file_at, folder}
+use Rattle.cacache_disk.specs.Apply.{apply, unless}
+
+-- a step that answers a value or a fault, and leaves the tree
+unless_keeps : {A : Type 0} (r : Result A Fault) (t : Tree) (answer : A → PlainAnswer) → (unless r t (λ x. (answer x, t))).1 ≡ t
+unless_keeps (Ok x) t answer = refl
+unless_keeps (Err fault) t answer = refl
+
+pub reading_keeps : (t : Tree) (path : List ℕ) → (apply t (steps.ReadAll path) Plain).1 ≡ t
+unfolding apply
+reading_keeps t path = unless_keeps (file_at t path faults.IsADirectory) t answers.Bytes
+
+pub listing_keeps : (t : Tree) (path : List ℕ) → (apply t (steps.ReadDir path) Plain).1 ≡ t
+unfolding apply
+listing_keeps t path = unless_keeps (folder t path) t (λ names. answers.Names (listing t names))

@@ -1,0 +1,94 @@
+-- What is known of a call that was made on a cache in a store in memory.
+use Rattle.std.proofs.Common.{◌≡◌, ◌⊎◌, inl, inr, ℕ, List, [], ◌++◌, Option, None, Some, map, refl, sym, ap, subst, ◌∙◌}
+use Rattle.cacache_core.specs.declared.errors.Error.{Error}
+use Rattle.cacache_core.specs.declared.errors.Error.TheVariants.{EntryNotFound, SizeMismatch, IoError, SerdeError, IntegrityError, OutOfMemory}
+use Rattle.cacache_core.specs.declared.errors.Fault.{Fault}
+use Rattle.cacache_core.specs.declared.integrity.digest.Hash.{Hash}
+use Rattle.cacache_core.specs.Integrity.{address}
+use Rattle.cacache_core.specs.PathNames.{home_of}
+use Rattle.cacache_base.specs.declared.store.log.LogItem.{LogItem}
+use Rattle.cacache_base.specs.declared.store.log.LogItem.TheVariants.{Made}
+use Rattle.cacache_disk.specs.Tree.{bare}
+use Rattle.cacache_memory.specs.Replay.{tree_of}
+use Rattle.cacache_calls.specs.declared.command.Command.{Command}
+use Rattle.cacache_calls.specs.declared.reply.Reply.{Reply}
+use Rattle.cacache_calls.specs.declared.reply.Reply.TheVariants as replies
+use Rattle.cacache_calls.specs.Causes.{HasCause, own_of, Faulted}
+use Rattle.cacache_calls.specs.Runs.{Runs, plain_reply}
+use Rattle.cacache_calls.specs.Sound.{MayBegin}
+use Rattle.cacache_calls.specs.Table.{opening}
+use Rattle.cacache_laws.specs.Value.{empty_value}
+use Rattle.cacache_laws.proofs.Opening.{files_open}
+use Rattle.cacache_history.specs.Setup.{site_of, may_export, is_outside}
+use Rattle.cacache_history.specs.History.{NamesIntegrity}
+use Rattle.cacache_history.specs.Reading.{blob_at}
+use Rattle.cacache_sequence.specs.Sequence.{Call, IsMade, tree_on, Answers}
+use Rattle.cacache_sequence.specs.Failures.{FailsOnly}
+use Rattle.cacache_sequence.specs.Caches.{IsCache, IsExcused, Called, setup_at, FreshIsEmpty, EmptyHasNothing, CachesLast}
+use Rattle.cacache_sequence.proofs.Sequence.{openings_are_sound, calls_answer_alone}
+
+pub fresh_is_empty : FreshIsEmpty
+unfolding tree_of
+fresh_is_empty cache =
+    let o = files_open (home_of cache) [] bare tt refl in
+    record { sound = openings_are_sound (home_of cache) bare o; nothing = o.nothing }
+
+nothing_at : (o : Option Hash) → blob_at empty_value o ≡ None
+nothing_at None = refl
+nothing_at (Some h) = refl
+
+pub empty_has_nothing : EmptyHasNothing
+empty_has_nothing cache i bytes log empty = inl (ap (λ v. blob_at v (address i)) empty.nothing ∙ nothing_at (address i))
+
+-- ---- a call that was made
+
+-- what is known of it
+pub record Known (cache base : List ℕ) (command : Command) (r : Reply) (old new : List LogItem) : Type 0 where
+  pub call : Call
+  pub command_is : call.command ≡ command
+  pub reply_is : call.reply ≡ r
+  pub gained : new ≡ old ++ map (λ m. Made m.0 m.1) call.moves
+  pub run : Runs (opening (record { cache = cache; base = base; number = call.number }) command) call.moves r
+  pub answers : Answers (setup_at cache base) (tree_of old) call
+  pub sound : IsCache cache new
+  pub leads : tree_of new ≡ tree_on (tree_of old) call.moves
+
+module _ (cache : List ℕ) (command : Command) (r : Reply) (old new : List LogItem) where
+  pub known : (c : Called cache command r old new) → MayBegin (site_of (setup_at cache c.base) c.number) (may_export (setup_at cache c.base)) (is_outside (setup_at cache c.base)) command
+      → NamesIntegrity command → IsCache cache old → Known cache c.base command r old new
+  known c may named sound =
+      let s = setup_at cache c.base in
+      let call : Call = record { command = command; number = c.number; moves = c.ran.0; reply = r } in
+      let made : IsMade (setup_at cache c.base) old (record { command = command; number = c.number; moves = c.ran.0; reply = r }) new
+      = record {
+        run = subst (λ x. Runs (opening (site_of (setup_at cache c.base) c.number) command) c.ran.0 x) (sym c.plain) c.ran.1;
+        gained = cc;
+      } in
+      let a = calls_answer_alone s call old new tt (may, named, tt) sound made c.logged in
+      record {
+        call = call;
+        command_is = refl;
+        reply_is = refl;
+        gained = made.gained;
+        run = c.ran.1;
+        answers = a.0;
+        sound = a.1;
+        leads = a.2;
+      }
+
+pub caches_last : CachesLast
+caches_last cache command r old new c may named sound = (known cache command r old new c may named sound).sound
+
+-- a failure is excused by a step, unless the command has faults of its own
+pub excuse : (cache base : List ℕ) (command : Command) (old new : List LogItem) → ((fault : Fault) → own_of command fault → ⊥) → (e : Error)
+    → Known cache base command (replies.Refused e) old new → FailsOnly (replies.Refused e) → IsExcused e old new
+excuse cache base command old new none OutOfMemory k h = inl refl
+excuse cache base command old new none (IoError fault message) k h =
+    let cause : own_of command fault ⊎ Faulted k.call.moves fault
+    = subst (λ c. own_of c fault ⊎ Faulted k.call.moves fault) k.command_is
+    (subst (λ r. HasCause (own_of k.call.command) k.call.moves (plain_reply r)) k.reply_is k.answers.causes) in
+    inr (k.call.moves, k.gained, fault, elim cause [ inl own ↦ absurd (none fault own) | inr f ↦ f ])
+excuse cache base command old new none (EntryNotFound c key) k h = absurd h
+excuse cache base command old new none (SizeMismatch wanted actual) k h = absurd h
+excuse cache base command old new none (SerdeError cause message) k h = absurd h
+excuse cache base command old new none (IntegrityError fault) k h = absurd h

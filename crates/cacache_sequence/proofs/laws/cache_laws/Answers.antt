@@ -1,0 +1,49 @@
+use Rattle.cacache_sequence.proofs.Logs.{calls_grow, growths_join, excuses_last}
+use Rattle.cacache_sequence.proofs.Known.{fresh_is_empty, empty_has_nothing, caches_last}
+use Rattle.cacache_sequence.proofs.Writing.{writes_last}
+use Rattle.cacache_sequence.proofs.Reading.{reads_key, reads_content, finds_key, reads_none}
+use Rattle.cacache_sequence.proofs.Removals.{removals_last, clearings_empty}
+use Rattle.cacache_sequence.proofs.Planting.{plants_last}
+use Rattle.cacache_sequence.proofs.laws.cache_laws.Goals as goal
+
+pub returns-clause-fresh : goal.returns-clause-fresh
+returns-clause-fresh c = fresh_is_empty
+
+pub returns-clause-empty : goal.returns-clause-empty
+returns-clause-empty c = empty_has_nothing
+
+pub returns-clause-last : goal.returns-clause-last
+returns-clause-last c = caches_last
+
+pub returns-clause-writes : goal.returns-clause-writes
+returns-clause-writes c = writes_last
+
+pub returns-clause-reads : goal.returns-clause-reads
+returns-clause-reads c = reads_key
+
+pub returns-clause-reads_content : goal.returns-clause-reads_content
+returns-clause-reads_content c = reads_content
+
+pub returns-clause-finds : goal.returns-clause-finds
+returns-clause-finds c = finds_key
+
+pub returns-clause-removes : goal.returns-clause-removes
+returns-clause-removes c = removals_last
+
+pub returns-clause-reads_none : goal.returns-clause-reads_none
+returns-clause-reads_none c = reads_none
+
+pub returns-clause-clears : goal.returns-clause-clears
+returns-clause-clears c = clearings_empty
+
+pub returns-clause-plants : goal.returns-clause-plants
+returns-clause-plants c = plants_last
+
+pub returns-clause-grows : goal.returns-clause-grows
+returns-clause-grows c = calls_grow
+
+pub returns-clause-joins : goal.returns-clause-joins
+returns-clause-joins c = growths_join
+
+pub returns-clause-excuses : goal.returns-clause-excuses
+returns-clause-excuses c = excuses_last
