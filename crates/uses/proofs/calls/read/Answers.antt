@@ -1,0 +1,22 @@
+use Rattle.std.proofs.Common.{refl}
+use Rattle.cacache_calls.specs.declared.command.Command.TheVariants as commands
+use Rattle.cacache.specs.Reads.{bytes_read}
+use Rattle.uses.proofs.Told.{called, read_told, missing_told}
+use Rattle.uses.proofs.calls.read.Goals as goal
+
+pub returns : goal.returns
+returns g c =
+    let laws = c.cache_laws.ensures in
+    let cache = c.args.cache.now in
+    let key = c.args.key.now in
+    let old = c.args.env.now.store in
+    let new = c.read_sync-read.new.env.store in
+    let r = c.read_sync-read.result in
+    let made = called bytes_read r cache c.args.env.now.base 0 (commands.Get key) old new (λ b. refl) c.read_sync-read.ensures.ran.0.0 c.log-log.ensures.replayable in
+    record {
+      sound = laws.last _ _ _ old new made tt tt c.requires;
+      grows = laws.grows _ _ _ old new made;
+      ok = λ i bytes has. (read_told laws.reads cache key bytes i r old new c.requires has made).ok;
+      err = λ i bytes has. (read_told laws.reads cache key bytes i r old new c.requires has made).err;
+      lacks = λ lacks. missing_told laws.reads_none cache key r old new c.requires lacks made;
+    }

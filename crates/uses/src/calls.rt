@@ -1,0 +1,111 @@
+//! Single calls on a cache in memory, each with what it does there.
+ghost use Rattle.std.specs.Prelude.{◌≡◌, ℕ, List, IfOk, IfErr, OnOk};
+ghost use Rattle.cacache_core.specs.declared.integrity.algorithm.Algorithm.TheVariants.{Sha256};
+ghost use Rattle.cacache_core.specs.declared.integrity.digest.Hash.{Hash};
+ghost use Rattle.cacache_core.specs.Integrity.{integrity_under};
+ghost use Rattle.cacache_sequence.specs.Caches.{IsCache, IsEmptyCache, HasKey, HasContent, NothingElse, LacksKey, Grows, IsExcused};
+ghost use Rattle.uses.specs.Missing.{FindsNothing};
+
+use cacache::env::{Clock, Env, Names};
+use cacache::store::MemStore;
+use cacache::{Integrity, Result};
+use cacache_sequence::cache_laws;
+
+/// `write_sync` of bytes under whose integrity nothing else lies: afterwards the key leads to them.
+pub(crate) fn write<C: Clock, N: Names>(
+    env: &mut Env<MemStore, C, N>,
+    cache: &str,
+    key: &str,
+    data: &[u8],
+) -> Result<Integrity>
+    requires sound { IsCache cache.now env.old.store }
+    requires free { NothingElse cache.now (integrity_under Sha256 «data».now) «data».now
+        env.old.store }
+    ensures sound { IsCache cache.now env.new.store }
+    ensures grows { Grows env.old.store env.new.store }
+    ensures ok { IfOk result (λ i. HasKey cache.now key.now i «data».now env.new.store) }
+    ensures err { IfErr result (λ e. IsExcused e env.old.store env.new.store) }
+{
+    cache_laws();
+    let _size = data.len();
+    let written = cacache::write_sync(env, cache, key, data);
+    let _log = env.store.log();
+    written
+}
+
+/// `read_sync`: it gives the bytes that the key leads to, which stay, and finds nothing where it leads to nothing.
+pub(crate) fn read<C: Clock, N: Names>(
+    env: &mut Env<MemStore, C, N>,
+    cache: &str,
+    key: &str,
+) -> Result<Vec<u8>>
+    requires { IsCache cache.now env.old.store }
+    ensures sound { IsCache cache.now env.new.store }
+    ensures grows { Grows env.old.store env.new.store }
+    ensures ok { (i : List Hash) (bytes : List ℕ)
+        → HasKey cache.now key.now i bytes env.old.store
+        → IfOk result (λ found. (found.items ≡ bytes)
+        × HasKey cache.now key.now i bytes env.new.store) }
+    ensures err { (i : List Hash) (bytes : List ℕ)
+        → HasKey cache.now key.now i bytes env.old.store
+        → IfErr result (λ e. IsExcused e env.old.store env.new.store) }
+    ensures lacks { LacksKey cache.now key.now env.old.store
+        → FindsNothing cache.now key.now result env.old.store env.new.store }
+{
+    cache_laws();
+    let read = cacache::read_sync(env, cache, key);
+    let _log = env.store.log();
+    read
+}
+
+/// `read_hash_sync`: it gives the bytes that lie under the integrity, which stay.
+pub(crate) fn read_hash<C: Clock, N: Names>(
+    env: &mut Env<MemStore, C, N>,
+    cache: &str,
+    integrity: &Integrity,
+) -> Result<Vec<u8>>
+    requires { IsCache cache.now env.old.store }
+    ensures sound { IsCache cache.now env.new.store }
+    ensures grows { Grows env.old.store env.new.store }
+    ensures ok { (bytes : List ℕ) → HasContent cache.now integrity.now bytes env.old.store
+        → IfOk result (λ found. (found.items ≡ bytes)
+        × HasContent cache.now integrity.now bytes env.new.store) }
+    ensures err { (bytes : List ℕ) → HasContent cache.now integrity.now bytes env.old.store
+        → IfErr result (λ e. IsExcused e env.old.store env.new.store) }
+{
+    cache_laws();
+    let _address = integrity.address();
+    let read = cacache::read_hash_sync(env, cache, integrity);
+    let _log = env.store.log();
+    read
+}
+
+/// `remove_sync`: afterwards the key leads to nothing.
+pub(crate) fn remove<C: Clock, N: Names>(
+    env: &mut Env<MemStore, C, N>,
+    cache: &str,
+    key: &str,
+) -> Result<()>
+    requires { IsCache cache.now env.old.store }
+    ensures sound { IsCache cache.now env.new.store }
+    ensures grows { Grows env.old.store env.new.store }
+    ensures ok { OnOk result (LacksKey cache.now key.now env.new.store) }
+    ensures err { IfErr result (λ e. IsExcused e env.old.store env.new.store) }
+{
+    cache_laws();
+    let removed = cacache::remove_sync(env, cache, key);
+    let _log = env.store.log();
+    removed
+}
+
+/// `clear_sync`: afterwards the cache is empty.
+pub(crate) fn clear<C: Clock, N: Names>(env: &mut Env<MemStore, C, N>, cache: &str) -> Result<()>
+    requires { IsCache cache.now env.old.store }
+    ensures sound { IsCache cache.now env.new.store }
+    ensures ok { OnOk result (IsEmptyCache cache.now env.new.store) }
+{
+    cache_laws();
+    let cleared = cacache::clear_sync(env, cache);
+    let _log = env.store.log();
+    cleared
+}

@@ -1,0 +1,24 @@
+//! What a caller of the cache can prove about code of his own, with the contracts of the public calls alone.
+//!
+//! [`store_and_read`] stores some bytes and reads them back. Its contract says what its caller relies on: the same
+//! bytes come back, by the key and by the integrity; and where none come, memory was refused or a step failed, as the
+//! store's log shows. It holds for every cache in memory that is empty, whatever the clock, the numbers, the key and
+//! the bytes. [`from_nothing`] makes such a cache, so that its callers owe nothing at all. [`remove_and_read`] and
+//! [`come_and_go`] remove what was stored.
+//!
+//! How that is proved:
+//!
+//! - `cache_laws` of `cacache_sequence` says what each call does to a cache in a store in memory, in words such as
+//!   `IsCache`, `HasKey` and `IsExcused`. A function that calls it has these laws; the call itself does nothing.
+//! - That a call was made is said by the call's own clause `ran`: the store's log gained a run of it, with its reply.
+//! - What a value keeps is told by one of its methods: `MemStore::log`, that the log is that of a disk;
+//!   `Integrity::address`, that the integrity is one; `len`, that a slice's length is below 2^64.
+//!
+//! So the file `calls` has a function for each public call: it makes the call, and its contract says what the call
+//! did. The file `composed` puts these together as any Rust code does, with `?`.
+#![tactic(auto)]
+
+mod calls;
+mod composed;
+
+pub use composed::{Found, come_and_go, from_nothing, remove_and_read, store_and_read};
