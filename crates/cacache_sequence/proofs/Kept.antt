@@ -22,3 +22,7 @@ reading_keeps t path = unless_keeps (file_at t path faults.IsADirectory) t answe
 pub listing_keeps : (t : Tree) (path : List ℕ) → (apply t (steps.ReadDir path) Plain).1 ≡ t
 unfolding apply
 listing_keeps t path = unless_keeps (folder t path) t (λ names. answers.Names (listing t names))
+
+pub asking_keeps : (t : Tree) (path : List ℕ) → (apply t (steps.Exists path) Plain).1 ≡ t
+unfolding apply
+asking_keeps t path = refl

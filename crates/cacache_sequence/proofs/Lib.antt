@@ -18,3 +18,4 @@ pub mod Writing
 pub mod Reading
 pub mod Removals
 pub mod Planting
+pub mod Asking

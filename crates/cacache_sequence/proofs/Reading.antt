@@ -63,7 +63,7 @@ get_is : (s : Setup) (key bytes : List ℕ) (i : List Hash) (log : List LogItem)
 get_is s key bytes i log h =
     ap (get_on s (tree_of log) key) h.finds ∙ ap (read_on (home s) (tree_of log)) h.integrity ∙ read_is s.cache bytes i log h.content
 
-content_stays : (cache bytes : List ℕ) (i : List Hash) (old new : List LogItem) → tree_of new ≡ tree_of old → HasContent cache i bytes old → HasContent cache i bytes new
+pub content_stays : (cache bytes : List ℕ) (i : List Hash) (old new : List LogItem) → tree_of new ≡ tree_of old → HasContent cache i bytes old → HasContent cache i bytes new
 content_stays cache bytes i old new same h = record {
   content = ap (λ t. blob_at (value_of_tree (home_of cache) t) (address i)) same ∙ h.content;
   formed = h.formed;

@@ -107,7 +107,7 @@ module _ (s : Setup) (r : Reply) where
 
   -- ---- they leave the tree
 
-  no_moves : (t : Tree) (moves : Moves) → turns_on t moves ≡ [] → moves ≡ []
+  pub no_moves : (t : Tree) (moves : Moves) → turns_on t moves ≡ [] → moves ≡ []
   no_moves t [] e = refl
   no_moves t (m ∷ moves) e = absurd cc
 

@@ -1,5 +1,5 @@
 -- What a store in memory holds in words of its user, and what each call does in these words.
-use Rattle.std.specs.Prelude.{◌≡◌, ◌⊎◌, ◌<◌, ◌^◌, ℕ, List, [], ◌∷◌, ◌++◌, Option, None, Some, IsUtf8, length, map}
+use Rattle.std.specs.Prelude.{◌≡◌, ◌⊎◌, ◌<◌, ◌^◌, ℕ, true, false, List, [], ◌∷◌, ◌++◌, Option, None, Some, IsUtf8, length, map}
 use Rattle.serde_json.specs.Data.{null}
 use Rattle.cacache_core.specs.declared.errors.Error.{Error}
 use Rattle.cacache_core.specs.declared.errors.Error.TheVariants.{EntryNotFound, IoError, OutOfMemory}
@@ -16,7 +16,7 @@ use Rattle.cacache_calls.specs.declared.command.Command.{Command}
 use Rattle.cacache_calls.specs.declared.command.Command.TheVariants as commands
 use Rattle.cacache_calls.specs.declared.command.Put.{Put}
 use Rattle.cacache_calls.specs.declared.reply.Reply.{Reply}
-use Rattle.cacache_calls.specs.declared.reply.Reply.TheVariants.{Stored, Read, LookedUp, Done, Refused}
+use Rattle.cacache_calls.specs.declared.reply.Reply.TheVariants.{Stored, Read, LookedUp, Exists, Done, Refused}
 use Rattle.cacache_calls.specs.Causes.{Faulted, OfWalk}
 use Rattle.cacache_calls.specs.Runs.{Moves, Ran, plain_reply}
 use Rattle.cacache_calls.specs.Sound.{MayBegin}
@@ -185,6 +185,21 @@ FindsKey =
     (cache key bytes : List ℕ) (i : List Hash) (r : Reply) (old new : List LogItem)
     → IsCache cache old → HasKey cache key i bytes old → Called cache (commands.Find key) r old new
     → IsCache cache new × GivesEntry (HasKey cache key i bytes new) i r old new
+
+-- a yes says that this holds, and a no that a step failed
+abbrev pub SaysThere : Type 0 → Reply → List LogItem → List LogItem → Type 0
+SaysThere Stays (Exists true) old new = Stays
+SaysThere Stays (Exists false) old new = AStepFailed old new
+SaysThere Stays (Refused e) old new = IsExcused e old new
+SaysThere Stays r old new = ⊥
+
+-- so answers each question whether bytes lie under an integrity under which they do
+abbrev pub AsksContent : Type 0
+AsksContent =
+    (cache bytes : List ℕ) (i : List Hash) (r : Reply) (old new : List LogItem)
+    → IsCache cache old → HasContent cache i bytes old
+    → Called cache (commands.Exists i) r old new
+    → IsCache cache new × SaysThere (HasContent cache i bytes new) r old new
 
 -- after a removal that is done, the key leads to nothing
 abbrev pub RemovesKey : List ℕ → List ℕ → Reply → List LogItem → List LogItem → Type 0

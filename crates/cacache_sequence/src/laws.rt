@@ -3,7 +3,7 @@ ghost use Rattle.cacache_sequence.specs.Sequence.{OpeningsAreSound, RunsAreCalls
 ghost use Rattle.cacache_sequence.specs.Replies.{RepliesFollow, ReadsKeep};
 ghost use Rattle.cacache_sequence.specs.Stored.{PutsStore, DeletesAdd};
 ghost use Rattle.cacache_sequence.specs.Failures.{CallsFailOnly};
-ghost use Rattle.cacache_sequence.specs.Caches.{FreshIsEmpty, EmptyHasNothing, CachesLast, WritesLast, ReadsKey, ReadsContent, FindsKey, RemovalsLast, ReadsNone, ClearingsEmpty, PlantsLast, CallsGrow, GrowthsJoin, ExcusesLast};
+ghost use Rattle.cacache_sequence.specs.Caches.{FreshIsEmpty, EmptyHasNothing, CachesLast, WritesLast, ReadsKey, ReadsContent, FindsKey, AsksContent, RemovalsLast, ReadsNone, ClearingsEmpty, PlantsLast, CallsGrow, GrowthsJoin, ExcusesLast};
 
 /// Calls on a store in memory, one after another. A call that is made on a sound tree answers by what
 /// the cache holds there, and leaves a sound tree; the store of a new cache has one. What the cache
@@ -35,6 +35,7 @@ pub fn cache_laws()
     ensures reads { ReadsKey }
     ensures reads_content { ReadsContent }
     ensures finds { FindsKey }
+    ensures asks { AsksContent }
     ensures removes { RemovalsLast }
     ensures reads_none { ReadsNone }
     ensures clears { ClearingsEmpty }

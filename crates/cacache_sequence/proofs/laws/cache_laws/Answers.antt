@@ -2,6 +2,7 @@ use Rattle.cacache_sequence.proofs.Logs.{calls_grow, growths_join, excuses_last}
 use Rattle.cacache_sequence.proofs.Known.{fresh_is_empty, empty_has_nothing, caches_last}
 use Rattle.cacache_sequence.proofs.Writing.{writes_last}
 use Rattle.cacache_sequence.proofs.Reading.{reads_key, reads_content, finds_key, reads_none}
+use Rattle.cacache_sequence.proofs.Asking.{asks_content}
 use Rattle.cacache_sequence.proofs.Removals.{removals_last, clearings_empty}
 use Rattle.cacache_sequence.proofs.Planting.{plants_last}
 use Rattle.cacache_sequence.proofs.laws.cache_laws.Goals as goal
@@ -26,6 +27,9 @@ returns-clause-reads_content c = reads_content
 
 pub returns-clause-finds : goal.returns-clause-finds
 returns-clause-finds c = finds_key
+
+pub returns-clause-asks : goal.returns-clause-asks
+returns-clause-asks c = asks_content
 
 pub returns-clause-removes : goal.returns-clause-removes
 returns-clause-removes c = removals_last
