@@ -22,10 +22,13 @@ pub mod Planted
 pub mod Owned
 pub mod Bucketed
 pub mod Walks
+pub mod Apart
 pub mod Once
 pub mod Keys
+pub mod Ended
 pub mod Listings
 pub mod Readers
+pub mod PutLinks
 pub mod Links
 pub mod Headline
 pub mod Cases

@@ -1,35 +1,30 @@
 -- A content that is a link is of bytes that its target held when its call opened it.
-use Rattle.std.proofs.Common.{◌≡◌, ◌⊎◌, inl, inr, ℕ, Bool, true, false, cond, List, [], ◌∷◌, ◌++◌, Option, None, Some, option_map, Result, Ok, Err, take, refl, sym, ap, subst, ◌∙◌, append_assoc, append-nil}
+use Rattle.std.proofs.Common.{◌≡◌, inl, inr, ℕ, true, List, [], ◌∷◌, ◌++◌, Option, None, Some, option_map, Result, Ok, Err, refl, sym, ap, subst, ◌∙◌, append_assoc, append-nil}
 use Rattle.cacache_core.specs.declared.errors.Fault.{Fault}
 use Rattle.cacache_core.specs.declared.errors.Fault.TheVariants as faults
 use Rattle.cacache_core.specs.declared.errors.Error.TheVariants.{OutOfMemory}
 use Rattle.cacache_core.specs.declared.integrity.digest.Hash.{Hash}
 use Rattle.cacache_core.specs.Integrity.{IsHash}
-use Rattle.cacache_core.specs.PathNames.{Names, names_of}
+use Rattle.cacache_core.specs.PathNames.{Names}
 use Rattle.cacache_core.specs.Paths.{content_names}
 use Rattle.cacache_base.specs.declared.store.plain.PlainFile.{PlainFile}
 use Rattle.cacache_base.specs.declared.store.step.Step.TheVariants as steps
 use Rattle.cacache_base.specs.declared.store.answer.Answer.TheVariants as answers
-use Rattle.cacache_base.specs.Plain.{PlainStep, PlainAnswer}
+use Rattle.cacache_base.specs.Plain.{PlainAnswer}
 use Rattle.cacache_disk.specs.declared.luck.Luck.{Luck}
 use Rattle.cacache_disk.specs.Tree.{Tree}
 use Rattle.cacache_disk.specs.Found.{file_at}
 use Rattle.cacache_disk.specs.Apply.{apply, unless, opened, made_up}
-use Rattle.cacache_entry.specs.Bucket.{entries_of}
 use Rattle.cacache_calls.specs.declared.command.Command.{Command}
 use Rattle.cacache_calls.specs.declared.command.Command.TheVariants as commands
 use Rattle.cacache_calls.specs.declared.reply.Reply.{Reply}
 use Rattle.cacache_calls.specs.declared.reply.Reply.TheVariants.{Refused}
 use Rattle.cacache_calls.specs.Linking.{target_of, commit_for}
-use Rattle.cacache_calls.specs.Places.{content_path}
-use Rattle.cacache_calls.specs.State.{Commit, Insertion}
-use Rattle.cacache_calls.specs.Storing.{insertion_of}
 use Rattle.cacache_calls.specs.Table.{opening}
-use Rattle.cacache_laws.specs.Acts.{Act, Nothing, PutBytes, PutLink, AddEntries, Drop, MakeFolders, DropFolder, act_at, act_with, act_if_done, folders_left, amount_left, act_of, change}
+use Rattle.cacache_laws.specs.Acts.{PutLink, act_of, change}
 use Rattle.cacache_laws.specs.Kinds.{is_path_of}
 use Rattle.cacache_laws.specs.Shows.{ShowsContent}
-use Rattle.cacache_laws.specs.Traces.{Move}
-use Rattle.cacache_laws.specs.Value.{Blob, InFile, AtLink, Value, value_of_tree, wide_value}
+use Rattle.cacache_laws.specs.Value.{AtLink, Value, value_of_tree, wide_value}
 use Rattle.cacache_laws.proofs.Shows.{apply_answer}
 use Rattle.cacache_laws.proofs.Traces.{steps_act}
 use Rattle.cacache_history.specs.declared.record.Record.{Record}
@@ -39,7 +34,7 @@ use Rattle.cacache_history.specs.History.{History, Turn, Call, Made, first, turn
 use Rattle.cacache_history.specs.Turns.{made_in, EachTurn}
 use Rattle.cacache_history.specs.Places.{TurnAt}
 use Rattle.cacache_history.specs.Values.{value_at, HasDigest}
-use Rattle.cacache_history.specs.Commits.{Deed, does, finds, deeds_of_act, finds_in, deeds_of, deeds, IsContent, IsAdded, Adds, AddsAfter, CommitsAs, ReadsTarget, LinksTo, IsCase}
+use Rattle.cacache_history.specs.Commits.{does, deeds, ReadsTarget, LinksTo, IsCase}
 use Rattle.cacache_history.specs.Entries.{IsAmong}
 use Rattle.cacache_history.specs.Links.{HeldOnce, OnceHeld, LinksWereRight, LinksAreRight}
 use Rattle.cacache_history.proofs.Carrying.{own_of, Makes, carries_makes}
@@ -52,6 +47,7 @@ use Rattle.cacache_history.proofs.Righted.{put_at}
 use Rattle.cacache_history.proofs.Runs.{reached, lost_run}
 use Rattle.cacache_history.proofs.Turned.{reached_turns}
 use Rattle.cacache_history.proofs.Values.{value_follows_acts}
+use Rattle.cacache_history.proofs.PutLinks.{link_step, from_act, among_last, link_deed, not_among, committed}
 
 -- ---- what an opening shows
 
@@ -71,132 +67,6 @@ file_given t path luck a file is answer =
     subst (ShowsContent (file_at t path faults.IsADirectory)) (sym is ∙ answer)
     (apply_answer (ShowsContent (file_at t path faults.IsADirectory)) (made_up_file (file_at t path faults.IsADirectory)) t (steps.Open path) luck
     (λ most. file_shown t (file_at t path faults.IsADirectory)))
-
--- ---- the step that puts a link
-
-module _ {X : Type 0} (names : Names) (target : List ℕ) where
-  done_link : (a : PlainAnswer) (act : Act) → (act ≡ PutLink names target → X) → act_if_done a act ≡ PutLink names target → X
-  done_link answers.Done act h e = h e
-  done_link other act h e = absurd cc
-
-  at_link : (r : Result Names Fault) (act : Names → Act) → ((n : Names) → act n ≡ PutLink names target → X) → act_at r act ≡ PutLink names target → X
-  at_link (Ok n) act h e = h n e
-  at_link (Err fault) act h e = absurd cc
-
-  with_link : {A : Type 0} (o : Option A) (act : A → Act) → ((x : A) → act x ≡ PutLink names target → X) → act_with o act ≡ PutLink names target → X
-  with_link None act h e = absurd cc
-  with_link (Some x) act h e = h x e
-
-abbrev IsLinkTo : List ℕ → PlainStep → Type 0
-IsLinkTo target step = (path : List ℕ) × (step ≡ steps.Symlink target path)
-
-link_step : (step : PlainStep) (luck : Luck) (a : PlainAnswer) (names : Names) (target : List ℕ) → act_of step luck a ≡ PutLink names target → IsLinkTo target step
-link_step (steps.Symlink to p) luck a names target e =
-    done_link names target a (act_at (names_of p) (λ n. PutLink n to))
-    (at_link names target (names_of p) (λ n. PutLink n to) (λ n same. (p, (let t : to ≡ target = cc in ap (λ x. steps.Symlink x p) t)))) e
-link_step (steps.Persist f p) luck a names target e =
-    done_link names target a (act_at (names_of p) (λ n. act_with f.bytes (PutBytes n)))
-    (at_link names target (names_of p) (λ n. act_with f.bytes (PutBytes n)) (λ n. with_link names target f.bytes (PutBytes n) (λ bytes no. absurd cc))) e
-link_step (steps.MakeDirs p) luck a names target e =
-    at_link names target (names_of p) (λ n. act_with (folders_left n luck a) (MakeFolders n))
-    (λ n. with_link names target (folders_left n luck a) (MakeFolders n) (λ count no. absurd cc)) e
-link_step (steps.Append p bytes) luck a names target e =
-    at_link names target (names_of p) (λ n. act_with (amount_left luck a) (λ count. AddEntries n (entries_of (take count bytes))))
-    (λ n. with_link names target (amount_left luck a) (λ count. AddEntries n (entries_of (take count bytes))) (λ count no. absurd cc)) e
-link_step (steps.RemoveFile p) luck a names target e =
-    done_link names target a (act_at (names_of p) Drop) (at_link names target (names_of p) Drop (λ n no. absurd cc)) e
-link_step (steps.RemoveDir p) luck a names target e =
-    done_link names target a (act_at (names_of p) DropFolder) (at_link names target (names_of p) DropFolder (λ n no. absurd cc)) e
-link_step step luck a names target e = absurd cc
-
--- ---- where the link at an address comes from
-
--- the act put it there
-abbrev PutsLink : Option Names → Act → Hash → List ℕ → Type 0
-PutsLink folder act a target = (names : Names) × (act ≡ PutLink names target) × (is_path_of folder (content_names a) names ≡ true)
-
-by_link : (folder : Option Names) (path : Names) (to : List ℕ) (a : Hash) (target : List ℕ) (old : Option Blob) (b : Bool) → is_path_of folder (content_names a) path ≡ b
-    → cond b (Some (AtLink to)) old ≡ Some (AtLink target) → (old ≡ Some (AtLink target)) ⊎ PutsLink folder (PutLink path to) a target
-by_link folder path to a target old true is e = inr (path, (let t : to ≡ target = cc in ap (PutLink path) t), is)
-by_link folder path to a target old false is e = inl e
-
-by_bytes : (bytes target : List ℕ) (old : Option Blob) (b : Bool) → cond b (Some (InFile bytes)) old ≡ Some (AtLink target) → old ≡ Some (AtLink target)
-by_bytes bytes target old true e = absurd cc
-by_bytes bytes target old false e = e
-
-by_drop : (target : List ℕ) (old : Option Blob) (b : Bool) → cond b None old ≡ Some (AtLink target) → old ≡ Some (AtLink target)
-by_drop target old true e = absurd cc
-by_drop target old false e = e
-
-from_act : (folder : Option Names) (v : Value) (act : Act) (a : Hash) (target : List ℕ) → (change folder act v).contents a ≡ Some (AtLink target)
-    → (v.contents a ≡ Some (AtLink target)) ⊎ PutsLink folder act a target
-from_act folder v (PutLink path to) a target e = by_link folder path to a target (v.contents a) (is_path_of folder (content_names a) path) refl e
-from_act folder v (PutBytes path bytes) a target e = inl (by_bytes bytes target (v.contents a) (is_path_of folder (content_names a) path) e)
-from_act folder v (Drop path) a target e = inl (by_drop target (v.contents a) (is_path_of folder (content_names a) path) e)
-from_act folder v Nothing a target e = inl e
-from_act folder v (AddEntries path new) a target e = inl e
-from_act folder v (MakeFolders path count) a target e = inl e
-from_act folder v (DropFolder path) a target e = inl e
-
--- ---- the deed among those of its call
-
-among_left : (d : Deed) (xs ys : List Deed) → IsAmong d xs → IsAmong d (xs ++ ys)
-among_left d [] ys h = absurd h
-among_left d (x ∷ xs) ys (inl e) = inl e
-among_left d (x ∷ xs) ys (inr h) = inr (among_left d xs ys h)
-
-among_right : (d : Deed) (xs ys : List Deed) → IsAmong d ys → IsAmong d (xs ++ ys)
-among_right d [] ys h = h
-among_right d (x ∷ xs) ys h = inr (among_right d xs ys h)
-
-among_last : (d : Deed) (turns : List Turn) (turn : Turn) → IsAmong d (deeds_of turn.move) → IsAmong d (deeds (turns ++ turn ∷ []))
-among_last d [] turn h = among_left d (deeds_of turn.move) [] h
-among_last d (t ∷ turns) turn h = among_right d (deeds_of t.move) (deeds (turns ++ turn ∷ [])) (among_last d turns turn h)
-
-module _ (names : Names) (target : List ℕ) where
-  abbrev the_link : Deed
-  the_link = does (PutLink names target)
-
-  link_deed : (m : Move) → act_of m.step m.luck m.answer ≡ PutLink names target → IsAmong the_link (deeds_of m)
-  link_deed m e =
-      among_left the_link (deeds_of_act (act_of m.step m.luck m.answer)) (finds_in m.step m.answer)
-      (subst (λ act. IsAmong the_link (deeds_of_act act)) (sym e) (inl refl))
-
-  not_among : (ds : List Deed) → ds ≡ [] → IsAmong the_link ds → ⊥
-  not_among ds none among = subst (IsAmong the_link) none among
-
-  not_entry : (i : Insertion) (d : Deed) → IsAdded i d → the_link ≡ d → ⊥
-  not_entry i (does act) is same = let no : PutLink names target ≡ AddEntries is.0 (i.entry ∷ []) = (let x : PutLink names target ≡ act = cc in x ∙ is.2) in absurd cc
-  not_entry i (finds path) is same = absurd cc
-
-  not_added : (i : Insertion) (ds : List Deed) (reply : Option Reply) → Adds i ds reply → IsAmong the_link ds → ⊥
-  not_added i ds reply (inl nothing) among = not_among ds nothing.0 among
-  not_added i ds reply (inr h) among =
-      elim (subst (IsAmong the_link) h.2 among) [
-        | inl same ↦ not_entry i h.0 h.1 same
-        | inr none ↦ none
-      ]
-
-  not_after : (c : Commit) (key : Option (List ℕ)) (ds : List Deed) (reply : Option Reply) → AddsAfter c key ds reply → IsAmong the_link ds → ⊥
-  not_after c None ds reply none among = not_among ds none among
-  not_after c (Some key) ds reply adds among = not_added (insertion_of c key) ds reply adds among
-
-  content_place : (c : Commit) (to : List ℕ) (content : Deed) → IsContent c (λ n. PutLink n to) content → the_link ≡ content → names_of (content_path c.cache c.computed) ≡ Ok names
-  content_place c to (does act) is same =
-      let put : PutLink names target ≡ PutLink is.0 to = (let x : PutLink names target ≡ act = cc in x ∙ is.2) in
-      let n : is.0 ≡ names = cc in
-      is.1 ∙ ap Ok n
-  content_place c to (finds path) is same = absurd cc
-
-  -- a commit put its link at the place of its own digest
-  committed : (c : Commit) (to : List ℕ) (ds : List Deed) (reply : Option Reply) → CommitsAs c (λ n. PutLink n to) ds reply → IsAmong the_link ds
-      → names_of (content_path c.cache c.computed) ≡ Ok names
-  committed c to ds reply (inl nothing) among = absurd (not_among ds nothing.0 among)
-  committed c to ds reply (inr h) among =
-      elim (subst (IsAmong the_link) h.3 among) [
-        | inl same ↦ content_place c to h.0 h.2 same
-        | inr more ↦ absurd (not_after c c.key h.1 reply h.4 more)
-      ]
 
 -- ---- the target where a call opened it
 

@@ -1,7 +1,7 @@
 -- A listing answers what its turns gave.
-use Rattle.std.proofs.Common.{◌≡◌, ◌⊎◌, inl, inr, ◌≤◌, ◌<◌, ◌+◌, ◌-◌, ℕ, Bool, true, false, cond, ◌||◌, List, [], ◌∷◌, ◌++◌, Option, None, Some, Result, Ok, Err, length, take, drop, nat_le, nat_lt, refl, sym, ap, subst, ◌∙◌, codes, arith, append_assoc, append-nil, length-append}
+use Rattle.std.proofs.Common.{◌≡◌, ◌⊎◌, inl, inr, ◌≤◌, ◌<◌, ◌+◌, ◌-◌, ℕ, true, false, cond, ◌||◌, List, [], ◌∷◌, ◌++◌, Option, None, Some, Result, Ok, Err, length, take, drop, nat_le, nat_lt, refl, sym, ap, subst, ◌∙◌, codes, arith, append-nil, length-append}
 use Rattle.std.specs.Prelude.{All}
-use Rattle.std.proofs.lemmas.Bool.{leb-true, leb-false, ltb-true, ltb-false}
+use Rattle.std.proofs.lemmas.Bool.{leb-true, leb-false}
 use Rattle.std.proofs.lemmas.List.{take_all, take_at}
 use Rattle.std.proofs.lemmas.List.Elements.{All-nil}
 use Rattle.sha1.specs.Sha1.{sha1}
@@ -37,69 +37,13 @@ use Rattle.cacache_history.specs.Reading.{bucket_read, by_entries}
 use Rattle.cacache_history.proofs.Holding.{TurnHolds, TurnsHold}
 use Rattle.cacache_history.proofs.Reading.{bucket_below, lists_bucket}
 use Rattle.cacache_history.proofs.Runs.{reached, reply_run, lost_run, memory_plain}
-use Rattle.cacache_history.specs.Listings.{IsIndexFolder, IsFound, TurnGives, TurnsGive, count_in, names_given, is_past, listing_of, AnyTurn, HasBucket, ReadsBucket, FailsAbove, FindsBuckets, ListsHeld, ListsValue, ListingsReadValue}
+use Rattle.cacache_history.specs.Listings.{IsIndexFolder, IsFound, TurnGives, TurnsGive, count_in, is_past, listing_of, AnyTurn, HasBucket, ReadsBucket, FailsAbove, FindsBuckets, ListsHeld, ListsValue, ListingsReadValue}
 use Rattle.cacache_history.proofs.Owned.{bucket_found}
 use Rattle.cacache_history.proofs.Once.{none_twice}
 use Rattle.cacache_history.proofs.Keys.{no_key_twice}
 use Rattle.cacache_history.proofs.Bucketed.{KeyedTurn, turns_keyed}
 use Rattle.cacache_history.proofs.Walks.{Visits, Tasks, tasks_append, no_leaving, folder_tasks, CoversAny, covers_left, covers_right, folder_covers}
-
--- ---- tests on numbers
-
-not_lt : (a b : ℕ) → b ≤ a → nat_lt a b ≡ false
-not_lt a b le = by (nat_lt a b) refl
-  where
-    by : (x : Bool) → nat_lt a b ≡ x → x ≡ false
-    by true e = absurd (omega (arith, ltb-true a b e, le))
-    by false e = refl
-
-is_lt : (a b : ℕ) → a < b → nat_lt a b ≡ true
-is_lt a b lt = by (nat_lt a b) refl
-  where
-    by : (x : Bool) → nat_lt a b ≡ x → x ≡ true
-    by true e = refl
-    by false e = absurd (omega (arith, ltb-false a b e, lt))
-
-less_left : (left n m : ℕ) → n ≤ left → nat_lt (left - n) m ≡ nat_lt left (n + m)
-less_left left n m le = by (nat_lt (left - n) m) refl
-  where
-    by : (x : Bool) → nat_lt (left - n) m ≡ x → x ≡ nat_lt left (n + m)
-    by true e = sym (is_lt left (n + m) (omega (arith, ltb-true (left - n) m e, le)))
-    by false e = sym (not_lt left (n + m) (omega (arith, ltb-false (left - n) m e, le)))
-
-or_true : (a : Bool) → (a || true) ≡ true
-or_true true = refl
-or_true false = refl
-
--- ---- what a walk answers that gave these items first and may still take so many names
-
-abbrev far : List Item → ℕ → List Turn → List Item → Bool
-far front left turns items = nat_lt left (names_given turns) || nat_lt most (length (front ++ items))
-
-abbrev ended : List Item → ℕ → List Turn → List Item → List Item
-ended front left turns items =
-    cond (far front left turns items) (take most (front ++ items) ++ too_deep ∷ []) (front ++ items)
-
--- a walk that took and gave nothing more
-ended_now : (front : List Item) (left : ℕ) → length front ≤ most → ended front left [] [] ≡ front
-ended_now front left le = rw (append-nil front, not_lt left 0 (omega arith), not_lt most (length front) le) refl
-
-far_more : (front new : List Item) (left n : ℕ) (turn : Turn) (turns : List Turn) (items : List Item) → n ≡ count_in (names_in turn.move.answer) → n ≤ left
-    → far (front ++ new) (left - n) turns items ≡ far front left (turn ∷ turns) (new ++ items)
-far_more front new left n turn turns items is le =
-    ap (λ l. nat_lt (left - n) (names_given turns) || nat_lt most (length l)) (append_assoc front new items)
-    ∙ ap (λ b. b || nat_lt most (length (front ++ (new ++ items)))) (less_left left n (names_given turns) le ∙ ap (λ m. nat_lt left (m + names_given turns)) is)
-
--- a turn that gave these names and items
-ended_more : (front new : List Item) (left n : ℕ) (turn : Turn) (turns : List Turn) (items : List Item) → n ≡ count_in (names_in turn.move.answer) → n ≤ left
-    → ended (front ++ new) (left - n) turns items ≡ ended front left (turn ∷ turns) (new ++ items)
-ended_more front new left n turn turns items is le =
-    ap (λ l. cond (far (front ++ new) (left - n) turns items) (take most l ++ too_deep ∷ []) l) (append_assoc front new items)
-    ∙ ap (λ b. cond b (take most (front ++ (new ++ items)) ++ too_deep ∷ []) (front ++ (new ++ items))) (far_more front new left n turn turns items is le)
-
-pick : (P : State → Type 0) (b : Bool) (s t : State) → b ≡ false → P (cond b s t) → P t
-pick P true s t e h = absurd cc
-pick P false s t e h = h
+use Rattle.cacache_history.proofs.Ended.{is_lt, or_true, far, ended, ended_now, far_more, ended_more, pick}
 
 module _ (s : Setup) (r : Reply) where
   abbrev Sees : List ℕ → Turn → Type 0
