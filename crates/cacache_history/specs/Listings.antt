@@ -40,8 +40,8 @@ IsFound s turn (Ok found) = latest found.key (entries_at s (sha1 found.key) turn
 IsFound s turn (Err error) = Unit {0}
 
 -- A turn of a listing reads a folder of the index or the bucket of a key, and nothing else. A
--- folder gives why it couldn't be read, if so; a bucket gives what it lists: of the entries that the
--- cache holds there at the turn's place, each key with a latest one.
+-- folder gives why it couldn't be read, if so; a bucket gives what it lists: of the entries that
+-- the cache holds there at the turn's place, each key with a latest one.
 abbrev pub TurnGives : Setup → Turn → PlainStep → List Item → Type 0
 TurnGives s turn (steps.ReadDir path) items =
     IsIndexFolder s path × (items ≡ by_folder (names_in turn.move.answer))

@@ -26,8 +26,8 @@ impl World {
         }
     }
 
-    /// Makes the events in their order, up to the first that can't be. The claim as a whole holds of
-    /// what happened: see `Headline`.
+    /// Makes the events in their order, up to the first that can't be. The claim as a whole holds
+    /// of what happened: see `Headline`.
     ///
     /// # Errors
     ///
