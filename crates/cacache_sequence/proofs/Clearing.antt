@@ -32,10 +32,12 @@ TaskGone t (visit (remove_file p)) = Gone t p
 TaskGone t (visit (remove_folder p)) = Gone t p
 TaskGone t (stumble fault) = ⊥
 
+-- so it is of each task
 abbrev pub TasksGone : Tree → List Task → Type 0
 TasksGone t [] = Unit {0}
 TasksGone t (task ∷ todo) = TaskGone t task × TasksGone t todo
 
+-- what a clearing leaves of a tree that had these tasks ahead
 pub record Cleared (t final : Tree) (todo : List Task) : Type 0 where
   pub shrinks : Shrinks t final
   pub gone : TasksGone final todo

@@ -65,6 +65,7 @@ called answer r cache base number command old new plain ran logged =
 
 -- ---- a write
 
+-- what it did
 pub record Wrote (cache key bytes : List ℕ) (r : Result (List Hash) Error) (old new : List LogItem) : Type 0 where
   pub sound : IsCache cache new
   pub ok : IfOk r (λ i. HasKey cache key i bytes new)
@@ -119,6 +120,7 @@ finds_later law cache key (Err e) old mid new g (inr h) = inr (law e old mid new
 
 -- ---- a removal and a clearing
 
+-- what a removal did
 pub record Removed (cache key : List ℕ) (r : Result (Unit {0}) Error) (old new : List LogItem) : Type 0 where
   pub sound : IsCache cache new
   pub ok : OnOk r (LacksKey cache key new)
@@ -133,6 +135,7 @@ removed law cache key moment (Err e) old new utf8 early sound c =
     let w = law cache key moment (replies.Refused (without_message e)) old new utf8 early sound c in
     record { sound = w.0; ok = tt; err = excused e old new w.1 }
 
+-- what a clearing did
 pub record Emptied (cache : List ℕ) (r : Result (Unit {0}) Error) (new : List LogItem) : Type 0 where
   pub sound : IsCache cache new
   pub ok : OnOk r (IsEmptyCache cache new)
