@@ -15,16 +15,17 @@ use cacache_rows::words::{cut, number_of};
 use std::alloc::{AllocError, Global};
 
 /// What a file holds, as a row says it.
-fn file(alloc: Global, held: Option<Vec<u8>>) -> Result<String, AllocError> {
-    match held {
-        Some(bytes) => shown(alloc, &bytes),
-        None => String::from_str(alloc, "no file"),
+fn file<S: Store>(env: &mut On<S>, path: &str) -> Result<String, AllocError> {
+    match held(env, path)? {
+        Some(bytes) => shown(env.alloc, &bytes),
+        None => String::from_str(env.alloc, "no file"),
     }
 }
 
-/// Whether something was done, as a row says it.
-fn done(alloc: Global, is_done: bool) -> Result<String, AllocError> {
-    String::from_str(alloc, if is_done { "done" } else { "not done" })
+/// How many names a folder has, as a row says it.
+fn names<S: Store>(env: &mut On<S>, path: &str) -> Result<String, AllocError> {
+    let count = names_in(env, path)?;
+    format!(in env.alloc; "{count:?}")
 }
 
 /// Plants a file with these bytes, in words.
@@ -52,26 +53,50 @@ fn asked<S: Store>(env: &mut On<S>, act: &str, row: Row<'_>) -> Result<String, F
     Ok(format!(in env.alloc; "clock {clock}, numbers {numbers}: {line}")?)
 }
 
+/// What a step of somebody else gives, where the name is that of one: whether it was done.
+fn made_beside<S: Store>(
+    env: &mut On<S>,
+    name: &str,
+    path: &str,
+    input: &str,
+) -> Result<Option<&'static str>, AllocError> {
+    let is_done = match name {
+        "plant" => planted(env, path, input),
+        "folder" => make_folder(env, path),
+        "gone" => remove_file(env, path),
+        "link" => make_link(env, input, path),
+        _ => return Ok(None),
+    };
+    Ok(Some(if is_done? { "done" } else { "not done" }))
+}
+
+/// What is given by a look at a file or a folder, by a step of somebody else, or by a public call.
+fn made_or_called<S: Store>(env: &mut On<S>, row: Row<'_>) -> Result<String, Flaw> {
+    let (name, path) = cut(row.act);
+    if let Some(told) = made_beside(env, name, path, row.input)? {
+        return Ok(String::from_str(env.alloc, told)?);
+    }
+    match name {
+        "holds" => Ok(file(env, path)?),
+        "names" => Ok(names(env, path)?),
+        _ => called(env, row),
+    }
+}
+
 /// What the row's act gives.
 pub(crate) fn made<S: Store>(env: &mut On<S>, row: Row<'_>) -> Result<String, Flaw> {
-    let alloc = env.alloc;
-    match cut(row.act) {
-        ("plant", path) => Ok(done(alloc, planted(env, path, row.input)?)?),
-        ("folder", path) => Ok(done(alloc, make_folder(env, path)?)?),
-        ("gone", path) => Ok(done(alloc, remove_file(env, path)?)?),
-        ("link", path) => Ok(done(alloc, make_link(env, row.input, path)?)?),
-        ("holds", path) => Ok(file(alloc, held(env, path)?)?),
-        ("names", path) => Ok(format!(in alloc; "{:?}", names_in(env, path)?)?),
-        ("at", act) => made_at(env, act, row),
-        ("asked", act) => asked(env, act, row),
-        ("put", act) => put(env, act, row.input),
-        ("drive", act) => driven(env, act, row.input),
-        ("writer", act) => written(env, act, row.input),
-        ("reader", act) => read(env, act, row.input),
-        ("linker", act) => linked(env, act),
-        ("export", act) => exported(env, act),
-        ("without", why) => without(alloc, why),
-        ("cacache", act) => ran(env, Row { act, ..row }),
-        _ => called(env, row),
+    let (name, act) = cut(row.act);
+    match name {
+        "at" => made_at(env, act, row),
+        "asked" => asked(env, act, row),
+        "put" => put(env, act, row.input),
+        "drive" => driven(env, act, row.input),
+        "writer" => written(env, act, row.input),
+        "reader" => read(env, act, row.input),
+        "linker" => linked(env, act),
+        "export" => exported(env, act),
+        "without" => without(env.alloc, act),
+        "cacache" => ran(env, Row { act, ..row }),
+        _ => made_or_called(env, row),
     }
 }

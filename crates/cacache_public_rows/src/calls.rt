@@ -1,4 +1,5 @@
-//! Public calls that give one answer. A call's name is followed by the cache and what else the call is given.
+//! Public calls that give one answer. A call's name is followed by the cache and what else the call is given. Each function
+//! knows some of the names and hands on the others.
 use crate::lines::{done, exists, found, has, listed, read, stored};
 use crate::options::options_of;
 use crate::place::On;
@@ -9,82 +10,10 @@ use cacache::content::read::has_content;
 use cacache::content::rm::rm;
 use cacache::index::{delete, find, insert, ls};
 use cacache::store::Store;
-use cacache::{Algorithm, Integrity, RemoveOpts};
+use cacache::{Algorithm, Integrity, RemoveOpts, WriteOpts};
 use cacache_rows::words::{cut, string_of};
 use cacache_rows::{Flaw, let_go};
-use std::alloc::Global;
-
-/// A cache, and what stands behind it in a row: a key, or the text of an integrity.
-#[derive(Clone, Copy)]
-struct Place<'a> {
-    cache: &'a str,
-    what: &'a str,
-}
-
-/// The cache of a call, and what stands behind it.
-fn place_of(words: &str) -> Place<'_> {
-    let (cache, what) = cut(words);
-    Place { cache, what }
-}
-
-/// The line on a call by key, where the name is that of one.
-fn by_key<S: Store>(
-    env: &mut On<S>,
-    name: &str,
-    cache: &str,
-    key: &str,
-) -> Result<Option<String>, Flaw> {
-    let alloc = env.alloc;
-    Ok(Some(match name {
-        "read_sync" => read(alloc, cacache::read_sync(env, cache, key))?,
-        "find" => found(alloc, find(env, cache, key))?,
-        "metadata_sync" => found(alloc, cacache::metadata_sync(env, cache, key))?,
-        "delete" => done(alloc, delete(env, cache, key))?,
-        "remove_sync" => done(alloc, cacache::remove_sync(env, cache, key))?,
-        "remove_fully" => {
-            let opts = RemoveOpts::new().remove_fully(true);
-            done(alloc, opts.remove_sync(env, cache, key))?
-        }
-        "remove_not_fully" => {
-            let opts = RemoveOpts::new().remove_fully(false);
-            done(alloc, opts.remove_sync(env, cache, key))?
-        }
-        _ => return Ok(None),
-    }))
-}
-
-/// The line on a call by integrity, where the name is that of one.
-fn by_hash<S: Store>(
-    env: &mut On<S>,
-    name: &str,
-    cache: &str,
-    sri: &Integrity,
-) -> Result<Option<String>, Flaw> {
-    let alloc = env.alloc;
-    Ok(Some(match name {
-        "read_hash_sync" => read(alloc, cacache::read_hash_sync(env, cache, sri))?,
-        "exists_sync" => exists(alloc, cacache::exists_sync(env, cache, sri))?,
-        "has_content" => has(alloc, has_content(env, cache, sri))?,
-        "remove_hash_sync" => done(alloc, cacache::remove_hash_sync(env, cache, sri))?,
-        "rm" => done(alloc, rm(env, cache, sri))?,
-        "content_path" => {
-            let path = content_path(alloc, cache, sri)?;
-            format!(in alloc; "{path}")?
-        }
-        _ => return Ok(None),
-    }))
-}
-
-/// The line on a call of a whole cache, where the name is that of one.
-fn on_cache<S: Store>(env: &mut On<S>, name: &str, cache: &str) -> Result<Option<String>, Flaw> {
-    let alloc = env.alloc;
-    Ok(Some(match name {
-        "clear_sync" => done(alloc, cacache::clear_sync(env, cache))?,
-        "ls" => listed(alloc, ls(env, cache))?,
-        "list_sync" => listed(alloc, cacache::list_sync(env, cache))?,
-        _ => return Ok(None),
-    }))
-}
+use std::alloc::{AllocError, Global};
 
 /// The algorithm of this name.
 pub(crate) fn algorithm_of(name: &str) -> Result<Algorithm, Flaw> {
@@ -109,123 +38,155 @@ pub(crate) fn integrity_of(alloc: Global, text: &str) -> Result<Integrity, Flaw>
     }
 }
 
-/// The line on a call that stores these bytes, where the name is that of one.
+/// The line on a call by integrity.
+fn by_hash<S: Store>(
+    env: &mut On<S>,
+    name: &str,
+    cache: &str,
+    sri: &Integrity,
+) -> Result<String, Flaw> {
+    let alloc = env.alloc;
+    let line = match name {
+        "read_hash_sync" => read(alloc, cacache::read_hash_sync(env, cache, sri)),
+        "exists_sync" => exists(alloc, cacache::exists_sync(env, cache, sri)),
+        "has_content" => has(alloc, has_content(env, cache, sri)),
+        "remove_hash_sync" => done(alloc, cacache::remove_hash_sync(env, cache, sri)),
+        "rm" => done(alloc, rm(env, cache, sri)),
+        "content_path" => return Ok(content_path(alloc, cache, sri)?.into_string()),
+        _ => return Err(Flaw::NotRead),
+    };
+    Ok(line?)
+}
+
+/// The line on a call that stores these bytes, which is given an algorithm's name, the cache, and a key where it has one.
+fn storing_under<S: Store>(
+    env: &mut On<S>,
+    name: &str,
+    words: &str,
+    bytes: &[u8],
+) -> Result<String, Flaw> {
+    let alloc = env.alloc;
+    let (algorithm, words) = cut(words);
+    let (cache, key) = cut(words);
+    let algo = algorithm_of(algorithm)?;
+    let line = match name {
+        "write_sync_with_algo" => {
+            stored(
+                alloc,
+                cacache::write_sync_with_algo(env, algo, cache, key, bytes),
+            )
+        }
+        "write_hash_sync_with_algo" => {
+            stored(
+                alloc,
+                cacache::write_hash_sync_with_algo(env, algo, cache, bytes),
+            )
+        }
+        _ => return Err(Flaw::NotRead),
+    };
+    Ok(line?)
+}
+
+/// The line on a call that stores these bytes.
 fn storing<S: Store>(
     env: &mut On<S>,
     name: &str,
     words: &str,
     bytes: &[u8],
-) -> Result<Option<String>, Flaw> {
+) -> Result<String, Flaw> {
     let alloc = env.alloc;
-    let Place { cache, what: key } = place_of(words);
-    Ok(Some(match name {
-        "write_sync" => stored(alloc, cacache::write_sync(env, cache, key, bytes))?,
-        "write_hash_sync" => stored(alloc, cacache::write_hash_sync(env, cache, bytes))?,
-        "write_sync_with_algo" => {
-            let (algo, Place { cache, what: key }) = algorithm_and_place(words)?;
-            stored(
-                alloc,
-                cacache::write_sync_with_algo(env, algo, cache, key, bytes),
-            )?
-        }
-        "write_hash_sync_with_algo" => {
-            let (algo, Place { cache, .. }) = algorithm_and_place(words)?;
-            stored(
-                alloc,
-                cacache::write_hash_sync_with_algo(env, algo, cache, bytes),
-            )?
-        }
+    let (cache, key) = cut(words);
+    let line = match name {
+        "write_sync" => stored(alloc, cacache::write_sync(env, cache, key, bytes)),
+        "write_hash_sync" => stored(alloc, cacache::write_hash_sync(env, cache, bytes)),
         "write_vec_sync" => {
             let bytes = Vec::from_slice(alloc, bytes)?;
-            stored(alloc, cacache::write_vec_sync(env, cache, key, bytes))?
+            stored(alloc, cacache::write_vec_sync(env, cache, key, bytes))
         }
-        _ => return Ok(None),
-    }))
+        _ => return storing_under(env, name, words, bytes),
+    };
+    Ok(line?)
 }
 
-/// The algorithm that the words begin with, and the place behind it.
-fn algorithm_and_place(words: &str) -> Result<(Algorithm, Place<'_>), Flaw> {
-    let (name, rest) = cut(words);
-    Ok((algorithm_of(name)?, place_of(rest)))
+/// The line on a call that is given bytes or an integrity.
+fn given<S: Store>(env: &mut On<S>, name: &str, words: &str, input: &str) -> Result<String, Flaw> {
+    if name.starts_with("write_") {
+        let bytes = bytes_of(env.alloc, input)?;
+        return storing(env, name, words, &bytes);
+    }
+    let (cache, text) = cut(words);
+    let sri = integrity_of(env.alloc, text)?;
+    by_hash(env, name, cache, &sri)
 }
 
-/// The line on an insertion with a copy of the options: its cache, its key, and options.
-fn inserted<S: Store>(env: &mut On<S>, words: &str) -> Result<String, Flaw> {
-    let alloc = env.alloc;
-    let Place { cache, what } = place_of(words);
-    let (key, words) = cut(what);
-    let opts = options_of(alloc, words)?;
-    let copy = opts.clone()?;
-    Ok(stored(alloc, insert(env, cache, key, copy))?)
-}
-
-/// The line on a link, where the name is that of one: its cache, its key where it has one, and its target.
-fn linked<S: Store>(
+/// The line on a removal by key, of the content too if it is to be full.
+fn removed<S: Store>(
     env: &mut On<S>,
-    name: &str,
     cache: &str,
-    what: &str,
-) -> Result<Option<String>, Flaw> {
-    let alloc = env.alloc;
-    Ok(Some(match name {
-        "link_to_sync" => {
-            let (key, target) = cut(what);
-            stored(alloc, cacache::link_to_sync(env, cache, key, target))?
-        }
-        "link_to_hash_sync" => stored(alloc, cacache::link_to_hash_sync(env, cache, what))?,
-        _ => return Ok(None),
-    }))
+    key: &str,
+    is_full: bool,
+) -> Result<String, AllocError> {
+    let opts = RemoveOpts::new().remove_fully(is_full);
+    done(env.alloc, opts.remove_sync(env, cache, key))
 }
 
-/// The line on a call by key, on a link, or on a call of a whole cache.
-fn without_bytes<S: Store>(
+/// The line on a call by key.
+fn by_key<S: Store>(env: &mut On<S>, name: &str, words: &str, input: &str) -> Result<String, Flaw> {
+    let alloc = env.alloc;
+    let (cache, key) = cut(words);
+    let line = match name {
+        "read_sync" => read(alloc, cacache::read_sync(env, cache, key)),
+        "find" => found(alloc, find(env, cache, key)),
+        "metadata_sync" => found(alloc, cacache::metadata_sync(env, cache, key)),
+        "delete" => done(alloc, delete(env, cache, key)),
+        "remove_sync" => done(alloc, cacache::remove_sync(env, cache, key)),
+        "remove_fully" => removed(env, cache, key, true),
+        "remove_not_fully" => removed(env, cache, key, false),
+        _ => return given(env, name, words, input),
+    };
+    Ok(line?)
+}
+
+/// The line on an insertion with a copy of the options: its key, and options.
+fn inserted<S: Store>(env: &mut On<S>, cache: &str, words: &str) -> Result<String, Flaw> {
+    let alloc = env.alloc;
+    let (key, words) = cut(words);
+    let opts = options_of(alloc, words)?;
+    let copy: Result<WriteOpts, AllocError> = opts.clone();
+    let_go(opts);
+    Ok(stored(alloc, insert(env, cache, key, copy?))?)
+}
+
+/// The line on a link: its key, and its target.
+fn linked<S: Store>(env: &mut On<S>, cache: &str, words: &str) -> Result<String, AllocError> {
+    let (key, target) = cut(words);
+    stored(env.alloc, cacache::link_to_sync(env, cache, key, target))
+}
+
+/// The line on a call of a whole cache, on an insertion, or on a link.
+fn on_cache<S: Store>(
     env: &mut On<S>,
     name: &str,
     words: &str,
-) -> Result<Option<String>, Flaw> {
-    let Place { cache, what } = place_of(words);
-    if let Some(line) = on_cache(env, name, cache)? {
-        return Ok(Some(line));
-    }
-    if let Some(line) = linked(env, name, cache, what)? {
-        return Ok(Some(line));
-    }
-    by_key(env, name, cache, what)
-}
-
-/// The line on a call by integrity.
-fn hashed<S: Store>(env: &mut On<S>, name: &str, words: &str) -> Result<Option<String>, Flaw> {
-    let Place { cache, what } = place_of(words);
-    let sri = integrity_of(env.alloc, what)?;
-    by_hash(env, name, cache, &sri)
+    input: &str,
+) -> Result<String, Flaw> {
+    let alloc = env.alloc;
+    let (cache, what) = cut(words);
+    let line = match name {
+        "clear_sync" => done(alloc, cacache::clear_sync(env, cache)),
+        "ls" => listed(alloc, ls(env, cache)),
+        "list_sync" => listed(alloc, cacache::list_sync(env, cache)),
+        "insert" => return inserted(env, cache, what),
+        "link_to_sync" => linked(env, cache, what),
+        "link_to_hash_sync" => stored(alloc, cacache::link_to_hash_sync(env, cache, what)),
+        _ => return by_key(env, name, words, input),
+    };
+    Ok(line?)
 }
 
 /// The line on the call of the row, whose words may have `\t` and the like.
 pub(crate) fn called<S: Store>(env: &mut On<S>, row: Row<'_>) -> Result<String, Flaw> {
     let (name, words) = cut(row.act);
     let words = string_of(env.alloc, words)?;
-    called_with(env, name, words.as_str(), row.input)
-}
-
-/// The line on the call of this name with these words and this input.
-fn called_with<S: Store>(
-    env: &mut On<S>,
-    name: &str,
-    words: &str,
-    input: &str,
-) -> Result<String, Flaw> {
-    if name == "insert" {
-        return inserted(env, words);
-    }
-    if let Some(line) = without_bytes(env, name, words)? {
-        return Ok(line);
-    }
-    let bytes = bytes_of(env.alloc, input)?;
-    if let Some(line) = storing(env, name, words, &bytes)? {
-        return Ok(line);
-    }
-    match hashed(env, name, words)? {
-        Some(line) => Ok(line),
-        None => Err(Flaw::NotRead),
-    }
+    on_cache(env, name, words.as_str(), row.input)
 }

@@ -2,11 +2,13 @@
 ghost use Rattle.std.specs.Prelude.{IfOk};
 ghost use Rattle.cacache.specs.Listings.{IsListing};
 
-use crate::words::shown;
+use crate::words::{push, shown};
 use cacache::errors::Error;
 use cacache::ls::Ls;
 use cacache::store::Store;
 use cacache::{Integrity, Metadata, Result as Answered};
+use cacache_rows::let_go;
+use cacache_rows::words::written_out;
 use std::alloc::{AllocError, Global};
 
 /// An error: its fault or its cause, where it has one, and its whole text.
@@ -20,8 +22,21 @@ fn shown_error(alloc: Global, error: &Error) -> Result<String, AllocError> {
 
 /// The line on an error.
 pub(crate) fn refused(alloc: Global, error: Error) -> Result<String, AllocError> {
-    let text = shown_error(alloc, &error)?;
-    shown(alloc, text.as_str().as_bytes())
+    let text = shown_error(alloc, &error);
+    let_go(error);
+    let text = text?;
+    written_out(alloc, text.as_str())
+}
+
+/// Two lines as one.
+pub(crate) fn pair(
+    alloc: Global,
+    one: Result<String, AllocError>,
+    other: Result<String, AllocError>,
+) -> Result<String, AllocError> {
+    let one = one?;
+    let other = other?;
+    format!(in alloc; "{one}, {other}")
 }
 
 /// The line on what was stored.
@@ -111,7 +126,7 @@ fn lines_of<S: Store, C, N>(alloc: Global, items: Ls<S, C, N>) -> Result<Vec<Str
 {
     let mut lines = Vec::new(alloc);
     for found in items {
-        lines.push(item(alloc, found)?)?;
+        push(&mut lines, item(alloc, found))?;
     }
     Ok(lines)
 }

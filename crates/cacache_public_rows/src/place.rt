@@ -83,11 +83,15 @@ pub(crate) fn remove_file<S: Store>(env: &mut On<S>, path: &str) -> Result<bool,
     Ok(does(env, Step::RemoveFile(path)))
 }
 
+/// A copy of these bytes.
+fn copy_of(alloc: Global, bytes: &[u8]) -> Result<Bytes, AllocError> {
+    Bytes::new(alloc, Vec::from_slice(alloc, bytes)?)
+}
+
 /// Puts these bytes at the end of the file, as somebody else would.
 fn append<S: Store>(env: &mut On<S>, path: &str, bytes: &[u8]) -> Result<bool, AllocError> {
-    let alloc = env.alloc;
-    let bytes = Bytes::new(alloc, Vec::from_slice(alloc, bytes)?)?;
-    let path = Text::from_str(alloc, path)?;
+    let path = Text::from_str(env.alloc, path)?;
+    let bytes = copy_of(env.alloc, bytes)?;
     Ok(does(env, Step::Append(path, bytes)))
 }
 

@@ -20,9 +20,9 @@ impl Places {
     /// Empty ones. The folders are those below the one where the program runs.
     pub(crate) fn new(rt: &HostRuntime) -> io::Result<Places> {
         let alloc = rt.alloc();
-        let memory = on(alloc, MemStore::new(alloc)?, "/")?;
         let here = fs::canonicalize(rt, ".")?;
         let folders = on(alloc, FolderStore::new(*rt), here.as_str())?;
+        let memory = on(alloc, MemStore::new(alloc)?, "/")?;
         Ok(Places {
             rt: *rt,
             memory,

@@ -46,23 +46,35 @@ fn told(alloc: Global, status: u8, output: &[u8], errors: &[u8]) -> Result<Strin
     format!(in alloc; "{status} | {output} | {errors}")
 }
 
-/// What a run of the program gives.
-pub(crate) fn ran<S: Store>(env: &mut On<S>, row: Row<'_>) -> Result<String, Flaw> {
+/// What a run of the program with these words and this input gives.
+fn ran_with<S: Store>(
+    env: &mut On<S>,
+    words: &[String],
+    mut input: Input<'_>,
+    room: usize,
+) -> Result<String, AllocError> {
     let alloc = env.alloc;
-    let asked = run_of(row.act)?;
-    let words = words_of(alloc, asked.words)?;
-    let given = bytes_of(alloc, row.input)?;
-    let mut input = Input {
-        bytes: &given,
-        is_torn: asked.is_torn,
-    };
     let mut output = Output {
-        room: asked.room,
+        room,
         taken: Vec::new(alloc),
     };
     let mut errors = Vec::new(alloc);
-    let status = run(env, &words, &mut input, &mut output, &mut errors);
-    Ok(told(alloc, status, &output.taken, &errors)?)
+    let status = run(env, words, &mut input, &mut output, &mut errors);
+    told(alloc, status, &output.taken, &errors)
+}
+
+/// What a run of the program gives.
+pub(crate) fn ran<S: Store>(env: &mut On<S>, row: Row<'_>) -> Result<String, Flaw> {
+    let alloc = env.alloc;
+    let Run {
+        words,
+        is_torn,
+        room,
+    } = run_of(row.act)?;
+    let words = words_of(alloc, words)?;
+    let given = bytes_of(alloc, row.input)?;
+    let bytes = given.as_slice();
+    Ok(ran_with(env, &words, Input { bytes, is_torn }, room)?)
 }
 
 /// What is told where the words can't be had, since memory ran out or a word isn't UTF-8.

@@ -12,15 +12,25 @@ use cacache_rows::words::{cut, is_nothing, number_of};
 use cacache_rows::{Flaw, let_go};
 use std::alloc::{AllocError, Global};
 
-/// What is said of a put: an expected size, and an expected integrity.
-fn said(size: Option<usize>, integrity: Option<Integrity>) -> Options {
-    Options {
-        algorithm: Algorithm::Sha256,
-        size,
-        integrity,
-        metadata: Json::new(Value::Null),
-        raw_metadata: None,
-    }
+/// The put of these data under a key at the moment 1, of which an expected size and an expected integrity are said.
+fn put_with(key: Text, data: Bytes, size: Option<usize>, integrity: Option<Integrity>) -> Command {
+    Command::Put(Put {
+        key: Some(key),
+        data,
+        moment: 1,
+        options: Options {
+            algorithm: Algorithm::Sha256,
+            size,
+            integrity,
+            metadata: Json::new(Value::Null),
+            raw_metadata: None,
+        },
+    })
+}
+
+/// The data that a word stands for.
+fn data_of(alloc: Global, input: &str) -> Result<Bytes, AllocError> {
+    Bytes::new(alloc, bytes_of(alloc, input)?)
 }
 
 /// The expected size of a word.
@@ -51,35 +61,29 @@ fn replied(alloc: Global, reply: Reply) -> Result<String, AllocError> {
     }
 }
 
-/// The put of these bytes, in words, at the moment 1: its key, an expected size and an expected integrity.
+/// The put of these bytes, in words: its key, an expected size and an expected integrity.
 fn put_of(alloc: Global, words: &str, input: &str) -> Result<Command, Flaw> {
     let (key, words) = cut(words);
     let (size, integrity) = cut(words);
     let size = size_of(size)?;
-    let data = Bytes::new(alloc, bytes_of(alloc, input)?)?;
+    let integrity = expected(alloc, integrity)?;
     let key = Text::from_str(alloc, key)?;
-    let options = said(size, expected(alloc, integrity)?);
-    Ok(Command::Put(Put {
-        key: Some(key),
-        data,
-        moment: 1,
-        options,
-    }))
+    let data = data_of(alloc, input)?;
+    Ok(put_with(key, data, size, integrity))
 }
 
 /// The line on a put that is called: its cache, its key, an expected size and an expected integrity.
 pub(crate) fn put<S: Store>(env: &mut On<S>, words: &str, input: &str) -> Result<String, Flaw> {
     let alloc = env.alloc;
     let (cache, words) = cut(words);
-    let command = put_of(alloc, words, input)?;
-    Ok(replied(alloc, call(env, cache, command, 0))?)
+    Ok(replied(alloc, call(env, cache, put_of(alloc, words, input)?, 0))?)
 }
 
 /// The same of a put that is driven as a job.
 pub(crate) fn driven<S: Store>(env: &mut On<S>, words: &str, input: &str) -> Result<String, Flaw> {
     let alloc = env.alloc;
     let (cache, words) = cut(words);
-    let command = put_of(alloc, words, input)?;
-    let job = Job::try_new(alloc, cache, env.base.as_str(), command, 0)?;
+    let base = env.base.as_str();
+    let job = Job::try_new(alloc, cache, base, put_of(alloc, words, input)?, 0)?;
     Ok(replied(alloc, drive(&mut env.store, job))?)
 }

@@ -1,7 +1,7 @@
 //! Contents that are read in pieces: how the reader is opened, the cache, the key or the integrity's text, how many
 //! bytes are read at first, and what is done then. The input is the path of the content where that is spoilt.
 use crate::calls::integrity_of;
-use crate::lines::refused;
+use crate::lines::{pair, refused};
 use crate::place::{On, plant, remove_file};
 use crate::words::shown;
 use cacache::content::read::open;
@@ -19,16 +19,13 @@ fn opened<S: Store>(
     cache: &str,
     what: &str,
 ) -> Result<Answered<SyncReader<S::File>>, Flaw> {
+    if way == "open" {
+        return Ok(SyncReader::open(env, cache, what));
+    }
+    let sri = integrity_of(env.alloc, what)?;
     match way {
-        "open" => Ok(SyncReader::open(env, cache, what)),
-        "open_hash" => {
-            let sri = integrity_of(env.alloc, what)?;
-            Ok(SyncReader::open_hash(env, cache, sri))
-        }
-        "content" => {
-            let sri = integrity_of(env.alloc, what)?;
-            Ok(open(env, cache, sri))
-        }
+        "open_hash" => Ok(SyncReader::open_hash(env, cache, sri)),
+        "content" => Ok(open(env, cache, sri)),
         _ => Err(Flaw::NotRead),
     }
 }
@@ -64,13 +61,12 @@ fn rest_of<R: Read>(alloc: Global, reader: &mut R) -> Result<String, AllocError>
 }
 
 /// What is done between the first bytes and the rest: `gone` removes the content, and `anew` makes it anew as `hello`.
-fn spoil<S: Store>(env: &mut On<S>, then: &str, path: &str) -> Result<(), AllocError> {
-    let _done = match then {
-        "gone" => remove_file(env, path)?,
-        "anew" => plant(env, path, b"hello")?,
-        _ => true,
-    };
-    Ok(())
+fn spoil<S: Store>(env: &mut On<S>, then: &str, path: &str) -> Result<bool, AllocError> {
+    match then {
+        "gone" => remove_file(env, path),
+        "anew" => plant(env, path, b"hello"),
+        _ => Ok(true),
+    }
 }
 
 /// The lines on the first bytes of a reader, and on the rest, which `stop` leaves out.
@@ -82,28 +78,28 @@ fn parts_of<S: Store>(
     path: &str,
 ) -> Result<String, AllocError> {
     let alloc = env.alloc;
-    let first = first_of(alloc, reader, count)?;
+    let first = first_of(alloc, reader, count);
     if then == "stop" {
-        return Ok(first);
+        return first;
     }
-    spoil(env, then, path)?;
-    let rest = rest_of(alloc, reader)?;
-    format!(in alloc; "{first}, {rest}")
+    let _is_spoilt = spoil(env, then, path)?;
+    pair(alloc, first, rest_of(alloc, reader))
 }
 
-/// The line on a reader that was opened.
+/// The line on the parts of a reader and on its check; or why it wasn't opened.
 fn told<S: Store>(
     env: &mut On<S>,
-    reader: SyncReader<S::File>,
-    words: &str,
+    opened: Answered<SyncReader<S::File>>,
+    then: &str,
+    count: usize,
     path: &str,
-) -> Result<String, Flaw> {
-    let (count, then) = cut(words);
-    let count = number_of(count)?;
-    let mut reader = reader;
-    let parts = parts_of(env, &mut reader, then, count, path)?;
-    let check = checked(env.alloc, reader.check())?;
-    Ok(format!(in env.alloc; "{parts}, {check}")?)
+) -> Result<String, AllocError> {
+    let mut reader = match opened {
+        Ok(reader) => reader,
+        Err(error) => return refused(env.alloc, error),
+    };
+    let parts = parts_of(env, &mut reader, then, count, path);
+    pair(env.alloc, parts, checked(env.alloc, reader.check()))
 }
 
 /// The line on a reader.
@@ -111,8 +107,8 @@ pub(crate) fn read<S: Store>(env: &mut On<S>, words: &str, path: &str) -> Result
     let (way, words) = cut(words);
     let (cache, words) = cut(words);
     let (what, words) = cut(words);
-    match opened(env, way, cache, what)? {
-        Ok(reader) => told(env, reader, words, path),
-        Err(error) => Ok(refused(env.alloc, error)?),
-    }
+    let (count, then) = cut(words);
+    let count = number_of(count)?;
+    let opened = opened(env, way, cache, what)?;
+    Ok(told(env, opened, then, count, path)?)
 }

@@ -8,14 +8,18 @@ use std::alloc::{AllocError, Global};
 
 /// A step: what it is, where, and how many bytes it is given.
 fn asked(alloc: Global, step: &PlainStep) -> Result<String, AllocError> {
-    match step {
-        Step::MakeDirs(path) => format!(in alloc; "MakeDirs {path}"),
-        Step::CreateTemp(path) => format!(in alloc; "CreateTemp {path}"),
-        Step::Write(file, bytes) => format!(in alloc; "Write {} {}", file.path, bytes.len()),
-        Step::Persist(file, path) => format!(in alloc; "Persist {} {path}", file.path),
-        Step::Append(path, bytes) => format!(in alloc; "Append {path} {}", bytes.len()),
-        Step::ReadAll(path) => format!(in alloc; "ReadAll {path}"),
-        _ => String::from_str(alloc, "another step"),
+    let (what, path, count) = match step {
+        Step::MakeDirs(path) => ("MakeDirs", path, None),
+        Step::CreateTemp(path) => ("CreateTemp", path, None),
+        Step::ReadAll(path) => ("ReadAll", path, None),
+        Step::Append(path, bytes) => ("Append", path, Some(bytes.len())),
+        Step::Write(file, bytes) => ("Write", &file.path, Some(bytes.len())),
+        Step::Persist(file, path) => return format!(in alloc; "Persist {} {path}", file.path),
+        _ => return String::from_str(alloc, "another step"),
+    };
+    match count {
+        Some(count) => format!(in alloc; "{what} {path} {count}"),
+        None => format!(in alloc; "{what} {path}"),
     }
 }
 
@@ -23,7 +27,7 @@ fn asked(alloc: Global, step: &PlainStep) -> Result<String, AllocError> {
 fn answered(alloc: Global, answer: &PlainAnswer) -> Result<String, AllocError> {
     match answer {
         Answer::Done => String::from_str(alloc, "done"),
-        Answer::Temp(file) => format!(in alloc; "{}", file.path),
+        Answer::Temp(file) => String::from_str(alloc, file.path.as_str()),
         Answer::Wrote(_, count) => format!(in alloc; "wrote {count}"),
         Answer::Took(count) => format!(in alloc; "took {count}"),
         Answer::Bytes(bytes) => format!(in alloc; "{} bytes", bytes.len()),

@@ -2,12 +2,21 @@
 use cacache_rows::words::{string_of, word_of, written_out};
 use std::alloc::{AllocError, Global};
 
+/// Puts a line or a word behind the others.
+pub(crate) fn push(
+    lines: &mut Vec<String>,
+    line: Result<String, AllocError>,
+) -> Result<(), AllocError> {
+    lines.push(line?)?;
+    Ok(())
+}
+
 /// The words of a text.
 pub(crate) fn words_of(alloc: Global, text: &str) -> Result<Vec<String>, AllocError> {
     let mut words = Vec::new(alloc);
     for word in text.split(' ') {
         if word != "-" {
-            words.push(String::from_str(alloc, word)?)?;
+            push(&mut words, String::from_str(alloc, word))?;
         }
     }
     Ok(words)

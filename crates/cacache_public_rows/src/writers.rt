@@ -7,13 +7,13 @@ use crate::place::{On, remove_file};
 use cacache::content::write::Writer;
 use cacache::store::Store;
 use cacache::{Result as Answered, SyncWriter};
-use cacache_rows::Flaw;
 use cacache_rows::words::{cut, is_nothing};
+use cacache_rows::{Flaw, let_go};
+use std::alloc::{AllocError, Global};
 use std::io::Write;
 
-/// A writer that is opened in one of the ways, where the word is one. The key is an algorithm's name and the key for
-/// `create_with_algo`.
-fn opened<S: Store>(
+/// A writer that is opened with options, where the word says so.
+fn opened_with<S: Store>(
     env: &mut On<S>,
     way: &str,
     cache: &str,
@@ -21,11 +21,6 @@ fn opened<S: Store>(
 ) -> Result<Answered<SyncWriter<S::Temp>>, Flaw> {
     let (key, options) = cut(what);
     match way {
-        "create" => Ok(SyncWriter::create(env, cache, key)),
-        "create_with_algo" => {
-            let algorithm = algorithm_of(key)?;
-            Ok(SyncWriter::create_with_algo(env, algorithm, cache, options))
-        }
         "open" => {
             let opts = options_of(env.alloc, options)?;
             Ok(opts.open_sync(env, cache, key))
@@ -35,6 +30,25 @@ fn opened<S: Store>(
             Ok(opts.open_hash_sync(env, cache))
         }
         _ => Err(Flaw::NotRead),
+    }
+}
+
+/// A writer that is opened in one of the ways, where the word is one. The key is an algorithm's name and the key for
+/// `create_with_algo`.
+fn opened<S: Store>(
+    env: &mut On<S>,
+    way: &str,
+    cache: &str,
+    what: &str,
+) -> Result<Answered<SyncWriter<S::Temp>>, Flaw> {
+    let (name, key) = cut(what);
+    match way {
+        "create" => Ok(SyncWriter::create(env, cache, name)),
+        "create_with_algo" => {
+            let algorithm = algorithm_of(name)?;
+            Ok(SyncWriter::create_with_algo(env, algorithm, cache, key))
+        }
+        _ => opened_with(env, way, cache, what),
     }
 }
 
@@ -51,36 +65,59 @@ fn takes<W: Write>(writer: &mut W, pieces: &str) -> bool {
     true
 }
 
+/// The line on a writer that didn't take what it was given.
+fn failed(alloc: Global) -> Result<String, AllocError> {
+    String::from_str(alloc, "a write failed")
+}
+
 /// The line on the end of a writer: `commit`, `abandon`, or the path of its file, which is gone when it is abandoned.
 fn ended<S: Store>(
     env: &mut On<S>,
     writer: SyncWriter<S::Temp>,
     end: &str,
-) -> Result<String, Flaw> {
-    let alloc = env.alloc;
-    match end {
-        "commit" => Ok(stored(alloc, writer.commit(env))?),
-        "abandon" => Ok(done(alloc, writer.abandon(env))?),
-        path => {
-            let _is_gone = remove_file(env, path)?;
-            Ok(done(alloc, writer.abandon(env))?)
-        }
+) -> Result<String, AllocError> {
+    if end == "commit" {
+        return stored(env.alloc, writer.commit(env));
     }
+    if end != "abandon" {
+        let_go(remove_file(env, end));
+    }
+    done(env.alloc, writer.abandon(env))
 }
 
-/// The line on a writer that was opened.
+/// The line on a writer that is given these pieces, and on its end; or why it wasn't opened.
 fn given<S: Store>(
     env: &mut On<S>,
-    writer: SyncWriter<S::Temp>,
+    opened: Answered<SyncWriter<S::Temp>>,
     end: &str,
     pieces: &str,
-) -> Result<String, Flaw> {
-    let mut writer = writer;
+) -> Result<String, AllocError> {
+    let mut writer = match opened {
+        Ok(writer) => writer,
+        Err(error) => return refused(env.alloc, error),
+    };
     if takes(&mut writer, pieces) {
-        ended(env, writer, end)
-    } else {
-        Err(Flaw::Told("a write failed"))
+        return ended(env, writer, end);
     }
+    let_go(writer);
+    failed(env.alloc)
+}
+
+/// The line on a content's own writer that is given these pieces, and on its end; or why it wasn't opened.
+fn closed<S: Store>(
+    env: &mut On<S>,
+    opened: Answered<Writer<S::Temp>>,
+    pieces: &str,
+) -> Result<String, AllocError> {
+    let mut writer = match opened {
+        Ok(writer) => writer,
+        Err(error) => return refused(env.alloc, error),
+    };
+    if takes(&mut writer, pieces) {
+        return stored(env.alloc, writer.close(env));
+    }
+    let_go(writer);
+    failed(env.alloc)
 }
 
 /// The line on a content's own writer, which is opened with an algorithm and with a size that has no effect.
@@ -90,18 +127,9 @@ fn of_content<S: Store>(
     algorithm: &str,
     pieces: &str,
 ) -> Result<String, Flaw> {
-    let alloc = env.alloc;
     let algorithm = algorithm_of(algorithm)?;
-    match Writer::new(env, cache, algorithm, Some(3)) {
-        Ok(mut writer) => {
-            if takes(&mut writer, pieces) {
-                Ok(stored(alloc, writer.close(env))?)
-            } else {
-                Err(Flaw::Told("a write failed"))
-            }
-        }
-        Err(error) => Ok(refused(alloc, error)?),
-    }
+    let opened = Writer::new(env, cache, algorithm, Some(3));
+    Ok(closed(env, opened, pieces)?)
 }
 
 /// The line on a writer.
@@ -116,8 +144,6 @@ pub(crate) fn written<S: Store>(
     if way == "content" {
         return of_content(env, cache, what, pieces);
     }
-    match opened(env, way, cache, what)? {
-        Ok(writer) => given(env, writer, end, pieces),
-        Err(error) => Ok(refused(env.alloc, error)?),
-    }
+    let opened = opened(env, way, cache, what)?;
+    Ok(given(env, opened, end, pieces)?)
 }
