@@ -36,11 +36,16 @@ fn behind<'a>(wanted: &str, words: &'a str) -> Result<&'a str, Flaw> {
     }
 }
 
+/// The number that the words give behind the kind that is wanted.
+fn number_behind(wanted: &str, words: &str) -> Result<usize, Flaw> {
+    number_of(behind(wanted, words)?)
+}
+
 /// The number that the words give, which is at most this.
 fn count_within(wanted: &str, words: &str, most: usize) -> Result<usize, Flaw>
     ensures { IfOk result (λ count. count ≤ most) }
 {
-    let count = number_of(behind(wanted, words)?)?;
+    let count = number_behind(wanted, words)?;
     if count <= most {
         Ok(count)
     } else {
@@ -135,7 +140,7 @@ fn on_bytes(alloc: Global, step: &PlainStep, words: &str) -> Result<Told, Flaw>
         Step::CreateTemp(path) => created(path, words),
         Step::Write(temp, bytes) => wrote(temp, bytes, words),
         Step::Open(_) => {
-            let left = number_of(behind("File", words)?)?;
+            let left = number_behind("File", words)?;
             Ok(Told {
                 answer: Answer::File(PlainFile { left, bytes: None }),
                 copy: Answer::File(PlainFile { left, bytes: None }),
@@ -160,19 +165,12 @@ fn on_bytes(alloc: Global, step: &PlainStep, words: &str) -> Result<Told, Flaw>
     }
 }
 
-/// The answer in words to the step, none to one that lists a folder.
-pub(crate) fn fitting(alloc: Global, step: &PlainStep, words: &str) -> Result<Told, Flaw>
+/// The answer in words to a step that was done, none to one that lists a folder.
+fn on_done(alloc: Global, step: &PlainStep, words: &str) -> Result<Told, Flaw>
     ensures fits { IfOk result (λ told. Fits step.now told.answer) }
     ensures copy { IfOk result (λ told. told.copy ≡ told.answer) }
     ensures made { IfOk result (λ told. is_no_memory told.answer ≡ false) }
 {
-    if let Ok(name) = behind("Failed", words) {
-        let fault = fault_of(name)?;
-        return Ok(Told {
-            answer: Answer::Failed(fault),
-            copy: Answer::Failed(fault),
-        });
-    }
     match step {
         Step::Exists(_) => {
             let is = there_of(words)?;
@@ -182,14 +180,14 @@ pub(crate) fn fitting(alloc: Global, step: &PlainStep, words: &str) -> Result<To
             })
         }
         Step::Size(_) => {
-            let count = number_of(behind("Length", words)?)? as u64;
+            let count = number_behind("Length", words)? as u64;
             Ok(Told {
                 answer: Answer::Length(count),
                 copy: Answer::Length(count),
             })
         }
         Step::Copy(_, _) => {
-            let count = number_of(behind("Took", words)?)?;
+            let count = number_behind("Took", words)?;
             Ok(Told {
                 answer: Answer::Took(count),
                 copy: Answer::Took(count),
@@ -210,4 +208,20 @@ pub(crate) fn fitting(alloc: Global, step: &PlainStep, words: &str) -> Result<To
         }
         step => on_bytes(alloc, step, words),
     }
+}
+
+/// The answer in words to the step, none to one that lists a folder.
+pub(crate) fn fitting(alloc: Global, step: &PlainStep, words: &str) -> Result<Told, Flaw>
+    ensures fits { IfOk result (λ told. Fits step.now told.answer) }
+    ensures copy { IfOk result (λ told. told.copy ≡ told.answer) }
+    ensures made { IfOk result (λ told. is_no_memory told.answer ≡ false) }
+{
+    let Ok(name) = behind("Failed", words) else {
+        return on_done(alloc, step, words);
+    };
+    let fault = fault_of(name)?;
+    Ok(Told {
+        answer: Answer::Failed(fault),
+        copy: Answer::Failed(fault),
+    })
 }

@@ -44,12 +44,22 @@ fn note(log: &mut Vec<LogItem>, item: LogItem)
     let_go(log.push(item));
 }
 
-/// One step more of those that were asked for.
-pub(crate) fn add(steps: &mut String, step: &str) -> Result<(), AllocError> {
+/// One step more of those that were asked for, in words.
+fn add(steps: &mut String, step: &str) -> Result<(), AllocError> {
     if !steps.is_empty() {
         steps.push_str("; ")?;
     }
     steps.push_str(step)
+}
+
+/// One step more of those that were asked for.
+pub(crate) fn add_step(
+    alloc: Global,
+    steps: &mut String,
+    step: &PlainStep,
+) -> Result<(), AllocError> {
+    let shown = shown_step(alloc, step)?;
+    add(steps, shown.as_str())
 }
 
 impl Script {
@@ -98,13 +108,32 @@ impl Script {
     fn refuse(&mut self, step: &PlainStep)
         ensures { self.new.log ≡ self.old.log }
     {
-        let noted = match shown_step(self.alloc, step) {
-            Ok(shown) => add(&mut self.refused, shown.as_str()),
-            Err(error) => Err(error),
-        };
-        if noted.is_err() {
+        if add_step(self.alloc, &mut self.refused, step).is_err() {
             self.flaw = Some(Flaw::NoMemory);
         }
+    }
+
+    /// The steps of the log, in words.
+    fn made(&self) -> Result<String, AllocError> {
+        let mut steps = String::new(self.alloc);
+        for item in &self.log {
+            if let LogItem::Made(step, _) = item {
+                add_step(self.alloc, &mut steps, step)?;
+            }
+        }
+        Ok(steps)
+    }
+
+    /// The steps of the log and those that were handed back, in words.
+    fn steps(&self) -> Result<String, AllocError> {
+        let mut steps = self.made()?;
+        if !self.refused.is_empty() {
+            add(&mut steps, self.refused.as_str())?;
+        }
+        if steps.is_empty() {
+            add(&mut steps, "-")?;
+        }
+        Ok(steps)
     }
 
     /// The steps of the log and those that were handed back, in words, and the reply.
@@ -115,18 +144,7 @@ impl Script {
         if !self.answers.is_empty() {
             return Err(Flaw::Unfit);
         }
-        let mut steps = String::new(self.alloc);
-        for item in &self.log {
-            if let LogItem::Made(step, _) = item {
-                add(&mut steps, shown_step(self.alloc, step)?.as_str())?;
-            }
-        }
-        if !self.refused.is_empty() {
-            add(&mut steps, self.refused.as_str())?;
-        }
-        if steps.is_empty() {
-            add(&mut steps, "-")?;
-        }
+        let steps = self.steps()?;
         let reply = shown_reply(self.alloc, reply)?;
         Ok(format!(in self.alloc; "{steps} | {reply}")?)
     }

@@ -5,8 +5,7 @@ ghost use Rattle.cacache_jobs.specs.Jobs.{can_go_on};
 use crate::commands::command_of;
 use crate::replies::shown_reply;
 use crate::row::{Row, row_of};
-use crate::script::{NO_ANSWER, Script, add};
-use crate::steps::shown_step;
+use crate::script::{NO_ANSWER, Script, add_step};
 use crate::told::answer_of;
 use cacache_base::env::Env;
 use cacache_base::store::{PlainFile, PlainTemp};
@@ -26,9 +25,9 @@ const NUMBER: u64 = 1;
 
 /// The steps and the reply of the call, made on a store.
 fn over_store(alloc: Global, row: Row<'_>) -> Result<String, Flaw> {
-    let command = command_of(alloc, row.call)?;
     let script = Script::new(alloc, row.answers)?;
     let mut env = Env::new(alloc, script, (), (), BASE)?;
+    let command = command_of(alloc, row.call)?;
     let reply = call(&mut env, CACHE, command, NUMBER);
     let came = env.store.came(&reply);
     let_go(reply);
@@ -52,9 +51,9 @@ fn turned(
             Err(Flaw::Unfit)
         }
         Next::Step(step) => {
-            let shown = shown_step(alloc, &step)?;
-            add(steps, shown.as_str())?;
+            let added = add_step(alloc, steps, &step);
             job.take(answer_of(alloc, step, words)?);
+            added?;
             Ok(job)
         }
     }
@@ -77,8 +76,7 @@ fn ended(alloc: Global, next: Next<PlainFile, PlainTemp>) -> Result<String, Flaw
 
 /// The steps and the reply of the job alone, which takes any answers.
 fn by_hand(alloc: Global, row: Row<'_>) -> Result<String, Flaw> {
-    let command = command_of(alloc, row.call)?;
-    let mut job = Job::new(alloc, CACHE, BASE, command, NUMBER);
+    let mut job = Job::new(alloc, CACHE, BASE, command_of(alloc, row.call)?, NUMBER);
     let mut steps = String::new(alloc);
     for words in row.answers.split(';') {
         if !is_nothing(words) {
