@@ -83,20 +83,29 @@ fn made_or_called<S: Store>(env: &mut On<S>, row: Row<'_>) -> Result<String, Fla
     }
 }
 
+/// What is given by calls that a row writes out: writers, readers, linkers, exports and puts.
+fn made_of<S: Store>(env: &mut On<S>, row: Row<'_>) -> Result<String, Flaw> {
+    let Row { act, input, .. } = row;
+    let (name, act) = cut(act);
+    match name {
+        "put" => put(env, act, input),
+        "drive" => driven(env, act, input),
+        "writer" => written(env, act, input),
+        "reader" => read(env, act, input),
+        "linker" => linked(env, act),
+        "export" => exported(env, act),
+        _ => made_or_called(env, row),
+    }
+}
+
 /// What the row's act gives.
 pub(crate) fn made<S: Store>(env: &mut On<S>, row: Row<'_>) -> Result<String, Flaw> {
     let (name, act) = cut(row.act);
     match name {
         "at" => made_at(env, act, row),
         "asked" => asked(env, act, row),
-        "put" => put(env, act, row.input),
-        "drive" => driven(env, act, row.input),
-        "writer" => written(env, act, row.input),
-        "reader" => read(env, act, row.input),
-        "linker" => linked(env, act),
-        "export" => exported(env, act),
         "without" => without(env.alloc, act),
         "cacache" => ran(env, Row { act, ..row }),
-        _ => made_or_called(env, row),
+        _ => made_of(env, row),
     }
 }

@@ -38,6 +38,21 @@ pub(crate) fn integrity_of(alloc: Global, text: &str) -> Result<Integrity, Flaw>
     }
 }
 
+/// The line on a removal by integrity.
+fn removed_by_hash<S: Store>(
+    env: &mut On<S>,
+    name: &str,
+    cache: &str,
+    sri: &Integrity,
+) -> Result<String, Flaw> {
+    let answer = match name {
+        "remove_hash_sync" => cacache::remove_hash_sync(env, cache, sri),
+        "rm" => rm(env, cache, sri),
+        _ => return Err(Flaw::NotRead),
+    };
+    Ok(done(env.alloc, answer)?)
+}
+
 /// The line on a call by integrity.
 fn by_hash<S: Store>(
     env: &mut On<S>,
@@ -50,10 +65,8 @@ fn by_hash<S: Store>(
         "read_hash_sync" => read(alloc, cacache::read_hash_sync(env, cache, sri)),
         "exists_sync" => exists(alloc, cacache::exists_sync(env, cache, sri)),
         "has_content" => has(alloc, has_content(env, cache, sri)),
-        "remove_hash_sync" => done(alloc, cacache::remove_hash_sync(env, cache, sri)),
-        "rm" => done(alloc, rm(env, cache, sri)),
         "content_path" => return Ok(content_path(alloc, cache, sri)?.into_string()),
-        _ => return Err(Flaw::NotRead),
+        _ => return removed_by_hash(env, name, cache, sri),
     };
     Ok(line?)
 }
@@ -119,15 +132,22 @@ fn given<S: Store>(env: &mut On<S>, name: &str, words: &str, input: &str) -> Res
     by_hash(env, name, cache, &sri)
 }
 
-/// The line on a removal by key, of the content too if it is to be full.
+/// The line on a removal by key.
 fn removed<S: Store>(
     env: &mut On<S>,
-    cache: &str,
-    key: &str,
-    is_full: bool,
-) -> Result<String, AllocError> {
-    let opts = RemoveOpts::new().remove_fully(is_full);
-    done(env.alloc, opts.remove_sync(env, cache, key))
+    name: &str,
+    words: &str,
+    input: &str,
+) -> Result<String, Flaw> {
+    let (cache, key) = cut(words);
+    let opts = RemoveOpts::new().remove_fully(name == "remove_fully");
+    let answer = match name {
+        "delete" => delete(env, cache, key),
+        "remove_sync" => cacache::remove_sync(env, cache, key),
+        "remove_fully" | "remove_not_fully" => opts.remove_sync(env, cache, key),
+        _ => return given(env, name, words, input),
+    };
+    Ok(done(env.alloc, answer)?)
 }
 
 /// The line on a call by key.
@@ -138,11 +158,7 @@ fn by_key<S: Store>(env: &mut On<S>, name: &str, words: &str, input: &str) -> Re
         "read_sync" => read(alloc, cacache::read_sync(env, cache, key)),
         "find" => found(alloc, find(env, cache, key)),
         "metadata_sync" => found(alloc, cacache::metadata_sync(env, cache, key)),
-        "delete" => done(alloc, delete(env, cache, key)),
-        "remove_sync" => done(alloc, cacache::remove_sync(env, cache, key)),
-        "remove_fully" => removed(env, cache, key, true),
-        "remove_not_fully" => removed(env, cache, key, false),
-        _ => return given(env, name, words, input),
+        _ => return removed(env, name, words, input),
     };
     Ok(line?)
 }
@@ -157,13 +173,25 @@ fn inserted<S: Store>(env: &mut On<S>, cache: &str, words: &str) -> Result<Strin
     Ok(stored(alloc, insert(env, cache, key, copy?))?)
 }
 
-/// The line on a link: its key, and its target.
+/// The line on a link by key: its key, and its target.
 fn linked<S: Store>(env: &mut On<S>, cache: &str, words: &str) -> Result<String, AllocError> {
     let (key, target) = cut(words);
     stored(env.alloc, cacache::link_to_sync(env, cache, key, target))
 }
 
-/// The line on a call of a whole cache, on an insertion, or on a link.
+/// The line on an insertion, or on a link.
+fn added<S: Store>(env: &mut On<S>, name: &str, words: &str, input: &str) -> Result<String, Flaw> {
+    let (cache, what) = cut(words);
+    let line = match name {
+        "insert" => return inserted(env, cache, what),
+        "link_to_sync" => linked(env, cache, what),
+        "link_to_hash_sync" => { stored(env.alloc, cacache::link_to_hash_sync(env, cache, what)) }
+        _ => return by_key(env, name, words, input),
+    };
+    Ok(line?)
+}
+
+/// The line on a call of a whole cache.
 fn on_cache<S: Store>(
     env: &mut On<S>,
     name: &str,
@@ -171,15 +199,12 @@ fn on_cache<S: Store>(
     input: &str,
 ) -> Result<String, Flaw> {
     let alloc = env.alloc;
-    let (cache, what) = cut(words);
+    let (cache, _) = cut(words);
     let line = match name {
         "clear_sync" => done(alloc, cacache::clear_sync(env, cache)),
         "ls" => listed(alloc, ls(env, cache)),
         "list_sync" => listed(alloc, cacache::list_sync(env, cache)),
-        "insert" => return inserted(env, cache, what),
-        "link_to_sync" => linked(env, cache, what),
-        "link_to_hash_sync" => stored(alloc, cacache::link_to_hash_sync(env, cache, what)),
-        _ => return by_key(env, name, words, input),
+        _ => return added(env, name, words, input),
     };
     Ok(line?)
 }

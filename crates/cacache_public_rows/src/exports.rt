@@ -9,6 +9,24 @@ use cacache::store::Store;
 use cacache_rows::Flaw;
 use cacache_rows::words::cut;
 
+/// The line on a link to a content of the module `content::read`.
+fn linked_content<S: Store>(
+    env: &mut On<S>,
+    name: &str,
+    cache: &str,
+    sri: &Integrity,
+    to: &str,
+) -> Result<String, Flaw> {
+    let answer = match name {
+        "reflink" => read::reflink(env, cache, sri, to),
+        "reflink_unchecked" => read::reflink_unchecked(env, cache, sri, to),
+        "hard_link" => read::hard_link(env, cache, sri, to),
+        "hard_link_unchecked" => read::hard_link_unchecked(env, cache, sri, to),
+        _ => return Err(Flaw::NotRead),
+    };
+    Ok(done(env.alloc, answer)?)
+}
+
 /// The line on an export of the module `content::read`.
 fn of_content<S: Store>(
     env: &mut On<S>,
@@ -17,17 +35,12 @@ fn of_content<S: Store>(
     sri: &Integrity,
     to: &str,
 ) -> Result<String, Flaw> {
-    let alloc = env.alloc;
-    let line = match name {
-        "copy" => copied(alloc, read::copy(env, cache, sri, to)),
-        "copy_unchecked" => copied(alloc, read::copy_unchecked(env, cache, sri, to)),
-        "reflink" => done(alloc, read::reflink(env, cache, sri, to)),
-        "reflink_unchecked" => done(alloc, read::reflink_unchecked(env, cache, sri, to)),
-        "hard_link" => done(alloc, read::hard_link(env, cache, sri, to)),
-        "hard_link_unchecked" => done(alloc, read::hard_link_unchecked(env, cache, sri, to)),
-        _ => return Err(Flaw::NotRead),
+    let answer = match name {
+        "copy" => read::copy(env, cache, sri, to),
+        "copy_unchecked" => read::copy_unchecked(env, cache, sri, to),
+        _ => return linked_content(env, name, cache, sri, to),
     };
-    Ok(line?)
+    Ok(copied(env.alloc, answer)?)
 }
 
 /// The line on a link to a content by integrity.
@@ -38,25 +51,18 @@ fn linked_by_hash<S: Store>(
     sri: &Integrity,
     to: &str,
 ) -> Result<String, Flaw> {
-    let alloc = env.alloc;
-    let line = match name {
-        "reflink_hash_sync" => done(alloc, cacache::reflink_hash_sync(env, cache, sri, to)),
+    let answer = match name {
+        "reflink_hash_sync" => cacache::reflink_hash_sync(env, cache, sri, to),
         "reflink_hash_unchecked_sync" => {
-            done(
-                alloc,
-                cacache::reflink_hash_unchecked_sync(env, cache, sri, to),
-            )
-        }
-        "hard_link_hash_sync" => done(alloc, cacache::hard_link_hash_sync(env, cache, sri, to)),
+            cacache::reflink_hash_unchecked_sync(env, cache, sri, to)
+        },
+        "hard_link_hash_sync" => cacache::hard_link_hash_sync(env, cache, sri, to),
         "hard_link_hash_unchecked_sync" => {
-            done(
-                alloc,
-                cacache::hard_link_hash_unchecked_sync(env, cache, sri, to),
-            )
-        }
+            cacache::hard_link_hash_unchecked_sync(env, cache, sri, to)
+        },
         _ => return of_content(env, name, cache, sri, to),
     };
-    Ok(line?)
+    Ok(done(env.alloc, answer)?)
 }
 
 /// The line on an export by integrity.
@@ -64,45 +70,45 @@ fn by_hash<S: Store>(
     env: &mut On<S>,
     name: &str,
     cache: &str,
-    text: &str,
+    what: &str,
     to: &str,
 ) -> Result<String, Flaw> {
-    let alloc = env.alloc;
-    let sri = integrity_of(alloc, text)?;
-    let line = match name {
-        "copy_hash_sync" => copied(alloc, cacache::copy_hash_sync(env, cache, &sri, to)),
-        "copy_hash_unchecked_sync" => {
-            copied(
-                alloc,
-                cacache::copy_hash_unchecked_sync(env, cache, &sri, to),
-            )
-        }
+    let sri = integrity_of(env.alloc, what)?;
+    let answer = match name {
+        "copy_hash_sync" => cacache::copy_hash_sync(env, cache, &sri, to),
+        "copy_hash_unchecked_sync" => cacache::copy_hash_unchecked_sync(env, cache, &sri, to),
         _ => return linked_by_hash(env, name, cache, &sri, to),
     };
-    Ok(line?)
+    Ok(copied(env.alloc, answer)?)
+}
+
+/// The line on a link to a content by key.
+fn linked_by_key<S: Store>(
+    env: &mut On<S>,
+    name: &str,
+    cache: &str,
+    what: &str,
+    to: &str,
+) -> Result<String, Flaw> {
+    let answer = match name {
+        "reflink_sync" => cacache::reflink_sync(env, cache, what, to),
+        "reflink_unchecked_sync" => cacache::reflink_unchecked_sync(env, cache, what, to),
+        "hard_link_sync" => cacache::hard_link_sync(env, cache, what, to),
+        "hard_link_unchecked_sync" => cacache::hard_link_unchecked_sync(env, cache, what, to),
+        _ => return by_hash(env, name, cache, what, to),
+    };
+    Ok(done(env.alloc, answer)?)
 }
 
 /// The line on an export.
 pub(crate) fn exported<S: Store>(env: &mut On<S>, act: &str) -> Result<String, Flaw> {
-    let alloc = env.alloc;
     let (name, words) = cut(act);
     let (cache, words) = cut(words);
-    let (key, to) = cut(words);
-    let line = match name {
-        "copy_sync" => copied(alloc, cacache::copy_sync(env, cache, key, to)),
-        "copy_unchecked_sync" => copied(alloc, cacache::copy_unchecked_sync(env, cache, key, to)),
-        "reflink_sync" => done(alloc, cacache::reflink_sync(env, cache, key, to)),
-        "reflink_unchecked_sync" => {
-            done(alloc, cacache::reflink_unchecked_sync(env, cache, key, to))
-        }
-        "hard_link_sync" => done(alloc, cacache::hard_link_sync(env, cache, key, to)),
-        "hard_link_unchecked_sync" => {
-            done(
-                alloc,
-                cacache::hard_link_unchecked_sync(env, cache, key, to),
-            )
-        }
-        _ => return by_hash(env, name, cache, key, to),
+    let (what, to) = cut(words);
+    let answer = match name {
+        "copy_sync" => cacache::copy_sync(env, cache, what, to),
+        "copy_unchecked_sync" => cacache::copy_unchecked_sync(env, cache, what, to),
+        _ => return linked_by_key(env, name, cache, what, to),
     };
-    Ok(line?)
+    Ok(copied(env.alloc, answer)?)
 }

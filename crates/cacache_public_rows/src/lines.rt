@@ -2,7 +2,7 @@
 ghost use Rattle.std.specs.Prelude.{IfOk};
 ghost use Rattle.cacache.specs.Listings.{IsListing};
 
-use crate::words::{push, shown};
+use crate::words::shown;
 use cacache::errors::Error;
 use cacache::ls::Ls;
 use cacache::store::Store;
@@ -120,15 +120,25 @@ fn item(alloc: Global, item: Answered<Metadata>) -> Result<String, AllocError> {
     }
 }
 
+/// One line more.
+fn with(
+    lines: Result<Vec<String>, AllocError>,
+    line: Result<String, AllocError>,
+) -> Result<Vec<String>, AllocError> {
+    let mut lines = lines?;
+    lines.push(line?)?;
+    Ok(lines)
+}
+
 /// The line on each item.
 fn lines_of<S: Store, C, N>(alloc: Global, items: Ls<S, C, N>) -> Result<Vec<String>, AllocError>
     requires { IsListing S.log items }
 {
-    let mut lines = Vec::new(alloc);
+    let mut lines: Result<Vec<String>, AllocError> = Ok(Vec::new(alloc));
     for found in items {
-        push(&mut lines, item(alloc, found))?;
+        lines = with(lines, item(alloc, found));
     }
-    Ok(lines)
+    lines
 }
 
 /// The lines behind the word for a listing, sorted.

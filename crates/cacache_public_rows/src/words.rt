@@ -2,12 +2,9 @@
 use cacache_rows::words::{string_of, word_of, written_out};
 use std::alloc::{AllocError, Global};
 
-/// Puts a line or a word behind the others.
-pub(crate) fn push(
-    lines: &mut Vec<String>,
-    line: Result<String, AllocError>,
-) -> Result<(), AllocError> {
-    lines.push(line?)?;
+/// Puts a word behind the others.
+fn push(words: &mut Vec<String>, word: Result<String, AllocError>) -> Result<(), AllocError> {
+    words.push(word?)?;
     Ok(())
 }
 
