@@ -11,8 +11,8 @@ use crate::words::{bytes_of, shown};
 use crate::writers::written;
 use cacache::store::Store;
 use cacache_rows::Flaw;
-use cacache_rows::words::{cut, number_of};
-use std::alloc::{AllocError, Global};
+use cacache_rows::words::cut;
+use std::alloc::AllocError;
 
 /// What a file holds, as a row says it.
 fn file<S: Store>(env: &mut On<S>, path: &str) -> Result<String, AllocError> {
