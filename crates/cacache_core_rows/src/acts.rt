@@ -11,7 +11,22 @@ pub(crate) struct Acts {
     pub(crate) alloc: Global,
 }
 
-/// What an act on entries, a path, an error or a small part gives.
+/// What an act on entries gives.
+fn of_entries(alloc: Global, act: &str, given: &str) -> Result<String, Flaw> {
+    match act {
+        "line" => lines::line(alloc, given),
+        "entries" => entries::found(alloc, given),
+        "torn" => entries::torn(alloc, given),
+        "text" => entries::text(alloc, given),
+        "torn-text" => entries::torn_text(alloc, given),
+        "alike" => entries::alike(alloc, given),
+        "latest" => lookups::latest(alloc, given),
+        "again" => lookups::again(alloc, given),
+        _ => Err(Flaw::NotRead),
+    }
+}
+
+/// What an act on a path, an error, a small part or entries gives.
 fn of_others(alloc: Global, act: &str, given: &str) -> Result<String, Flaw> {
     match act {
         "content" => paths::content(alloc, given),
@@ -26,15 +41,7 @@ fn of_others(alloc: Global, act: &str, given: &str) -> Result<String, Flaw> {
         "kind" => errors::kind(alloc, given),
         "fault" => errors::fault(alloc, given),
         "context" => errors::context(alloc, given),
-        "line" => lines::line(alloc, given),
-        "entries" => entries::found(alloc, given),
-        "torn" => entries::torn(alloc, given),
-        "text" => entries::text(alloc, given),
-        "torn-text" => entries::torn_text(alloc, given),
-        "alike" => entries::alike(alloc, given),
-        "latest" => lookups::latest(alloc, given),
-        "again" => lookups::again(alloc, given),
-        _ => Err(Flaw::NotRead),
+        _ => of_entries(alloc, act, given),
     }
 }
 

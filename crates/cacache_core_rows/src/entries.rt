@@ -1,8 +1,7 @@
 //! The entries that bytes hold.
-use crate::words::{bytes_of, given, printed, two};
+use crate::words::{bytes_of, column, given, printed, two};
 use cacache_entry::{SerializableMetadata, entries};
 use cacache_rows::Flaw;
-use cacache_rows::words::column;
 use sha2::{Digest, Sha256};
 use std::alloc::{AllocError, Global};
 use std::hash::{DefaultHasher, Hash, Hasher};
@@ -31,8 +30,8 @@ fn held_by_both(alloc: Global, front: &[u8], back: &[u8]) -> Result<String, Flaw
 
 /// At how many cuts the bytes hold what a word says, where these bytes lie behind the cut.
 pub(crate) fn torn(alloc: Global, columns: &str) -> Result<String, Flaw> {
-    let (whole, rest) = column(columns)?;
-    let (back, wanted) = column(rest)?;
+    let (whole, rest) = column(columns);
+    let (back, wanted) = column(rest);
     let whole = bytes_of(alloc, whole)?;
     let back = bytes_of(alloc, back)?;
     let mut count = 0u64;
@@ -67,7 +66,7 @@ pub(crate) fn text(alloc: Global, word: &str) -> Result<String, Flaw> {
 
 /// At how many cuts the line of the text before the cut holds what a word says.
 pub(crate) fn torn_text(alloc: Global, columns: &str) -> Result<String, Flaw> {
-    let (whole, wanted) = column(columns)?;
+    let (whole, wanted) = column(columns);
     let whole = whole.as_bytes();
     let mut count = 0u64;
     for cut in 0..whole.len() {

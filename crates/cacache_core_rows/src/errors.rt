@@ -1,16 +1,16 @@
 //! What errors say, and errors with a context.
-use crate::words::{Debugged, given, printed};
+use crate::words::{Debugged, column, given, printed};
 use cacache_core::errors::{Error, Fault, IntegrityFault, IoErrorExt, SerdeCause, io_error};
 use cacache_core::integrity::Integrity;
 use cacache_core::text::Text;
 use cacache_rows::Flaw;
-use cacache_rows::words::{column, number_of};
+use cacache_rows::words::number_of;
 use std::alloc::{AllocError, Global};
 use std::io::{self, ErrorKind};
 
 /// What is said of two sizes that differ.
 fn sizes(alloc: Global, columns: &str) -> Result<String, Flaw> {
-    let (wanted, found) = column(columns)?;
+    let (wanted, found) = column(columns);
     let wanted = number_of(wanted)?;
     let found = number_of(found)?;
     printed(alloc, Error::SizeMismatch(wanted, found))
@@ -18,7 +18,7 @@ fn sizes(alloc: Global, columns: &str) -> Result<String, Flaw> {
 
 /// What is said of an entry that isn't found.
 fn missing(alloc: Global, columns: &str) -> Result<String, Flaw> {
-    let (cache, key) = column(columns)?;
+    let (cache, key) = column(columns);
     let cache = Text::from_str(alloc, cache)?;
     let key = Text::from_str(alloc, key)?;
     printed(alloc, Error::EntryNotFound(cache, key))
@@ -26,7 +26,7 @@ fn missing(alloc: Global, columns: &str) -> Result<String, Flaw> {
 
 /// What is said of a check that failed.
 fn unmet(alloc: Global, columns: &str) -> Result<String, Flaw> {
-    let (wanted, found) = column(columns)?;
+    let (wanted, found) = column(columns);
     let wanted = given(Integrity::parse(alloc, wanted))?;
     let found = given(Integrity::parse(alloc, found))?;
     printed(alloc, Error::from(IntegrityFault::Check(wanted, found)))
@@ -43,7 +43,7 @@ fn failed(alloc: Global, columns: &str, is_device: bool) -> Result<String, Flaw>
 
 /// What an error says.
 pub(crate) fn error(alloc: Global, columns: &str) -> Result<String, Flaw> {
-    let (kind, more) = column(columns)?;
+    let (kind, more) = column(columns);
     match kind {
         "EntryNotFound" => missing(alloc, more),
         "SizeMismatch" => sizes(alloc, more),
@@ -78,7 +78,7 @@ pub(crate) fn fault(alloc: Global, word: &str) -> Result<String, Flaw> {
 
 /// What a result becomes that is given a context: 7 if it is `fine`, too deep an entry if it is `TooDeep`, and else an io error.
 pub(crate) fn context(alloc: Global, columns: &str) -> Result<String, Flaw> {
-    let (word, text) = column(columns)?;
+    let (word, text) = column(columns);
     let came = match word {
         "fine" => Ok::<u8, io::Error>(7).with_context(|| Err(Error::OutOfMemory)),
         "TooDeep" => Err::<u8, SerdeCause>(SerdeCause::TooDeep).with_context(|| Ok(String::from_str(

@@ -1,9 +1,8 @@
 //! Algorithms, digests and integrities.
-use crate::words::{Debugged, given, plain, printed, text_of, three, told, two};
+use crate::words::{Debugged, column, given, plain, printed, text_of, three, told, two};
 use cacache_core::hasher::Hasher;
 use cacache_core::integrity::{Algorithm, Integrity, IntegrityChecker, IntegrityOpts};
 use cacache_rows::Flaw;
-use cacache_rows::words::column;
 use std::alloc::Global;
 
 /// The algorithm that a name names.
@@ -26,7 +25,7 @@ pub(crate) fn algorithm(alloc: Global, name: &str) -> Result<String, Flaw> {
 
 /// Whether one algorithm is less than another, and their order.
 pub(crate) fn order(alloc: Global, columns: &str) -> Result<String, Flaw> {
-    let (one, other) = column(columns)?;
+    let (one, other) = column(columns);
     let one = named(one)?;
     let other = named(other)?;
     two(alloc, one < other, Debugged(one.cmp(&other)))
@@ -34,7 +33,7 @@ pub(crate) fn order(alloc: Global, columns: &str) -> Result<String, Flaw> {
 
 /// The integrity of data under an algorithm.
 pub(crate) fn digest(alloc: Global, columns: &str) -> Result<String, Flaw> {
-    let (name, data) = column(columns)?;
+    let (name, data) = column(columns);
     let mut hasher = Hasher::new(named(name)?);
     hasher.update(plain(data).as_bytes());
     told(alloc, hasher.result(alloc))
@@ -67,14 +66,14 @@ pub(crate) fn address(alloc: Global, text: &str) -> Result<String, Flaw> {
 
 /// The algorithm by which data meet the integrity of a text, or why they don't.
 pub(crate) fn check(alloc: Global, columns: &str) -> Result<String, Flaw> {
-    let (text, data) = column(columns)?;
+    let (text, data) = column(columns);
     let integrity = read(alloc, text)?;
     told(alloc, integrity.check(alloc, data.as_bytes()))
 }
 
 /// The algorithm of the digest that two integrities share.
 pub(crate) fn shares(alloc: Global, columns: &str) -> Result<String, Flaw> {
-    let (one, other) = column(columns)?;
+    let (one, other) = column(columns);
     let one = read(alloc, one)?;
     let other = read(alloc, other)?;
     printed(alloc, Debugged(one.matches(&other)))
@@ -82,8 +81,8 @@ pub(crate) fn shares(alloc: Global, columns: &str) -> Result<String, Flaw> {
 
 /// The integrity of two pieces, with an algorithm set between them.
 pub(crate) fn build(alloc: Global, columns: &str) -> Result<String, Flaw> {
-    let (name, pieces) = column(columns)?;
-    let (first, second) = column(pieces)?;
+    let (name, pieces) = column(columns);
+    let (first, second) = column(pieces);
     let algorithm = named(name)?;
     let mut builder = IntegrityOpts::default();
     builder.input(first.as_bytes());
@@ -94,8 +93,8 @@ pub(crate) fn build(alloc: Global, columns: &str) -> Result<String, Flaw> {
 
 /// The algorithm by which two pieces meet the integrity of a text, or why they don't.
 pub(crate) fn check_pieces(alloc: Global, columns: &str) -> Result<String, Flaw> {
-    let (text, pieces) = column(columns)?;
-    let (first, second) = column(pieces)?;
+    let (text, pieces) = column(columns);
+    let (first, second) = column(pieces);
     let mut checker = IntegrityChecker::new(read(alloc, text)?);
     checker.input(first.as_bytes());
     checker.input(second.as_bytes());

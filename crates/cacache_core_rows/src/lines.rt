@@ -1,7 +1,7 @@
 //! The lines of entries.
-use crate::words::{Debugged, bytes_of, given, plain, printed, text_of, three};
+use crate::words::{Debugged, bytes_of, column, given, plain, printed, text_of, three};
 use cacache_entry::{SerializableMetadata, entries};
-use cacache_rows::words::{column, number_of, word_of};
+use cacache_rows::words::{number_of, word_of};
 use cacache_rows::{Flaw, let_go};
 use serde_json::Value;
 use std::alloc::Global;
@@ -18,20 +18,20 @@ struct Columns<'a> {
 }
 
 /// The columns of a row's entry.
-fn columns_of(columns: &str) -> Result<Columns<'_>, Flaw> {
-    let (key, rest) = column(columns)?;
-    let (integrity, rest) = column(rest)?;
-    let (time, rest) = column(rest)?;
-    let (size, rest) = column(rest)?;
-    let (metadata, raw_metadata) = column(rest)?;
-    Ok(Columns {
+fn columns_of(columns: &str) -> Columns<'_> {
+    let (key, rest) = column(columns);
+    let (integrity, rest) = column(rest);
+    let (time, rest) = column(rest);
+    let (size, rest) = column(rest);
+    let (metadata, raw_metadata) = column(rest);
+    Columns {
         key,
         integrity,
         time,
         size,
         metadata,
         raw_metadata,
-    })
+    }
 }
 
 /// The text of a column, where it isn't `none`.
@@ -108,7 +108,7 @@ fn written(alloc: Global, entry: &SerializableMetadata) -> Result<String, Flaw> 
 
 /// Whether the line of an entry reads back, how long it is, and the line; or why there is none.
 pub(crate) fn line(alloc: Global, columns: &str) -> Result<String, Flaw> {
-    let entry = entry_of(alloc, columns_of(columns)?)?;
+    let entry = entry_of(alloc, columns_of(columns))?;
     let written = written(alloc, &entry);
     let_go(entry);
     written

@@ -1,7 +1,6 @@
 //! Lookups in a bucket's bytes.
-use crate::words::{bytes_of, given, printed, two};
+use crate::words::{bytes_of, column, given, printed, two};
 use cacache_entry::Lookup;
-use cacache_rows::words::column;
 use cacache_rows::{Flaw, let_go};
 use std::alloc::Global;
 
@@ -15,7 +14,7 @@ fn shown(alloc: Global, lookup: &Lookup) -> Result<String, Flaw> {
 
 /// The time of what a lookup of a key finds, and how many pieces are decoded.
 pub(crate) fn latest(alloc: Global, columns: &str) -> Result<String, Flaw> {
-    let (key, bucket) = column(columns)?;
+    let (key, bucket) = column(columns);
     let bucket = bytes_of(alloc, bucket)?;
     let lookup = given(cacache_entry::latest(alloc, &bucket, key))?;
     let shown = shown(alloc, &lookup);
@@ -33,7 +32,7 @@ fn are_equal<T: PartialEq + Drop, E: Drop>(one: Result<T, E>, other: Result<T, E
 
 /// Whether two lookups of a key find the same.
 pub(crate) fn again(alloc: Global, columns: &str) -> Result<String, Flaw> {
-    let (key, bucket) = column(columns)?;
+    let (key, bucket) = column(columns);
     let bucket = bucket.as_bytes();
     let one = cacache_entry::latest(alloc, bucket, key);
     let other = cacache_entry::latest(alloc, bucket, key);

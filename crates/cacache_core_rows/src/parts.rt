@@ -1,9 +1,9 @@
 //! Texts, numbers and environments.
-use crate::words::{Debugged, printed, three, two};
+use crate::words::{Debugged, column, printed, three, two};
 use cacache_base::env::{CountNames, Env, Names};
 use cacache_core::text::Text;
 use cacache_rows::Flaw;
-use cacache_rows::words::{column, number_of};
+use cacache_rows::words::number_of;
 use std::alloc::Global;
 
 /// A text in quotes, whether a copy is equal, and the string inside the copy.
@@ -16,7 +16,7 @@ pub(crate) fn text(alloc: Global, word: &str) -> Result<String, Flaw> {
 
 /// Whether two texts differ, whether the first is less, and their order.
 pub(crate) fn compare(alloc: Global, columns: &str) -> Result<String, Flaw> {
-    let (one, other) = column(columns)?;
+    let (one, other) = column(columns);
     let one = Text::from_str(alloc, one)?;
     let other = Text::from_str(alloc, other)?;
     three(alloc, one != other, one < other, Debugged(one.cmp(&other)))
@@ -24,7 +24,7 @@ pub(crate) fn compare(alloc: Global, columns: &str) -> Result<String, Flaw> {
 
 /// The number behind so many, from a first one on.
 pub(crate) fn number(alloc: Global, columns: &str) -> Result<String, Flaw> {
-    let (first, count) = column(columns)?;
+    let (first, count) = column(columns);
     let mut names = CountNames::from(number_of(first)? as u64);
     for _number in 0..number_of(count)? {
         names.fresh();

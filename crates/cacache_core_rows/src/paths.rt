@@ -1,16 +1,16 @@
 //! Paths below a cache.
-use crate::words::{given, plain, printed, three, two};
+use crate::words::{column, given, plain, printed, three, two};
 use cacache_core::integrity::Integrity;
 use cacache_core::paths::{
     bucket_path, bucket_place, content_path, content_place, join, temp_place,
 };
 use cacache_rows::Flaw;
-use cacache_rows::words::{column, number_of};
+use cacache_rows::words::number_of;
 use std::alloc::Global;
 
 /// The folder and the path of a content's place, and its path.
 pub(crate) fn content(alloc: Global, columns: &str) -> Result<String, Flaw> {
-    let (cache, text) = column(columns)?;
+    let (cache, text) = column(columns);
     let cache = plain(cache);
     let integrity = given(Integrity::parse(alloc, text))?;
     let path = content_path(alloc, cache, &integrity)?;
@@ -20,7 +20,7 @@ pub(crate) fn content(alloc: Global, columns: &str) -> Result<String, Flaw> {
 
 /// The folder and the path of a bucket's place, and its path.
 pub(crate) fn bucket(alloc: Global, columns: &str) -> Result<String, Flaw> {
-    let (cache, key) = column(columns)?;
+    let (cache, key) = column(columns);
     let key = plain(key);
     let path = bucket_path(alloc, cache, key)?;
     let place = bucket_place(alloc, cache, key)?;
@@ -29,7 +29,7 @@ pub(crate) fn bucket(alloc: Global, columns: &str) -> Result<String, Flaw> {
 
 /// The folder and the path of a temporary file's place.
 pub(crate) fn temp(alloc: Global, columns: &str) -> Result<String, Flaw> {
-    let (cache, number) = column(columns)?;
+    let (cache, number) = column(columns);
     let number = number_of(number)?;
     let place = temp_place(alloc, plain(cache), number as u64)?;
     two(alloc, place.folder, place.path)
@@ -37,6 +37,6 @@ pub(crate) fn temp(alloc: Global, columns: &str) -> Result<String, Flaw> {
 
 /// A path and a name below it.
 pub(crate) fn joined(alloc: Global, columns: &str) -> Result<String, Flaw> {
-    let (path, name) = column(columns)?;
+    let (path, name) = column(columns);
     printed(alloc, join(alloc, path, name)?)
 }

@@ -6,6 +6,11 @@ use hex::FromHex;
 use std::alloc::Global;
 use std::fmt::{self, Debug, Display, Formatter, Write};
 
+/// The first column of what an act is given, and those behind it; what isn't there is empty.
+pub(crate) fn column(columns: &str) -> (&str, &str) {
+    columns.split_once(" | ").unwrap_or((columns, ""))
+}
+
 /// A word as it stands: `-` is the empty one.
 pub(crate) fn plain(word: &str) -> &str {
     if is_nothing(word) { "" } else { word }
