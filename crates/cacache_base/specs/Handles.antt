@@ -1,5 +1,5 @@
 -- What reads and writes do to a plain file.
-use Rattle.std.specs.Prelude.{◌≡◌, ◌≤◌, ℕ, ◌+◌, Result, Ok, MatchResult, IfSome, length, min}
+use Rattle.std.specs.Prelude.{◌≡◌, ◌≤◌, ℕ, ◌+◌, Result, Ok, MatchResult, IfSome, IfOk, length, min}
 use Rattle.cacache_base.specs.declared.store.plain.PlainFile.{PlainFile}
 
 -- a read of n bytes lowers what is left by n, and a failed read lowers nothing
@@ -10,3 +10,7 @@ LeftFalls old new r = MatchResult r (λ n. new + n ≡ old) (λ _. new ≡ old)
 abbrev pub GivesAll : {E : Type 0} → PlainFile → ℕ → Result ℕ E → Type 0
 GivesAll file room r =
     IfSome file.bytes (λ bytes. length bytes ≤ file.left → r ≡ Ok (min room (length bytes)))
+
+-- a write that doesn't fail takes all that it is handed
+abbrev pub TakesAll : {E : Type 0} → ℕ → Result ℕ E → Type 0
+TakesAll size r = IfOk r (λ n. n ≡ size)

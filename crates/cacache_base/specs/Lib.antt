@@ -1,4 +1,5 @@
 pub mod Given
 pub mod Handles
+pub mod Failures
 pub mod Plain
 pub mod Fits

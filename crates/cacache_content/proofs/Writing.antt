@@ -1,7 +1,7 @@
 -- One write after another.
-use Rattle.std.proofs.Common.{ℕ, ◌+◌, ◌-◌, List, [], ◌++◌, length, take, drop, refl, sym, ◌∙◌, subst, append_assoc, append-nil}
+use Rattle.std.proofs.Common.{◌≡◌, ◌<◌, ◌≤◌, ◌^◌, ◌⊎◌, inl, inr, ℕ, ◌+◌, ◌-◌, List, [], ◌++◌, length, take, drop, refl, sym, ◌∙◌, ap, subst, append_assoc, append-nil, arith}
 use Rattle.std.proofs.Math.Seq.{take-add}
-use Rattle.std.proofs.lemmas.List.{take_rest, take-append-drop}
+use Rattle.std.proofs.lemmas.List.{take_rest, take-append-drop, length-drop}
 use Rattle.std.proofs.KnownBytes.{Appends-nil, Appends-trans, Appends-kept}
 use Rattle.std.specs.Io.KnownBytes.{Appends, Keeps}
 use Rattle.cacache_base.specs.declared.store.plain.PlainTemp.{PlainTemp}
@@ -41,6 +41,23 @@ module _ {T : Type 0} (temp : T → PlainTemp) where
   went_no_further u v w bytes x kept takes goes =
       let none : Went v w [] = (Appends-kept _ _ _ [] (Appends-nil _) kept, takes, goes) in
       subst (Went u w) (append-nil bytes) (went_through u v w bytes [] x none)
+
+-- what is left of a buffer of which not all was handed over
+pub rest_left : (bytes : List ℕ) (n : ℕ) → n ≤ length bytes → (n ≡ length bytes → ⊥) → 0 < length (take (length bytes - n) (drop n bytes))
+rest_left bytes n within other =
+    let size : length (take (length bytes - n) (drop n bytes)) ≡ length bytes - n = ap length (take_rest bytes n) ∙ length-drop n bytes in
+    let below : n < length bytes = omega (arith, within, other) in
+    omega (arith, size, below)
+
+-- a write more took some bytes
+pub tried_more : {X : Type 0} (tries done count : ℕ) → (tries ≤ done) ⊎ X → (count ≡ 0 → ⊥) → (tries + 1 ≤ done + count) ⊎ X
+tried_more tries done count (inl few) some = inl (omega (arith, few, some))
+tried_more tries done count (inr was) some = inr was
+
+-- as many writes as there can be, of which each took some bytes, would have taken all
+pub too_often : {X : Type 0} (tries done size : ℕ) → (tries ≤ done) ⊎ X → 18446744073709551615 ≤ tries → done ≤ size → (done ≡ size → ⊥) → size < 2 ^ 64 → X
+too_often tries done size (inl few) all within other bound = absurd (omega (arith, few, all, within, other, bound))
+too_often tries done size (inr was) all within other bound = was
 
 -- the first n bytes, and then none
 pub part_taken : {T : Type 0} (u v w : Writer T) (bytes : List ℕ) (n : ℕ) → Takes u v (take n bytes) → Takes v w [] → TakesPart u w bytes

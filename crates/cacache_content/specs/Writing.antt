@@ -1,10 +1,12 @@
 -- Contents that are written in pieces: how they open, what they took and what their commit is.
-use Rattle.std.specs.Prelude.{◌≡◌, ◌⊎◌, ◌^◌, ◌-◌, ◌++◌, ℕ, List, [], Option, None, Result, Ok, Err, min, length}
+use Rattle.std.specs.Prelude.{◌≡◌, ◌≢◌, ◌⊎◌, ◌<◌, ◌^◌, ◌-◌, ◌++◌, ℕ, List, [], Option, None, Result, Ok, Err, min, length}
+use Rattle.std.specs.IoError.{error_kind}
 use Rattle.serde_json.specs.Data.{null}
 use Rattle.cacache_core.specs.declared.errors.Error.{Error}
 use Rattle.cacache_core.specs.declared.integrity.algorithm.Algorithm.{Algorithm}
 use Rattle.cacache_core.specs.Hashers.{Holds, algorithm_of}
 use Rattle.cacache_core.specs.Integrity.{integrity_under}
+use Rattle.cacache_base.specs.Failures as io
 use Rattle.cacache_base.specs.declared.store.answer.Answer.TheVariants as answers
 use Rattle.cacache_base.specs.declared.store.log.LogItem.{LogItem}
 use Rattle.cacache_base.specs.declared.store.plain.PlainTemp.{PlainTemp}
@@ -44,6 +46,30 @@ GoesOn temp old new =
     (new.cache ≡ old.cache) × (new.path ≡ old.path)
     × (algorithm_of new.hasher ≡ algorithm_of old.hasher)
     × ((temp new.file).path ≡ (temp old.file).path)
+
+-- ---- why not all of a buffer was taken
+
+module _ {T : Type 0} (writes : T → ℕ → Result ℕ io.Error → T → Type 0) where
+  -- a write of some bytes was answered so, and left the file so
+  abbrev pub Answers : Result ℕ io.Error → T → Type 0
+  Answers answer after =
+      (before : T) × (size : ℕ) × (0 < size) × writes before size answer after
+
+  -- a write was interrupted
+  abbrev pub IsInterrupted : Type 0
+  IsInterrupted =
+      (e : io.Error) × (after : T) × Answers (Err e) after × (error_kind e ≡ io.Interrupted)
+
+  -- the last write failed with this error, or took nothing; or writes were interrupted too often
+  abbrev pub WholeFails : T → io.Error → Type 0
+  WholeFails file e =
+      Answers (Err e) file
+      ⊎ (Answers (Ok 0) file × (error_kind e ≡ io.WriteZero))
+      ⊎ (IsInterrupted × (error_kind e ≡ io.TimedOut))
+
+-- an interrupted write is tried again, and none of its errors is told
+abbrev pub IsRetried : io.Error → Type 0
+IsRetried e = error_kind e ≢ io.Interrupted
 
 -- ---- the opening: before and after
 

@@ -148,6 +148,7 @@ impl<F: OpenedFile> Read for SyncReader<F> {
         ensures left { LeftFalls (F.seen self.old.file).left (F.seen self.new.file).left result }
         ensures so_far { (i : List Hash) (bytes : List ℕ) → HasRead self.old i bytes
             → HasRead self.new i (bytes ++ passed result buf.new) }
+        ensures earned { F.reads self.old.file (length buf.old) result self.new.file }
     {
         let count = self.file.read_some(buf)?;
         self.checker.input(&buf[..count]);

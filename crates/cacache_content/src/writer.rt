@@ -1,5 +1,5 @@
 //! Contents that are written in pieces, to a temporary file that a commit moves to its place.
-ghost use Rattle.std.specs.Prelude.{◌≡◌, ℕ, List, None, IfOk, IfErr, OnOk, OnErr};
+ghost use Rattle.std.specs.Prelude.{◌≡◌, ℕ, List, None, IfOk, IfErr, IsOk, OnOk, OnErr, length};
 ghost use Rattle.std.specs.Io.{WritesAtMost};
 ghost use Rattle.std.specs.Io.KnownBytes.{Appends, WriteAppends};
 ghost use Rattle.cacache_core.specs.Hashers.{algorithm_of};
@@ -10,7 +10,7 @@ ghost use Rattle.cacache_calls.specs.declared.reply.Reply.TheVariants.{Stored};
 ghost use Rattle.cacache_calls.specs.Promises.{Stores};
 ghost use Rattle.cacache_calls.specs.Runs.{reply_of};
 ghost use Rattle.cacache_content.specs.Stepping.{Does, FailsAt, passed};
-ghost use Rattle.cacache_content.specs.Writing.{HasTaken, GoesOn, Opens, Ends, Removes, Takes, TakesPart, make_folder as making_folder, make_file as making_file, commit_of, unkeyed};
+ghost use Rattle.cacache_content.specs.Writing.{HasTaken, GoesOn, Opens, Ends, Removes, Takes, TakesPart, WholeFails, IsRetried, make_folder as making_folder, make_file as making_file, commit_of, unkeyed};
 
 use cacache_base::env::{Clock, Env, Names};
 use cacache_base::store::{Step, Store, TempFile};
@@ -217,6 +217,7 @@ impl<T: TempFile> Write for Writer<T> {
             result buf.now }
         ensures takes { Takes self.old self.new (passed result buf.now) }
         ensures goes_on { GoesOn T.seen self.old self.new }
+        ensures earned { T.writes self.old.file (length buf.now) result self.new.file }
     {
         let count = self.file.write_some(buf)?;
         self.hasher.update(&buf[..count]);
@@ -234,10 +235,13 @@ impl<T: TempFile> Write for Writer<T> {
         ensures takes { OnOk result (Takes self.old self.new buf.now) }
         ensures part { OnErr result (TakesPart self.old self.new buf.now) }
         ensures goes_on { GoesOn T.seen self.old self.new }
+        ensures earned { IfErr result (WholeFails T.writes self.new.file) }
+        ensures retried { IfErr result IsRetried }
     {
+        let size = buf.len();
         let mut done = 0;
-        for _ in 0..u64::MAX {
-            if done == buf.len() {
+        for _tries in 0..u64::MAX {
+            if done == size {
                 return Ok(());
             }
             match self.write(&buf[done..]) {
@@ -250,6 +254,10 @@ impl<T: TempFile> Write for Writer<T> {
                 Err(error) => return Err(error),
             }
         }
+        // the last write may have taken the rest
+        if done == size {
+            return Ok(());
+        }
         Err(ErrorKind::TimedOut.into())
     }
 
@@ -257,6 +265,7 @@ impl<T: TempFile> Write for Writer<T> {
     fn flush(&mut self) -> io::Result<()>
         ensures bytes { (T.seen self.new.file).bytes ≡ (T.seen self.old.file).bytes }
         ensures same { self.new ≡ self.old }
+        ensures done { IsOk result }
     {
         Ok(())
     }

@@ -1,4 +1,4 @@
-//! A writer over a store whose temporary file takes at most three bytes a write.
+//! A writer over a store whose temporary file takes at most three bytes a write, and interrupts every other one.
 ghost use Rattle.std.specs.Prelude.{None};
 ghost use Rattle.cacache.specs.Stores.{Fits, plain_step, plain_answer};
 
@@ -10,14 +10,15 @@ use cacache::store::{Answer, PlainFile, Step, Store, TempFile, TempHandle};
 use cacache::text::Text;
 use std::alloc::Global;
 use std::io;
-use std::io::Write;
+use std::io::{ErrorKind, Write};
 use std::test::Fail;
 
-/// A temporary file that takes at most three bytes a write.
+/// A temporary file that takes at most three bytes a write. The first write is interrupted, and then every other one.
 #[derive(Drop)]
 struct Short {
     path: Text,
     bytes: Vec<u8>,
+    interrupted: bool,
 }
 
 impl TempHandle for Short {
@@ -36,6 +37,10 @@ impl Write for Short {
 
 impl TempFile for Short {
     fn write_some(&mut self, buf: &[u8]) -> io::Result<usize> {
+        self.interrupted = !self.interrupted;
+        if self.interrupted {
+            return Err(io::Error::from(ErrorKind::Interrupted));
+        }
         let count = buf.len().min(3);
         self.bytes.extend_from_slice(&buf[..count])?;
         Ok(count)
@@ -53,7 +58,11 @@ struct ShortStore {
 impl ShortStore {
     /// Keeps what the temporary file has.
     fn keep(&mut self, temp: Short, path: Text) {
-        let Short { path: _path, bytes } = temp;
+        let Short {
+            path: _path,
+            bytes,
+            interrupted: _,
+        } = temp;
         self.path = path;
         self.bytes = bytes;
     }
@@ -76,7 +85,11 @@ impl Store for ShortStore {
             Step::MakeDirs(_path) => Answer::Done,
             Step::CreateTemp(path) => {
                 let bytes = Vec::new(self.alloc);
-                Answer::Temp(Short { path, bytes })
+                Answer::Temp(Short {
+                    path,
+                    bytes,
+                    interrupted: false,
+                })
             }
             Step::Persist(temp, path) => {
                 self.keep(temp, path);

@@ -1,8 +1,8 @@
 //! Plain files: bytes in memory, and what contracts see of any file.
-ghost use Rattle.std.specs.Prelude.{◌≡◌, IfOk, IsOk, length};
+ghost use Rattle.std.specs.Prelude.{◌≡◌, IsOk, length};
 ghost use Rattle.std.specs.Io.{ReadsAtMost};
 ghost use Rattle.std.specs.Io.KnownBytes.{ReadConsumes, WriteAppends};
-ghost use Rattle.cacache_base.specs.Handles.{LeftFalls, GivesAll};
+ghost use Rattle.cacache_base.specs.Handles.{LeftFalls, GivesAll, TakesAll};
 
 use crate::store::handles::{FileHandle, OpenedFile, TempFile, TempHandle};
 use cacache_core::bytes::Bytes;
@@ -45,6 +45,8 @@ impl Read for PlainFile {
 }
 
 impl OpenedFile for PlainFile {
+    ghost reads = { λ file room result _. GivesAll file room result };
+
     fn read_some(&mut self, buf: &mut [u8]) -> io::Result<usize>
         ensures bound { ReadsAtMost result buf.new }
         ensures left { LeftFalls self.old.left self.new.left result }
@@ -75,7 +77,7 @@ impl Write for PlainTemp {
 
     fn write(&mut self, buf: &[u8]) -> io::Result<usize>
         ensures bytes { WriteAppends self.old.bytes self.new.bytes result buf.now }
-        ensures takes_all { IfOk result (λ count. count ≡ length buf.now) }
+        ensures takes_all { TakesAll (length buf.now) result }
     {
         self.write_some(buf)
     }
@@ -89,10 +91,12 @@ impl Write for PlainTemp {
 }
 
 impl TempFile for PlainTemp {
+    ghost writes = { λ _ size result _. TakesAll size result };
+
     fn write_some(&mut self, buf: &[u8]) -> io::Result<usize>
         ensures path { self.new.path ≡ self.old.path }
         ensures bytes { WriteAppends self.old.bytes self.new.bytes result buf.now }
-        ensures takes_all { IfOk result (λ count. count ≡ length buf.now) }
+        ensures takes_all { TakesAll (length buf.now) result }
     {
         let Some(bytes) = &mut self.bytes else {
             return Err(io::Error::from(ErrorKind::Unsupported));
