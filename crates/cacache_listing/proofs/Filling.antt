@@ -2,6 +2,7 @@
 use Rattle.std.proofs.Common.{◌≡◌, inr, ℕ, ◌+◌, ◌<◌, ◌≤◌, List, [], ◌∷◌, ◌++◌, map, reverse, Option, Some, None, Ok, Err, refl, sym, ◌∙◌, ap, append_assoc, append-nil, length, length-append, arith}
 use Rattle.std.proofs.lemmas.List.{length-map, reverse-append, reverse-reverse}
 use Rattle.cacache_core.specs.declared.errors.Error.TheVariants.{OutOfMemory}
+use Rattle.cacache_base.specs.declared.env.Env.{Env}
 use Rattle.cacache_base.specs.declared.store.log.LogItem.{LogItem}
 use Rattle.cacache_calls.specs.declared.reply.Reply.TheVariants.{Refused}
 use Rattle.cacache_calls.specs.State.{Item}
@@ -10,7 +11,7 @@ use Rattle.cacache_walks.specs.declared.visit.Visit.{Visit}
 use Rattle.cacache_walks.specs.declared.walk.Walk.{Walk}
 use Rattle.cacache_listing.specs.declared.iterator.Ls.{Ls}
 use Rattle.cacache_walks.specs.Standing.{walk_of}
-use Rattle.cacache_listing.specs.Listing.{Lists, listing, ready, StandsBy, Gave, steps_left, items_left, left}
+use Rattle.cacache_listing.specs.Listing.{KeepsEnv, Lists, listing, ready, StandsBy, Gave, steps_left, items_left, left}
 use Rattle.cacache_listing.proofs.Stepping.{Stepped}
 
 module _ {S C N : Type 0} (log : S → Option (List LogItem)) (cache : List ℕ) (old : Option (List LogItem)) where
@@ -75,6 +76,13 @@ module _ {S C N : Type 0} (log : S → Option (List LogItem)) (cache : List ℕ)
   -- a visit without ready items leaves what was given
   pub gave_next : (before after : Ls S C N) (v : Visit) (given : List Item) → before.ready.items ≡ [] → before.visit ≡ Some v → ((items : List Item) → StandsBy log (Some v) cache old before items → StandsBy log after.visit cache old after (items ++ ready log after)) → Gave log cache old before given → Gave log cache old after given
   gave_next before after v given none is went h = went given (stands_at before (Some v) before.visit given (given ++ ready log before) (sym is) (sym (none_ready before given none)) h)
+
+-- ---- its environment
+
+-- one visit after another keeps it
+pub keeps_on : {S C N : Type 0} (one two three : Ls S C N) → KeepsEnv one two → KeepsEnv two three → KeepsEnv one three
+keeps_on {S} {C} {N} one two three x y =
+    (y.0 ∙ x.0, y.1 ∙ ap (λ (env : Env S C N). record env { store = three.env.now.store }) x.1)
 
 -- ---- how much is left
 

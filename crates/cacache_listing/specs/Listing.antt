@@ -50,6 +50,12 @@ items_left None w = 0
 abbrev pub left : {S C N : Type 0} → Ls S C N → ℕ
 left ls = length ls.ready.items + items_left ls.visit ls.walk
 
+-- it has the same environment, of which only the store may have changed
+abbrev pub KeepsEnv : {S C N : Type 0} → Ls S C N → Ls S C N → Type 0
+KeepsEnv before after =
+    (after.env.ghost_name ≡ before.env.ghost_name)
+    × (after.env.now ≡ record before.env.now { store = after.env.now.store })
+
 module _ {S C N : Type 0} (log : S → Option (List LogItem)) where
   -- the items that are ready, in their order
   abbrev pub ready : Ls S C N → List Item
@@ -80,11 +86,15 @@ module _ {S C N : Type 0} (log : S → Option (List LogItem)) where
       Lists cache given old (log ls.env.now.store) × Gave cache old ls given
   GaveNext (Some item) cache old ls given = Gave cache old ls (given ++ item_of item ∷ [])
 
-  -- what one call gives
-  abbrev pub NextGives : Ls S C N → Option (Result Metadata Error) → Ls S C N → Type 0
-  NextGives before result after =
+  -- what one call gives, whatever was given before
+  abbrev pub GivesOn : Ls S C N → Option (Result Metadata Error) → Ls S C N → Type 0
+  GivesOn before result after =
       (cache : List ℕ) (old : Option (List LogItem)) (given : List Item)
       → Gave cache old before given → GaveNext result cache old after given
+
+  -- what one call does: clock, numbers and base folder stay
+  abbrev pub NextGives : Ls S C N → Option (Result Metadata Error) → Ls S C N → Type 0
+  NextGives before result after = GivesOn before result after × KeepsEnv before after
 
   -- ---- after a step
 

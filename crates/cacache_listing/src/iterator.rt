@@ -1,11 +1,13 @@
 //! A listing that walks as it is asked.
 ghost use Rattle.std.specs.Prelude.{◌≡◌, ◌<◌, ◌≤◌, ℕ, List, [], Option, Some, None, IfOk, OnOk, IfErr};
+ghost use Rattle.std.specs.Borrow.{sem};
 ghost use Rattle.std.specs.Iterator.{at_most};
 ghost use Rattle.cacache_core.specs.declared.errors.Error.TheVariants.{OutOfMemory};
 ghost use Rattle.cacache_base.specs.declared.store.log.LogItem.{LogItem};
 ghost use Rattle.cacache_calls.specs.Runs.{plain_item};
 ghost use Rattle.cacache_calls.specs.State.{Item};
-ghost use Rattle.cacache_listing.specs.Listing.{Filled, Gave, IsListing, NextGives, StandsBy, WentOn, item_of, items_left, left, steps_left};
+ghost use Rattle.cacache_listing.specs.Lending.{EnvRests};
+ghost use Rattle.cacache_listing.specs.Listing.{Filled, Gave, IsListing, KeepsEnv, NextGives, StandsBy, WentOn, item_of, items_left, left, steps_left};
 
 use cacache_base::env::Env;
 use cacache_base::store::Store;
@@ -49,7 +51,9 @@ impl<'a, S: Store, C, N> Ls<'a, S, C, N> {
     ///
     /// `OutOfMemory` alone.
     pub(crate) fn new(env: &'a mut Env<S, C, N>, cache: &str) -> errors::Result<Ls<'a, S, C, N>>
+        ensures* rests { sem 𝓛 (EnvRests S.row C.row N.row env.entry result) }
         ensures lends { IfOk result (λ ls. ls.env.ghost_name ≡ env.entry.ghost_name) }
+        ensures before { IfOk result (λ ls. ls.env.now ≡ env.old) }
         ensures gave { IfOk result (λ ls. Gave S.log cache.now (S.log env.old.store) ls []) }
         ensures memory { IfErr result (λ e. e ≡ OutOfMemory) }
     {
@@ -66,7 +70,7 @@ impl<'a, S: Store, C, N> Ls<'a, S, C, N> {
     /// Makes a visit, after which items may be ready.
     fn go_on(&mut self, visit: Visit) -> errors::Result<()>
         requires { self.old.ready.items ≡ [] }
-        ensures lends { self.new.env.ghost_name ≡ self.old.env.ghost_name }
+        ensures keeps { KeepsEnv self.old self.new }
         ensures went { (cache : List ℕ) (old : Option (List LogItem)) (items : List Item)
             → StandsBy S.log (Some visit) cache old self.old items
             → WentOn S.log result cache old self.new items }
@@ -94,7 +98,7 @@ impl<'a, S: Store, C, N> Ls<'a, S, C, N> {
     /// Makes visits until an item is ready, or the walk is over.
     fn fill(&mut self) -> errors::Result<()>
         requires { IsListing S.log self.old }
-        ensures lends { self.new.env.ghost_name ≡ self.old.env.ghost_name }
+        ensures keeps { KeepsEnv self.old self.new }
         ensures filled { (cache : List ℕ) (old : Option (List LogItem)) (given : List Item)
             → Gave S.log cache old self.old given → Filled S.log result cache old self.new given }
         ensures listing { OnOk result (IsListing S.log self.new) }

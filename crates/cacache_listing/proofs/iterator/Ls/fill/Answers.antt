@@ -1,7 +1,7 @@
 use Rattle.std.proofs.Common.{◌∙◌, ◌++◌, sym}
 use Rattle.std.proofs.lemmas.Bool.{eqb-true}
 use Rattle.cacache_listing.specs.Listing.{ready}
-use Rattle.cacache_listing.proofs.Filling.{wants_step, gave_next, fewer_steps_than, fewer_by, nothing_in}
+use Rattle.cacache_listing.proofs.Filling.{keeps_on, wants_step, gave_next, fewer_steps_than, fewer_by, nothing_in}
 use Rattle.cacache_listing.proofs.iterator.Ls.fill.Goals as goal
 
 pub visits-smaller : goal.visits-smaller
@@ -19,7 +19,7 @@ visits-preserved g c =
     let zero = eqb-true c.visits.self.ready.len 0 (sym c.visits-test.ensures) in
     let none = nothing_in c.visits.self.ready.items (sym c.visits.self.ready.ok.0 ∙ zero) in
     record {
-      lends = c.in-Ok.ensures.lends ∙ c.visits.invariant.lends;
+      keeps = keeps_on c.args.self.now c.visits.self c.go_on.new.self c.visits.invariant.keeps c.in-Ok.ensures.keeps;
       gave = λ cache old given h. gave_next g.S.Store.log cache old c.visits.self c.go_on.new.self c.in-Some.visit given none is (c.in-Ok.ensures.went cache old) (c.visits.invariant.gave cache old given h);
       listing = (l.0, l.1, l.2, gave_next g.S.Store.log l.0 l.1 c.visits.self c.go_on.new.self c.in-Some.visit l.2 none is (c.in-Ok.ensures.went l.0 l.1) l.3);
       fewer = fewer_by c.visits.self c.in-Some.visit _ _ is (c.in-Ok.ensures.shrinks l.0 l.1 (l.2 ++ ready g.S.Store.log c.visits.self) stands).1 c.visits.invariant.fewer;

@@ -1,12 +1,12 @@
 use Rattle.std.proofs.Common.{◌≡◌, ◌≤◌, ℕ, List, Option}
 use Rattle.cacache_base.specs.declared.store.log.LogItem.{LogItem}
 use Rattle.cacache_calls.specs.State.{Item}
-use Rattle.cacache_listing.specs.Listing.{Gave, IsListing, left, steps_left}
+use Rattle.cacache_listing.specs.Listing.{Gave, IsListing, KeepsEnv, left, steps_left}
 use Rattle.cacache_listing.proofs.iterator.Ls.fill.Given as goal
 
 abbrev pub invariant-visits : goal.invariant-visits
 invariant-visits g l = record {
-  lends : l.self.env.ghost_name ≡ l.fn.self.env.ghost_name;
+  keeps : KeepsEnv l.fn.self l.self;
   gave : (cache : List ℕ) (old : Option (List LogItem)) (given : List Item) → Gave g.S.Store.log cache old l.fn.self given → Gave g.S.Store.log cache old l.self given;
   listing : IsListing g.S.Store.log l.self;
   fewer : left l.self ≤ left l.fn.self;

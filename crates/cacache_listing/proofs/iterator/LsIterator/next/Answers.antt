@@ -16,9 +16,12 @@ returns-in-Err-clause-goes g c =
     }
 
 pub returns-in-Some-clause-steps : goal.returns-in-Some-clause-steps
-returns-in-Some-clause-steps g c = λ cache old given h.
-    let f = c.in_default.ensures.filled cache old given h in
-    rw c.taken.ensures (given_one g.S.Store.log cache old c.fill.new.self (record c.fill.new.self { ready = c.pop.new.self }) given c.in-Some.item refl refl refl c.in-Some.ensures.items f.0)
+returns-in-Some-clause-steps g c = (
+  λ cache old given h.
+      let f = c.in_default.ensures.filled cache old given h in
+      rw c.taken.ensures (given_one g.S.Store.log cache old c.fill.new.self (record c.fill.new.self { ready = c.pop.new.self }) given c.in-Some.item refl refl refl c.in-Some.ensures.items f.0),
+  c.in_default.ensures.keeps,
+)
 
 pub returns-in-Some-clause-goes : goal.returns-in-Some-clause-goes
 returns-in-Some-clause-goes g c =
@@ -32,9 +35,12 @@ returns-in-Some-clause-goes g c =
     }
 
 pub returns-in-None-clause-steps : goal.returns-in-None-clause-steps
-returns-in-None-clause-steps g c = λ cache old given h.
-    let f = c.in_default.ensures.filled cache old given h in
+returns-in-None-clause-steps g c =
     let none = nothing_in c.fill.new.self.ready.items (sym c.fill.new.self.ready.ok.0 ∙ c.in-None.ensures.cases.0) in (
-      all_given g.S.Store.log cache old c.fill.new.self given (f.1 none) none f.0,
-      same_gave g.S.Store.log cache old c.fill.new.self (record c.fill.new.self { ready = c.pop.new.self }) given refl refl refl (sym (c.in-None.ensures.items ∙ append-nil c.pop.new.self.items)) f.0,
+      λ cache old given h.
+          let f = c.in_default.ensures.filled cache old given h in (
+            all_given g.S.Store.log cache old c.fill.new.self given (f.1 none) none f.0,
+            same_gave g.S.Store.log cache old c.fill.new.self (record c.fill.new.self { ready = c.pop.new.self }) given refl refl refl (sym (c.in-None.ensures.items ∙ append-nil c.pop.new.self.items)) f.0,
+          ),
+      c.in_default.ensures.keeps,
     )
