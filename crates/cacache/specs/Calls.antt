@@ -12,6 +12,7 @@ pub use Rattle.cacache_jobs.specs.Found.{ReadsFound, Verified, Linked}
 pub use Rattle.cacache_put.specs.Options.{Said, nothing_said, options_of, blank}
 pub use Rattle.cacache_put.specs.Links.{link_to, HoldsTarget}
 pub use Rattle.cacache_put.specs.Replies.{done, looked_up}
-pub use Rattle.cacache_put.specs.Writes.{Steps, Calls, MomentOf, RunsNumbered, RunsTimed, RunsPut, keyed_put, unkeyed_put, insert_of, delete_of}
-pub use Rattle.cacache.specs.Reads.{bytes_read, has}
+pub use Rattle.cacache_put.specs.Lookups.{ReadsBucket, Finds, LooksUp}
+pub use Rattle.cacache_put.specs.Writes.{KeepsRest, Steps, Calls, MomentOf, RunsNumbered, RunsTimed, RunsPut, keyed_put, unkeyed_put, insert_of, delete_of}
+pub use Rattle.cacache.specs.Reads.{AsksContent, bytes_read, has}
 pub use Rattle.cacache_export.specs.Exports.{exporting, checked, unchecked}

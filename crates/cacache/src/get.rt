@@ -9,7 +9,7 @@ ghost use Rattle.cacache_calls.specs.Runs.{reply_of};
 ghost use Rattle.cacache_jobs.specs.Found.{FindsBytes, ReadsFound};
 ghost use Rattle.cacache_jobs.specs.Opening.{site_of};
 ghost use Rattle.cacache_put.specs.Writes.{Calls};
-ghost use Rattle.cacache.specs.Reads.{IsReading, bytes_read};
+ghost use Rattle.cacache.specs.Reads.{IsReading, AsksContent, bytes_read};
 
 use cacache_base::env::{Clock, Env, Names};
 use cacache_base::store::{Step, Store};
@@ -88,6 +88,7 @@ pub fn exists_sync<S: Store, C: Clock, N: Names>(
     cache: &str,
     sri: &Integrity,
 ) -> Result<bool>
+    ensures asks { AsksContent cache.now sri.now (S.log env.old.store) (S.log env.new.store) result }
     ensures memory { IfErr result (λ e. e ≡ OutOfMemory) }
     ensures ran { Calls S.log env.old env.new cache.now (commands.Exists sri.now)
         (reply_of Exists result) }

@@ -1,5 +1,5 @@
 -- How the openings and the rest of a link follow the table.
-use Rattle.std.proofs.Common.{◌≡◌, ◌==◌, inl, inr, ℕ, List, [], ◌∷◌, ◌++◌, map, length, Option, Some, None, Result, Ok, Err, true, false, refl, sym, ◌∙◌, ap, append_assoc, arith}
+use Rattle.std.proofs.Common.{◌≡◌, ◌==◌, inl, inr, ℕ, List, [], ◌∷◌, ◌++◌, map, length, Option, Some, None, Result, Ok, Err, true, false, refl, sym, ◌∙◌, ap, subst, append_assoc, arith}
 use Rattle.std.proofs.lemmas.Bool.{eqb-true}
 use Rattle.std.proofs.lemmas.List.{map-append}
 use Rattle.cacache_core.specs.declared.errors.Error.{Error}
@@ -25,7 +25,10 @@ use Rattle.cacache_calls.proofs.Memory.{no_memory_after}
 use Rattle.cacache_jobs.proofs.Hashed.{more_read}
 use Rattle.cacache_put.specs.declared.linked.Linked.{Linked}
 use Rattle.cacache_put.specs.declared.linker.SyncToLinker.{SyncToLinker}
-use Rattle.cacache_put.specs.Linkers.{OpensLinker, asks_size, asks_file, target_at}
+use Rattle.cacache_content.specs.Reading.{FailsToOpen}
+use Rattle.cacache_content.specs.Stepping.{Does, FailsAt}
+use Rattle.cacache_content.proofs.Stepping.{Refuses, file_refused, refused_fails}
+use Rattle.cacache_put.specs.Linkers.{AsksSize, HasSize, FailsToSize, OpensLinker, OpensSized, OpensTarget, asks_size, asks_file, target_at}
 use Rattle.cacache_put.specs.Rest.{links}
 
 -- ---- one part of a run after another
@@ -149,6 +152,39 @@ opened_after file time start then (Ok l) old mid new gone h =
     (h.0, h.1, λ moment. gone_through (start moment) (then moment) _ old mid new (gone moment) (h.2 moment))
 opened_after file time start then (Err e) old mid new gone h =
     λ moment. ran_through (start moment) (then moment) _ old mid new (gone moment) (h moment)
+
+-- ---- the same as steps of a log
+
+-- the step that opened the target
+pub opened_so : (path at : List ℕ) (t : PlainAnswer) (f : PlainFile) (old new : Option (List LogItem)) → path ≡ at → Ok f ≡ file_in t → Logs old new (steps.Open path) t → Does (steps.Open at) (answers.File f) old new
+opened_so path at (answers.File g) f old new same e logs = let is : f ≡ g = cc in rw (← same, is) logs
+opened_so path at t f old new same e logs = absurd cc
+
+-- it was refused
+pub unopened_so : (path at : List ℕ) (t : PlainAnswer) (refusal : Refusal) (e : Error) (old new : Option (List LogItem)) → path ≡ at → Err refusal ≡ file_in t → Fits (steps.Open path) t → Logs old new (steps.Open path) t → EndsAs e (refuse refusal fails) → FailsAt (steps.Open at) e old new
+unopened_so path at t refusal e old new same is fits logs ends =
+    rw (← same) (refused_fails (steps.Open path) t refusal e old new (file_refused path t refusal is fits) logs ends)
+
+-- the step that told its size
+pub sized_so : (path at : List ℕ) (t : PlainAnswer) (n : ℕ) (old new : Option (List LogItem)) → path ≡ at → Ok n ≡ length_in t → Logs old new (steps.Size path) t → HasSize at n old new
+sized_so path at (answers.Length m) n old new same e logs = let is : n ≡ m = cc in rw (← same, is) logs
+sized_so path at t n old new same e logs = absurd cc
+
+size_refused : (path : List ℕ) (t : PlainAnswer) (refusal : Refusal) → Err refusal ≡ length_in t → Fits (steps.Size path) t → Refuses t refusal
+size_refused path (answers.Failed fault) refusal is fits = cc
+size_refused path (answers.NoMemory b) refusal is fits = cc
+size_refused path (answers.Length n) refusal is fits = absurd cc
+size_refused path t refusal is fits = absurd fits
+
+-- it was refused
+pub unsized_so : (path at : List ℕ) (t : PlainAnswer) (refusal : Refusal) (e : Error) (old new : Option (List LogItem)) → path ≡ at → Err refusal ≡ length_in t → Fits (steps.Size path) t → Logs old new (steps.Size path) t → EndsAs e (refuse refusal fails) → FailsToSize at e old new
+unsized_so path at t refusal e old new same is fits logs ends =
+    rw (← same) (refused_fails (steps.Size path) t refusal e old new (size_refused path t refusal is fits) logs ends)
+
+-- the target is opened once its size was asked
+pub opened_sized : {F : Type 0} (file : F → PlainFile) (l next : Linked) (r : Result (SyncToLinker F) Error) (old mid new : Option (List LogItem)) → AsksSize l (Ok next) old mid → OpensTarget file next r mid new → OpensSized file l r old new
+opened_sized file l next (Ok linker) old mid new h opens = (h.0, mid, h.2, subst (λ n. OpensTarget file n (Ok linker) mid new) h.1 opens)
+opened_sized file l next (Err e) old mid new h opens = inr (h.0, mid, h.2, subst (λ (n : Linked). FailsToOpen n.path e mid new) h.1 opens)
 
 -- ---- its rest is read
 

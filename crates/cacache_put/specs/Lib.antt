@@ -1,6 +1,7 @@
 pub mod Reaching
 pub mod Options
 pub mod Replies
+pub mod Lookups
 pub mod Writes
 pub mod Links
 pub mod Linkers

@@ -1,11 +1,13 @@
 -- Links whose target is read in pieces before they are made.
-use Rattle.std.specs.Prelude.{◌≡◌, ◌-◌, ◌^◌, ◌++◌, ℕ, List, [], Option, Result, Ok, Err, length, min}
+use Rattle.std.specs.Prelude.{◌≡◌, ◌⊎◌, ◌-◌, ◌^◌, ◌++◌, ℕ, List, [], Option, None, Some, Result, Ok, Err, length, min}
 use Rattle.cacache_core.specs.declared.errors.Error.{Error}
 use Rattle.cacache_core.specs.declared.integrity.digest.Hash.{Hash}
 use Rattle.cacache_core.specs.Hashers.{Holds, algorithm_of}
 use Rattle.cacache_base.specs.declared.env.Env.{Env}
+use Rattle.cacache_base.specs.declared.store.answer.Answer.TheVariants as answers
 use Rattle.cacache_base.specs.declared.store.log.LogItem.{LogItem}
 use Rattle.cacache_base.specs.declared.store.plain.PlainFile.{PlainFile}
+use Rattle.cacache_base.specs.declared.store.step.Step.TheVariants as steps
 use Rattle.cacache_calls.specs.declared.command.Options.{Options}
 use Rattle.cacache_calls.specs.declared.reply.Reply.{Reply}
 use Rattle.cacache_calls.specs.declared.reply.Reply.TheVariants.{Stored, Refused}
@@ -16,7 +18,10 @@ use Rattle.cacache_calls.specs.State.{State, sizing, opening_file, hashing, to_l
 use Rattle.cacache_calls.specs.Verifying.{Gives}
 use Rattle.cacache_put.specs.declared.linked.Linked.{Linked}
 use Rattle.cacache_put.specs.declared.linker.SyncToLinker.{SyncToLinker}
-use Rattle.cacache_put.specs.Writes.{HasMoment}
+use Rattle.cacache_content.specs.Reading.{Opens as OpensFile, FailsToOpen}
+use Rattle.cacache_content.specs.Stepping.{Does, FailsAt}
+use Rattle.cacache_put.specs.Options.{Said, options_of}
+use Rattle.cacache_put.specs.Writes.{HasMoment, KeepsRest}
 
 -- what is to be linked; without a key the time has no effect
 abbrev pub linked_to :
@@ -28,6 +33,16 @@ linked_to base cache key target time options = record {
   time = time;
   options = options;
 }
+
+-- the same by what was said of the link
+abbrev pub linked_by : List ℕ → List ℕ → Option (List ℕ) → List ℕ → Said → Linked
+linked_by base cache None target s = linked_to base cache None target (Some 0) (options_of s)
+linked_by base cache (Some key) target s =
+    linked_to base cache (Some key) target s.time (options_of s)
+
+-- the same with the size that the link is to have
+abbrev pub with_size : Linked → ℕ → Linked
+with_size l size = record l { options = record l.options { size = Some size } }
 
 -- the same as the target of a call at this moment
 abbrev pub target_at : Linked → ℕ → Target
@@ -65,8 +80,63 @@ HasTaken l bytes =
     Holds l.hasher bytes × (algorithm_of l.hasher ≡ l.linked.options.algorithm)
     × (l.count ≡ min (length bytes) (2 ^ 64 - 1))
 
+-- the linker took nothing yet, and is to make this link
+pub record IsNew {F : Type 0} (linked : Linked) (l : SyncToLinker F) : Type 0 where
+  pub linked_is : l.linked ≡ linked
+  pub empty : HasTaken l []
+
+-- ---- the opening: before and after
+
+-- the target's size was asked, and is this
+abbrev pub HasSize : List ℕ → ℕ → Option (List LogItem) → Option (List LogItem) → Type 0
+HasSize path size old new = Does (steps.Size path) (answers.Length size) old new
+
+-- it wasn't told
+abbrev pub FailsToSize : List ℕ → Error → Option (List LogItem) → Option (List LogItem) → Type 0
+FailsToSize path e old new = FailsAt (steps.Size path) e old new
+
+-- what is to be linked, with the size that was asked; or why it has none
+abbrev pub AsksSize :
+    Linked → Result Linked Error → Option (List LogItem) → Option (List LogItem) → Type 0
+AsksSize l (Ok next) old new =
+    (size : ℕ) × (next ≡ with_size l size) × HasSize l.path size old new
+AsksSize l (Err e) old new = FailsToSize l.path e old new
+
 module _ {F : Type 0} (file : F → PlainFile) where
-  -- where its call stands then
+  -- the target was opened, of which the linker took nothing yet; or why it wasn't
+  abbrev pub OpensTarget :
+      Linked → Result (SyncToLinker F) Error → Option (List LogItem) → Option (List LogItem) → Type 0
+  OpensTarget linked (Ok l) old new =
+      IsNew linked l × OpensFile linked.path (file l.file) old new
+  OpensTarget linked (Err e) old new = FailsToOpen linked.path e old new
+
+  -- its size was asked first, and is the one that the link is to have
+  abbrev pub OpensSized :
+      Linked → Result (SyncToLinker F) Error → Option (List LogItem) → Option (List LogItem) → Type 0
+  OpensSized linked (Ok l) old new =
+      (size : ℕ) × (mid : Option (List LogItem)) × HasSize linked.path size old mid
+      × OpensTarget (with_size linked size) (Ok l) mid new
+  OpensSized linked (Err e) old new =
+      FailsToSize linked.path e old new
+      ⊎ ((size : ℕ) × (mid : Option (List LogItem)) × HasSize linked.path size old mid
+      × FailsToOpen linked.path e mid new)
+
+  module _ {S C N : Type 0} (log : S → Option (List LogItem)) where
+    -- the target was opened, and the environment stayed but for the store
+    abbrev pub Opens :
+        Env S C N → Env S C N → Linked → Result (SyncToLinker F) Error → Type 0
+    Opens old new linked r =
+        OpensTarget linked r (log old.store) (log new.store) × KeepsRest old new
+
+    -- the same after its size was asked
+    abbrev pub OpensWithSize :
+        Env S C N → Env S C N → Linked → Result (SyncToLinker F) Error → Type 0
+    OpensWithSize old new linked r =
+        OpensSized linked r (log old.store) (log new.store) × KeepsRest old new
+
+  -- ---- the opening as moves of a run
+
+  -- where the linker's call stands
   abbrev pub stands_at : SyncToLinker F → List ℕ → ℕ → State
   stands_at l bytes moment = hashing (to_link (target_at l.linked moment)) (file l.file) bytes
 

@@ -15,6 +15,11 @@ use Rattle.cacache_calls.specs.Runs.{Ran}
 use Rattle.cacache_jobs.specs.Opening.{site_of}
 use Rattle.cacache_put.specs.Options.{Said, options_of, blank}
 
+-- the environment stayed, but for its store
+abbrev pub KeepsRest : {S C N : Type 0} → Env S C N → Env S C N → Type 0
+KeepsRest old new =
+    (new.clock ≡ old.clock) × (new.names ≡ old.names) × (new.base ≡ old.base)
+
 -- ---- what is put
 
 -- bytes that are put under a key

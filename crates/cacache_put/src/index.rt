@@ -5,6 +5,7 @@ ghost use Rattle.cacache_calls.specs.declared.reply.Reply.TheVariants.{Stored};
 ghost use Rattle.cacache_calls.specs.Inserting.{given_or, no_integrity, deletion};
 ghost use Rattle.cacache_calls.specs.Runs.{reply_of};
 ghost use Rattle.cacache_entry.specs.View.{entry_view};
+ghost use Rattle.cacache_put.specs.Lookups.{LooksUp};
 ghost use Rattle.cacache_put.specs.Replies.{done as says_done, looked_up, IsShown};
 ghost use Rattle.cacache_put.specs.Writes.{Calls, RunsTimed, insert_of, delete_of};
 
@@ -97,6 +98,7 @@ pub fn find<S: Store, C: Clock, N: Names>(
     cache: &str,
     key: &str,
 ) -> errors::Result<Option<Metadata>>
+    ensures looks { LooksUp cache.now key.now (S.log env.old.store) (S.log env.new.store) result }
     ensures ran { Calls S.log env.old env.new cache.now (commands.Find key.now)
         (reply_of looked_up result) }
 {

@@ -10,8 +10,8 @@ ghost use Rattle.cacache_calls.specs.Runs.{Ran, reply_of};
 ghost use Rattle.cacache_calls.specs.State.{hashing, to_link};
 ghost use Rattle.cacache_core.specs.Hashers.{Holds, algorithm_of};
 ghost use Rattle.cacache_content.specs.Stepping.{passed};
-ghost use Rattle.cacache_put.specs.Linkers.{HasTaken, OpensLinker, Commits, StoresWhole, Sizes, asks_size, asks_file, linked_to, target_at};
-ghost use Rattle.cacache_put.specs.Options.{blank as blank_options};
+ghost use Rattle.cacache_put.specs.Linkers.{AsksSize, Commits, HasTaken, Opens, OpensLinker, OpensSized, OpensTarget, OpensWithSize, Sizes, StoresWhole, asks_file, asks_size, linked_by, linked_to, target_at};
+ghost use Rattle.cacache_put.specs.Options.{blank as blank_options, nothing_said};
 ghost use Rattle.cacache_put.specs.Rest.{links};
 
 use crate::keeping::let_go;
@@ -49,7 +49,8 @@ pub(crate) fn open_target<S: Store>(
     store: &mut S,
     linked: Linked,
 ) -> Result<SyncToLinker<S::File>>
-    ensures { OpensLinker S.File.seen linked.time (asks_file linked) result
+    ensures opens { OpensTarget S.File.seen linked result (S.log store.old) (S.log store.new) }
+    ensures begins { OpensLinker S.File.seen linked.time (asks_file linked) result
         (S.log store.old) (S.log store.new) }
 {
     let path = linked.path.clone()?;
@@ -69,7 +70,8 @@ pub(crate) fn open_target<S: Store>(
 
 /// Asks the target's size, which the link is to have.
 fn sized<S: Store>(alloc: Global, store: &mut S, linked: Linked) -> Result<Linked>
-    ensures { Sizes linked result (S.log store.old) (S.log store.new) }
+    ensures asks { AsksSize linked result (S.log store.old) (S.log store.new) }
+    ensures begins { Sizes linked result (S.log store.old) (S.log store.new) }
 {
     let path = linked.path.clone()?;
     match length_of(store.step(Step::Size(path))) {
@@ -84,7 +86,8 @@ fn open_sized<S: Store>(
     store: &mut S,
     linked: Linked,
 ) -> Result<SyncToLinker<S::File>>
-    ensures { OpensLinker S.File.seen linked.time (asks_size linked) result
+    ensures opens { OpensSized S.File.seen linked result (S.log store.old) (S.log store.new) }
+    ensures begins { OpensLinker S.File.seen linked.time (asks_size linked) result
         (S.log store.old) (S.log store.new) }
 {
     match sized(alloc, store, linked) {
@@ -156,12 +159,11 @@ impl<F: OpenedFile> SyncToLinker<F> {
         algo: Algorithm,
         target: &str,
     ) -> Result<SyncToLinker<F>>
-        ensures opens { OpensLinker F.seen (Some 0) (asks_file (linked_to env.old.base cache.now
+        ensures opens { Opens F.seen S.log env.old env.new (linked_by env.old.base cache.now None
+            target.now (record nothing_said { algorithm = algo })) result }
+        ensures begins { OpensLinker F.seen (Some 0) (asks_file (linked_to env.old.base cache.now
             None target.now (Some 0) (blank_options algo))) result
             (S.log env.old.store) (S.log env.new.store) }
-        ensures clock { env.new.clock ≡ env.old.clock }
-        ensures names { env.new.names ≡ env.old.names }
-        ensures base { env.new.base ≡ env.old.base }
     {
         let alloc = env.alloc;
         let base = env.base.as_str();
@@ -179,12 +181,11 @@ impl<F: OpenedFile> SyncToLinker<F> {
         key: &str,
         target: &str,
     ) -> Result<SyncToLinker<F>>
-        ensures opens { OpensLinker F.seen None (asks_size (linked_to env.old.base cache.now
+        ensures opens { OpensWithSize F.seen S.log env.old env.new (linked_by env.old.base cache.now
+            (Some key.now) target.now nothing_said) result }
+        ensures begins { OpensLinker F.seen None (asks_size (linked_to env.old.base cache.now
             (Some key.now) target.now None (blank_options Sha256))) result
             (S.log env.old.store) (S.log env.new.store) }
-        ensures clock { env.new.clock ≡ env.old.clock }
-        ensures names { env.new.names ≡ env.old.names }
-        ensures base { env.new.base ≡ env.old.base }
     {
         let alloc = env.alloc;
         let base = env.base.as_str();
@@ -200,12 +201,11 @@ impl<F: OpenedFile> SyncToLinker<F> {
         cache: &str,
         target: &str,
     ) -> Result<SyncToLinker<F>>
-        ensures opens { OpensLinker F.seen (Some 0) (asks_size (linked_to env.old.base cache.now
+        ensures opens { OpensWithSize F.seen S.log env.old env.new (linked_by env.old.base cache.now
+            None target.now nothing_said) result }
+        ensures begins { OpensLinker F.seen (Some 0) (asks_size (linked_to env.old.base cache.now
             None target.now (Some 0) (blank_options Sha256))) result
             (S.log env.old.store) (S.log env.new.store) }
-        ensures clock { env.new.clock ≡ env.old.clock }
-        ensures names { env.new.names ≡ env.old.names }
-        ensures base { env.new.base ≡ env.old.base }
     {
         let alloc = env.alloc;
         let base = env.base.as_str();
@@ -260,6 +260,7 @@ impl<F: OpenedFile> Read for SyncToLinker<F> {
         ensures so_far { (bytes : List ℕ) → HasTaken self.old bytes
             → HasTaken self.new (bytes ++ passed result buf.new) }
         ensures linked { self.new.linked ≡ self.old.linked }
+        ensures earned { F.reads self.old.file (length buf.old) result self.new.file }
     {
         let count = self.file.read_some(buf)?;
         self.hasher.update(&buf[..count]);

@@ -1,6 +1,6 @@
 //! Links that are opened with options.
-ghost use Rattle.std.specs.Prelude.{◌≡◌, None, Some};
-ghost use Rattle.cacache_put.specs.Linkers.{OpensLinker, asks_file, linked_to};
+ghost use Rattle.std.specs.Prelude.{None, Some};
+ghost use Rattle.cacache_put.specs.Linkers.{Opens, OpensLinker, asks_file, linked_by, linked_to};
 ghost use Rattle.cacache_put.specs.Options.{options_of};
 
 use crate::keeping::beside;
@@ -24,12 +24,11 @@ impl WriteOpts {
         key: &str,
         target: &str,
     ) -> Result<SyncToLinker<S::File>>
-        ensures opens { OpensLinker S.File.seen self.time (asks_file (linked_to env.old.base
+        ensures opens { Opens S.File.seen S.log env.old env.new (linked_by env.old.base cache.now
+            (Some key.now) target.now self) result }
+        ensures begins { OpensLinker S.File.seen self.time (asks_file (linked_to env.old.base
             cache.now (Some key.now) target.now self.time (options_of self))) result
             (S.log env.old.store) (S.log env.new.store) }
-        ensures clock { env.new.clock ≡ env.old.clock }
-        ensures names { env.new.names ≡ env.old.names }
-        ensures base { env.new.base ≡ env.old.base }
     {
         let alloc = env.alloc;
         let time = self.set_time();
@@ -46,12 +45,11 @@ impl WriteOpts {
         cache: &str,
         target: &str,
     ) -> Result<SyncToLinker<S::File>>
-        ensures opens { OpensLinker S.File.seen (Some 0) (asks_file (linked_to env.old.base
+        ensures opens { Opens S.File.seen S.log env.old env.new (linked_by env.old.base cache.now
+            None target.now self) result }
+        ensures begins { OpensLinker S.File.seen (Some 0) (asks_file (linked_to env.old.base
             cache.now None target.now (Some 0) (options_of self))) result
             (S.log env.old.store) (S.log env.new.store) }
-        ensures clock { env.new.clock ≡ env.old.clock }
-        ensures names { env.new.names ≡ env.old.names }
-        ensures base { env.new.base ≡ env.old.base }
     {
         let alloc = env.alloc;
         let options = self.into_options(alloc)?;

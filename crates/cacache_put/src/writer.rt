@@ -1,12 +1,12 @@
 //! Contents that are written in pieces, with all options at their commit.
-ghost use Rattle.std.specs.Prelude.{◌≡◌, ℕ, List, Some, OnOk, OnErr};
+ghost use Rattle.std.specs.Prelude.{◌≡◌, ℕ, List, Some, IfErr, IsOk, OnOk, OnErr, length};
 ghost use Rattle.std.specs.Io.{WritesAtMost};
 ghost use Rattle.std.specs.Io.KnownBytes.{Appends, WriteAppends};
 ghost use Rattle.cacache_calls.specs.declared.reply.Reply.TheVariants.{Stored};
 ghost use Rattle.cacache_calls.specs.Promises.{Stores};
 ghost use Rattle.cacache_calls.specs.Runs.{reply_of};
 ghost use Rattle.cacache_content.specs.Stepping.{passed};
-ghost use Rattle.cacache_content.specs.Writing.{HasTaken, GoesOn, Removes, Takes, TakesPart};
+ghost use Rattle.cacache_content.specs.Writing.{HasTaken, GoesOn, Removes, Takes, TakesPart, WholeFails, IsRetried};
 ghost use Rattle.cacache_put.specs.Options.{nothing_said};
 ghost use Rattle.cacache_put.specs.Writers.{OpensAt, Opens, Commits, commit_of};
 
@@ -153,6 +153,8 @@ impl<T: TempFile> Write for SyncWriter<T> {
         ensures takes { Takes self.old.writer self.new.writer (passed result buf.now) }
         ensures goes_on { GoesOn T.seen self.old.writer self.new.writer }
         ensures said { self.new ≡ record self.old { writer = self.new.writer } }
+        ensures earned { T.writes self.old.writer.file (length buf.now) result
+            self.new.writer.file }
     {
         self.writer.write(buf)
     }
@@ -168,6 +170,8 @@ impl<T: TempFile> Write for SyncWriter<T> {
         ensures part { OnErr result (TakesPart self.old.writer self.new.writer buf.now) }
         ensures goes_on { GoesOn T.seen self.old.writer self.new.writer }
         ensures said { self.new ≡ record self.old { writer = self.new.writer } }
+        ensures earned { IfErr result (WholeFails T.writes self.new.writer.file) }
+        ensures retried { IfErr result IsRetried }
     {
         self.writer.write_all(buf)
     }
@@ -176,6 +180,7 @@ impl<T: TempFile> Write for SyncWriter<T> {
     fn flush(&mut self) -> io::Result<()>
         ensures bytes { (T.seen self.new.writer.file).bytes ≡ (T.seen self.old.writer.file).bytes }
         ensures same { self.new ≡ self.old }
+        ensures done { IsOk result }
     {
         Ok(())
     }
