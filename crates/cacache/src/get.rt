@@ -1,7 +1,7 @@
 //! Calls that read and export.
 ghost use Rattle.std.specs.Prelude.{◌≡◌, IfOk, IfErr};
 ghost use Rattle.cacache_core.specs.declared.errors.Error.TheVariants.{OutOfMemory};
-ghost use Rattle.cacache_core.specs.Integrity.{Meets};
+ghost use Rattle.cacache_core.specs.Integrity.{IsIntegrity, Meets};
 ghost use Rattle.cacache_calls.specs.declared.command.Command.TheVariants as commands;
 ghost use Rattle.cacache_calls.specs.declared.reply.Reply.TheVariants.{Read, Exists};
 ghost use Rattle.cacache_calls.specs.Promises.{Answers};
@@ -72,9 +72,11 @@ pub fn read_hash_sync<S: Store, C: Clock, N: Names>(
     sri: &Integrity,
 ) -> Result<Vec<u8>>
     ensures verified { IfOk result (λ bytes. Meets sri.now bytes.items) }
+    ensures formed { IsIntegrity sri.now }
     ensures ran { Calls S.log env.old env.new cache.now (commands.GetHash sri.now)
         (reply_of bytes_read result) }
 {
+    let _address = sri.address();
     let command = Command::GetHash(sri.clone()?);
     read(env, cache, command)
 }
@@ -90,9 +92,11 @@ pub fn exists_sync<S: Store, C: Clock, N: Names>(
 ) -> Result<bool>
     ensures asks { AsksContent cache.now sri.now (S.log env.old.store) (S.log env.new.store) result }
     ensures memory { IfErr result (λ e. e ≡ OutOfMemory) }
+    ensures formed { IsIntegrity sri.now }
     ensures ran { Calls S.log env.old env.new cache.now (commands.Exists sri.now)
         (reply_of Exists result) }
 {
+    let _address = sri.address();
     let path = content_path(env.alloc, cache, sri)?;
     match there_of(env.store.step(Step::Exists(path))) {
         Ok(there) => Ok(there),

@@ -1,9 +1,10 @@
 //! Exports of the content of an integrity.
-ghost use Rattle.std.specs.Prelude.{IfOk};
+ghost use Rattle.std.specs.Prelude.{◌≡◌, IfOk};
 ghost use Rattle.cacache_calls.specs.declared.command.How.TheVariants.{Copy, Reflink, HardLink};
 ghost use Rattle.cacache_calls.specs.declared.command.Source.TheVariants.{Hash};
 ghost use Rattle.cacache_calls.specs.declared.reply.Reply.TheVariants.{Copied, Done};
 ghost use Rattle.cacache_calls.specs.Runs.{reply_of};
+ghost use Rattle.cacache_core.specs.Integrity.{IsIntegrity};
 ghost use Rattle.cacache_export.specs.Exports.{checked, unchecked};
 ghost use Rattle.cacache_jobs.specs.Found.{Verified};
 ghost use Rattle.cacache_put.specs.Replies.{done};
@@ -15,6 +16,16 @@ use cacache_base::store::Store;
 use cacache_calls::{How, Source};
 use cacache_core::errors::Result;
 use cacache_core::integrity::Integrity;
+use std::alloc::AllocError;
+
+/// The integrity as what is exported.
+fn of_hash(sri: &Integrity) -> std::result::Result<Source, AllocError>
+    ensures source { IfOk result (λ source. source ≡ Hash sri.now) }
+    ensures formed { IsIntegrity sri.now }
+{
+    let _address = sri.address();
+    Ok(Source::Hash(sri.clone()?))
+}
 
 /// Copies the content of the integrity to this path, and answers how many bytes it has. A file there is overwritten.
 /// The content is read to its end first, and goes there only if it meets the integrity.
@@ -28,12 +39,13 @@ pub fn copy_hash_sync<S: Store, C: Clock, N: Names>(
     sri: &Integrity,
     to: &str,
 ) -> Result<u64>
+    ensures formed { IsIntegrity sri.now }
     ensures verified { IfOk result (λ count. Verified cache.now (Hash sri.now) (Copied count)
         (S.log env.old.store) (S.log env.new.store)) }
     ensures ran { Calls S.log env.old env.new cache.now
         (checked Copy (Hash sri.now) to.now) (reply_of Copied result) }
 {
-    let source = Source::Hash(sri.clone()?);
+    let source = of_hash(sri)?;
     copied(env, cache, source, true, to)
 }
 
@@ -48,10 +60,11 @@ pub fn copy_hash_unchecked_sync<S: Store, C: Clock, N: Names>(
     sri: &Integrity,
     to: &str,
 ) -> Result<u64>
+    ensures formed { IsIntegrity sri.now }
     ensures ran { Calls S.log env.old env.new cache.now
         (unchecked Copy (Hash sri.now) to.now) (reply_of Copied result) }
 {
-    let source = Source::Hash(sri.clone()?);
+    let source = of_hash(sri)?;
     copied(env, cache, source, false, to)
 }
 
@@ -66,12 +79,13 @@ pub fn reflink_hash_sync<S: Store, C: Clock, N: Names>(
     sri: &Integrity,
     to: &str,
 ) -> Result<()>
+    ensures formed { IsIntegrity sri.now }
     ensures verified { IfOk result (λ _. Verified cache.now (Hash sri.now) Done
         (S.log env.old.store) (S.log env.new.store)) }
     ensures ran { Calls S.log env.old env.new cache.now
         (checked Reflink (Hash sri.now) to.now) (reply_of done result) }
 {
-    let source = Source::Hash(sri.clone()?);
+    let source = of_hash(sri)?;
     linked(env, cache, source, How::Reflink, true, to)
 }
 
@@ -85,10 +99,11 @@ pub fn reflink_hash_unchecked_sync<S: Store, C: Clock, N: Names>(
     sri: &Integrity,
     to: &str,
 ) -> Result<()>
+    ensures formed { IsIntegrity sri.now }
     ensures ran { Calls S.log env.old env.new cache.now
         (unchecked Reflink (Hash sri.now) to.now) (reply_of done result) }
 {
-    let source = Source::Hash(sri.clone()?);
+    let source = of_hash(sri)?;
     linked(env, cache, source, How::Reflink, false, to)
 }
 
@@ -103,12 +118,13 @@ pub fn hard_link_hash_sync<S: Store, C: Clock, N: Names>(
     sri: &Integrity,
     to: &str,
 ) -> Result<()>
+    ensures formed { IsIntegrity sri.now }
     ensures verified { IfOk result (λ _. Verified cache.now (Hash sri.now) Done
         (S.log env.old.store) (S.log env.new.store)) }
     ensures ran { Calls S.log env.old env.new cache.now
         (checked HardLink (Hash sri.now) to.now) (reply_of done result) }
 {
-    let source = Source::Hash(sri.clone()?);
+    let source = of_hash(sri)?;
     linked(env, cache, source, How::HardLink, true, to)
 }
 
@@ -122,9 +138,10 @@ pub fn hard_link_hash_unchecked_sync<S: Store, C: Clock, N: Names>(
     sri: &Integrity,
     to: &str,
 ) -> Result<()>
+    ensures formed { IsIntegrity sri.now }
     ensures ran { Calls S.log env.old env.new cache.now
         (unchecked HardLink (Hash sri.now) to.now) (reply_of done result) }
 {
-    let source = Source::Hash(sri.clone()?);
+    let source = of_hash(sri)?;
     linked(env, cache, source, How::HardLink, false, to)
 }

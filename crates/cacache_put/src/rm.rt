@@ -2,6 +2,7 @@
 ghost use Rattle.std.specs.Prelude.{◌≡◌, None, true, false};
 ghost use Rattle.cacache_calls.specs.declared.command.Command.TheVariants as commands;
 ghost use Rattle.cacache_calls.specs.Runs.{reply_of};
+ghost use Rattle.cacache_core.specs.Integrity.{IsIntegrity};
 ghost use Rattle.cacache_put.specs.Replies.{done as says_done};
 ghost use Rattle.cacache_put.specs.Writes.{Calls, RunsTimed, delete_of};
 
@@ -22,9 +23,11 @@ pub fn remove_hash_sync<S: Store, C: Clock, N: Names>(
     cache: &str,
     sri: &Integrity,
 ) -> Result<()>
+    ensures formed { IsIntegrity sri.now }
     ensures ran { Calls S.log env.old env.new cache.now (commands.RemoveHash sri.now)
         (reply_of says_done result) }
 {
+    let _address = sri.address();
     let command = Command::RemoveHash(sri.clone()?);
     done(env, cache, command)
 }

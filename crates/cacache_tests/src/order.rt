@@ -2,10 +2,11 @@
 ghost use Rattle.cacache.specs.Stores.{Fits, Logs, plain_step, plain_answer};
 
 use crate::still::let_go;
+use cacache::content::write::Writer;
 use cacache::env::{Clock, Env, Names};
 use cacache::index::{delete, insert};
 use cacache::store::{Answer, MemStore, Step, Store};
-use cacache::{SyncWriter, WriteOpts};
+use cacache::{Algorithm, SyncToLinker, SyncWriter, WriteOpts};
 use std::alloc::Global;
 use std::cell::Cell;
 use std::test::Fail;
@@ -86,6 +87,31 @@ fn write(env: &mut Noted<'_>, steps: &Cell<u64>) {
     }
 }
 
+/// Opens a linker, and commits it as a call of its own.
+fn link(env: &mut Noted<'_>, steps: &Cell<u64>) {
+    if let Ok(linker) = SyncToLinker::open(env, "c", "l", "t") {
+        steps.set(0);
+        let_go(linker.commit(env));
+    }
+}
+
+/// Stores bytes that are moved in.
+fn write_vec(env: &mut Noted<'_>) {
+    if let Ok(data) = Vec::from_slice(env.alloc, b"a") {
+        let_go(cacache::write_vec_sync(env, "c", "a", data));
+    }
+}
+
+/// Makes the call in parts of this place in the table below.
+fn make_in_parts(env: &mut Noted<'_>, steps: &Cell<u64>, place: usize) {
+    match place {
+        6 => write(env, steps),
+        7 => link(env, steps),
+        8 => let_go(WriteOpts::new().open_hash_sync(env, "c")),
+        _ => let_go(Writer::new(env, "c", Algorithm::Sha256, None)),
+    }
+}
+
 /// Makes the call of this place in the table below.
 fn make(env: &mut Noted<'_>, steps: &Cell<u64>, place: usize) {
     match place {
@@ -94,14 +120,15 @@ fn make(env: &mut Noted<'_>, steps: &Cell<u64>, place: usize) {
         2 => let_go(insert(env, "c", "a", WriteOpts::new())),
         3 => let_go(delete(env, "c", "a")),
         4 => let_go(cacache::link_to_sync(env, "c", "l", "t")),
-        _ => write(env, steps),
+        5 => write_vec(env),
+        _ => make_in_parts(env, steps, place),
     }
 }
 
 /// How often clock and numbers were asked after each call of the table, and how often after a step.
 fn how_often(env: &mut Noted<'_>, steps: &Cell<u64>) -> Result<Vec<(u64, u64, u64)>, Fail> {
     let mut counts = Vec::new(env.alloc);
-    for place in 0..6 {
+    for place in 0..10 {
         steps.set(0);
         make(env, steps, place);
         let late = env.clock.late.saturating_add(env.names.late);
@@ -130,6 +157,10 @@ fn calls_ask_before_their_first_step(rt: HostRuntime) -> Result<(), Fail> {
         (3, 2, 0),
         (4, 2, 0),
         (5, 3, 0),
+        (6, 4, 0),
+        (7, 4, 0),
+        (7, 5, 0),
+        (7, 6, 0),
     ];
     assert_eq!(rt; counts.len(), wanted.len());
     for (count, wanted) in counts.iter().zip(wanted.iter()) {

@@ -1,6 +1,7 @@
 //! What is there of a content, its bytes at once or in pieces, and its exports.
 ghost use Rattle.std.specs.Prelude.{◌≡◌, IfOk, IfErr, IfSome};
 ghost use Rattle.cacache_core.specs.declared.errors.Error.TheVariants.{OutOfMemory};
+ghost use Rattle.cacache_core.specs.Integrity.{IsIntegrity};
 ghost use Rattle.cacache_calls.specs.declared.command.Command.TheVariants as commands;
 ghost use Rattle.cacache_calls.specs.Runs.{reply_of};
 ghost use Rattle.cacache_put.specs.Writes.{Calls};
@@ -29,9 +30,11 @@ pub fn has_content<S: Store, C: Clock, N: Names>(
 ) -> Result<Option<Integrity>>
     ensures same { IfOk result (λ found. IfSome found (λ i. i ≡ sri.now)) }
     ensures memory { IfErr result (λ e. e ≡ OutOfMemory) }
+    ensures formed { IsIntegrity sri.now }
     ensures ran { Calls S.log env.old env.new cache.now (commands.Exists sri.now)
         (reply_of has result) }
 {
+    let _address = sri.address();
     let copy = sri.clone()?;
     if exists_sync(env, cache, sri)? {
         Ok(Some(copy))

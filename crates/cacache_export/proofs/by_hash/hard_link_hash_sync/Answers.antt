@@ -1,11 +1,10 @@
 use Rattle.std.proofs.Common.{subst, refl}
 use Rattle.std.specs.Prelude.{IfOk}
-use Rattle.cacache_calls.specs.declared.command.Source.TheVariants.{Hash}
 use Rattle.cacache_calls.specs.declared.reply.Reply.TheVariants.{Done}
 use Rattle.cacache_jobs.specs.Found.{Verified}
 use Rattle.cacache_export.proofs.by_hash.hard_link_hash_sync.Goals as goal
 
 pub returns-clause-verified : goal.returns-clause-verified
 returns-clause-verified g c =
-    subst (λ named. IfOk c.linked.result (λ _. Verified c.args.cache.now (Hash named) Done (g.S.Store.log c.args.env.now.store) (g.S.Store.log c.linked.new.env.store)))
-    c.in_ok-clone.ensures.cases (c.linked.ensures.verified refl)
+    subst (λ source. IfOk c.linked.result (λ _. Verified c.args.cache.now source Done (g.S.Store.log c.args.env.now.store) (g.S.Store.log c.linked.new.env.store)))
+    c.in_ok-source.ensures.source (c.linked.ensures.verified refl)
