@@ -1,10 +1,8 @@
 -- What is known of a call that was made on a cache in a store in memory.
-use Rattle.std.proofs.Common.{◌≡◌, ◌⊎◌, inl, inr, ℕ, List, [], ◌++◌, Option, None, Some, map, refl, sym, ap, subst, ◌∙◌}
+use Rattle.std.proofs.Common.{◌≡◌, ◌⊎◌, inl, inr, ℕ, List, [], ◌++◌, map, refl, sym, subst}
 use Rattle.cacache_core.specs.declared.errors.Error.{Error}
 use Rattle.cacache_core.specs.declared.errors.Error.TheVariants.{EntryNotFound, SizeMismatch, IoError, SerdeError, IntegrityError, OutOfMemory}
 use Rattle.cacache_core.specs.declared.errors.Fault.{Fault}
-use Rattle.cacache_core.specs.declared.integrity.digest.Hash.{Hash}
-use Rattle.cacache_core.specs.Integrity.{address}
 use Rattle.cacache_core.specs.PathNames.{home_of}
 use Rattle.cacache_base.specs.declared.store.log.LogItem.{LogItem}
 use Rattle.cacache_base.specs.declared.store.log.LogItem.TheVariants.{Made}
@@ -17,14 +15,12 @@ use Rattle.cacache_calls.specs.Causes.{HasCause, own_of, Faulted}
 use Rattle.cacache_calls.specs.Runs.{Runs, plain_reply}
 use Rattle.cacache_calls.specs.Sound.{MayBegin}
 use Rattle.cacache_calls.specs.Table.{opening}
-use Rattle.cacache_laws.specs.Value.{empty_value}
 use Rattle.cacache_laws.proofs.Opening.{files_open}
 use Rattle.cacache_history.specs.Setup.{site_of, may_export, is_outside}
 use Rattle.cacache_history.specs.History.{NamesIntegrity}
-use Rattle.cacache_history.specs.Reading.{blob_at}
 use Rattle.cacache_sequence.specs.Sequence.{Call, IsMade, tree_on, Answers}
 use Rattle.cacache_sequence.specs.Failures.{FailsOnly}
-use Rattle.cacache_sequence.specs.Caches.{IsCache, IsExcused, Called, setup_at, FreshIsEmpty, EmptyHasNothing, CachesLast}
+use Rattle.cacache_sequence.specs.Caches.{IsCache, IsExcused, Called, setup_at, FreshIsEmpty, CachesLast}
 use Rattle.cacache_sequence.proofs.Sequence.{openings_are_sound, calls_answer_alone}
 
 pub fresh_is_empty : FreshIsEmpty
@@ -32,13 +28,6 @@ unfolding tree_of
 fresh_is_empty cache =
     let o = files_open (home_of cache) [] bare tt refl in
     record { sound = openings_are_sound (home_of cache) bare o; nothing = o.nothing }
-
-nothing_at : (o : Option Hash) → blob_at empty_value o ≡ None
-nothing_at None = refl
-nothing_at (Some h) = refl
-
-pub empty_has_nothing : EmptyHasNothing
-empty_has_nothing cache i bytes log empty = inl (ap (λ v. blob_at v (address i)) empty.nothing ∙ nothing_at (address i))
 
 -- ---- a call that was made
 

@@ -1,6 +1,8 @@
 pub mod Replays
 pub mod Alike
 pub mod Found
+pub mod Making
+pub mod Persisting
 pub mod Sequence
 pub mod Kept
 pub mod Replies

@@ -36,6 +36,7 @@ use Rattle.cacache_history.proofs.Commits.{cases, plain_refused}
 use Rattle.cacache_sequence.specs.Sequence.{Call, AreMade, MayBeMade, planted_log, tree_on, turns_on, AreAnswered, plain_moves, Alike, after_deeds, Answers, IsSound, AllAnswer, RunsAreCalls, OpeningsAreSound, CallsAnswer, SequencesAnswer}
 use Rattle.cacache_sequence.proofs.Alike.{moves_alike}
 use Rattle.cacache_sequence.proofs.Found.{found_before}
+use Rattle.cacache_sequence.proofs.Persisting.{puts_find_nothing}
 use Rattle.cacache_sequence.proofs.Replays.{replay_more, replayable_rest, moves_lead, moves_answered, files_lead, calls_lengthen}
 
 -- the moves of a run, as those of a call
@@ -150,6 +151,9 @@ module _ (s : Setup) (apart : LieApart (home s) s.outside) where
           acts = ap (value_of_tree (home s)) (sym (moves_after t call.moves)) ∙ traces_act (home s) t (plain_moves call.moves) tree.placed holds.trace;
           follows = call_follows t call (ap (value_of_tree (home s)) (sym (moves_after t call.moves)) ∙ traces_act (home s) t (plain_moves call.moves) tree.placed holds.trace);
           found = λ a more is e. found_before s a is more t call.moves tree.placed holds.trace hold e;
+          puts = λ p path more is e.
+              puts_find_nothing (home s) (site_of s call.number) p t call.moves (plain_reply call.reply) path more tree.rooted tree.placed holds.trace
+              (subst (λ c. Runs (opening (site_of s call.number) c) call.moves (plain_reply call.reply)) is run) e;
           reads = elim (reads_value s call.number call.command turns (plain_reply call.reply) named hold holds.keyed ran) [
             | inl e ↦ inl (memory_plain call.reply e)
             | inr reads ↦ inr reads

@@ -22,12 +22,11 @@ use Rattle.cacache_laws.specs.Value.{Blob, InFile, Value, value_of_tree}
 use Rattle.cacache_laws.specs.Acts.{PutBytes, change, list_of}
 use Rattle.cacache_history.specs.Setup.{Setup, site_of, home}
 use Rattle.cacache_history.specs.Commits.{Deed, does, finds, deeds, IsContent, IsAdded, IsNotOk, Adds, AddsAfter, CommitsAs, IsCase}
-use Rattle.cacache_history.specs.Values.{IsThere}
 use Rattle.cacache_history.proofs.Digests.{digest_hash}
 use Rattle.cacache_history.proofs.Reading.{bucket_below, content_below}
 use Rattle.cacache_sequence.specs.Sequence.{Call, turns_on, tree_on, after_deeds, Answers}
 use Rattle.cacache_sequence.specs.Replies.{entries_on}
-use Rattle.cacache_sequence.specs.Stored.{Puts, own_hash, HasStored, PutsStore, DeletesAdd}
+use Rattle.cacache_sequence.specs.Stored.{own_hash, HasStored, PutsStore, DeletesAdd}
 
 -- a path that names these below the cache is the path of these names in its folder
 below_is : (folder : Option Names) (names all : Names) (r : Result Names Fault) → r ≡ names_below folder names → r ≡ Ok all → is_path_of folder names all ≡ true
@@ -60,22 +59,20 @@ module _ (s : Setup) where
   keeps_blob i (finds path) v a is = absurd is
   keeps_blob i (does act) v a is = ap (λ x. (change (home s) x v).contents a) is.2
 
-  -- a content that is put or found
+  -- a content that is put
   keeps_entries : (c : Commit) (bytes : List ℕ) (d : Deed) (v : Value) (digest : List ℕ) → IsContent c (λ names. PutBytes names bytes) d
       → (after_deeds (home s) (d ∷ []) v).buckets digest ≡ v.buckets digest
   keeps_entries c bytes (finds path) v digest is = refl
   keeps_entries c bytes (does act) v digest is = ap (λ x. (change (home s) x v).buckets digest) is.2
 
   puts_blob : (c : Commit) (bytes : List ℕ) (a : Hash) (d : Deed) (more ds : List Deed) (v : Value) → c.cache ≡ s.cache → c.computed ≡ a ∷ [] → IsHash a
-      → ((more : List Deed) → IsHash a → ds ≡ finds (content_path s.cache (a ∷ [])) ∷ more → IsThere (v.contents a))
-      → ds ≡ d ∷ more → IsContent c (λ names. PutBytes names bytes) d
-      → Puts bytes (v.contents a) ((after_deeds (home s) (d ∷ []) v).contents a)
-  puts_blob c bytes a (finds path) more ds v here of hash found e is =
-      inr (refl, found more hash (e ∙ ap (λ p. finds p ∷ more) (is ∙ ap (λ k. content_path k c.computed) here ∙ ap (content_path s.cache) of)))
-  puts_blob c bytes a (does act) more ds v here of hash found e is =
+      → ((path : List ℕ) (more : List Deed) → ds ≡ finds path ∷ more → ⊥) → ds ≡ d ∷ more → IsContent c (λ names. PutBytes names bytes) d
+      → (after_deeds (home s) (d ∷ []) v).contents a ≡ Some (InFile bytes)
+  puts_blob c bytes a (finds path) more ds v here of hash never e is = absurd (never path more e)
+  puts_blob c bytes a (does act) more ds v here of hash never e is =
       let at = below_is (home s) (content_names a) is.0 (names_of (content_path c.cache c.computed))
       (ap (λ k. names_of (content_path k c.computed)) here ∙ ap (λ j. names_of (content_path s.cache j)) of ∙ content_below s a [] hash) is.1 in
-      inl (ap (λ x. (change (home s) x v).contents a) is.2 ∙ new_blob (is_path_of (home s) (content_names a) is.0) (Some (InFile bytes)) (v.contents a) at)
+      ap (λ x. (change (home s) x v).contents a) is.2 ∙ new_blob (is_path_of (home s) (content_names a) is.0) (Some (InFile bytes)) (v.contents a) at
 
   module _ (t : Tree) (call : Call) (answers : Answers s t call) where
     v0 : Value
@@ -94,10 +91,10 @@ module _ (s : Setup) where
         ∙ ap (λ ds. list_of ((after_deeds (home s) ds (value_of_tree (home s) t)).buckets (sha1 i.entry.key))) e.2
         ∙ adds_entry i e.0 (value_of_tree (home s) t) here e.1
 
-    stores : (p : Put) (key : List ℕ) (r : Reply) → (IsNotOk (Some r) → ⊥) → CommitsAs (commit_of s.cache p) (λ names. PutBytes names p.data) (deeds (turns_on t call.moves)) (Some r)
+    stores : (p : Put) (key : List ℕ) (r : Reply) → call.command ≡ commands.Put p → (IsNotOk (Some r) → ⊥) → CommitsAs (commit_of s.cache p) (λ names. PutBytes names p.data) (deeds (turns_on t call.moves)) (Some r)
         → p.key ≡ Some key → HasStored s t (tree_on t call.moves) p key
-    stores p key r ok (inl h) is = absurd (ok h.1)
-    stores p key r ok (inr h) is =
+    stores p key r put ok (inl h) is = absurd (ok h.1)
+    stores p key r put ok (inr h) is =
         let c = commit_of s.cache p in
         let i = insertion_of (commit_of s.cache p) key in
         let v = value_of_tree (home s) t in
@@ -112,13 +109,12 @@ module _ (s : Setup) where
               ∙ adds_entry i e.0 (after_deeds (home s) (h.0 ∷ []) v) refl e.1
               ∙ ap (λ o. list_of o ++ i.entry ∷ []) (keeps_entries c p.data h.0 v (sha1 key) h.2);
           content =
-              subst (Puts p.data (v.contents (own_hash p)))
-              (sym (answers.follows.contents (own_hash p)
+              answers.follows.contents (own_hash p)
               ∙ ap (λ ds. (after_deeds (home s) ds (value_of_tree (home s) t)).contents (own_hash p)) all
               ∙ ap (λ (w : Value). w.contents (own_hash p)) (two v)
-              ∙ keeps_blob i e.0 (after_deeds (home s) (h.0 ∷ []) v) (own_hash p) e.1))
-              (puts_blob c p.data (own_hash p) h.0 h.1 (deeds (turns_on t call.moves)) v refl refl (digest_hash p.options.algorithm p.data)
-              (λ more hash is. answers.found (own_hash p) more hash is) h.3 h.2);
+              ∙ keeps_blob i e.0 (after_deeds (home s) (h.0 ∷ []) v) (own_hash p) e.1
+              ∙ puts_blob c p.data (own_hash p) h.0 h.1 (deeds (turns_on t call.moves)) v refl refl (digest_hash p.options.algorithm p.data)
+              (λ path more e. answers.puts p path more put e) h.3 h.2;
         }
       where
         first : (d : Deed) (more : List Deed) (w : Value) → after_deeds (home s) (d ∷ more) w ≡ after_deeds (home s) more (after_deeds (home s) (d ∷ []) w)
@@ -130,7 +126,7 @@ puts_store s t call p key i command keyed reply answers =
     let commits : CommitsAs (commit_of s.cache p) (λ names. PutBytes names p.data) (deeds (turns_on t call.moves)) (Some (replies.Stored i))
     = subst (λ r. IsCase (site_of s call.number) (commands.Put p) (turns_on t call.moves) (Some r)) reply
     (subst (λ c. IsCase (site_of s call.number) c (turns_on t call.moves) (Some call.reply)) command answers.commits) in
-    stores s t call answers p key (replies.Stored i) (λ no. no) commits keyed
+    stores s t call answers p key (replies.Stored i) command (λ no. no) commits keyed
 
 pub deletes_add : DeletesAdd
 deletes_add s t call d command reply answers =

@@ -1,5 +1,5 @@
 -- What a write leaves in a cache.
-use Rattle.std.proofs.Common.{◌≡◌, ◌⊎◌, inl, inr, ℕ, List, [], ◌∷◌, Option, None, Some, option_map, length, refl, sym, ap, subst, ◌∙◌, arith}
+use Rattle.std.proofs.Common.{◌≡◌, ℕ, List, [], ◌∷◌, None, Some, option_map, length, refl, sym, ap, subst, ◌∙◌, arith}
 use Rattle.std.proofs.lemmas.List.Elements.{All-cons, All-nil}
 use Rattle.cacache_core.specs.declared.integrity.algorithm.Algorithm.{Algorithm}
 use Rattle.cacache_core.specs.declared.integrity.algorithm.Algorithm.TheVariants.{Sha1, Sha256, Sha384, Sha512}
@@ -22,16 +22,15 @@ use Rattle.cacache_calls.specs.Inserting.{refused_cause}
 use Rattle.cacache_calls.specs.Promises.{Stores}
 use Rattle.cacache_calls.specs.Storing.{insertion_of, commit_of}
 use Rattle.cacache_calls.proofs.Promises.{calls_answer}
-use Rattle.cacache_laws.specs.Value.{Blob, InFile, value_of_tree}
+use Rattle.cacache_laws.specs.Value.{value_of_tree}
 use Rattle.cacache_history.specs.Setup.{site_of}
 use Rattle.cacache_history.specs.Reading.{blob_at}
-use Rattle.cacache_history.specs.Values.{IsThere}
 use Rattle.cacache_history.proofs.Digests.{digest_hash}
 use Rattle.cacache_history.proofs.Utf8.{integrity_utf8}
 use Rattle.cacache_sequence.specs.Sequence.{tree_on}
 use Rattle.cacache_sequence.specs.Replies.{entries_on}
-use Rattle.cacache_sequence.specs.Stored.{Puts, HasStored}
-use Rattle.cacache_sequence.specs.Caches.{HasKey, NothingElse, plain_put, setup_at, WritesKey, WritesLast}
+use Rattle.cacache_sequence.specs.Stored.{HasStored}
+use Rattle.cacache_sequence.specs.Caches.{HasKey, plain_put, setup_at, WritesKey, WritesLast}
 use Rattle.cacache_sequence.proofs.Stored.{puts_store}
 use Rattle.cacache_sequence.proofs.Failures.{calls_fail_only}
 use Rattle.cacache_sequence.proofs.Forms.{bare_written}
@@ -55,14 +54,8 @@ own_integrity a bytes = record {
 
 -- ---- a write
 
-module _ (a : Algorithm) (cache base key bytes : List ℕ) (moment : ℕ) (old new : List LogItem) (free : NothingElse cache (integrity_under a bytes) bytes old)
+module _ (a : Algorithm) (cache base key bytes : List ℕ) (moment : ℕ) (old new : List LogItem)
     (written : refused_cause (insertion_of (commit_of cache (plain_put a key bytes moment)) key) ≡ None) where
-  -- the bytes are there, where nothing else was
-  blob_new : (was now : Option Blob) → (was ≡ None) ⊎ (was ≡ Some (InFile bytes)) → Puts bytes was now → now ≡ Some (InFile bytes)
-  blob_new was now free (inl e) = e
-  blob_new was now (inl none) (inr h) = absurd (subst IsThere none h.1)
-  blob_new was now (inr same) (inr h) = h.0 ∙ same
-
   has_key : (i : List Hash) (t : Tree) → i ≡ integrity_under a bytes → tree_of new ≡ t → HasStored (setup_at cache base) (tree_of old) t (plain_put a key bytes moment) key
       → HasKey cache key i bytes new
   has_key i t is leads stored =
@@ -79,7 +72,7 @@ module _ (a : Algorithm) (cache base key bytes : List ℕ) (moment : ℕ) (old n
           content =
               ap (λ j. blob_at (value_of_tree (home_of cache) (tree_of new)) (address j)) is
               ∙ ap (λ x. (value_of_tree (home_of cache) x).contents h) leads
-              ∙ blob_new ((value_of_tree (home_of cache) (tree_of old)).contents h) ((value_of_tree (home_of cache) t).contents h) free stored.content;
+              ∙ stored.content;
           formed = subst IsIntegrity (sym is) (own_integrity a bytes);
           meets = subst (λ j. Meets j bytes) (sym is) (own_is_met a bytes);
         };
@@ -111,8 +104,8 @@ keyed_formed P key k e h = let same : key ≡ k = cc in subst P same h
 
 pub writes_last : WritesLast
 unfolding refused_cause
-writes_last a cache key bytes moment r old new utf8 small early sound free c =
+writes_last a cache key bytes moment r old new utf8 small early sound c =
     let w = bare_written key (Some (text_of (integrity_under a bytes))) moment (length bytes) utf8 (integrity_utf8 (integrity_under a bytes)) early small in
     let k = known cache (commands.Put (plain_put a key bytes moment)) r old new c
     (λ k e none. keyed_formed (λ k. IsEntry (insertion_of (commit_of cache (plain_put a key bytes moment)) k).entry) key k e w.formed) tt sound in
-    (k.sound, writes a cache c.base key bytes moment old new free w.no_cause r k)
+    (k.sound, writes a cache c.base key bytes moment old new w.no_cause r k)

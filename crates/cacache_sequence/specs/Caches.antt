@@ -6,7 +6,7 @@ use Rattle.cacache_core.specs.declared.errors.Error.TheVariants.{EntryNotFound, 
 use Rattle.cacache_core.specs.declared.errors.Fault.{Fault}
 use Rattle.cacache_core.specs.declared.integrity.algorithm.Algorithm.{Algorithm}
 use Rattle.cacache_core.specs.declared.integrity.digest.Hash.{Hash}
-use Rattle.cacache_core.specs.Integrity.{IsIntegrity, Meets, address, integrity_under}
+use Rattle.cacache_core.specs.Integrity.{IsIntegrity, Meets, address}
 use Rattle.cacache_core.specs.PathNames.{home_of}
 use Rattle.cacache_base.specs.declared.store.log.LogItem.{LogItem}
 use Rattle.cacache_base.specs.declared.store.log.LogItem.TheVariants.{Made, Foreign}
@@ -50,11 +50,6 @@ pub record HasContent (cache : List ℕ) (i : List Hash) (bytes : List ℕ) (log
   pub content : lies_under cache i log ≡ Some (InFile bytes)
   pub formed : IsIntegrity i
   pub meets : Meets i bytes
-
--- nothing lies under the integrity, or these bytes do already
-abbrev pub NothingElse : List ℕ → List Hash → List ℕ → List LogItem → Type 0
-NothingElse cache i bytes log =
-    (lies_under cache i log ≡ None) ⊎ (lies_under cache i log ≡ Some (InFile bytes))
 
 -- the key leads to the integrity, under which the bytes lie
 pub record HasKey (cache key : List ℕ) (i : List Hash) (bytes : List ℕ) (log : List LogItem)
@@ -122,12 +117,6 @@ setup_at cache base = record { cache = cache; base = base; outside = []; callers
 abbrev pub FreshIsEmpty : Type 0
 FreshIsEmpty = (cache : List ℕ) → IsEmptyCache cache []
 
--- in an empty cache nothing lies under any integrity
-abbrev pub EmptyHasNothing : Type 0
-EmptyHasNothing =
-    (cache : List ℕ) (i : List Hash) (bytes : List ℕ) (log : List LogItem)
-    → IsEmptyCache cache log → NothingElse cache i bytes log
-
 -- a call that may begin leaves a cache on which calls may be made
 abbrev pub CachesLast : Type 0
 CachesLast =
@@ -143,12 +132,11 @@ WritesKey cache key bytes (Stored i) old new = HasKey cache key i bytes new
 WritesKey cache key bytes (Refused e) old new = IsExcused e old new
 WritesKey cache key bytes r old new = ⊥
 
--- so does each write of bytes under whose integrity nothing else lies
+-- so does each write, whatever the cache holds
 abbrev pub WritesLast : Type 0
 WritesLast =
     (a : Algorithm) (cache key bytes : List ℕ) (moment : ℕ) (r : Reply) (old new : List LogItem)
     → IsUtf8 key → length bytes < 2 ^ 64 → moment < 2 ^ 64 → IsCache cache old
-    → NothingElse cache (integrity_under a bytes) bytes old
     → Called cache (commands.Put (plain_put a key bytes moment)) r old new
     → IsCache cache new × WritesKey cache key bytes r old new
 

@@ -13,6 +13,8 @@ use Rattle.cacache_disk.specs.Rooted.{Rooted}
 use Rattle.cacache_entry.specs.Fits.{IsEntry}
 use Rattle.cacache_memory.specs.Replay.{tree_of, IsLog}
 use Rattle.cacache_calls.specs.declared.command.Command.{Command}
+use Rattle.cacache_calls.specs.declared.command.Command.TheVariants as commands
+use Rattle.cacache_calls.specs.declared.command.Put.{Put}
 use Rattle.cacache_calls.specs.declared.reply.Reply.{Reply}
 use Rattle.cacache_calls.specs.declared.reply.Reply.TheVariants.{Refused}
 use Rattle.cacache_calls.specs.Causes.{HasCause, own_of}
@@ -106,7 +108,8 @@ after_deeds folder (does act ∷ ds) v = after_deeds folder ds (change folder ac
 after_deeds folder (finds path ∷ ds) v = after_deeds folder ds v
 
 -- a call on this tree: the value follows its acts, contents and entries follow its deeds alone,
--- what its first deed finds was there before, and its reply is what its turns show
+-- what its first deed finds was there before, a put finds nothing but puts its content, and its
+-- reply is what its turns show
 pub record Answers (s : Setup) (t : Tree) (call : Call) : Type 0 where
   pub disk : AreAnswered t call.moves
   pub acts :
@@ -118,6 +121,8 @@ pub record Answers (s : Setup) (t : Tree) (call : Call) : Type 0 where
   pub found : (a : Hash) (more : List Deed) → IsHash a
       → deeds (turns_on t call.moves) ≡ finds (content_path s.cache (a ∷ [])) ∷ more
       → IsThere ((value_of_tree (home s) t).contents a)
+  pub puts : (p : Put) (path : List ℕ) (more : List Deed) → call.command ≡ commands.Put p
+      → deeds (turns_on t call.moves) ≡ finds path ∷ more → ⊥
   pub reads :
       (call.reply ≡ Refused OutOfMemory)
       ⊎ ReadsValue s call.command (turns_on t call.moves) (plain_reply call.reply)

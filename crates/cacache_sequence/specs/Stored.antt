@@ -1,5 +1,5 @@
 -- What a put and a removal that are done leave in the cache.
-use Rattle.std.specs.Prelude.{◌≡◌, ◌⊎◌, ℕ, List, [], ◌∷◌, ◌++◌, Option, Some}
+use Rattle.std.specs.Prelude.{◌≡◌, ℕ, List, [], ◌∷◌, ◌++◌, Some}
 use Rattle.cacache_core.specs.declared.integrity.digest.Hash.{Hash}
 use Rattle.cacache_core.specs.Digests.{digest}
 use Rattle.cacache_core.specs.Integrity.{hash_of}
@@ -10,28 +10,22 @@ use Rattle.cacache_calls.specs.declared.command.Command.TheVariants as commands
 use Rattle.cacache_calls.specs.declared.reply.Reply.TheVariants.{Stored, Done}
 use Rattle.cacache_calls.specs.Inserting.{deletion}
 use Rattle.cacache_calls.specs.Storing.{insertion_of, commit_of}
-use Rattle.cacache_laws.specs.Value.{Blob, InFile, value_of_tree}
+use Rattle.cacache_laws.specs.Value.{InFile, value_of_tree}
 use Rattle.cacache_history.specs.Setup.{Setup, home}
-use Rattle.cacache_history.specs.Values.{IsThere}
 use Rattle.cacache_sequence.specs.Sequence.{Call, tree_on, Answers}
 use Rattle.cacache_sequence.specs.Replies.{entries_on}
-
--- the bytes are there now; or what was there stays, where putting them failed and it was found
-abbrev pub Puts : List ℕ → Option Blob → Option Blob → Type 0
-Puts bytes old new = (new ≡ Some (InFile bytes)) ⊎ ((new ≡ old) × IsThere old)
 
 -- the hash that the bytes are known by, under the algorithm of the options
 abbrev pub own_hash : Put → Hash
 own_hash p = hash_of p.options.algorithm (digest p.options.algorithm p.data)
 
--- the key has its entry behind the others, and the content is there
+-- the key has its entry behind the others, and the bytes are the content
 pub record HasStored (s : Setup) (t new : Tree) (p : Put) (key : List ℕ) : Type 0 where
   pub entries :
       entries_on (home s) new key
       ≡ entries_on (home s) t key ++ (insertion_of (commit_of s.cache p) key).entry ∷ []
   pub content :
-      Puts p.data ((value_of_tree (home s) t).contents (own_hash p))
-      ((value_of_tree (home s) new).contents (own_hash p))
+      (value_of_tree (home s) new).contents (own_hash p) ≡ Some (InFile p.data)
 
 -- so it is after a put with a key that answered that it stored
 abbrev pub PutsStore : Type 0

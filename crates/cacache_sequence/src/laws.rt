@@ -3,13 +3,14 @@ ghost use Rattle.cacache_sequence.specs.Sequence.{OpeningsAreSound, RunsAreCalls
 ghost use Rattle.cacache_sequence.specs.Replies.{RepliesFollow, ReadsKeep};
 ghost use Rattle.cacache_sequence.specs.Stored.{PutsStore, DeletesAdd};
 ghost use Rattle.cacache_sequence.specs.Failures.{CallsFailOnly};
-ghost use Rattle.cacache_sequence.specs.Caches.{FreshIsEmpty, EmptyHasNothing, CachesLast, WritesLast, ReadsKey, ReadsContent, FindsKey, AsksContent, RemovalsLast, ReadsNone, ClearingsEmpty, PlantsLast, CallsGrow, GrowthsJoin, ExcusesLast};
+ghost use Rattle.cacache_sequence.specs.Caches.{FreshIsEmpty, CachesLast, WritesLast, ReadsKey, ReadsContent, FindsKey, AsksContent, RemovalsLast, ReadsNone, ClearingsEmpty, PlantsLast, CallsGrow, GrowthsJoin, ExcusesLast};
 
 /// Calls on a store in memory, one after another. A call that is made on a sound tree answers by what
 /// the cache holds there, and leaves a sound tree; the store of a new cache has one. What the cache
 /// holds changes by the acts of the call's steps. The reply of a call that reads is what the cache held
 /// then; a listing reads the buckets of keys and answers what they held. A commit did nothing, put its
-/// content, or put its content and then its entry. An `IoError` has a cause.
+/// content, or put its content and then its entry. A put finds no content there but puts its own. An `IoError` has
+/// a cause.
 ///
 /// A call's moves are what the log gained by it: so says the clause `ran` of `call`, whose base folder
 /// is the setup's. The log is that of a disk: so says `replayable` of `MemStore::log`.
@@ -29,7 +30,6 @@ pub fn sequence_laws()
 /// there, what he removed isn't, and a call fails for a step of its own or for memory.
 pub fn cache_laws()
     ensures fresh { FreshIsEmpty }
-    ensures empty { EmptyHasNothing }
     ensures last { CachesLast }
     ensures writes { WritesLast }
     ensures reads { ReadsKey }

@@ -1,5 +1,5 @@
 use Rattle.cacache_sequence.proofs.Logs.{calls_grow, growths_join, excuses_last}
-use Rattle.cacache_sequence.proofs.Known.{fresh_is_empty, empty_has_nothing, caches_last}
+use Rattle.cacache_sequence.proofs.Known.{fresh_is_empty, caches_last}
 use Rattle.cacache_sequence.proofs.Writing.{writes_last}
 use Rattle.cacache_sequence.proofs.Reading.{reads_key, reads_content, finds_key, reads_none}
 use Rattle.cacache_sequence.proofs.Asking.{asks_content}
@@ -9,9 +9,6 @@ use Rattle.cacache_sequence.proofs.laws.cache_laws.Goals as goal
 
 pub returns-clause-fresh : goal.returns-clause-fresh
 returns-clause-fresh c = fresh_is_empty
-
-pub returns-clause-empty : goal.returns-clause-empty
-returns-clause-empty c = empty_has_nothing
 
 pub returns-clause-last : goal.returns-clause-last
 returns-clause-last c = caches_last
