@@ -1,11 +1,10 @@
 -- A question whether a content is there is answered by what the cache has.
-use Rattle.std.proofs.Common.{◌≡◌, ◌⊎◌, inl, inr, ℕ, true, false, List, [], ◌∷◌, Ok, refl, sym, ap, subst, ◌∙◌}
+use Rattle.std.proofs.Common.{◌≡◌, ◌⊎◌, inl, inr, ℕ, true, false, List, [], ◌∷◌, Option, None, Some, Ok, refl, sym, ap, subst, ◌∙◌}
 use Rattle.cacache_core.specs.declared.errors.Error.{Error}
 use Rattle.cacache_core.specs.declared.errors.Error.TheVariants.{EntryNotFound, SizeMismatch, IoError, SerdeError, IntegrityError, OutOfMemory}
 use Rattle.cacache_core.specs.declared.errors.Fault.{Fault}
 use Rattle.cacache_core.specs.declared.integrity.digest.Hash.{Hash}
 use Rattle.cacache_base.specs.declared.store.log.LogItem.{LogItem}
-use Rattle.cacache_base.specs.declared.store.step.Step.TheVariants as steps
 use Rattle.cacache_base.specs.declared.store.answer.Answer.TheVariants as answers
 use Rattle.cacache_base.specs.Plain.{PlainStep, PlainAnswer}
 use Rattle.cacache_disk.specs.declared.luck.Luck.TheVariants.{Plain}
@@ -18,26 +17,26 @@ use Rattle.cacache_calls.specs.declared.reply.Reply.{Reply}
 use Rattle.cacache_calls.specs.declared.reply.Reply.TheVariants as replies
 use Rattle.cacache_calls.specs.Answers.{there_in}
 use Rattle.cacache_calls.specs.Causes.{Faults, Faulted}
-use Rattle.cacache_calls.specs.Places.{content_path}
 use Rattle.cacache_calls.specs.Replies.{there_reply}
 use Rattle.cacache_calls.specs.Runs.{Moves, plain_reply}
 use Rattle.cacache_laws.specs.Shows.{blob_there}
+use Rattle.cacache_laws.specs.Value.{Blob, InFile}
 use Rattle.cacache_history.specs.History.{Turn, turn_of}
 use Rattle.cacache_history.specs.Reading.{unless_failed, there_read}
 use Rattle.cacache_history.specs.Replies.{AsksHeld, ReadsValue}
-use Rattle.cacache_sequence.specs.Sequence.{turns_on, tree_on}
-use Rattle.cacache_sequence.specs.Caches.{HasContent, setup_at, SaysThere, AsksContent}
-use Rattle.cacache_sequence.proofs.Kept.{asking_keeps}
+use Rattle.cacache_sequence.specs.Sequence.{turns_on}
+use Rattle.cacache_sequence.specs.Caches.{HasContent, lies_under, setup_at, SaysThere, AsksContent}
+use Rattle.cacache_sequence.specs.Looks.{SaysAbsent, AsksAbsent}
 use Rattle.cacache_sequence.proofs.Replies.{no_moves}
 use Rattle.cacache_sequence.proofs.Known.{Known, known}
+use Rattle.cacache_sequence.proofs.Looks.{looks_keep}
 use Rattle.cacache_sequence.proofs.Reading.{content_stays}
 
--- the one step of a question, and the reply by its answer, where the content is there
-record Asked (t : Tree) (moves : Moves) (r : Reply) : Type 0 where
+-- the one step of a question, and the reply by its answer
+record Asked (t : Tree) (blob : Option Blob) (moves : Moves) (r : Reply) : Type 0 where
   pub move : PlainStep × PlainAnswer
   pub only : moves ≡ move ∷ []
-  pub keeps : tree_on t moves ≡ t
-  pub reply : r ≡ there_reply (unless_failed move.1 (Ok true))
+  pub reply : r ≡ there_reply (unless_failed move.1 (there_in (blob_there t blob)))
 
 -- a reply to a question
 abbrev IsSaid : Reply → Type 0
@@ -45,25 +44,36 @@ IsSaid (replies.Exists there) = Unit {0}
 IsSaid (replies.Refused e) = Unit {0}
 IsSaid r = ⊥
 
-module _ (cache base bytes : List ℕ) (i : List Hash) (old new : List LogItem) (has : HasContent cache i bytes old) where
-  asked : (moves : Moves) (r : Reply) → AsksHeld (setup_at cache base) i (turns_on (tree_of old) moves) r → Asked (tree_of old) moves r
+module _ (cache base : List ℕ) (i : List Hash) (blob : Option Blob) (old : List LogItem) (lies : lies_under cache i old ≡ blob) where
+  asked : (moves : Moves) (r : Reply) → AsksHeld (setup_at cache base) i (turns_on (tree_of old) moves) r → Asked (tree_of old) blob moves r
   asked [] r h = absurd cc
   asked (m ∷ moves) r h =
       let t = tree_of old in
       let first : turn_of (tree_of old) Plain m ≡ h.0 = cc in
       let none : turns_on (apply (tree_of old) m.0 Plain).1 moves ≡ [] = cc in
       let no_more = no_moves (setup_at cache base) r (apply t m.0 Plain).1 moves none in
-      let is : m.0 ≡ steps.Exists (content_path cache i) = ap (λ (turn : Turn). turn.move.step) first ∙ h.2 in
       record {
         move = m;
         only = ap (λ more. m ∷ more) no_more;
-        keeps = ap (tree_on (apply t m.0 Plain).1) no_more ∙ ap (λ x. (apply (tree_of old) x Plain).1) is ∙ asking_keeps t (content_path cache i);
         reply =
             h.3
             ∙ ap (λ (turn : Turn). there_reply (there_read (setup_at cache base) i turn)) (sym first)
-            ∙ ap (λ blob. there_reply (unless_failed m.1 (there_in (blob_there (tree_of old) blob)))) has.content;
+            ∙ ap (λ blob. there_reply (unless_failed m.1 (there_in (blob_there (tree_of old) blob)))) lies;
       }
 
+  -- a call that asked did so, unless it ended out of memory
+  call_asked : (r : Reply) (new : List LogItem) (k : Known cache base (commands.Exists i) r old new) → (r ≡ replies.Refused OutOfMemory) ⊎ Asked (tree_of old) blob k.call.moves (plain_reply r)
+  call_asked r new k =
+      let reads : (k.call.reply ≡ replies.Refused OutOfMemory) ⊎ ReadsValue (setup_at cache base) (commands.Exists i) (turns_on (tree_of old) k.call.moves) (plain_reply k.call.reply)
+      = subst (λ (x : Command). (k.call.reply ≡ replies.Refused OutOfMemory) ⊎ ReadsValue (setup_at cache base) x (turns_on (tree_of old) k.call.moves) (plain_reply k.call.reply)) k.command_is k.answers.reads in
+      elim reads [
+        | inl e ↦ inl (sym k.reply_is ∙ e)
+        | inr h ↦ inr (asked k.call.moves (plain_reply r) (subst (λ x. AsksHeld (setup_at cache base) i (turns_on (tree_of old) k.call.moves) (plain_reply x)) k.reply_is h))
+      ]
+
+-- ---- a content that is there
+
+module _ (cache base bytes : List ℕ) (i : List Hash) (old new : List LogItem) (stays : HasContent cache i bytes new) where
   -- a no comes from a failed step, and an error is out of memory
   failed_so : (step : PlainStep) (a : PlainAnswer) → replies.Exists false ≡ there_reply (unless_failed a (Ok true)) → (fault : Fault) × Faults step a fault
   failed_so step (answers.Failed fault) e = (fault, refl)
@@ -92,8 +102,8 @@ module _ (cache base bytes : List ℕ) (i : List Hash) (old new : List LogItem) 
   no_other : (r : Reply) (a : PlainAnswer) → r ≡ there_reply (unless_failed a (Ok true)) → IsSaid r
   no_other r a e = subst IsSaid (sym e) (kind_so a)
 
-  says : (r : Reply) (k : Known cache base (commands.Exists i) r old new) → Asked (tree_of old) k.call.moves (plain_reply r) → SaysThere (HasContent cache i bytes new) r old new
-  says (replies.Exists true) k a = content_stays cache bytes i old new (k.leads ∙ a.keeps) has
+  says : (r : Reply) (k : Known cache base (commands.Exists i) r old new) → Asked (tree_of old) (Some (InFile bytes)) k.call.moves (plain_reply r) → SaysThere (HasContent cache i bytes new) r old new
+  says (replies.Exists true) k a = stays
   says (replies.Exists false) k a =
       let f = failed_so a.move.0 a.move.1 a.reply in
       (k.call.moves, k.gained, f.0, subst (λ moves. Faulted moves f.0) (sym a.only) (inl f.1))
@@ -111,11 +121,45 @@ module _ (cache base bytes : List ℕ) (i : List Hash) (old new : List LogItem) 
 pub asks_content : AsksContent
 asks_content cache bytes i r old new sound has c =
     let k = known cache (commands.Exists i) r old new c tt has.formed sound in
-    let reads : (k.call.reply ≡ replies.Refused OutOfMemory) ⊎ ReadsValue (setup_at cache c.base) (commands.Exists i) (turns_on (tree_of old) k.call.moves) (plain_reply k.call.reply)
-    = subst (λ (x : Command). (k.call.reply ≡ replies.Refused OutOfMemory) ⊎ ReadsValue (setup_at cache c.base) x (turns_on (tree_of old) k.call.moves) (plain_reply k.call.reply)) k.command_is k.answers.reads in (
+    let stays = content_stays cache bytes i old new (looks_keep cache (commands.Exists i) r old new tt c) has in (
       k.sound,
-      elim reads [
-        | inl e ↦ lost cache c.base bytes i old new has r (sym k.reply_is ∙ e)
-        | inr h ↦ says cache c.base bytes i old new has r k (asked cache c.base bytes i old new has k.call.moves (plain_reply r) (subst (λ x. AsksHeld (setup_at cache c.base) i (turns_on (tree_of old) k.call.moves) (plain_reply x)) k.reply_is h))
+      elim (call_asked cache c.base i (Some (InFile bytes)) old has.content r new k) [
+        | inl e ↦ lost cache c.base bytes i old new stays r e
+        | inr a ↦ says cache c.base bytes i old new stays r k a
       ],
     )
+
+-- ---- a content that isn't there
+
+-- no answer to the step makes a yes of it, or another reply
+abbrev SaysNo : PlainAnswer → Type 0
+SaysNo a = SaysAbsent (there_reply (unless_failed a (Ok false)))
+
+never_yes : (a : PlainAnswer) → SaysNo a
+never_yes (answers.Failed fault) = tt
+never_yes (answers.NoMemory back) = refl
+never_yes other = tt
+
+plainly_absent : (r : Reply) → SaysAbsent (plain_reply r) → SaysAbsent r
+plainly_absent (replies.Exists false) h = tt
+plainly_absent (replies.Refused OutOfMemory) h = refl
+plainly_absent (replies.Refused (IoError fault message)) h = absurd cc
+plainly_absent (replies.Refused (EntryNotFound c key)) h = absurd cc
+plainly_absent (replies.Refused (SizeMismatch wanted actual)) h = absurd cc
+plainly_absent (replies.Refused (SerdeError cause message)) h = absurd cc
+plainly_absent (replies.Refused (IntegrityError fault)) h = absurd cc
+plainly_absent (replies.Exists true) h = absurd h
+plainly_absent (replies.Read b) h = absurd h
+plainly_absent (replies.Stored j) h = absurd h
+plainly_absent (replies.LookedUp found) h = absurd h
+plainly_absent (replies.Copied n) h = absurd h
+plainly_absent (replies.Listed items) h = absurd h
+plainly_absent replies.Done h = absurd h
+
+pub asks_absent : AsksAbsent
+asks_absent cache i r old new sound formed none c =
+    let k = known cache (commands.Exists i) r old new c tt formed sound in
+    elim (call_asked cache c.base i None old none r new k) [
+      | inl e ↦ subst SaysAbsent (sym e) refl
+      | inr a ↦ plainly_absent r (subst SaysAbsent (sym a.reply) (never_yes a.move.1))
+    ]

@@ -21,3 +21,5 @@ pub mod Reading
 pub mod Removals
 pub mod Planting
 pub mod Asking
+pub mod Looks
+pub mod Looked

@@ -8,7 +8,7 @@ use Rattle.cacache_calls.specs.Causes.{Faulted}
 use Rattle.cacache_calls.specs.Runs.{Moves}
 use Rattle.cacache_sequence.specs.Caches.{CallsGrow, GrowthsJoin, ExcusesLast}
 
-some_same : (a b : List LogItem) → Some a ≡ Some b → a ≡ b
+pub some_same : (a b : List LogItem) → Some a ≡ Some b → a ≡ b
 some_same a b e = cc
 
 pub calls_grow : CallsGrow

@@ -3,3 +3,4 @@ pub mod Replies
 pub mod Stored
 pub mod Failures
 pub mod Caches
+pub mod Looks

@@ -4,6 +4,7 @@ ghost use Rattle.cacache_sequence.specs.Replies.{RepliesFollow, ReadsKeep};
 ghost use Rattle.cacache_sequence.specs.Stored.{PutsStore, DeletesAdd};
 ghost use Rattle.cacache_sequence.specs.Failures.{CallsFailOnly};
 ghost use Rattle.cacache_sequence.specs.Caches.{FreshIsEmpty, CachesLast, WritesLast, ReadsKey, ReadsContent, FindsKey, AsksContent, RemovalsLast, ReadsNone, ClearingsEmpty, PlantsLast, CallsGrow, GrowthsJoin, ExcusesLast};
+ghost use Rattle.cacache_sequence.specs.Looks.{LooksKeep, SameStaysKnown, FindsFound, AsksAbsent};
 
 /// Calls on a store in memory, one after another. A call that is made on a sound tree answers by what
 /// the cache holds there, and leaves a sound tree; the store of a new cache has one. What the cache
@@ -43,4 +44,13 @@ pub fn cache_laws()
     ensures grows { CallsGrow }
     ensures joins { GrowthsJoin }
     ensures excuses { ExcusesLast }
+{}
+
+/// The same of calls that only look: they leave what the cache holds, so that all that was known of it
+/// stays; and they find nothing where nothing is.
+pub fn look_laws()
+    ensures keeps { LooksKeep }
+    ensures known { SameStaysKnown }
+    ensures finds { FindsFound }
+    ensures asks_absent { AsksAbsent }
 {}

@@ -1,7 +1,8 @@
 use Rattle.cacache_sequence.proofs.Logs.{calls_grow, growths_join, excuses_last}
 use Rattle.cacache_sequence.proofs.Known.{fresh_is_empty, caches_last}
 use Rattle.cacache_sequence.proofs.Writing.{writes_last}
-use Rattle.cacache_sequence.proofs.Reading.{reads_key, reads_content, finds_key, reads_none}
+use Rattle.cacache_sequence.proofs.Reading.{reads_key, reads_content, reads_none}
+use Rattle.cacache_sequence.proofs.Looked.{finds_key}
 use Rattle.cacache_sequence.proofs.Asking.{asks_content}
 use Rattle.cacache_sequence.proofs.Removals.{removals_last, clearings_empty}
 use Rattle.cacache_sequence.proofs.Planting.{plants_last}
