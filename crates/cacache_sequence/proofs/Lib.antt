@@ -23,3 +23,6 @@ pub mod Planting
 pub mod Asking
 pub mod Looks
 pub mod Looked
+pub mod ListedItems
+pub mod ListedTurns
+pub mod ListedKeys

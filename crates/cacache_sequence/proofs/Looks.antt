@@ -36,7 +36,10 @@ use Rattle.cacache_calls.specs.Table.{wants, after, opening}
 use Rattle.cacache_calls.specs.Walking.{most, items_in, failed, too_many, visit_step, give, miss, walk_on, go_deeper, task_of, tasks_of, leaving, entered, unread_bucket, listed, after_visit}
 use Rattle.cacache_calls.proofs.Branches.{cond_leads, go_on_leads}
 use Rattle.cacache_laws.specs.Value.{value_of_tree}
-use Rattle.cacache_sequence.specs.Sequence.{tree_on}
+use Rattle.cacache_history.specs.Setup.{Setup, home}
+use Rattle.cacache_history.specs.Turns.{EachTurn}
+use Rattle.cacache_history.proofs.Holding.{TurnsHold}
+use Rattle.cacache_sequence.specs.Sequence.{tree_on, turns_on, AreAnswered, IsSound}
 use Rattle.cacache_sequence.specs.Caches.{Called}
 use Rattle.cacache_sequence.specs.Looks.{OnlyLooks, LooksKeep}
 use Rattle.cacache_sequence.proofs.Kept.{reading_keeps, listing_keeps, asking_keeps}
@@ -61,7 +64,7 @@ AllLook (visit v ∷ todo) = LooksAt v × AllLook todo
 AllLook (stumble fault ∷ todo) = AllLook todo
 
 -- the states of a lookup, a read, a question or a listing
-abbrev Looks : State → Type 0
+abbrev pub Looks : State → Type 0
 Looks (looking l) = LooksFor l.aim
 Looks (reading k) = Unit {0}
 Looks (asking k) = Unit {0}
@@ -181,7 +184,20 @@ run_keeps t s [] r looks run = refl
 run_keeps t s (m ∷ moves) r looks run =
     ap (λ x. tree_on x moves) (step_leaves s m.0 looks run.0 t) ∙ run_keeps t (after s m.1) moves r (looks_after s m.1 looks) run.2
 
-opens : (site : Site) (command : Command) → OnlyLooks command → Looks (opening site command)
+-- its turns find that tree
+pub run_places : (t first : Tree) (s : State) (moves : Moves) (r : Reply) → first ≡ t → Looks s → Runs s moves r → EachTurn (λ turn. turn.place ≡ t) (turns_on first moves)
+run_places t first s [] r here looks run = tt
+run_places t first s (m ∷ moves) r here looks run =
+    (here, run_places t (apply first m.0 Plain).1 (after s m.1) moves r (step_leaves s m.0 looks run.0 first ∙ here) (looks_after s m.1 looks) run.2)
+
+pub run_turns : (x : Setup) (t : Tree) (s : State) (moves : Moves) (r : Reply) → IsSound (home x) t → Looks s → Runs s moves r → AreAnswered t moves → TurnsHold x (turns_on t moves)
+run_turns x t s [] r sound looks run answered = tt
+run_turns x t s (m ∷ moves) r sound looks run answered = (
+  record { placed = sound.placed; rooted = sound.rooted; formed = sound.formed; answered = answered.0; fits = run.1 },
+  run_turns x (apply t m.0 Plain).1 (after s m.1) moves r (subst (IsSound (home x)) (sym (step_leaves s m.0 looks run.0 t)) sound) (looks_after s m.1 looks) run.2 answered.1,
+)
+
+pub opens : (site : Site) (command : Command) → OnlyLooks command → Looks (opening site command)
 opens site (commands.Find key) looks = tt
 opens site (commands.Get key) looks = tt
 opens site (commands.GetHash i) looks = tt

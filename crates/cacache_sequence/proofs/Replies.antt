@@ -35,7 +35,7 @@ use Rattle.cacache_sequence.proofs.Kept.{reading_keeps}
 abbrev Shown : {X : Type 0} → Result X Refusal → Result X Refusal → Type 0
 Shown r b = (b ≡ r) ⊎ ((refusal : Refusal) × (b ≡ Err refusal))
 
-is_shown : {X : Type 0} (a : PlainAnswer) (r : Result X Refusal) → Shown r (shown a r)
+pub is_shown : {X : Type 0} (a : PlainAnswer) (r : Result X Refusal) → Shown r (shown a r)
 is_shown (answers.Failed faults.NotFound) r = inl refl
 is_shown (answers.Failed fault) r = inr (refusals.Fault fault, refl)
 is_shown (answers.NoMemory step) r = inr (refusals.Memory, refl)

@@ -60,7 +60,7 @@ on_its_way t (m ∷ moves) call = on_its_way (apply t m.0 Plain).1 moves (moved 
 
 -- ---- turns and moves
 
-turns_made : (t : Tree) (moves : Moves) → made_in (turns_on t moves) ≡ moves
+pub turns_made : (t : Tree) (moves : Moves) → made_in (turns_on t moves) ≡ moves
 turns_made t [] = refl
 turns_made t (m ∷ moves) = ap (λ l. m ∷ l) (turns_made (apply t m.0 Plain).1 moves)
 

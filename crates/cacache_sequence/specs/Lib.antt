@@ -4,3 +4,4 @@ pub mod Stored
 pub mod Failures
 pub mod Caches
 pub mod Looks
+pub mod ListedKeys

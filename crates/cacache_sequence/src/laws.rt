@@ -4,6 +4,7 @@ ghost use Rattle.cacache_sequence.specs.Replies.{RepliesFollow, ReadsKeep};
 ghost use Rattle.cacache_sequence.specs.Stored.{PutsStore, DeletesAdd};
 ghost use Rattle.cacache_sequence.specs.Failures.{CallsFailOnly};
 ghost use Rattle.cacache_sequence.specs.Caches.{FreshIsEmpty, CachesLast, WritesLast, ReadsKey, ReadsContent, FindsKey, AsksContent, RemovalsLast, ReadsNone, ClearingsEmpty, PlantsLast, CallsGrow, GrowthsJoin, ExcusesLast};
+ghost use Rattle.cacache_sequence.specs.ListedKeys.{ListingsGive};
 ghost use Rattle.cacache_sequence.specs.Looks.{LooksKeep, SameStaysKnown, FindsFound, AsksAbsent};
 
 /// Calls on a store in memory, one after another. A call that is made on a sound tree answers by what
@@ -47,10 +48,12 @@ pub fn cache_laws()
 {}
 
 /// The same of calls that only look: they leave what the cache holds, so that all that was known of it
-/// stays; and they find nothing where nothing is.
+/// stays; and they find nothing where nothing is. A listing answers entries that keys lead to, no key
+/// twice, and all of them unless one of its items is an error.
 pub fn look_laws()
     ensures keeps { LooksKeep }
     ensures known { SameStaysKnown }
     ensures finds { FindsFound }
     ensures asks_absent { AsksAbsent }
+    ensures lists { ListingsGive }
 {}

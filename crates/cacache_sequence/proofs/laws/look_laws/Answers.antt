@@ -1,6 +1,7 @@
 use Rattle.cacache_sequence.proofs.Looks.{looks_keep}
 use Rattle.cacache_sequence.proofs.Looked.{same_stays_known, finds_found}
 use Rattle.cacache_sequence.proofs.Asking.{asks_absent}
+use Rattle.cacache_sequence.proofs.ListedKeys.{listings_give}
 use Rattle.cacache_sequence.proofs.laws.look_laws.Goals as goal
 
 pub returns-clause-keeps : goal.returns-clause-keeps
@@ -14,3 +15,6 @@ returns-clause-finds c = finds_found
 
 pub returns-clause-asks_absent : goal.returns-clause-asks_absent
 returns-clause-asks_absent c = asks_absent
+
+pub returns-clause-lists : goal.returns-clause-lists
+returns-clause-lists c = listings_give
