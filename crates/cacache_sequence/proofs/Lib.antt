@@ -26,3 +26,4 @@ pub mod Looked
 pub mod ListedItems
 pub mod ListedTurns
 pub mod ListedKeys
+pub mod Parts

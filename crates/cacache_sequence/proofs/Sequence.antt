@@ -50,11 +50,11 @@ runs_are_calls s command number reply old new ran = (
 )
 
 -- a tree, while no call is on its way
-abbrev alone : Tree → Now
+abbrev pub alone : Tree → Now
 alone t = record { tree = t; calls = λ caller. None; begun = 0 }
 
 -- a call of a world after these moves
-abbrev on_its_way : Tree → Moves → histories.Call → histories.Call
+abbrev pub on_its_way : Tree → Moves → histories.Call → histories.Call
 on_its_way t [] call = call
 on_its_way t (m ∷ moves) call = on_its_way (apply t m.0 Plain).1 moves (moved t Plain (Some m) call)
 
@@ -77,14 +77,14 @@ same_number : (t : Tree) (moves : Moves) (call : histories.Call) → (on_its_way
 same_number t [] call = refl
 same_number t (m ∷ moves) call = same_number (apply t m.0 Plain).1 moves (moved t Plain (Some m) call)
 
-moves_after : (t : Tree) (moves : Moves) → tree_after t (plain_moves moves) ≡ tree_on t moves
+pub moves_after : (t : Tree) (moves : Moves) → tree_after t (plain_moves moves) ≡ tree_on t moves
 moves_after t [] = refl
 moves_after t (m ∷ moves) = moves_after (apply t m.0 Plain).1 moves
 
 -- ---- a run
 
 -- what a run keeps
-record RunHolds (s : Setup) (t : Tree) (moves : Moves) (call : histories.Call) : Type 0 where
+pub record RunHolds (s : Setup) (t : Tree) (moves : Moves) (call : histories.Call) : Type 0 where
   pub calls : CallHolds s (on_its_way t moves call)
   pub tree : AllHold s (alone (tree_on t moves))
   pub trace : IsTrace (home s) t (plain_moves moves)
@@ -98,7 +98,7 @@ run_ends st [] r (inr e) = (Some r, inr (memory_plain r e))
 run_ends st (m ∷ moves) r run = (None, (m.0, run.0))
 
 module _ (s : Setup) (apart : LieApart (home s) s.outside) where
-  run_holds : (t : Tree) (moves : Moves) (r : Reply) (call : histories.Call) → AllHold s (alone t) → Keeps s t → CallHolds s call → Runs call.state moves (plain_reply r) → AreAnswered t moves
+  pub run_holds : (t : Tree) (moves : Moves) (r : Reply) (call : histories.Call) → AllHold s (alone t) → Keeps s t → CallHolds s call → Runs call.state moves (plain_reply r) → AreAnswered t moves
       → RunHolds s t moves call
   run_holds t [] r call tree keeps mine run answered = record { calls = mine; tree = tree; trace = tt; keeps = keeps; keyed = tt }
   run_holds t (m ∷ moves) r call tree keeps mine run answered =
@@ -128,12 +128,12 @@ module _ (s : Setup) (apart : LieApart (home s) s.outside) where
       (subst (λ c. EachTurn (λ turn. Makes (own_of (site_of s call.number) c) turn.move.step) now.turns) (same_command t call.moves start)
       (subst (λ n. EachTurn (λ turn. Makes (own_of (site_of s n) now.command) turn.move.step) now.turns) (same_number t call.moves start) holds.makes))
 
-  call_follows : (t : Tree) (call : Call) → value_of_tree (home s) (tree_on t call.moves) ≡ cache_part (home s) (acts (home s) (wide_value (home s) t) (plain_moves call.moves))
-      → Alike (value_of_tree (home s) (tree_on t call.moves)) (after_deeds (home s) (deeds (turns_on t call.moves)) (value_of_tree (home s) t))
-  call_follows t call e =
+  pub moves_follow : (t : Tree) (moves : Moves) → value_of_tree (home s) (tree_on t moves) ≡ cache_part (home s) (acts (home s) (wide_value (home s) t) (plain_moves moves))
+      → Alike (value_of_tree (home s) (tree_on t moves)) (after_deeds (home s) (deeds (turns_on t moves)) (value_of_tree (home s) t))
+  moves_follow t moves e =
       let same : Alike (wide_value (home s) t) (value_of_tree (home s) t) = record { contents = λ a. refl; lists = λ d. refl } in
-      let h = moves_alike (home s) t call.moves (wide_value (home s) t) (value_of_tree (home s) t) same in
-      subst (λ v. Alike v (after_deeds (home s) (deeds (turns_on t call.moves)) (value_of_tree (home s) t))) (sym e) (record { contents = h.contents; lists = h.lists })
+      let h = moves_alike (home s) t moves (wide_value (home s) t) (value_of_tree (home s) t) same in
+      subst (λ v. Alike v (after_deeds (home s) (deeds (turns_on t moves)) (value_of_tree (home s) t))) (sym e) (record { contents = h.contents; lists = h.lists })
 
   call_answers : (t : Tree) (call : Call) → AllHold s (alone t) → Keeps s t → MayBegin (site_of s call.number) (may_export s) (is_outside s) call.command → NamesIntegrity call.command
       → Runs (opening (site_of s call.number) call.command) call.moves (plain_reply call.reply) → AreAnswered t call.moves
@@ -149,7 +149,7 @@ module _ (s : Setup) (apart : LieApart (home s) s.outside) where
         record {
           disk = answered;
           acts = ap (value_of_tree (home s)) (sym (moves_after t call.moves)) ∙ traces_act (home s) t (plain_moves call.moves) tree.placed holds.trace;
-          follows = call_follows t call (ap (value_of_tree (home s)) (sym (moves_after t call.moves)) ∙ traces_act (home s) t (plain_moves call.moves) tree.placed holds.trace);
+          follows = moves_follow t call.moves (ap (value_of_tree (home s)) (sym (moves_after t call.moves)) ∙ traces_act (home s) t (plain_moves call.moves) tree.placed holds.trace);
           found = λ a more is e. found_before s a is more t call.moves tree.placed holds.trace hold e;
           puts = λ p path more is e.
               puts_find_nothing (home s) (site_of s call.number) p t call.moves (plain_reply call.reply) path more tree.rooted tree.placed holds.trace
@@ -196,13 +196,13 @@ sequences_answer s calls log apart may made logged =
 -- ---- one call
 
 -- a sound tree, while no call is on its way
-holds_alone : (s : Setup) (t : Tree) → IsSound (home s) t → AllHold s (alone t)
+pub holds_alone : (s : Setup) (t : Tree) → IsSound (home s) t → AllHold s (alone t)
 holds_alone s t sound = record { placed = sound.placed; rooted = sound.rooted; formed = sound.formed; right = sound.right; calls = λ caller. tt }
 
-keeps_alone : (s : Setup) (t : Tree) → IsSound (home s) t → Keeps s t
+pub keeps_alone : (s : Setup) (t : Tree) → IsSound (home s) t → Keeps s t
 keeps_alone s t sound = record { keyed = sound.keyed; own = sound.own }
 
-sound_alone : (s : Setup) (t : Tree) → AllHold s (alone t) → Keeps s t → IsSound (home s) t
+pub sound_alone : (s : Setup) (t : Tree) → AllHold s (alone t) → Keeps s t → IsSound (home s) t
 sound_alone s t hold keeps = record { placed = hold.placed; rooted = hold.rooted; formed = hold.formed; right = hold.right; keyed = keeps.keyed; own = keeps.own }
 
 pub openings_are_sound : OpeningsAreSound

@@ -5,3 +5,4 @@ pub mod Failures
 pub mod Caches
 pub mod Looks
 pub mod ListedKeys
+pub mod Parts

@@ -6,6 +6,7 @@ ghost use Rattle.cacache_sequence.specs.Failures.{CallsFailOnly};
 ghost use Rattle.cacache_sequence.specs.Caches.{FreshIsEmpty, CachesLast, WritesLast, ReadsKey, ReadsContent, FindsKey, AsksContent, RemovalsLast, ReadsNone, ClearingsEmpty, PlantsLast, CallsGrow, GrowthsJoin, ExcusesLast};
 ghost use Rattle.cacache_sequence.specs.ListedKeys.{ListingsGive};
 ghost use Rattle.cacache_sequence.specs.Looks.{LooksKeep, SameStaysKnown, FindsFound, AsksAbsent};
+ghost use Rattle.cacache_sequence.specs.Parts.{LogsLead, CallsBegin, PartsGoOn, PartsAnswer, WritesAreParts};
 
 /// Calls on a store in memory, one after another. A call that is made on a sound tree answers by what
 /// the cache holds there, and leaves a sound tree; the store of a new cache has one. What the cache
@@ -56,4 +57,18 @@ pub fn look_laws()
     ensures finds { FindsFound }
     ensures asks_absent { AsksAbsent }
     ensures lists { ListingsGive }
+{}
+
+/// Calls that are made in parts, as an open writer, linker or reader makes one: it begins, and goes on later from where
+/// it stands. Each part of it is made on a sound tree and leaves one, and with its last part it answers as a whole call
+/// does, by all of its steps. Between its parts other calls may be made, of which nothing more is needed than that the
+/// tree is sound where the next part begins.
+///
+/// A part's steps are what the log gained by it, but for the bytes that a writer handed to its file itself.
+pub fn parts_laws()
+    ensures logs { LogsLead }
+    ensures begins { CallsBegin }
+    ensures parts { PartsGoOn }
+    ensures answers { PartsAnswer }
+    ensures writes { WritesAreParts }
 {}
