@@ -1,19 +1,21 @@
 -- Calls that store, remove or clear give no error but that of a step, or out of memory.
-use Rattle.std.proofs.Common.{◌≡◌, inl, inr, ℕ, ◌==◌, ◌-◌, Bool, true, false, cond, nat_le, List, [], ◌∷◌, ◌++◌, Option, None, Some, length, drop, refl, sym, subst, ◌∙◌}
+use Rattle.std.proofs.Common.{◌≡◌, ◌⊎◌, inl, inr, ℕ, ◌==◌, ◌-◌, Bool, true, false, cond, nat_le, List, [], ◌∷◌, ◌++◌, Option, None, Some, length, drop, refl, sym, subst, ◌∙◌}
 use Rattle.cacache_core.specs.declared.errors.Fault.{Fault}
 use Rattle.cacache_core.specs.declared.errors.Fault.TheVariants as faults
 use Rattle.cacache_core.specs.declared.errors.SerdeCause.{SerdeCause}
+use Rattle.cacache_core.specs.declared.errors.Error.TheVariants.{SerdeError}
 use Rattle.cacache_core.specs.declared.integrity.digest.Hash.{Hash}
 use Rattle.cacache_base.specs.declared.store.answer.Name.{Name}
 use Rattle.cacache_base.specs.declared.store.plain.PlainTemp.{PlainTemp}
 use Rattle.cacache_base.specs.Plain.{PlainAnswer}
 use Rattle.cacache_calls.specs.declared.command.Command.TheVariants as commands
+use Rattle.cacache_calls.specs.declared.command.Insert.{Insert}
 use Rattle.cacache_calls.specs.declared.reply.Reply.{Reply}
-use Rattle.cacache_calls.specs.declared.reply.Reply.TheVariants.{Listed, Done}
+use Rattle.cacache_calls.specs.declared.reply.Reply.TheVariants.{Listed, Done, Refused}
 use Rattle.cacache_calls.specs.Answers.{done_in, temp_in, written_in, there_in, taken_in, names_in}
 use Rattle.cacache_calls.specs.Common.{fails, go_on}
-use Rattle.cacache_calls.specs.Inserting.{unless_refused, bucket_line, after_append, deletion, refused_cause}
-use Rattle.cacache_calls.specs.State.{State, doing, creating, writing, persisting, linking, confirming, appending, looking, reading, asking, sizing, opening_file, hashing, copying, walking, over, Commit, Insertion, Visit, enter, read_bucket, remove_file, remove_folder, Task, visit, stumble, Walk}
+use Rattle.cacache_calls.specs.Inserting.{unless_refused, bucket_line, after_append, insertion, deletion, refused_cause}
+use Rattle.cacache_calls.specs.State.{State, Site, doing, creating, writing, persisting, linking, confirming, appending, looking, reading, asking, sizing, opening_file, hashing, copying, walking, over, Commit, Insertion, Visit, enter, read_bucket, remove_file, remove_folder, Task, visit, stumble, Walk}
 use Rattle.cacache_calls.specs.Storing.{insertion_of, indexed, sized, compared, placed, write_rest, after_write, after_confirm, commit_of}
 use Rattle.cacache_calls.specs.Walking.{failed, give, miss, walk_on, tasks_of, leaving, too_many, entered, after_visit}
 use Rattle.cacache_calls.specs.Table.{after, opening}
@@ -161,3 +163,17 @@ calls_fail_only = record {
       calm_run (opening site (commands.Delete d)) moves r (by_cause (deletion site.cache d) (refused_cause (deletion site.cache d)) written tt) run;
   clears = λ site moves r run. calm_run (opening site commands.Clear) moves r (refl, tt, tt) run;
 }
+
+-- ---- insertions
+
+-- an insertion gives no other error, but that its entry can't be written
+pub inserts_fail : (site : Site) (i : Insert) (moves : Moves) (r : Reply) → Runs (opening site (commands.Insert i)) moves r
+    → FailsOnly r ⊎ ((cause : SerdeCause) × (r ≡ Refused (SerdeError cause [])))
+inserts_fail site i moves r run = by (refused_cause (insertion site.cache i)) refl moves run
+  where
+    by : (cause : Option SerdeCause) → refused_cause (insertion site.cache i) ≡ cause → (moves : Moves) → Runs (unless_refused (insertion site.cache i) cause) moves r
+        → FailsOnly r ⊎ ((cause : SerdeCause) × (r ≡ Refused (SerdeError cause [])))
+    by None none moves run = inl (calm_run (unless_refused (insertion site.cache i) None) moves r (by_cause (insertion site.cache i) None refl tt) run)
+    by (Some cause) some [] (inl e) = inr (cause, cc)
+    by (Some cause) some [] (inr e) = inl (subst FailsOnly (sym e) tt)
+    by (Some cause) some (m ∷ moves) run = absurd cc

@@ -27,3 +27,5 @@ pub mod ListedItems
 pub mod ListedTurns
 pub mod ListedKeys
 pub mod Parts
+pub mod Keeping
+pub mod Inserting

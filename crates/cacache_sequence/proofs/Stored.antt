@@ -1,4 +1,4 @@
--- What a put and a removal that are done leave in the cache.
+-- What a put, an insertion and a removal that are done leave in the cache.
 use Rattle.std.proofs.Common.{◌≡◌, inl, inr, ℕ, Bool, true, false, cond, List, [], ◌∷◌, ◌++◌, Option, None, Some, Result, Ok, Err, refl, sym, ap, subst, ◌∙◌}
 use Rattle.sha1.specs.Sha1.{sha1}
 use Rattle.cacache_core.specs.declared.errors.Fault.{Fault}
@@ -13,7 +13,7 @@ use Rattle.cacache_calls.specs.declared.command.Put.{Put}
 use Rattle.cacache_calls.specs.declared.command.Command.TheVariants as commands
 use Rattle.cacache_calls.specs.declared.reply.Reply.{Reply}
 use Rattle.cacache_calls.specs.declared.reply.Reply.TheVariants as replies
-use Rattle.cacache_calls.specs.Inserting.{deletion}
+use Rattle.cacache_calls.specs.Inserting.{insertion, deletion}
 use Rattle.cacache_calls.specs.Places.{content_path, bucket_path}
 use Rattle.cacache_calls.specs.State.{Commit, Insertion}
 use Rattle.cacache_calls.specs.Storing.{insertion_of, commit_of}
@@ -26,7 +26,7 @@ use Rattle.cacache_history.proofs.Digests.{digest_hash}
 use Rattle.cacache_history.proofs.Reading.{bucket_below, content_below}
 use Rattle.cacache_sequence.specs.Sequence.{Call, turns_on, tree_on, after_deeds, Answers}
 use Rattle.cacache_sequence.specs.Replies.{entries_on}
-use Rattle.cacache_sequence.specs.Stored.{own_hash, HasStored, PutsStore, DeletesAdd}
+use Rattle.cacache_sequence.specs.Stored.{own_hash, HasStored, PutsStore, InsertsAdd, DeletesAdd}
 
 -- a path that names these below the cache is the path of these names in its folder
 below_is : (folder : Option Names) (names all : Names) (r : Result Names Fault) → r ≡ names_below folder names → r ≡ Ok all → is_path_of folder names all ≡ true
@@ -127,6 +127,13 @@ puts_store s t call p key i command keyed reply answers =
     = subst (λ r. IsCase (site_of s call.number) (commands.Put p) (turns_on t call.moves) (Some r)) reply
     (subst (λ c. IsCase (site_of s call.number) c (turns_on t call.moves) (Some call.reply)) command answers.commits) in
     stores s t call answers p key (replies.Stored i) command (λ no. no) commits keyed
+
+pub inserts_add : InsertsAdd
+inserts_add s t call i answered command reply answers =
+    let case : Adds (insertion s.cache i) (deeds (turns_on t call.moves)) (Some (replies.Stored answered))
+    = subst (λ r. IsCase (site_of s call.number) (commands.Insert i) (turns_on t call.moves) (Some r)) reply
+    (subst (λ c. IsCase (site_of s call.number) c (turns_on t call.moves) (Some call.reply)) command answers.commits) in
+    adds s t call answers (insertion s.cache i) (replies.Stored answered) refl case (λ no. no)
 
 pub deletes_add : DeletesAdd
 deletes_add s t call d command reply answers =

@@ -6,3 +6,5 @@ pub mod Caches
 pub mod Looks
 pub mod ListedKeys
 pub mod Parts
+pub mod Keeping
+pub mod Inserts

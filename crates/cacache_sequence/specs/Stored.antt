@@ -1,4 +1,4 @@
--- What a put and a removal that are done leave in the cache.
+-- What a put, an insertion and a removal that are done leave in the cache.
 use Rattle.std.specs.Prelude.{◌≡◌, ℕ, List, [], ◌∷◌, ◌++◌, Some}
 use Rattle.cacache_core.specs.declared.integrity.digest.Hash.{Hash}
 use Rattle.cacache_core.specs.Digests.{digest}
@@ -6,9 +6,10 @@ use Rattle.cacache_core.specs.Integrity.{hash_of}
 use Rattle.cacache_disk.specs.Tree.{Tree}
 use Rattle.cacache_calls.specs.declared.command.Put.{Put}
 use Rattle.cacache_calls.specs.declared.command.Delete.{Delete}
+use Rattle.cacache_calls.specs.declared.command.Insert.{Insert}
 use Rattle.cacache_calls.specs.declared.command.Command.TheVariants as commands
 use Rattle.cacache_calls.specs.declared.reply.Reply.TheVariants.{Stored, Done}
-use Rattle.cacache_calls.specs.Inserting.{deletion}
+use Rattle.cacache_calls.specs.Inserting.{insertion, deletion}
 use Rattle.cacache_calls.specs.Storing.{insertion_of, commit_of}
 use Rattle.cacache_laws.specs.Value.{InFile, value_of_tree}
 use Rattle.cacache_history.specs.Setup.{Setup, home}
@@ -33,6 +34,14 @@ PutsStore =
     (s : Setup) (t : Tree) (call : Call) (p : Put) (key : List ℕ) (i : List Hash)
     → call.command ≡ commands.Put p → p.key ≡ Some key → call.reply ≡ Stored i → Answers s t call
     → HasStored s t (tree_on t call.moves) p key
+
+-- an insertion that answered that it stored added its entry
+abbrev pub InsertsAdd : Type 0
+InsertsAdd =
+    (s : Setup) (t : Tree) (call : Call) (i : Insert) (answered : List Hash)
+    → call.command ≡ commands.Insert i → call.reply ≡ Stored answered → Answers s t call
+    → entries_on (home s) (tree_on t call.moves) i.key
+    ≡ entries_on (home s) t i.key ++ (insertion s.cache i).entry ∷ []
 
 -- a removal that answered that it is done added the key's tombstone
 abbrev pub DeletesAdd : Type 0

@@ -1,12 +1,13 @@
 //! What holds of calls in sequence, on functions that do nothing.
 ghost use Rattle.cacache_sequence.specs.Sequence.{OpeningsAreSound, RunsAreCalls, CallsAnswer, SequencesAnswer};
 ghost use Rattle.cacache_sequence.specs.Replies.{RepliesFollow, ReadsKeep};
-ghost use Rattle.cacache_sequence.specs.Stored.{PutsStore, DeletesAdd};
+ghost use Rattle.cacache_sequence.specs.Stored.{PutsStore, InsertsAdd, DeletesAdd};
 ghost use Rattle.cacache_sequence.specs.Failures.{CallsFailOnly};
 ghost use Rattle.cacache_sequence.specs.Caches.{FreshIsEmpty, CachesLast, WritesLast, ReadsKey, ReadsContent, FindsKey, AsksContent, RemovalsLast, ReadsNone, ClearingsEmpty, PlantsLast, CallsGrow, GrowthsJoin, ExcusesLast};
 ghost use Rattle.cacache_sequence.specs.ListedKeys.{ListingsGive};
 ghost use Rattle.cacache_sequence.specs.Looks.{LooksKeep, SameStaysKnown, FindsFound, AsksAbsent};
 ghost use Rattle.cacache_sequence.specs.Parts.{LogsLead, CallsBegin, PartsGoOn, PartsAnswer, WritesAreParts};
+ghost use Rattle.cacache_sequence.specs.Inserts.{InsertsLast, PlainInsertsAreFormed};
 
 /// Calls on a store in memory, one after another. A call that is made on a sound tree answers by what
 /// the cache holds there, and leaves a sound tree; the store of a new cache has one. What the cache
@@ -24,6 +25,7 @@ pub fn sequence_laws()
     ensures replies { RepliesFollow }
     ensures keeps { ReadsKeep }
     ensures puts { PutsStore }
+    ensures inserts { InsertsAdd }
     ensures deletes { DeletesAdd }
     ensures fails { CallsFailOnly }
     ensures sequences { SequencesAnswer }
@@ -46,6 +48,8 @@ pub fn cache_laws()
     ensures grows { CallsGrow }
     ensures joins { GrowthsJoin }
     ensures excuses { ExcusesLast }
+    ensures inserts { InsertsLast }
+    ensures plain_inserts { PlainInsertsAreFormed }
 {}
 
 /// The same of calls that only look: they leave what the cache holds, so that all that was known of it

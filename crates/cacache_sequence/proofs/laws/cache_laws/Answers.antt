@@ -6,6 +6,7 @@ use Rattle.cacache_sequence.proofs.Looked.{finds_key}
 use Rattle.cacache_sequence.proofs.Asking.{asks_content}
 use Rattle.cacache_sequence.proofs.Removals.{removals_last, clearings_empty}
 use Rattle.cacache_sequence.proofs.Planting.{plants_last}
+use Rattle.cacache_sequence.proofs.Inserting.{inserts_last, plain_inserts_are_formed}
 use Rattle.cacache_sequence.proofs.laws.cache_laws.Goals as goal
 
 pub returns-clause-fresh : goal.returns-clause-fresh
@@ -49,3 +50,9 @@ returns-clause-joins c = growths_join
 
 pub returns-clause-excuses : goal.returns-clause-excuses
 returns-clause-excuses c = excuses_last
+
+pub returns-clause-inserts : goal.returns-clause-inserts
+returns-clause-inserts c = inserts_last
+
+pub returns-clause-plain_inserts : goal.returns-clause-plain_inserts
+returns-clause-plain_inserts c = plain_inserts_are_formed

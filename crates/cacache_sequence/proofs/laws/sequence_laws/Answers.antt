@@ -1,6 +1,6 @@
 use Rattle.cacache_sequence.proofs.Sequence.{openings_are_sound, runs_are_calls, calls_answer_alone, sequences_answer}
 use Rattle.cacache_sequence.proofs.Replies.{replies_follow, reads_keep}
-use Rattle.cacache_sequence.proofs.Stored.{puts_store, deletes_add}
+use Rattle.cacache_sequence.proofs.Stored.{puts_store, inserts_add, deletes_add}
 use Rattle.cacache_sequence.proofs.Failures.{calls_fail_only}
 use Rattle.cacache_sequence.proofs.laws.sequence_laws.Goals as goal
 
@@ -21,6 +21,9 @@ returns-clause-keeps c = reads_keep
 
 pub returns-clause-puts : goal.returns-clause-puts
 returns-clause-puts c = puts_store
+
+pub returns-clause-inserts : goal.returns-clause-inserts
+returns-clause-inserts c = inserts_add
 
 pub returns-clause-deletes : goal.returns-clause-deletes
 returns-clause-deletes c = deletes_add
