@@ -5,7 +5,6 @@ use Rattle.cacache_core.specs.declared.errors.Error.{Error}
 use Rattle.cacache_core.specs.declared.errors.Error.TheVariants.{EntryNotFound, SizeMismatch, IoError, SerdeError, IntegrityError, OutOfMemory}
 use Rattle.cacache_core.specs.declared.integrity.algorithm.Algorithm.TheVariants.{Sha256}
 use Rattle.cacache_core.specs.declared.integrity.digest.Hash.{Hash}
-use Rattle.cacache_core.specs.Integrity.{integrity_under}
 use Rattle.cacache_base.specs.declared.store.log.LogItem.{LogItem}
 use Rattle.cacache_memory.specs.Replay.{IsLog}
 use Rattle.cacache_calls.specs.declared.command.Command.{Command}
@@ -16,7 +15,7 @@ use Rattle.cacache_calls.specs.Runs.{Ran, plain_reply, reply_of, without_message
 use Rattle.cacache_calls.specs.Table.{opening}
 use Rattle.cacache_jobs.specs.Opening.{site_of}
 use Rattle.cacache_put.specs.Replies.{done}
-use Rattle.cacache_sequence.specs.Caches.{IsCache, IsEmptyCache, HasKey, HasContent, NothingElse, LacksKey, Grows, IsExcused, Called, plain_put, GivesBytes, FindsNone, WritesLast, ReadsKey, ReadsContent, ReadsNone, RemovalsLast, ClearingsEmpty, ExcusesLast}
+use Rattle.cacache_sequence.specs.Caches.{IsCache, IsEmptyCache, HasKey, HasContent, LacksKey, Grows, IsExcused, Called, plain_put, GivesBytes, FindsNone, WritesLast, ReadsKey, ReadsContent, ReadsNone, RemovalsLast, ClearingsEmpty, ExcusesLast}
 use Rattle.cacache.specs.Reads.{bytes_read}
 use Rattle.uses.specs.Missing.{FindsNothing}
 
@@ -72,13 +71,13 @@ pub record Wrote (cache key bytes : List ℕ) (r : Result (List Hash) Error) (ol
   pub err : IfErr r (λ e. IsExcused e old new)
 
 pub wrote : WritesLast → (cache key bytes : List ℕ) (moment : ℕ) (r : Result (List Hash) Error) (old new : List LogItem)
-    → IsUtf8 key → length bytes < 2 ^ 64 → moment < 2 ^ 64 → IsCache cache old → NothingElse cache (integrity_under Sha256 bytes) bytes old
+    → IsUtf8 key → length bytes < 2 ^ 64 → moment < 2 ^ 64 → IsCache cache old
     → Called cache (commands.Put (plain_put Sha256 key bytes moment)) (reply_of (λ i. replies.Stored i) r) old new → Wrote cache key bytes r old new
-wrote law cache key bytes moment (Ok i) old new utf8 small early sound free c =
-    let w = law Sha256 cache key bytes moment (replies.Stored i) old new utf8 small early sound free c in
+wrote law cache key bytes moment (Ok i) old new utf8 small early sound c =
+    let w = law Sha256 cache key bytes moment (replies.Stored i) old new utf8 small early sound c in
     record { sound = w.0; ok = w.1; err = tt }
-wrote law cache key bytes moment (Err e) old new utf8 small early sound free c =
-    let w = law Sha256 cache key bytes moment (replies.Refused (without_message e)) old new utf8 small early sound free c in
+wrote law cache key bytes moment (Err e) old new utf8 small early sound c =
+    let w = law Sha256 cache key bytes moment (replies.Refused (without_message e)) old new utf8 small early sound c in
     record { sound = w.0; ok = tt; err = excused e old new w.1 }
 
 -- ---- a read

@@ -1,9 +1,7 @@
 //! Single calls on a cache in memory, each with what it does there.
 ghost use Rattle.std.specs.Prelude.{◌≡◌, ℕ, List, IfOk, IfErr, OnOk};
-ghost use Rattle.cacache_core.specs.declared.integrity.algorithm.Algorithm.TheVariants.{Sha256};
 ghost use Rattle.cacache_core.specs.declared.integrity.digest.Hash.{Hash};
-ghost use Rattle.cacache_core.specs.Integrity.{integrity_under};
-ghost use Rattle.cacache_sequence.specs.Caches.{IsCache, IsEmptyCache, HasKey, HasContent, NothingElse, LacksKey, Grows, IsExcused};
+ghost use Rattle.cacache_sequence.specs.Caches.{IsCache, IsEmptyCache, HasKey, HasContent, LacksKey, Grows, IsExcused};
 ghost use Rattle.uses.specs.Missing.{FindsNothing};
 
 use cacache::env::{Clock, Env, Names};
@@ -11,16 +9,14 @@ use cacache::store::MemStore;
 use cacache::{Integrity, Result};
 use cacache_sequence::cache_laws;
 
-/// `write_sync` of bytes under whose integrity nothing else lies: afterwards the key leads to them.
+/// `write_sync`: afterwards the key leads to the bytes.
 pub(crate) fn write<C: Clock, N: Names>(
     env: &mut Env<MemStore, C, N>,
     cache: &str,
     key: &str,
     data: &[u8],
 ) -> Result<Integrity>
-    requires sound { IsCache cache.now env.old.store }
-    requires free { NothingElse cache.now (integrity_under Sha256 «data».now) «data».now
-        env.old.store }
+    requires { IsCache cache.now env.old.store }
     ensures sound { IsCache cache.now env.new.store }
     ensures grows { Grows env.old.store env.new.store }
     ensures ok { IfOk result (λ i. HasKey cache.now key.now i «data».now env.new.store) }

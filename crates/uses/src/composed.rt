@@ -18,15 +18,15 @@ pub struct Found {
     pub by_integrity: Vec<u8>,
 }
 
-/// Stores the bytes under the key in an empty cache in memory, and reads them back by the key and by the integrity
-/// that storing them answered. The same bytes come back. An error is `OutOfMemory`, or a step failed since.
+/// Stores the bytes under the key in a cache in memory, whatever it holds, and reads them back by the key and by the
+/// integrity that storing them answered. The same bytes come back. An error is `OutOfMemory`, or a step failed since.
 pub fn store_and_read<C: Clock, N: Names>(
     env: &mut Env<MemStore, C, N>,
     cache: &str,
     key: &str,
     data: &[u8],
 ) -> Result<Found>
-    requires { IsEmptyCache cache.now env.old.store }
+    requires { IsCache cache.now env.old.store }
     ensures sound { IsCache cache.now env.new.store }
     ensures by_key { IfOk result (λ found. found.by_key.items ≡ «data».now) }
     ensures by_integrity { IfOk result (λ found. found.by_integrity.items ≡ «data».now) }
@@ -59,7 +59,8 @@ pub fn remove_and_read<C: Clock, N: Names>(
     read(env, cache, key)
 }
 
-/// Stores the bytes, reads them, removes the key and clears the cache, which is empty again in the end.
+/// Stores the bytes in an empty cache, reads them, removes the key and clears the cache, which is empty again in the
+/// end.
 pub fn come_and_go<C: Clock, N: Names>(
     env: &mut Env<MemStore, C, N>,
     cache: &str,

@@ -2,8 +2,8 @@
 //!
 //! [`store_and_read`] stores some bytes and reads them back. Its contract says what its caller relies on: the same
 //! bytes come back, by the key and by the integrity; and where none come, memory was refused or a step failed, as the
-//! store's log shows. It holds for every cache in memory that is empty, whatever the clock, the numbers, the key and
-//! the bytes. [`from_nothing`] makes such a cache, so that its callers owe nothing at all. [`remove_and_read`] and
+//! store's log shows. It holds for every cache in memory, whatever it holds, and whatever the clock, the numbers, the key
+//! and the bytes. [`from_nothing`] makes such a cache, so that its callers owe nothing at all. [`remove_and_read`] and
 //! [`come_and_go`] remove what was stored.
 //!
 //! How that is proved:

@@ -1,13 +1,5 @@
 use Rattle.std.proofs.Common.{rules}
-use Rattle.cacache_core.specs.declared.integrity.algorithm.Algorithm.TheVariants.{Sha256}
-use Rattle.cacache_core.specs.Integrity.{integrity_under}
 use Rattle.uses.proofs.composed.store_and_read.Goals as goal
-
-pub write-requires : goal.write-requires
-write-requires g c =
-    let bytes = c.args.data.now in
-    let free = c.cache_laws.ensures.empty c.args.cache.now (integrity_under Sha256 bytes) bytes c.args.env.now.store c.requires in
-    record { sound = c.requires.sound; free = free }
 
 pub returns-in_err-by_key-clause-fails : goal.returns-in_err-by_key-clause-fails
 returns-in_err-by_key-clause-fails g c =
