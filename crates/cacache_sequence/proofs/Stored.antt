@@ -24,7 +24,7 @@ use Rattle.cacache_history.specs.Setup.{Setup, site_of, home}
 use Rattle.cacache_history.specs.Commits.{Deed, does, finds, deeds, IsContent, IsAdded, IsNotOk, Adds, AddsAfter, CommitsAs, IsCase}
 use Rattle.cacache_history.proofs.Digests.{digest_hash}
 use Rattle.cacache_history.proofs.Reading.{bucket_below, content_below}
-use Rattle.cacache_sequence.specs.Sequence.{Call, turns_on, tree_on, after_deeds, Answers}
+use Rattle.cacache_sequence.specs.Sequence.{Call, turns_on, tree_on, Alike, after_deeds, Answers}
 use Rattle.cacache_sequence.specs.Replies.{entries_on}
 use Rattle.cacache_sequence.specs.Stored.{own_hash, HasStored, PutsStore, InsertsAdd, DeletesAdd}
 
@@ -59,85 +59,83 @@ module _ (s : Setup) where
   keeps_blob i (finds path) v a is = absurd is
   keeps_blob i (does act) v a is = ap (λ x. (change (home s) x v).contents a) is.2
 
-  -- a content that is put
+  -- a content that is put, or was there already
   keeps_entries : (c : Commit) (bytes : List ℕ) (d : Deed) (v : Value) (digest : List ℕ) → IsContent c (λ names. PutBytes names bytes) d
       → (after_deeds (home s) (d ∷ []) v).buckets digest ≡ v.buckets digest
   keeps_entries c bytes (finds path) v digest is = refl
   keeps_entries c bytes (does act) v digest is = ap (λ x. (change (home s) x v).buckets digest) is.2
 
   puts_blob : (c : Commit) (bytes : List ℕ) (a : Hash) (d : Deed) (more ds : List Deed) (v : Value) → c.cache ≡ s.cache → c.computed ≡ a ∷ [] → IsHash a
-      → ((path : List ℕ) (more : List Deed) → ds ≡ finds path ∷ more → ⊥) → ds ≡ d ∷ more → IsContent c (λ names. PutBytes names bytes) d
-      → (after_deeds (home s) (d ∷ []) v).contents a ≡ Some (InFile bytes)
-  puts_blob c bytes a (finds path) more ds v here of hash never e is = absurd (never path more e)
-  puts_blob c bytes a (does act) more ds v here of hash never e is =
+      → ((path : List ℕ) (more : List Deed) → ds ≡ finds path ∷ more → v.contents a ≡ Some (InFile bytes)) → ds ≡ d ∷ more
+      → IsContent c (λ names. PutBytes names bytes) d → (after_deeds (home s) (d ∷ []) v).contents a ≡ Some (InFile bytes)
+  puts_blob c bytes a (finds path) more ds v here of hash found e is = found path more e
+  puts_blob c bytes a (does act) more ds v here of hash found e is =
       let at = below_is (home s) (content_names a) is.0 (names_of (content_path c.cache c.computed))
       (ap (λ k. names_of (content_path k c.computed)) here ∙ ap (λ j. names_of (content_path s.cache j)) of ∙ content_below s a [] hash) is.1 in
       ap (λ x. (change (home s) x v).contents a) is.2 ∙ new_blob (is_path_of (home s) (content_names a) is.0) (Some (InFile bytes)) (v.contents a) at
 
-  module _ (t : Tree) (call : Call) (answers : Answers s t call) where
-    v0 : Value
-    v0 = value_of_tree (home s) t
+  -- a commit's entry, once its content is there
+  entry_after : (i : Insertion) (more : List Deed) (r : Reply) → Adds i more (Some r) → (IsNotOk (Some r) → ⊥) → (d : Deed) × IsAdded i d × (more ≡ d ∷ [])
+  entry_after i more r (inl h) ok = absurd (ok h.1)
+  entry_after i more r (inr h) ok = h
 
-    -- a commit's entry, once its content is there
-    entry_after : (i : Insertion) (more : List Deed) (r : Reply) → Adds i more (Some r) → (IsNotOk (Some r) → ⊥) → (d : Deed) × IsAdded i d × (more ≡ d ∷ [])
-    entry_after i more r (inl h) ok = absurd (ok h.1)
-    entry_after i more r (inr h) ok = h
-
-    adds : (i : Insertion) (r : Reply) → i.cache ≡ s.cache → Adds i (deeds (turns_on t call.moves)) (Some r) → (IsNotOk (Some r) → ⊥)
-        → entries_on (home s) (tree_on t call.moves) i.entry.key ≡ entries_on (home s) t i.entry.key ++ i.entry ∷ []
+  -- what these deeds did to a tree's value
+  module _ (t new : Tree) (ds : List Deed) (follows : Alike (value_of_tree (home s) new) (after_deeds (home s) ds (value_of_tree (home s) t))) where
+    pub adds : (i : Insertion) (r : Reply) → i.cache ≡ s.cache → Adds i ds (Some r) → (IsNotOk (Some r) → ⊥) → entries_on (home s) new i.entry.key ≡ entries_on (home s) t i.entry.key ++ i.entry ∷ []
     adds i r here h ok =
-        let e = entry_after i (deeds (turns_on t call.moves)) r h ok in
-        answers.follows.lists (sha1 i.entry.key)
+        let e = entry_after i ds r h ok in
+        follows.lists (sha1 i.entry.key)
         ∙ ap (λ ds. list_of ((after_deeds (home s) ds (value_of_tree (home s) t)).buckets (sha1 i.entry.key))) e.2
         ∙ adds_entry i e.0 (value_of_tree (home s) t) here e.1
 
-    stores : (p : Put) (key : List ℕ) (r : Reply) → call.command ≡ commands.Put p → (IsNotOk (Some r) → ⊥) → CommitsAs (commit_of s.cache p) (λ names. PutBytes names p.data) (deeds (turns_on t call.moves)) (Some r)
-        → p.key ≡ Some key → HasStored s t (tree_on t call.moves) p key
-    stores p key r put ok (inl h) is = absurd (ok h.1)
-    stores p key r put ok (inr h) is =
+    first : (d : Deed) (more : List Deed) (w : Value) → after_deeds (home s) (d ∷ more) w ≡ after_deeds (home s) more (after_deeds (home s) (d ∷ []) w)
+    first (does act) more w = refl
+    first (finds path) more w = refl
+
+    -- a put that is done, where a content that it finds has its bytes
+    pub stores : (p : Put) (key : List ℕ) (r : Reply)
+        → ((path : List ℕ) (more : List Deed) → ds ≡ finds path ∷ more → (value_of_tree (home s) t).contents (own_hash p) ≡ Some (InFile p.data))
+        → (IsNotOk (Some r) → ⊥) → CommitsAs (commit_of s.cache p) (λ names. PutBytes names p.data) ds (Some r) → p.key ≡ Some key → HasStored s t new p key
+    stores p key r found ok (inl h) is = absurd (ok h.1)
+    stores p key r found ok (inr h) is =
         let c = commit_of s.cache p in
         let i = insertion_of (commit_of s.cache p) key in
         let v = value_of_tree (home s) t in
         let e = entry_after (insertion_of (commit_of s.cache p) key) h.1 r (subst (λ k. AddsAfter (commit_of s.cache p) k h.1 (Some r)) is h.4) ok in
-        let all : deeds (turns_on t call.moves) ≡ h.0 ∷ e.0 ∷ [] = h.3 ∙ ap (λ more. h.0 ∷ more) e.2 in
+        let all : ds ≡ h.0 ∷ e.0 ∷ [] = h.3 ∙ ap (λ more. h.0 ∷ more) e.2 in
         let two : (w : Value) → after_deeds (home s) (h.0 ∷ e.0 ∷ []) w ≡ after_deeds (home s) (e.0 ∷ []) (after_deeds (home s) (h.0 ∷ []) w) = λ w. first h.0 (e.0 ∷ []) w in
         record {
           entries =
-              answers.follows.lists (sha1 key)
+              follows.lists (sha1 key)
               ∙ ap (λ ds. list_of ((after_deeds (home s) ds (value_of_tree (home s) t)).buckets (sha1 key))) all
               ∙ ap (λ (w : Value). list_of (w.buckets (sha1 key))) (two v)
               ∙ adds_entry i e.0 (after_deeds (home s) (h.0 ∷ []) v) refl e.1
               ∙ ap (λ o. list_of o ++ i.entry ∷ []) (keeps_entries c p.data h.0 v (sha1 key) h.2);
           content =
-              answers.follows.contents (own_hash p)
+              follows.contents (own_hash p)
               ∙ ap (λ ds. (after_deeds (home s) ds (value_of_tree (home s) t)).contents (own_hash p)) all
               ∙ ap (λ (w : Value). w.contents (own_hash p)) (two v)
               ∙ keeps_blob i e.0 (after_deeds (home s) (h.0 ∷ []) v) (own_hash p) e.1
-              ∙ puts_blob c p.data (own_hash p) h.0 h.1 (deeds (turns_on t call.moves)) v refl refl (digest_hash p.options.algorithm p.data)
-              (λ path more e. answers.puts p path more put e) h.3 h.2;
+              ∙ puts_blob c p.data (own_hash p) h.0 h.1 ds v refl refl (digest_hash p.options.algorithm p.data) found h.3 h.2;
         }
-      where
-        first : (d : Deed) (more : List Deed) (w : Value) → after_deeds (home s) (d ∷ more) w ≡ after_deeds (home s) more (after_deeds (home s) (d ∷ []) w)
-        first (does act) more w = refl
-        first (finds path) more w = refl
 
 pub puts_store : PutsStore
 puts_store s t call p key i command keyed reply answers =
     let commits : CommitsAs (commit_of s.cache p) (λ names. PutBytes names p.data) (deeds (turns_on t call.moves)) (Some (replies.Stored i))
     = subst (λ r. IsCase (site_of s call.number) (commands.Put p) (turns_on t call.moves) (Some r)) reply
     (subst (λ c. IsCase (site_of s call.number) c (turns_on t call.moves) (Some call.reply)) command answers.commits) in
-    stores s t call answers p key (replies.Stored i) command (λ no. no) commits keyed
+    stores s t (tree_on t call.moves) (deeds (turns_on t call.moves)) answers.follows p key (replies.Stored i) (λ path more e. absurd (answers.puts p path more command e)) (λ no. no) commits keyed
 
 pub inserts_add : InsertsAdd
 inserts_add s t call i answered command reply answers =
     let case : Adds (insertion s.cache i) (deeds (turns_on t call.moves)) (Some (replies.Stored answered))
     = subst (λ r. IsCase (site_of s call.number) (commands.Insert i) (turns_on t call.moves) (Some r)) reply
     (subst (λ c. IsCase (site_of s call.number) c (turns_on t call.moves) (Some call.reply)) command answers.commits) in
-    adds s t call answers (insertion s.cache i) (replies.Stored answered) refl case (λ no. no)
+    adds s t (tree_on t call.moves) (deeds (turns_on t call.moves)) answers.follows (insertion s.cache i) (replies.Stored answered) refl case (λ no. no)
 
 pub deletes_add : DeletesAdd
 deletes_add s t call d command reply answers =
     let case : Adds (deletion s.cache d) (deeds (turns_on t call.moves)) (Some replies.Done)
     = subst (λ r. IsCase (site_of s call.number) (commands.Delete d) (turns_on t call.moves) (Some r)) reply
     (subst (λ c. IsCase (site_of s call.number) c (turns_on t call.moves) (Some call.reply)) command answers.commits) in
-    adds s t call answers (deletion s.cache d) replies.Done refl case (λ no. no)
+    adds s t (tree_on t call.moves) (deeds (turns_on t call.moves)) answers.follows (deletion s.cache d) replies.Done refl case (λ no. no)
