@@ -1,5 +1,5 @@
 -- What is known of a call that was made on a cache in a store in memory.
-use Rattle.std.proofs.Common.{◌≡◌, ◌⊎◌, inl, inr, ℕ, List, [], ◌++◌, map, refl, sym, subst}
+use Rattle.std.proofs.Common.{◌≡◌, inl, inr, ℕ, List, [], ◌++◌, map, refl, sym, subst}
 use Rattle.cacache_core.specs.declared.errors.Error.{Error}
 use Rattle.cacache_core.specs.declared.errors.Error.TheVariants.{EntryNotFound, SizeMismatch, IoError, SerdeError, IntegrityError, OutOfMemory}
 use Rattle.cacache_core.specs.declared.errors.Fault.{Fault}
@@ -11,8 +11,8 @@ use Rattle.cacache_memory.specs.Replay.{tree_of}
 use Rattle.cacache_calls.specs.declared.command.Command.{Command}
 use Rattle.cacache_calls.specs.declared.reply.Reply.{Reply}
 use Rattle.cacache_calls.specs.declared.reply.Reply.TheVariants as replies
-use Rattle.cacache_calls.specs.Causes.{HasCause, own_of, Faulted}
-use Rattle.cacache_calls.specs.Runs.{Runs, plain_reply}
+use Rattle.cacache_calls.specs.Causes.{HasCause, own_of}
+use Rattle.cacache_calls.specs.Runs.{Moves, Runs, plain_reply}
 use Rattle.cacache_calls.specs.Sound.{MayBegin}
 use Rattle.cacache_calls.specs.Table.{opening}
 use Rattle.cacache_laws.proofs.Opening.{files_open}
@@ -68,16 +68,20 @@ module _ (cache : List ℕ) (command : Command) (r : Reply) (old new : List LogI
 pub caches_last : CachesLast
 caches_last cache command r old new c may named sound = (known cache command r old new c may named sound).sound
 
--- a failure is excused by a step, unless the command has faults of its own
+-- a failure has its cause among these steps, where the call has no fault of its own
+pub excused_by : (own : Fault → Type 0) (old new : List LogItem) (moves : Moves) → ((fault : Fault) → own fault → ⊥) → new ≡ old ++ map (λ m. Made m.0 m.1) moves → (e : Error)
+    → HasCause own moves (plain_reply (replies.Refused e)) → FailsOnly (replies.Refused e) → IsExcused e old new
+excused_by own old new moves none gained OutOfMemory cause h = inl refl
+excused_by own old new moves none gained (IoError fault message) cause h = inr (moves, gained, fault, elim cause [ inl mine ↦ absurd (none fault mine) | inr f ↦ f ])
+excused_by own old new moves none gained (EntryNotFound c key) cause h = absurd h
+excused_by own old new moves none gained (SizeMismatch wanted actual) cause h = absurd h
+excused_by own old new moves none gained (SerdeError cause message) fault h = absurd h
+excused_by own old new moves none gained (IntegrityError fault) cause h = absurd h
+
 pub excuse : (cache base : List ℕ) (command : Command) (old new : List LogItem) → ((fault : Fault) → own_of command fault → ⊥) → (e : Error)
     → Known cache base command (replies.Refused e) old new → FailsOnly (replies.Refused e) → IsExcused e old new
-excuse cache base command old new none OutOfMemory k h = inl refl
-excuse cache base command old new none (IoError fault message) k h =
-    let cause : own_of command fault ⊎ Faulted k.call.moves fault
-    = subst (λ c. own_of c fault ⊎ Faulted k.call.moves fault) k.command_is
-    (subst (λ r. HasCause (own_of k.call.command) k.call.moves (plain_reply r)) k.reply_is k.answers.causes) in
-    inr (k.call.moves, k.gained, fault, elim cause [ inl own ↦ absurd (none fault own) | inr f ↦ f ])
-excuse cache base command old new none (EntryNotFound c key) k h = absurd h
-excuse cache base command old new none (SizeMismatch wanted actual) k h = absurd h
-excuse cache base command old new none (SerdeError cause message) k h = absurd h
-excuse cache base command old new none (IntegrityError fault) k h = absurd h
+excuse cache base command old new none e k h =
+    excused_by (own_of command) old new k.call.moves none k.gained e
+    (subst (λ c. HasCause (own_of c) k.call.moves (plain_reply (replies.Refused e))) k.command_is
+    (subst (λ r. HasCause (own_of k.call.command) k.call.moves (plain_reply r)) k.reply_is k.answers.causes))
+    h

@@ -29,3 +29,7 @@ pub mod ListedKeys
 pub mod Parts
 pub mod Keeping
 pub mod Inserting
+pub mod Handed
+pub mod Writers
+pub mod Committing
+pub mod Readers

@@ -14,7 +14,7 @@ some_same a b e = cc
 pub calls_grow : CallsGrow
 calls_grow cache command r old new c = (c.ran.0, some_same new (old ++ map (λ m. Made m.0 m.1) c.ran.0) c.ran.2)
 
-joined : (old mid new : List LogItem) (xs ys : Moves) → mid ≡ old ++ map (λ m. Made m.0 m.1) xs → new ≡ mid ++ map (λ m. Made m.0 m.1) ys
+pub joined : (old mid new : List LogItem) (xs ys : Moves) → mid ≡ old ++ map (λ m. Made m.0 m.1) xs → new ≡ mid ++ map (λ m. Made m.0 m.1) ys
     → new ≡ old ++ map (λ m. Made m.0 m.1) (xs ++ ys)
 joined old mid new xs ys e f =
     f ∙ ap (λ l. l ++ map (λ m. Made m.0 m.1) ys) e ∙ append_assoc old (map (λ m. Made m.0 m.1) xs) (map (λ m. Made m.0 m.1) ys)

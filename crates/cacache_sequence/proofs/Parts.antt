@@ -1,27 +1,20 @@
 -- A call that is made in parts holds at each of them, and answers as a whole call.
-use Rattle.std.proofs.Common.{◌≡◌, inl, inr, ◌-◌, ◌==◌, ℕ, List, [], ◌∷◌, ◌++◌, Option, Some, length, take, drop, refl, sym, ap, subst, ◌∙◌, append-nil, append_assoc, arith, eqb-true}
+use Rattle.std.proofs.Common.{◌≡◌, inl, inr, ℕ, List, [], ◌∷◌, ◌++◌, None, Some, refl, sym, ap, subst, ◌∙◌, append-nil, append_assoc}
 use Rattle.std.specs.Prelude.{map}
-use Rattle.std.proofs.Math.Seq.{drop-length}
-use Rattle.std.proofs.lemmas.List.{take_all}
 use Rattle.cacache_core.specs.declared.errors.Error.TheVariants.{OutOfMemory}
-use Rattle.cacache_core.specs.declared.errors.Fault.TheVariants as faults
 use Rattle.cacache_base.specs.declared.store.log.LogItem.TheVariants.{Made}
-use Rattle.cacache_base.specs.declared.store.plain.PlainTemp.{PlainTemp}
+use Rattle.cacache_base.specs.declared.store.plain.PlainFile.{PlainFile}
 use Rattle.cacache_base.specs.declared.store.step.Step.TheVariants as steps
-use Rattle.cacache_base.specs.declared.store.answer.Answer.TheVariants as answers
-use Rattle.cacache_disk.specs.declared.luck.Luck.TheVariants.{Plain}
+use Rattle.cacache_disk.specs.declared.luck.Luck.TheVariants.{Plain, Take}
 use Rattle.cacache_disk.specs.Tree.{Tree, bare}
-use Rattle.cacache_disk.specs.Apply.{apply, grown}
+use Rattle.cacache_disk.specs.Apply.{apply, given}
 use Rattle.cacache_memory.specs.Replay.{replay, IsReplayable, tree_of, IsLog}
 use Rattle.cacache_calls.specs.declared.command.Command.{Command}
 use Rattle.cacache_calls.specs.declared.reply.Reply.{Reply}
 use Rattle.cacache_calls.specs.declared.reply.Reply.TheVariants.{Refused}
-use Rattle.cacache_calls.specs.Common.{fails}
 use Rattle.cacache_calls.specs.Runs.{Moves, Runs, Goes, plain_reply}
 use Rattle.cacache_calls.specs.State.{State}
-use Rattle.cacache_calls.specs.Storing.{persist, write_rest}
-use Rattle.cacache_calls.specs.Table.{after, opening}
-use Rattle.cacache_calls.proofs.Branches.{cond_leads}
+use Rattle.cacache_calls.specs.Table.{piece, after, opening}
 use Rattle.cacache_calls.proofs.Causes.{io_errors_have_causes}
 use Rattle.cacache_calls.proofs.Going.{goes_lost}
 use Rattle.cacache_laws.specs.Opening.{LieApart}
@@ -32,15 +25,15 @@ use Rattle.cacache_history.specs.History.{Turn, turn_of}
 use Rattle.cacache_history.specs.History as histories
 use Rattle.cacache_history.specs.Turns.{made_in, EachTurn}
 use Rattle.cacache_history.proofs.Bucketed.{KeyedTurn}
-use Rattle.cacache_history.proofs.Holding.{CallHolds, TurnsHold, begins_hold}
+use Rattle.cacache_history.proofs.Holding.{CallHolds, TurnsHold, begins_hold, moved_holds}
 use Rattle.cacache_history.proofs.Runs.{memory_plain}
 use Rattle.cacache_history.proofs.Replies.{reads_value}
 use Rattle.cacache_history.proofs.Commits.{cases, plain_refused}
 use Rattle.cacache_sequence.specs.Sequence.{tree_on, turns_on, AreAnswered, plain_moves, IsSound}
-use Rattle.cacache_sequence.specs.Parts.{Part, moves_in, turns_in, AreParts, Begun, with_part, IsOnItsWay, Changes, AnswersInParts, LogsLead, CallsBegin, PartsGoOn, PartsAnswer, WritesAreParts}
+use Rattle.cacache_sequence.specs.Parts.{Part, made, took, byte_read, moves_in, turns_in, AreParts, Begun, with_part, IsOnItsWay, Changes, AnswersInParts, LogsLead, CallsBegin, PartsGoOn, LeftAreCases, PartsAnswer}
 use Rattle.cacache_sequence.proofs.Found.{found_before}
 use Rattle.cacache_sequence.proofs.Replays.{replay_more, replayable_rest, moves_lead, moves_answered}
-use Rattle.cacache_sequence.proofs.Sequence.{on_its_way, turns_made, moves_after, RunHolds, run_holds, moves_follow, holds_alone, keeps_alone, sound_alone}
+use Rattle.cacache_sequence.proofs.Sequence.{alone, on_its_way, run_ends, turns_made, moves_after, RunHolds, run_holds, moves_follow, holds_alone, keeps_alone, sound_alone}
 
 -- ---- the log
 
@@ -77,18 +70,19 @@ run_goes s (m ∷ moves) r run = let rest = run_goes (after s m.1) moves r run.2
 
 -- ---- parts
 
-moves_more : (parts : List Part) (part : Part) → moves_in (parts ++ part ∷ []) ≡ moves_in parts ++ part.moves
-moves_more [] part = append-nil part.moves
-moves_more (p ∷ parts) part = ap (λ l. p.moves ++ l) (moves_more parts part) ∙ sym (append_assoc p.moves (moves_in parts) part.moves)
+moves_more : (parts more : List Part) → moves_in (parts ++ more) ≡ moves_in parts ++ moves_in more
+moves_more [] more = refl
+moves_more (made t moves ∷ parts) more = ap (λ l. moves ++ l) (moves_more parts more) ∙ sym (append_assoc moves (moves_in parts) (moves_in more))
+moves_more (took t file ∷ parts) more = ap (λ l. byte_read file ∷ l) (moves_more parts more)
 
-pub turns_more : (parts : List Part) (part : Part) → turns_in (parts ++ part ∷ []) ≡ turns_in parts ++ turns_on part.place part.moves
-turns_more [] part = append-nil (turns_on part.place part.moves)
-turns_more (p ∷ parts) part =
-    ap (λ l. turns_on p.place p.moves ++ l) (turns_more parts part) ∙ sym (append_assoc (turns_on p.place p.moves) (turns_in parts) (turns_on part.place part.moves))
+-- with one part more
+moves_then : (parts : List Part) (t : Tree) (moves : Moves) → moves_in (parts ++ made t moves ∷ []) ≡ moves_in parts ++ moves
+moves_then parts t moves = moves_more parts (made t moves ∷ []) ∙ ap (λ l. moves_in parts ++ l) (append-nil moves)
 
-parts_more : (s : Setup) (parts : List Part) (t : Tree) (moves : Moves) → AreParts s parts → IsSound (home s) t → AreAnswered t moves → AreParts s (parts ++ record { place = t; moves = moves } ∷ [])
-parts_more s [] t moves h sound answered = (sound, answered, tt)
-parts_more s (p ∷ parts) t moves h sound answered = (h.0, h.1, parts_more s parts t moves h.2 sound answered)
+parts_more : (s : Setup) (parts more : List Part) → AreParts s parts → AreParts s more → AreParts s (parts ++ more)
+parts_more s [] more h k = k
+parts_more s (made t moves ∷ parts) more h k = (h.0, h.1, parts_more s parts more h.2 k)
+parts_more s (took t file ∷ parts) more h k = (h.0, parts_more s parts more h.1 k)
 
 made_more : (xs ys : List Turn) → made_in (xs ++ ys) ≡ made_in xs ++ made_in ys
 made_more [] ys = refl
@@ -96,8 +90,8 @@ made_more (turn ∷ xs) ys = ap (λ l. (turn.move.step, turn.move.answer) ∷ l)
 
 all_made : (parts : List Part) → made_in (turns_in parts) ≡ moves_in parts
 all_made [] = refl
-all_made (p ∷ parts) =
-    made_more (turns_on p.place p.moves) (turns_in parts) ∙ ap (λ l. l ++ made_in (turns_in parts)) (turns_made p.place p.moves) ∙ ap (λ l. p.moves ++ l) (all_made parts)
+all_made (made t moves ∷ parts) = made_more (turns_on t moves) (turns_in parts) ∙ ap (λ l. l ++ made_in (turns_in parts)) (turns_made t moves) ∙ ap (λ l. moves ++ l) (all_made parts)
+all_made (took t file ∷ parts) = ap (λ l. byte_read file ∷ l) (all_made parts)
 
 each_through : (P : Turn → Type 0) (xs ys : List Turn) → EachTurn P xs → EachTurn P ys → EachTurn P (xs ++ ys)
 each_through P [] ys h k = k
@@ -106,6 +100,10 @@ each_through P (turn ∷ xs) ys h k = (h.0, each_through P xs ys h.1 k)
 turns_hold_rest : (s : Setup) (xs ys : List Turn) → TurnsHold s (xs ++ ys) → TurnsHold s ys
 turns_hold_rest s [] ys h = h
 turns_hold_rest s (turn ∷ xs) ys h = turns_hold_rest s xs ys h.1
+
+byte_answered : (t : Tree) (file : PlainFile) → given file 1 file.bytes ≡ (apply t (steps.Read file piece) (Take 1)).0
+unfolding apply
+byte_answered t file = refl
 
 -- ---- what holds of a call on its way
 
@@ -131,13 +129,19 @@ module _ (s : Setup) (apart : LieApart (home s) s.outside) (command : Command) (
       → CallHolds s (stands (turns ++ turns_in parts) next) × EachTurn (KeyedTurn s) (turns_in parts)
   parts_hold [] turns state next h mine g =
       (subst (λ x. CallHolds s (stands (turns ++ []) x)) g (subst (λ l. CallHolds s (stands l state)) (sym (append-nil turns)) mine), tt)
-  parts_hold (p ∷ parts) turns state next h mine g =
-      let a = goes_apart state next p.moves (moves_in parts) g in
-      let one = part_holds p.place p.moves turns state a.0 h.0 h.1 mine a.1 in
-      let more = parts_hold parts (turns ++ turns_on p.place p.moves) a.0 next h.2 one.1 a.2 in (
-        subst (λ l. CallHolds s (stands l next)) (append_assoc turns (turns_on p.place p.moves) (turns_in parts)) more.0,
-        each_through (KeyedTurn s) (turns_on p.place p.moves) (turns_in parts) one.0.keyed more.1,
+  parts_hold (made t moves ∷ parts) turns state next h mine g =
+      let a = goes_apart state next moves (moves_in parts) g in
+      let one = part_holds t moves turns state a.0 h.0 h.1 mine a.1 in
+      let more = parts_hold parts (turns ++ turns_on t moves) a.0 next h.2 one.1 a.2 in (
+        subst (λ l. CallHolds s (stands l next)) (append_assoc turns (turns_on t moves) (turns_in parts)) more.0,
+        each_through (KeyedTurn s) (turns_on t moves) (turns_in parts) one.0.keyed more.1,
       )
+  parts_hold (took t file ∷ parts) turns state next h mine g =
+      let m = byte_read file in
+      let e = run_ends (after state m.1) (moves_in parts) (Refused OutOfMemory) (goes_lost (after state m.1) (moves_in parts) next g.2) in
+      let one = moved_holds s (alone t) (holds_alone s t h.0) (Take 1) (Some m) e.0 (stands turns state) mine (g.0, byte_answered t file, g.1, e.1) in
+      let more = parts_hold parts (turns ++ turn_of t (Take 1) m ∷ []) (after state m.1) next h.1 one g.2 in
+      (subst (λ l. CallHolds s (stands l next)) (append_assoc turns (turn_of t (Take 1) m ∷ []) (turns_in parts)) more.0, (keeps_alone s t h.0, more.1))
 
   -- what a part does to the tree
   part_changes : (t : Tree) (moves : Moves) (turns : List Turn) (state next : State) → IsSound (home s) t → AreAnswered t moves → CallHolds s (stands turns state) → Goes state moves next
@@ -158,15 +162,21 @@ module _ (s : Setup) (apart : LieApart (home s) s.outside) (command : Command) (
 pub calls_begin : CallsBegin
 calls_begin s command number may named = record { may = may; named = named; goes = refl; parts = tt }
 
-with_part_goes : (s : Setup) (call : Begun) (state next : State) (t : Tree) (moves : Moves) → IsOnItsWay s call state → IsSound (home s) t → Goes state moves next → AreAnswered t moves
-    → IsOnItsWay s (with_part call t moves) next
-with_part_goes s call state next t moves way sound g answered = record {
+-- with some parts more
+pub with_parts : (s : Setup) (call : Begun) (state next : State) (more : List Part) → IsOnItsWay s call state → AreParts s more → Goes state (moves_in more) next
+    → IsOnItsWay s (record call { parts = call.parts ++ more }) next
+with_parts s call state next more way are g = record {
   may = way.may;
   named = way.named;
-  goes = subst (λ l. Goes (opening (site_of s call.number) call.command) l next) (sym (moves_more call.parts (record { place = t; moves = moves })))
-      (goes_through (opening (site_of s call.number) call.command) state next (moves_in call.parts) moves way.goes g);
-  parts = parts_more s call.parts t moves way.parts sound answered;
+  goes = subst (λ l. Goes (opening (site_of s call.number) call.command) l next) (sym (moves_more call.parts more))
+      (goes_through (opening (site_of s call.number) call.command) state next (moves_in call.parts) (moves_in more) way.goes g);
+  parts = parts_more s call.parts more way.parts are;
 }
+
+pub with_part_goes : (s : Setup) (call : Begun) (state next : State) (t : Tree) (moves : Moves) → IsOnItsWay s call state → IsSound (home s) t → Goes state moves next → AreAnswered t moves
+    → IsOnItsWay s (with_part call t moves) next
+with_part_goes s call state next t moves way sound g answered =
+    with_parts s call state next (made t moves ∷ []) way (sound, answered, tt) (subst (λ l. Goes state l next) (sym (append-nil moves)) g)
 
 module _ (s : Setup) (apart : LieApart (home s) s.outside) (call : Begun) where
   way_holds : (state : State) → IsOnItsWay s call state
@@ -200,49 +210,12 @@ pub parts_answer : PartsAnswer
 parts_answer s call state t moves reply apart way sound run answered =
     let u = run_goes state moves (plain_reply reply) run in
     let on = parts_go_on s call state u.0 t moves apart way sound u.1 answered in
-    let whole = subst (λ l. Runs (opening (site_of s call.number) call.command) l (plain_reply reply)) (sym (moves_more call.parts (record { place = t; moves = moves })))
+    let whole = subst (λ l. Runs (opening (site_of s call.number) call.command) l (plain_reply reply)) (sym (moves_then call.parts t moves))
     (runs_through (opening (site_of s call.number) call.command) state (moves_in call.parts) moves (plain_reply reply) way.goes run) in
     (run_answers s apart (with_part call t moves) u.0 reply on.0 whole, on.1)
 
--- ---- bytes that go to a file directly
-
-abbrev temp : List ℕ → Option (List ℕ) → PlainTemp
-temp path bytes = record { path = path; bytes = bytes }
-
-same_file : (a b : PlainTemp) → a.path ≡ b.path → a.bytes ≡ b.bytes → a ≡ b
-same_file a b path_is bytes_are = ap (λ p. temp p a.bytes) path_is ∙ ap (temp b.path) bytes_are
-
-grown_is : (file full : PlainTemp) (bytes : List ℕ) → full.path ≡ file.path → full.bytes ≡ Some bytes
-    → answers.Wrote full (length bytes) ≡ grown file bytes (length bytes) (Some [])
-grown_is file full bytes path_is bytes_are =
-    ap (λ f. answers.Wrote f (length bytes))
-    (same_file full (temp file.path (Some (take (length bytes) bytes))) path_is (bytes_are ∙ ap Some (sym (take_all (length bytes) bytes (omega arith)))))
-
-written : (t : Tree) (file full : PlainTemp) (bytes : List ℕ) → file.bytes ≡ Some [] → full.path ≡ file.path → full.bytes ≡ Some bytes
-    → answers.Wrote full (length bytes) ≡ (apply t (steps.Write file bytes) Plain).0
-unfolding apply
-written t file full bytes empty path_is bytes_are = grown_is file full bytes path_is bytes_are ∙ ap (grown file bytes (length bytes)) (sym empty)
-
-writing_keeps : (t : Tree) (file : PlainTemp) (bytes : List ℕ) → (apply t (steps.Write file bytes) Plain).1 ≡ t
-unfolding apply
-writing_keeps t file bytes = refl
-
-pub writes_are_parts : WritesAreParts
-writes_are_parts s call c file full [] t way sound empty path_is bytes_are =
-    let same = same_file file full (sym path_is) (empty ∙ sym bytes_are) in
-    ([], with_part_goes s call (persist c file) (persist c full) t [] way sound (ap (persist c) same) tt, refl, refl)
-writes_are_parts s call c file full (b ∷ bs) t way sound empty path_is bytes_are =
-    let bytes = b ∷ bs in
-    let moves : Moves = (steps.Write file (b ∷ bs), answers.Wrote full (length (b ∷ bs))) ∷ [] in
-    let goes : Goes (write_rest c file (b ∷ bs)) ((steps.Write file (b ∷ bs), answers.Wrote full (length (b ∷ bs))) ∷ []) (persist c full)
-    = (
-      refl,
-      (omega arith, path_is),
-      cond_leads (λ next. next ≡ persist c full) (length (b ∷ bs) == 0) (fails faults.WriteZero) (write_rest c full (drop (length bs) bs)) (λ none. absurd (omega (arith, eqb-true (length (b ∷ bs)) 0 none)))
-          (λ some. ap (write_rest c full) (drop-length bs)),
-    ) in (
-      moves,
-      with_part_goes s call (write_rest c file bytes) (persist c full) t moves way sound goes (written t file full bytes empty path_is bytes_are, tt),
-      writing_keeps t file bytes,
-      refl,
-    )
+pub left_are_cases : LeftAreCases
+left_are_cases s call state apart way =
+    let h = (way_holds s apart call state way).0 in
+    cases s call.number None (Refused OutOfMemory) (λ e. tt) call.command (turns_in call.parts) way.may h.turns h.makes
+    (goes_lost (opening (site_of s call.number) call.command) (made_in (turns_in call.parts)) state h.goes)

@@ -92,7 +92,7 @@ pub record RunHolds (s : Setup) (t : Tree) (moves : Moves) (call : histories.Cal
   pub keyed : EachTurn (KeyedTurn s) (turns_on t moves)
 
 -- how a run goes on, as a move of a world
-run_ends : (st : State) (moves : Moves) (r : Reply) → Runs st moves (plain_reply r) → (reply : Option Reply) × Ends st reply
+pub run_ends : (st : State) (moves : Moves) (r : Reply) → Runs st moves (plain_reply r) → (reply : Option Reply) × Ends st reply
 run_ends st [] r (inl e) = (Some r, inl e)
 run_ends st [] r (inr e) = (Some r, inr (memory_plain r e))
 run_ends st (m ∷ moves) r run = (None, (m.0, run.0))

@@ -66,9 +66,9 @@ module _ (s : Setup) where
   keeps_entries c bytes (does act) v digest is = ap (λ x. (change (home s) x v).buckets digest) is.2
 
   puts_blob : (c : Commit) (bytes : List ℕ) (a : Hash) (d : Deed) (more ds : List Deed) (v : Value) → c.cache ≡ s.cache → c.computed ≡ a ∷ [] → IsHash a
-      → ((path : List ℕ) (more : List Deed) → ds ≡ finds path ∷ more → v.contents a ≡ Some (InFile bytes)) → ds ≡ d ∷ more
+      → ((path : List ℕ) (more : List Deed) → ds ≡ finds path ∷ more → path ≡ content_path c.cache c.computed → v.contents a ≡ Some (InFile bytes)) → ds ≡ d ∷ more
       → IsContent c (λ names. PutBytes names bytes) d → (after_deeds (home s) (d ∷ []) v).contents a ≡ Some (InFile bytes)
-  puts_blob c bytes a (finds path) more ds v here of hash found e is = found path more e
+  puts_blob c bytes a (finds path) more ds v here of hash found e is = found path more e is
   puts_blob c bytes a (does act) more ds v here of hash found e is =
       let at = below_is (home s) (content_names a) is.0 (names_of (content_path c.cache c.computed))
       (ap (λ k. names_of (content_path k c.computed)) here ∙ ap (λ j. names_of (content_path s.cache j)) of ∙ content_below s a [] hash) is.1 in
@@ -94,7 +94,7 @@ module _ (s : Setup) where
 
     -- a put that is done, where a content that it finds has its bytes
     pub stores : (p : Put) (key : List ℕ) (r : Reply)
-        → ((path : List ℕ) (more : List Deed) → ds ≡ finds path ∷ more → (value_of_tree (home s) t).contents (own_hash p) ≡ Some (InFile p.data))
+        → ((path : List ℕ) (more : List Deed) → ds ≡ finds path ∷ more → path ≡ content_path s.cache (own_hash p ∷ []) → (value_of_tree (home s) t).contents (own_hash p) ≡ Some (InFile p.data))
         → (IsNotOk (Some r) → ⊥) → CommitsAs (commit_of s.cache p) (λ names. PutBytes names p.data) ds (Some r) → p.key ≡ Some key → HasStored s t new p key
     stores p key r found ok (inl h) is = absurd (ok h.1)
     stores p key r found ok (inr h) is =
@@ -124,7 +124,7 @@ puts_store s t call p key i command keyed reply answers =
     let commits : CommitsAs (commit_of s.cache p) (λ names. PutBytes names p.data) (deeds (turns_on t call.moves)) (Some (replies.Stored i))
     = subst (λ r. IsCase (site_of s call.number) (commands.Put p) (turns_on t call.moves) (Some r)) reply
     (subst (λ c. IsCase (site_of s call.number) c (turns_on t call.moves) (Some call.reply)) command answers.commits) in
-    stores s t (tree_on t call.moves) (deeds (turns_on t call.moves)) answers.follows p key (replies.Stored i) (λ path more e. absurd (answers.puts p path more command e)) (λ no. no) commits keyed
+    stores s t (tree_on t call.moves) (deeds (turns_on t call.moves)) answers.follows p key (replies.Stored i) (λ path more e is. absurd (answers.puts p path more command e)) (λ no. no) commits keyed
 
 pub inserts_add : InsertsAdd
 inserts_add s t call i answered command reply answers =

@@ -56,7 +56,7 @@ own_integrity a bytes = record {
 
 module _ (a : Algorithm) (cache base key bytes : List ℕ) (moment : ℕ) (old new : List LogItem)
     (written : refused_cause (insertion_of (commit_of cache (plain_put a key bytes moment)) key) ≡ None) where
-  has_key : (i : List Hash) (t : Tree) → i ≡ integrity_under a bytes → tree_of new ≡ t → HasStored (setup_at cache base) (tree_of old) t (plain_put a key bytes moment) key
+  pub has_key : (i : List Hash) (t : Tree) → i ≡ integrity_under a bytes → tree_of new ≡ t → HasStored (setup_at cache base) (tree_of old) t (plain_put a key bytes moment) key
       → HasKey cache key i bytes new
   has_key i t is leads stored =
       let e = (insertion_of (commit_of cache (plain_put a key bytes moment)) key).entry in
@@ -99,7 +99,7 @@ module _ (a : Algorithm) (cache base key bytes : List ℕ) (moment : ℕ) (old n
   writes (replies.Listed items) k = absurd (no_other (replies.Listed items) k)
   writes replies.Done k = absurd (no_other replies.Done k)
 
-keyed_formed : (P : List ℕ → Type 0) (key k : List ℕ) → Some key ≡ Some k → P key → P k
+pub keyed_formed : (P : List ℕ → Type 0) (key k : List ℕ) → Some key ≡ Some k → P key → P k
 keyed_formed P key k e h = let same : key ≡ k = cc in subst P same h
 
 pub writes_last : WritesLast

@@ -8,3 +8,5 @@ pub mod ListedKeys
 pub mod Parts
 pub mod Keeping
 pub mod Inserts
+pub mod Writers
+pub mod Readers

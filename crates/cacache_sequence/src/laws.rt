@@ -6,8 +6,10 @@ ghost use Rattle.cacache_sequence.specs.Failures.{CallsFailOnly};
 ghost use Rattle.cacache_sequence.specs.Caches.{FreshIsEmpty, CachesLast, WritesLast, ReadsKey, ReadsContent, FindsKey, AsksContent, RemovalsLast, ReadsNone, ClearingsEmpty, PlantsLast, CallsGrow, GrowthsJoin, ExcusesLast};
 ghost use Rattle.cacache_sequence.specs.ListedKeys.{ListingsGive};
 ghost use Rattle.cacache_sequence.specs.Looks.{LooksKeep, SameStaysKnown, FindsFound, AsksAbsent};
-ghost use Rattle.cacache_sequence.specs.Parts.{LogsLead, CallsBegin, PartsGoOn, PartsAnswer, WritesAreParts};
 ghost use Rattle.cacache_sequence.specs.Inserts.{InsertsLast, PlainInsertsAreFormed};
+ghost use Rattle.cacache_sequence.specs.Parts.{LogsLead, CallsBegin, PartsGoOn, LeftAreCases, PartsAnswer, ReadsAreParts, WritesAreParts};
+ghost use Rattle.cacache_sequence.specs.Writers.{WritersOpen, CommitsLast, CommitsStore};
+ghost use Rattle.cacache_sequence.specs.Readers.{ReadersOpen, ReadersOpenKey};
 
 /// Calls on a store in memory, one after another. A call that is made on a sound tree answers by what
 /// the cache holds there, and leaves a sound tree; the store of a new cache has one. What the cache
@@ -63,16 +65,30 @@ pub fn look_laws()
     ensures lists { ListingsGive }
 {}
 
+/// What handles do to a cache in a store in memory, in words of their user. A writer opens and commits later, and in
+/// between any calls may be made that leave a cache: after a commit that stored, the key leads to the bytes that the writer
+/// took. A reader has the bytes to give that lay in the cache when it opened, whatever becomes of the content since.
+pub fn handle_laws()
+    ensures opens { WritersOpen }
+    ensures commits { CommitsLast }
+    ensures stores { CommitsStore }
+    ensures reads { ReadersOpen }
+    ensures reads_key { ReadersOpenKey }
+{}
+
 /// Calls that are made in parts, as an open writer, linker or reader makes one: it begins, and goes on later from where
 /// it stands. Each part of it is made on a sound tree and leaves one, and with its last part it answers as a whole call
 /// does, by all of its steps. Between its parts other calls may be made, of which nothing more is needed than that the
 /// tree is sound where the next part begins.
 ///
-/// A part's steps are what the log gained by it, but for the bytes that a writer handed to its file itself.
+/// A part's steps are what the log gained by it, but for the bytes that a linker read of its target itself, and those
+/// that a writer handed to its file.
 pub fn parts_laws()
     ensures logs { LogsLead }
     ensures begins { CallsBegin }
     ensures parts { PartsGoOn }
+    ensures left { LeftAreCases }
     ensures answers { PartsAnswer }
+    ensures reads { ReadsAreParts }
     ensures writes { WritesAreParts }
 {}

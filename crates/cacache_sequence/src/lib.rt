@@ -3,4 +3,4 @@
 
 mod laws;
 
-pub use laws::{cache_laws, look_laws, parts_laws, sequence_laws};
+pub use laws::{cache_laws, handle_laws, look_laws, parts_laws, sequence_laws};

@@ -1,4 +1,5 @@
-use Rattle.cacache_sequence.proofs.Parts.{logs_lead, calls_begin, parts_go_on, parts_answer, writes_are_parts}
+use Rattle.cacache_sequence.proofs.Parts.{logs_lead, calls_begin, parts_go_on, left_are_cases, parts_answer}
+use Rattle.cacache_sequence.proofs.Handed.{reads_are_parts, writes_are_parts}
 use Rattle.cacache_sequence.proofs.laws.parts_laws.Goals as goal
 
 pub returns-clause-logs : goal.returns-clause-logs
@@ -15,3 +16,9 @@ returns-clause-answers c = parts_answer
 
 pub returns-clause-writes : goal.returns-clause-writes
 returns-clause-writes c = writes_are_parts
+
+pub returns-clause-reads : goal.returns-clause-reads
+returns-clause-reads c = reads_are_parts
+
+pub returns-clause-left : goal.returns-clause-left
+returns-clause-left c = left_are_cases
