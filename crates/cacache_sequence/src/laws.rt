@@ -1,4 +1,5 @@
 //! What holds of calls in sequence, on functions that do nothing.
+ghost use Rattle.cacache_memory.specs.Replay.{IsLog};
 ghost use Rattle.cacache_sequence.specs.Sequence.{OpeningsAreSound, RunsAreCalls, CallsAnswer, SequencesAnswer};
 ghost use Rattle.cacache_sequence.specs.Replies.{RepliesFollow, ReadsKeep};
 ghost use Rattle.cacache_sequence.specs.Stored.{PutsStore, InsertsAdd, DeletesAdd};
@@ -10,6 +11,8 @@ ghost use Rattle.cacache_sequence.specs.Inserts.{InsertsLast, PlainInsertsAreFor
 ghost use Rattle.cacache_sequence.specs.Parts.{LogsLead, CallsBegin, PartsGoOn, LeftAreCases, PartsAnswer, ReadsAreParts, WritesAreParts};
 ghost use Rattle.cacache_sequence.specs.Writers.{WritersOpen, CommitsLast, CommitsStore};
 ghost use Rattle.cacache_sequence.specs.Readers.{ReadersOpen, ReadersOpenKey};
+
+use cacache_memory::MemStore;
 
 /// Calls on a store in memory, one after another. A call that is made on a sound tree answers by what
 /// the cache holds there, and leaves a sound tree; the store of a new cache has one. What the cache
@@ -34,8 +37,10 @@ pub fn sequence_laws()
 {}
 
 /// The same in words of somebody who uses a cache in a store in memory, call by call: what he wrote is
-/// there, what he removed isn't, and a call fails for a step of its own or for memory.
-pub fn cache_laws()
+/// there, what he removed isn't, and a call fails for a step of its own or for memory. Of the store that it is
+/// handed it says that its log is a disk's, which the laws ask of the log behind a call.
+pub fn cache_laws(store: &MemStore)
+    ensures logged { IsLog store.now }
     ensures fresh { FreshIsEmpty }
     ensures last { CachesLast }
     ensures writes { WritesLast }
@@ -52,7 +57,9 @@ pub fn cache_laws()
     ensures excuses { ExcusesLast }
     ensures inserts { InsertsLast }
     ensures plain_inserts { PlainInsertsAreFormed }
-{}
+{
+    let _log = store.log();
+}
 
 /// The same of calls that only look: they leave what the cache holds, so that all that was known of it
 /// stays; and they find nothing where nothing is. A listing answers entries that keys lead to, no key

@@ -21,7 +21,7 @@ use Rattle.uses.specs.Missing.{FindsNothing}
 
 -- ---- errors without their messages
 
-plain_error : (e : Error) → without_message (without_message e) ≡ without_message e
+pub plain_error : (e : Error) → without_message (without_message e) ≡ without_message e
 plain_error (EntryNotFound c k) = refl
 plain_error (SizeMismatch wanted actual) = refl
 plain_error (IoError fault message) = refl
@@ -33,7 +33,7 @@ plain_result : {X : Type 0} (answer : X → Reply) (r : Result X Error) → ((x 
 plain_result answer (Ok x) h = h x
 plain_result answer (Err e) h = ap (λ x. replies.Refused x) (plain_error e)
 
-memory_error : (e : Error) → without_message e ≡ OutOfMemory → e ≡ OutOfMemory
+pub memory_error : (e : Error) → without_message e ≡ OutOfMemory → e ≡ OutOfMemory
 memory_error (EntryNotFound c k) h = absurd cc
 memory_error (SizeMismatch wanted actual) h = absurd cc
 memory_error (IoError fault message) h = absurd cc
@@ -49,7 +49,7 @@ missing_error (SerdeError cause message) cache key h = absurd cc
 missing_error (IntegrityError fault) cache key h = absurd cc
 missing_error OutOfMemory cache key h = absurd cc
 
-excused : (e : Error) (old new : List LogItem) → IsExcused (without_message e) old new → IsExcused e old new
+pub excused : (e : Error) (old new : List LogItem) → IsExcused (without_message e) old new → IsExcused e old new
 excused e old new (inl m) = inl (memory_error e m)
 excused e old new (inr h) = inr h
 

@@ -22,10 +22,9 @@ pub(crate) fn write<C: Clock, N: Names>(
     ensures ok { IfOk result (λ i. HasKey cache.now key.now i «data».now env.new.store) }
     ensures err { IfErr result (λ e. IsExcused e env.old.store env.new.store) }
 {
-    cache_laws();
     let _size = data.len();
     let written = cacache::write_sync(env, cache, key, data);
-    let _log = env.store.log();
+    cache_laws(&env.store);
     written
 }
 
@@ -48,9 +47,8 @@ pub(crate) fn read<C: Clock, N: Names>(
     ensures lacks { LacksKey cache.now key.now env.old.store
         → FindsNothing cache.now key.now result env.old.store env.new.store }
 {
-    cache_laws();
     let read = cacache::read_sync(env, cache, key);
-    let _log = env.store.log();
+    cache_laws(&env.store);
     read
 }
 
@@ -69,10 +67,8 @@ pub(crate) fn read_hash<C: Clock, N: Names>(
     ensures err { (bytes : List ℕ) → HasContent cache.now integrity.now bytes env.old.store
         → IfErr result (λ e. IsExcused e env.old.store env.new.store) }
 {
-    cache_laws();
-    let _address = integrity.address();
     let read = cacache::read_hash_sync(env, cache, integrity);
-    let _log = env.store.log();
+    cache_laws(&env.store);
     read
 }
 
@@ -88,9 +84,8 @@ pub(crate) fn remove<C: Clock, N: Names>(
     ensures ok { OnOk result (LacksKey cache.now key.now env.new.store) }
     ensures err { IfErr result (λ e. IsExcused e env.old.store env.new.store) }
 {
-    cache_laws();
     let removed = cacache::remove_sync(env, cache, key);
-    let _log = env.store.log();
+    cache_laws(&env.store);
     removed
 }
 
@@ -100,8 +95,7 @@ pub(crate) fn clear<C: Clock, N: Names>(env: &mut Env<MemStore, C, N>, cache: &s
     ensures sound { IsCache cache.now env.new.store }
     ensures ok { OnOk result (IsEmptyCache cache.now env.new.store) }
 {
-    cache_laws();
     let cleared = cacache::clear_sync(env, cache);
-    let _log = env.store.log();
+    cache_laws(&env.store);
     cleared
 }

@@ -32,7 +32,7 @@ pub fn store_and_read<C: Clock, N: Names>(
     ensures by_integrity { IfOk result (λ found. found.by_integrity.items ≡ «data».now) }
     ensures fails { IfErr result (λ error. IsExcused error env.old.store env.new.store) }
 {
-    cache_laws();
+    cache_laws(&env.store);
     let integrity = write(env, cache, key, data)?;
     let by_key = read(env, cache, key)?;
     let by_integrity = read_hash(env, cache, &integrity)?;
@@ -54,7 +54,7 @@ pub fn remove_and_read<C: Clock, N: Names>(
     ensures sound { IsCache cache.now env.new.store }
     ensures gone { FindsNothing cache.now key.now result env.old.store env.new.store }
 {
-    cache_laws();
+    cache_laws(&env.store);
     remove(env, cache, key)?;
     read(env, cache, key)
 }
@@ -88,8 +88,8 @@ pub fn from_nothing<C: Clock + Drop>(
     ensures by_key { IfOk result (λ found. found.by_key.items ≡ «data».now) }
     ensures by_integrity { IfOk result (λ found. found.by_integrity.items ≡ «data».now) }
 {
-    cache_laws();
     let store = MemStore::new(alloc)?;
+    cache_laws(&store);
     let mut env = Env::new(alloc, store, clock, CountNames::from(0), "/")?;
     store_and_read(&mut env, cache, key, data)
 }

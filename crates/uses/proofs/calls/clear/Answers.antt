@@ -11,6 +11,6 @@ returns g c =
     let old = c.args.env.now.store in
     let new = c.clear_sync-cleared.new.env.store in
     let r = c.clear_sync-cleared.result in
-    let made = called done r cache c.args.env.now.base 0 commands.Clear old new (λ u. refl) c.clear_sync-cleared.ensures.ran.0.0 c.log-log.ensures.replayable in
+    let made = called done r cache c.args.env.now.base 0 commands.Clear old new (λ u. refl) c.clear_sync-cleared.ensures.ran.0.0 c.cache_laws.ensures.logged in
     let w = emptied laws.clears cache r old new c.requires made in
     record { sound = w.sound; ok = w.ok }

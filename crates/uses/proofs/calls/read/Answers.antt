@@ -12,7 +12,7 @@ returns g c =
     let old = c.args.env.now.store in
     let new = c.read_sync-read.new.env.store in
     let r = c.read_sync-read.result in
-    let made = called bytes_read r cache c.args.env.now.base 0 (commands.Get key) old new (λ b. refl) c.read_sync-read.ensures.ran.0.0 c.log-log.ensures.replayable in
+    let made = called bytes_read r cache c.args.env.now.base 0 (commands.Get key) old new (λ b. refl) c.read_sync-read.ensures.ran.0.0 c.cache_laws.ensures.logged in
     record {
       sound = laws.last _ _ _ old new made tt tt c.requires;
       grows = laws.grows _ _ _ old new made;

@@ -12,9 +12,9 @@ returns g c =
     let old = c.args.env.now.store in
     let new = c.read_hash_sync-read.new.env.store in
     let r = c.read_hash_sync-read.result in
-    let made = called bytes_read r cache c.args.env.now.base 0 (commands.GetHash i) old new (λ b. refl) c.read_hash_sync-read.ensures.ran.0.0 c.log-log.ensures.replayable in
+    let made = called bytes_read r cache c.args.env.now.base 0 (commands.GetHash i) old new (λ b. refl) c.read_hash_sync-read.ensures.ran.0.0 c.cache_laws.ensures.logged in
     record {
-      sound = laws.last _ _ _ old new made tt c.address-address.ensures.integrity c.requires;
+      sound = laws.last _ _ _ old new made tt c.read_hash_sync-read.ensures.formed c.requires;
       grows = laws.grows _ _ _ old new made;
       ok = λ bytes has. (read_hash_told laws.reads_content cache bytes i r old new c.requires has made).ok;
       err = λ bytes has. (read_hash_told laws.reads_content cache bytes i r old new c.requires has made).err;
