@@ -5,6 +5,8 @@ use Rattle.std.proofs.lemmas.List.Elements.{All-nil, All-cons, All-head, All-tai
 use Rattle.cacache_core.specs.declared.errors.Error.{Error}
 use Rattle.cacache_core.specs.declared.errors.Error.TheVariants.{IoError, OutOfMemory}
 use Rattle.cacache_core.specs.declared.errors.Fault.TheVariants.{TooDeep}
+use Rattle.cacache_core.specs.declared.integrity.digest.Hash.{Hash}
+use Rattle.cacache_core.specs.Integrity.{Meets}
 use Rattle.cacache_base.specs.declared.store.log.LogItem.{LogItem}
 use Rattle.cacache_memory.specs.Replay.{IsLog}
 use Rattle.cacache_entry.specs.Latest.{Found}
@@ -16,7 +18,7 @@ use Rattle.cacache_calls.specs.Runs.{Ran, plain_item, plain_reply, without_messa
 use Rattle.cacache_calls.specs.State.{Item}
 use Rattle.cacache_calls.specs.Table.{opening}
 use Rattle.cacache_jobs.specs.Opening.{site_of}
-use Rattle.cacache_sequence.specs.Caches.{IsExcused, Called}
+use Rattle.cacache_sequence.specs.Caches.{HasKey, Grows, IsExcused, Called, ExcusesLast}
 use Rattle.cacache_sequence.specs.Looks.{found_under}
 use Rattle.cacache_sequence.specs.ListedKeys.{IsShown, AreEntries, ListsKeys, GivesKeys}
 use Rattle.uses.proofs.Told.{plain_error, memory_error}
@@ -115,3 +117,18 @@ pub list_told : {A : Type 0} (cache : List ℕ) (items : List Item) (r : Result 
 list_told cache items (Ok entries) old new lists ok err = let l = entries_told cache items entries.items old new ok lists in record { each = l.each; all = l.all; fails = tt }
 list_told cache items (Err e) old new lists ok err =
     record { each = tt; all = tt; fails = elim err [ inl m ↦ inl (inl m) | inr i ↦ missed_told cache old new e items lists i ] }
+
+-- ---- after a write
+
+-- what a key leads to is listed, and the bytes meet its integrity
+pub stored_listed : {A : Type 0} (cache key bytes : List ℕ) (i : List Hash) (log : List LogItem) (r : Result (Vec Found A) Error) → HasKey cache key i bytes log
+    → IfOk r (λ entries. (k : List ℕ) (entry : Found) → found_under cache k log ≡ Some entry → In entry entries.items) → IfOk r (λ entries. (entry : Found) × In entry entries.items × Meets entry.integrity bytes)
+stored_listed cache key bytes i log (Ok entries) has all = (has.found, all key has.found has.finds, subst (λ x. Meets x bytes) (sym has.integrity) has.content.meets)
+stored_listed cache key bytes i log (Err e) has all = tt
+
+-- what excuses a listing's error excuses it from the beginning on
+pub list_fails_later : {X : Type 0} → ExcusesLast → (r : Result X Error) (old mid new : List LogItem) → Grows old mid → IfErr r (λ e. IsExcused e mid new ⊎ (without_message e ≡ IoError TooDeep []))
+    → IfErr r (λ e. IsExcused e old new ⊎ (without_message e ≡ IoError TooDeep []))
+list_fails_later law (Ok x) old mid new g h = tt
+list_fails_later law (Err e) old mid new g (inl h) = inl (law e old mid new g h)
+list_fails_later law (Err e) old mid new g (inr h) = inr h

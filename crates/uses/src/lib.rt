@@ -26,4 +26,4 @@ mod questions;
 
 pub use asking::{Stored, remove_and_ask, store_and_ask};
 pub use composed::{Found, come_and_go, from_nothing, remove_and_read, store_and_read};
-pub use listing::list;
+pub use listing::{list, store_and_list};
