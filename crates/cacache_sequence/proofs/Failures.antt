@@ -168,12 +168,12 @@ calls_fail_only = record {
 
 -- an insertion gives no other error, but that its entry can't be written
 pub inserts_fail : (site : Site) (i : Insert) (moves : Moves) (r : Reply) → Runs (opening site (commands.Insert i)) moves r
-    → FailsOnly r ⊎ ((cause : SerdeCause) × (r ≡ Refused (SerdeError cause [])))
+    → FailsOnly r ⊎ ((cause : SerdeCause) × (refused_cause (insertion site.cache i) ≡ Some cause) × (r ≡ Refused (SerdeError cause [])))
 inserts_fail site i moves r run = by (refused_cause (insertion site.cache i)) refl moves run
   where
     by : (cause : Option SerdeCause) → refused_cause (insertion site.cache i) ≡ cause → (moves : Moves) → Runs (unless_refused (insertion site.cache i) cause) moves r
-        → FailsOnly r ⊎ ((cause : SerdeCause) × (r ≡ Refused (SerdeError cause [])))
+        → FailsOnly r ⊎ ((cause : SerdeCause) × (refused_cause (insertion site.cache i) ≡ Some cause) × (r ≡ Refused (SerdeError cause [])))
     by None none moves run = inl (calm_run (unless_refused (insertion site.cache i) None) moves r (by_cause (insertion site.cache i) None refl tt) run)
-    by (Some cause) some [] (inl e) = inr (cause, cc)
+    by (Some cause) some [] (inl e) = inr (cause, some, cc)
     by (Some cause) some [] (inr e) = inl (subst FailsOnly (sym e) tt)
     by (Some cause) some (m ∷ moves) run = absurd cc

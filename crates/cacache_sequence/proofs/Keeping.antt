@@ -22,8 +22,8 @@ use Rattle.cacache_laws.specs.Acts.{change, list_of}
 use Rattle.cacache_history.specs.Reading.{blob_at}
 use Rattle.cacache_history.specs.Commits.{Deed, does, finds, IsAdded, Adds}
 use Rattle.cacache_sequence.specs.Sequence.{Alike, after_deeds}
-use Rattle.cacache_sequence.specs.Replies.{entries_on}
-use Rattle.cacache_sequence.specs.Keeping.{KeepsKey, KeepsContent, KeepsAll, KeepsOthers}
+use Rattle.cacache_sequence.specs.Caches.{HasContent, HasKey, lies_under}
+use Rattle.cacache_sequence.specs.Keeping.{found_under, StaysKnown, KeepsOthers}
 
 -- ---- lookups
 
@@ -76,37 +76,46 @@ module _ (home : Option Names) (i : Insertion) where
 pub alike_lookup : (other : List ℕ) (v w : Value) → Alike w v → latest other (list_of (w.buckets (sha1 other))) ≡ latest other (list_of (v.buckets (sha1 other)))
 alike_lookup other v w alike = ap (latest other) (alike.lists (sha1 other))
 
-at_address : (v w : Value) (o : Option Hash) → ((a : Hash) → o ≡ Some a → w.contents a ≡ v.contents a) → blob_at w o ≡ blob_at v o
+at_address : (v w : Value) (o : Option Hash) → ((a : Hash) → w.contents a ≡ v.contents a) → blob_at w o ≡ blob_at v o
 at_address v w None h = refl
-at_address v w (Some a) h = h a refl
+at_address v w (Some a) h = h a
 
 module _ (cache : List ℕ) (old new : List LogItem) where
-  -- contents that are the same at an integrity's address
-  pub content_kept : (i : List Hash) → ((a : Hash) → address i ≡ Some a → (value_of_tree (home_of cache) (tree_of new)).contents a ≡ (value_of_tree (home_of cache) (tree_of old)).contents a)
-      → KeepsContent cache i old new
-  content_kept i same bytes h = record {
-    content = at_address (value_of_tree (home_of cache) (tree_of old)) (value_of_tree (home_of cache) (tree_of new)) (address i) same ∙ h.content;
-    formed = h.formed;
-    meets = h.meets;
-  }
+  -- a content that is the same where it lies
+  content_kept : (i : List Hash) (bytes : List ℕ) → lies_under cache i new ≡ lies_under cache i old → HasContent cache i bytes old → HasContent cache i bytes new
+  content_kept i bytes same h = record { content = same ∙ h.content; formed = h.formed; meets = h.meets }
 
-  pub key_kept : (key : List ℕ) → latest key (entries_on (home_of cache) (tree_of new) key) ≡ latest key (entries_on (home_of cache) (tree_of old) key)
-      → ((i : List Hash) → KeepsContent cache i old new) → KeepsKey cache key old new
-  key_kept key same contents = record {
-    has = λ i bytes h. record { found = h.found; finds = same ∙ h.finds; integrity = h.integrity; content = contents i bytes h.content };
-    lacks = λ none. same ∙ none;
-  }
+  -- a key that leads to the same entry
+  key_kept : (key bytes : List ℕ) (i : List Hash) → found_under cache key new ≡ found_under cache key old → lies_under cache i new ≡ lies_under cache i old → HasKey cache key i bytes old
+      → HasKey cache key i bytes new
+  key_kept key bytes i same lies h = record { found = h.found; finds = same ∙ h.finds; integrity = h.integrity; content = content_kept i bytes lies h.content }
 
-  pub others_kept : (key : List ℕ) → SameLookups key (value_of_tree (home_of cache) (tree_of old)) (value_of_tree (home_of cache) (tree_of new))
+  lies_kept : SameContents (value_of_tree (home_of cache) (tree_of old)) (value_of_tree (home_of cache) (tree_of new)) → (i : List Hash) → lies_under cache i new ≡ lies_under cache i old
+  lies_kept contents i = at_address (value_of_tree (home_of cache) (tree_of old)) (value_of_tree (home_of cache) (tree_of new)) (address i) contents
+
+  others_kept : (key : List ℕ) → SameLookups key (value_of_tree (home_of cache) (tree_of old)) (value_of_tree (home_of cache) (tree_of new))
       → SameContents (value_of_tree (home_of cache) (tree_of old)) (value_of_tree (home_of cache) (tree_of new)) → KeepsOthers cache key old new
   others_kept key lookups contents =
-      let kept : (i : List Hash) → KeepsContent cache i old new = λ i. content_kept i (λ a is. contents a) in
-      record { keys = λ other differ. key_kept other (lookups other differ) kept; contents = kept }
+      let lies = lies_kept contents in
+      record {
+        finds = lookups;
+        lies = lies;
+        key = λ other bytes i differ has. key_kept other bytes i (lookups other differ) (lies i) has;
+        content = λ i bytes has. content_kept i bytes (lies i) has;
+      }
 
-  pub all_kept : Alike (value_of_tree (home_of cache) (tree_of new)) (value_of_tree (home_of cache) (tree_of old)) → KeepsAll cache old new
-  all_kept alike =
-      let kept : (i : List Hash) → KeepsContent cache i old new = λ i. content_kept i (λ a is. alike.contents a) in
-      record { keys = λ key. key_kept key (alike_lookup key (value_of_tree (home_of cache) (tree_of old)) (value_of_tree (home_of cache) (tree_of new)) alike) kept; contents = kept }
+  -- where contents and entries are the same, all that was known is so still
+  pub stays_known : Alike (value_of_tree (home_of cache) (tree_of new)) (value_of_tree (home_of cache) (tree_of old)) → StaysKnown cache old new
+  stays_known alike =
+      let lies = lies_kept (λ a. alike.contents a) in
+      let finds : (key : List ℕ) → found_under cache key new ≡ found_under cache key old
+      = λ key. alike_lookup key (value_of_tree (home_of cache) (tree_of old)) (value_of_tree (home_of cache) (tree_of new)) alike in
+      record {
+        finds = finds;
+        lies = lies;
+        key = λ key bytes i has. key_kept key bytes i (finds key) (lies i) has;
+        content = λ i bytes has. content_kept i bytes (lies i) has;
+      }
 
 -- an insertion keeps all else
 pub adds_keep : (cache : List ℕ) (i : Insertion) (old new : List LogItem) (ds : List Deed) (reply : Option Reply) → Adds i ds reply

@@ -16,18 +16,15 @@ use Rattle.cacache_history.specs.Reading.{blob_at}
 use Rattle.cacache_sequence.specs.Replies.{UnlessFailed}
 use Rattle.cacache_sequence.specs.Failures.{FailsOnly}
 use Rattle.cacache_sequence.specs.Caches.{HasKey, GivesEntry, FindsKey}
-use Rattle.cacache_sequence.specs.Looks.{found_under, SameStaysKnown, GivesFound, FindsFound}
+use Rattle.cacache_sequence.specs.Keeping.{found_under}
+use Rattle.cacache_sequence.specs.Looks.{SameStaysKnown, GivesFound, FindsFound}
 use Rattle.cacache_sequence.proofs.Known.{Known, known, excuse}
+use Rattle.cacache_sequence.proofs.Keeping.{stays_known}
 use Rattle.cacache_sequence.proofs.Looks.{looks_keep}
 use Rattle.cacache_sequence.proofs.Reading.{content_stays, key_stays, answered}
 
 pub same_stays_known : SameStaysKnown
-same_stays_known cache old new same = record {
-  finds = λ key. ap (λ v. latest key (list_of (v.buckets (sha1 key)))) same;
-  lies = λ i. ap (λ v. blob_at v (address i)) same;
-  key = λ key bytes i has. key_stays cache key bytes i old new same has;
-  content = λ i bytes has. content_stays cache bytes i old new same has;
-}
+same_stays_known cache old new same = stays_known cache old new (record { contents = λ a. ap (λ v. v.contents a) same; lists = λ d. ap (λ v. list_of (v.buckets d)) same })
 
 fails_for : (there : Option Found) (e : Error) → UnlessFailed (replies.LookedUp there) (plain_reply (replies.Refused e)) → FailsOnly (replies.Refused e)
 fails_for there OutOfMemory h = tt

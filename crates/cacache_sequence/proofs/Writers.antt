@@ -39,36 +39,10 @@ use Rattle.cacache_history.specs.Reading.{blob_at}
 use Rattle.cacache_sequence.specs.Sequence.{tree_on, turns_on, Alike, after_deeds, IsSound}
 use Rattle.cacache_sequence.specs.Parts.{Begun}
 use Rattle.cacache_sequence.specs.Caches.{IsCache, HasContent, lies_under, Grows, IsExcused, setup_at}
-use Rattle.cacache_sequence.specs.Looks.{StaysKnown}
 use Rattle.cacache_sequence.specs.Writers.{LeavesCache, Does, FailsAt, make_folder, make_file, OpensWriter, HasOpened, WritersOpen}
+use Rattle.cacache_sequence.proofs.Keeping.{stays_known}
 use Rattle.cacache_sequence.proofs.Logs.{some_same, joined}
 use Rattle.cacache_sequence.proofs.Parts.{logs_lead, calls_begin, parts_go_on}
-
--- ---- what stays
-
-blob_same : (v w : Value) (o : Option Hash) → Alike v w → blob_at v o ≡ blob_at w o
-blob_same v w None h = refl
-blob_same v w (Some a) h = h.contents a
-
-content_lasts : (cache : List ℕ) (old new : List LogItem) (i : List Hash) (bytes : List ℕ) → lies_under cache i new ≡ lies_under cache i old → HasContent cache i bytes old → HasContent cache i bytes new
-content_lasts cache old new i bytes same h = record { content = same ∙ h.content; formed = h.formed; meets = h.meets }
-
--- where contents and entries are the same, all that was known is so still
-pub stays_known : (cache : List ℕ) (old new : List LogItem) → Alike (value_of_tree (home_of cache) (tree_of new)) (value_of_tree (home_of cache) (tree_of old)) → StaysKnown cache old new
-stays_known cache old new h =
-    let lies : (i : List Hash) → lies_under cache i new ≡ lies_under cache i old
-    = λ i. blob_same (value_of_tree (home_of cache) (tree_of new)) (value_of_tree (home_of cache) (tree_of old)) (address i) h in
-    record {
-      finds = λ key. ap (latest key) (h.lists (sha1 key));
-      lies = lies;
-      key = λ key bytes i has. record {
-        found = has.found;
-        finds = ap (latest key) (h.lists (sha1 key)) ∙ has.finds;
-        integrity = has.integrity;
-        content = content_lasts cache old new i bytes (lies i) has.content;
-      };
-      content = λ i bytes has. content_lasts cache old new i bytes (lies i) has;
-    }
 
 -- ---- logs
 

@@ -1,37 +1,31 @@
 -- What an insertion does to a cache in a store in memory, in words of its caller.
-use Rattle.std.specs.Prelude.{◌≡◌, ◌<◌, ◌^◌, ℕ, List, Option, None, Some, IfSome, IsUtf8}
+use Rattle.std.specs.Prelude.{◌≡◌, ◌<◌, ◌^◌, ℕ, List, Option, None, Some, IfSome, IsUtf8, option_map}
 use Rattle.serde_json.specs.Data.{null}
 use Rattle.cacache_core.specs.declared.errors.Error.TheVariants.{SerdeError}
 use Rattle.cacache_core.specs.declared.integrity.algorithm.Algorithm.{Algorithm}
 use Rattle.cacache_core.specs.declared.integrity.digest.Hash.{Hash}
 use Rattle.cacache_core.specs.Integrity.{IsIntegrity}
-use Rattle.cacache_core.specs.PathNames.{home_of}
 use Rattle.cacache_base.specs.declared.store.log.LogItem.{LogItem}
-use Rattle.cacache_memory.specs.Replay.{tree_of}
-use Rattle.cacache_entry.specs.Latest.{Found, latest}
+use Rattle.cacache_entry.specs.Latest.{Found}
 use Rattle.cacache_calls.specs.declared.command.Command.TheVariants as commands
 use Rattle.cacache_calls.specs.declared.command.Insert.{Insert}
 use Rattle.cacache_calls.specs.declared.reply.Reply.{Reply}
 use Rattle.cacache_calls.specs.declared.reply.Reply.TheVariants.{Stored, Refused}
-use Rattle.cacache_calls.specs.Inserting.{insertion}
+use Rattle.cacache_calls.specs.Inserting.{insertion, refused_cause}
 use Rattle.cacache_calls.specs.Sound.{FormedIfWritten}
-use Rattle.cacache_sequence.specs.Replies.{entries_on}
-use Rattle.cacache_sequence.specs.Caches.{IsCache, IsExcused, LacksKey, Called}
-use Rattle.cacache_sequence.specs.Keeping.{KeepsOthers}
+use Rattle.cacache_sequence.specs.Caches.{IsCache, IsExcused, HasContent, HasKey, LacksKey, Called}
+use Rattle.cacache_sequence.specs.Keeping.{found_under, KeepsOthers}
 
--- a lookup of the key finds an entry of this integrity, whatever lies under it; without one it
--- finds none
-abbrev pub LeadsTo : List ℕ → List ℕ → Option (List Hash) → List LogItem → Type 0
-LeadsTo cache key None log = LacksKey cache key log
-LeadsTo cache key (Some i) log =
-    (found : Found) × (latest key (entries_on (home_of cache) (tree_of log) key) ≡ Some found)
-    × (found.integrity ≡ i)
+-- the integrity that the key leads to, whatever lies under it; none where no entry answers
+abbrev pub leads_to : List ℕ → List ℕ → List LogItem → Option (List Hash)
+leads_to cache key log = option_map (λ (found : Found). found.integrity) (found_under cache key log)
 
--- after an insertion that stored, the key leads to its integrity; else the entry can't be written,
--- or the error is excused
+-- after an insertion that stored, the key leads to its integrity, if it has one; else this keeps the
+-- entry from being written, or the error is excused
 abbrev pub InsertsKey : List ℕ → Insert → Reply → List LogItem → List LogItem → Type 0
-InsertsKey cache i (Stored j) old new = LeadsTo cache i.key i.options.integrity new
-InsertsKey cache i (Refused (SerdeError cause message)) old new = Unit {0}
+InsertsKey cache i (Stored j) old new = leads_to cache i.key new ≡ i.options.integrity
+InsertsKey cache i (Refused (SerdeError cause message)) old new =
+    refused_cause (insertion cache i) ≡ Some cause
 InsertsKey cache i (Refused e) old new = IsExcused e old new
 InsertsKey cache i r old new = ⊥
 
@@ -57,9 +51,25 @@ plain_insert a key integrity moment = record {
   };
 }
 
--- it is well-formed
-abbrev pub PlainInsertsAreFormed : Type 0
-PlainInsertsAreFormed =
+-- it is well-formed, and can be written
+abbrev pub PlainInsertsFit : Type 0
+PlainInsertsFit =
     (a : Algorithm) (cache key : List ℕ) (integrity : Option (List Hash)) (moment : ℕ)
     → IsUtf8 key → moment < 2 ^ 64
     → FormedIfWritten (insertion cache (plain_insert a key integrity moment))
+    × (refused_cause (insertion cache (plain_insert a key integrity moment)) ≡ None)
+
+-- ---- what comes of it
+
+-- a key that leads to the integrity of bytes that lie there leads to these bytes
+abbrev pub KeysJoin : Type 0
+KeysJoin =
+    (cache key bytes : List ℕ) (i : List Hash) (log : List LogItem)
+    → leads_to cache key log ≡ Some i → HasContent cache i bytes log
+    → HasKey cache key i bytes log
+
+-- a key that leads to nothing lacks
+abbrev pub NoneLacks : Type 0
+NoneLacks =
+    (cache key : List ℕ) (log : List LogItem)
+    → leads_to cache key log ≡ None → LacksKey cache key log

@@ -11,7 +11,7 @@ use Rattle.cacache_calls.specs.Listing.{In}
 use Rattle.cacache_calls.specs.State.{Item}
 use Rattle.cacache_history.specs.Listings.{NoKeyTwice}
 use Rattle.cacache_sequence.specs.Caches.{IsCache, Called, AStepFailed}
-use Rattle.cacache_sequence.specs.Looks.{found_under}
+use Rattle.cacache_sequence.specs.Keeping.{found_under}
 
 -- an entry is what its key leads to; an error says that a step failed, or that there was too much
 abbrev pub IsShown : List ℕ → List LogItem → List LogItem → Item → Type 0

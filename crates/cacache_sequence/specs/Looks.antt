@@ -6,18 +6,14 @@ use Rattle.cacache_core.specs.Integrity.{IsIntegrity}
 use Rattle.cacache_core.specs.PathNames.{home_of}
 use Rattle.cacache_base.specs.declared.store.log.LogItem.{LogItem}
 use Rattle.cacache_memory.specs.Replay.{tree_of}
-use Rattle.cacache_entry.specs.Latest.{Found, latest}
+use Rattle.cacache_entry.specs.Latest.{Found}
 use Rattle.cacache_calls.specs.declared.command.Command.{Command}
 use Rattle.cacache_calls.specs.declared.command.Command.TheVariants as commands
 use Rattle.cacache_calls.specs.declared.reply.Reply.{Reply}
 use Rattle.cacache_calls.specs.declared.reply.Reply.TheVariants.{LookedUp, Exists, Refused}
 use Rattle.cacache_laws.specs.Value.{value_of_tree}
-use Rattle.cacache_sequence.specs.Replies.{entries_on}
-use Rattle.cacache_sequence.specs.Caches.{IsCache, HasKey, HasContent, lies_under, Called, IsExcused}
-
--- the entry that the key leads to, if any
-abbrev pub found_under : List ℕ → List ℕ → List LogItem → Option Found
-found_under cache key log = latest key (entries_on (home_of cache) (tree_of log) key)
+use Rattle.cacache_sequence.specs.Caches.{IsCache, lies_under, Called, IsExcused}
+use Rattle.cacache_sequence.specs.Keeping.{found_under, StaysKnown}
 
 -- ---- what they leave
 
@@ -40,15 +36,6 @@ abbrev pub LooksKeep : Type 0
 LooksKeep =
     (cache : List ℕ) (command : Command) (r : Reply) (old new : List LogItem)
     → OnlyLooks command → Called cache command r old new → HoldsSame cache old new
-
--- what was known of keys and contents is so still
-pub record StaysKnown (cache : List ℕ) (old new : List LogItem) : Type 0 where
-  pub finds : (key : List ℕ) → found_under cache key new ≡ found_under cache key old
-  pub lies : (i : List Hash) → lies_under cache i new ≡ lies_under cache i old
-  pub key : (key bytes : List ℕ) (i : List Hash)
-      → HasKey cache key i bytes old → HasKey cache key i bytes new
-  pub content : (i : List Hash) (bytes : List ℕ)
-      → HasContent cache i bytes old → HasContent cache i bytes new
 
 -- so it is where the cache holds what it held
 abbrev pub SameStaysKnown : Type 0

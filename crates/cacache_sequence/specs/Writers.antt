@@ -22,7 +22,7 @@ use Rattle.cacache_calls.specs.Sound.{FormedIfWritten}
 use Rattle.cacache_calls.specs.Storing.{insertion_of, commit_of, persist}
 use Rattle.cacache_laws.specs.Value.{InFile}
 use Rattle.cacache_sequence.specs.Caches.{IsCache, lies_under, Grows, IsExcused, plain_put, WritesKey}
-use Rattle.cacache_sequence.specs.Looks.{StaysKnown}
+use Rattle.cacache_sequence.specs.Keeping.{StaysKnown}
 
 -- nothing lies under the integrity, or these bytes do already
 abbrev pub NothingElse : List ℕ → List Hash → List ℕ → List LogItem → Type 0

@@ -7,7 +7,7 @@ ghost use Rattle.cacache_sequence.specs.Failures.{CallsFailOnly};
 ghost use Rattle.cacache_sequence.specs.Caches.{FreshIsEmpty, CachesLast, WritesLast, ReadsKey, ReadsContent, FindsKey, AsksContent, RemovalsLast, ReadsNone, ClearingsEmpty, PlantsLast, CallsGrow, GrowthsJoin, ExcusesLast};
 ghost use Rattle.cacache_sequence.specs.ListedKeys.{ListingsGive};
 ghost use Rattle.cacache_sequence.specs.Looks.{LooksKeep, SameStaysKnown, FindsFound, AsksAbsent};
-ghost use Rattle.cacache_sequence.specs.Inserts.{InsertsLast, PlainInsertsAreFormed};
+ghost use Rattle.cacache_sequence.specs.Inserts.{InsertsLast, PlainInsertsFit, KeysJoin, NoneLacks};
 ghost use Rattle.cacache_sequence.specs.Parts.{LogsLead, CallsBegin, PartsGoOn, LeftAreCases, PartsAnswer, ReadsAreParts, WritesAreParts};
 ghost use Rattle.cacache_sequence.specs.Writers.{WritersOpen, CommitsLast, CommitsStore};
 ghost use Rattle.cacache_sequence.specs.Readers.{ReadersOpen, ReadersOpenKey};
@@ -56,7 +56,9 @@ pub fn cache_laws(store: &MemStore)
     ensures joins { GrowthsJoin }
     ensures excuses { ExcusesLast }
     ensures inserts { InsertsLast }
-    ensures plain_inserts { PlainInsertsAreFormed }
+    ensures plain_inserts { PlainInsertsFit }
+    ensures joins_keys { KeysJoin }
+    ensures lacks { NoneLacks }
 {
     let _log = store.log();
 }

@@ -17,7 +17,8 @@ use Rattle.cacache_calls.specs.Causes.{Faulted}
 use Rattle.cacache_calls.specs.Runs.{Moves, reply_of}
 use Rattle.cacache_put.specs.Replies.{looked_up}
 use Rattle.cacache_sequence.specs.Caches.{IsCache, HasKey, HasContent, LacksKey, AStepFailed, IsExcused, Called, Grows, ExcusesLast, lies_under, SaysThere, AsksContent}
-use Rattle.cacache_sequence.specs.Looks.{found_under, GivesFound, FindsFound, SaysAbsent, AsksAbsent}
+use Rattle.cacache_sequence.specs.Keeping.{found_under}
+use Rattle.cacache_sequence.specs.Looks.{GivesFound, FindsFound, SaysAbsent, AsksAbsent}
 use Rattle.uses.specs.Asked.{IsEntryOf}
 use Rattle.uses.proofs.Told.{excused}
 

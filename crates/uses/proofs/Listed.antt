@@ -19,7 +19,7 @@ use Rattle.cacache_calls.specs.State.{Item}
 use Rattle.cacache_calls.specs.Table.{opening}
 use Rattle.cacache_jobs.specs.Opening.{site_of}
 use Rattle.cacache_sequence.specs.Caches.{HasKey, Grows, IsExcused, Called, ExcusesLast}
-use Rattle.cacache_sequence.specs.Looks.{found_under}
+use Rattle.cacache_sequence.specs.Keeping.{found_under}
 use Rattle.cacache_sequence.specs.ListedKeys.{IsShown, AreEntries, ListsKeys, GivesKeys}
 use Rattle.uses.proofs.Told.{plain_error, memory_error}
 

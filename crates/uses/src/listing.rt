@@ -6,8 +6,8 @@ ghost use Rattle.cacache_core.specs.Integrity.{Meets};
 ghost use Rattle.cacache_entry.specs.Latest.{Found as Entry};
 ghost use Rattle.cacache_calls.specs.Listing.{In};
 ghost use Rattle.cacache_calls.specs.Runs.{plain_item, without_message};
-ghost use Rattle.cacache_sequence.specs.Caches.{IsCache, IsEmptyCache, Grows, IsExcused};
-ghost use Rattle.cacache_sequence.specs.Looks.{found_under, StaysKnown};
+ghost use Rattle.cacache_sequence.specs.Caches.{IsCache, Grows, IsExcused};
+ghost use Rattle.cacache_sequence.specs.Keeping.{found_under, StaysKnown};
 ghost use Rattle.cacache_sequence.specs.ListedKeys.{ListsKeys};
 
 use crate::calls::write;
@@ -72,7 +72,7 @@ pub fn list<C: Clock, N: Names>(env: &mut Env<MemStore, C, N>, cache: &str) -> R
     entries(env.alloc, items)
 }
 
-/// Stores the bytes under the key in an empty cache in memory, and lists it: the bytes meet the integrity of an entry
+/// Stores the bytes under the key in a cache in memory, and lists it: the bytes meet the integrity of an entry
 /// that is listed. Errors are those of [`list`].
 pub fn store_and_list<C: Clock, N: Names>(
     env: &mut Env<MemStore, C, N>,
@@ -80,14 +80,14 @@ pub fn store_and_list<C: Clock, N: Names>(
     key: &str,
     data: &[u8],
 ) -> Result<Vec<Found>>
-    requires { IsEmptyCache cache.now env.old.store }
+    requires { IsCache cache.now env.old.store }
     ensures sound { IsCache cache.now env.new.store }
     ensures there { IfOk result (λ entries.
         (entry : Entry) × In entry entries.items × Meets entry.integrity «data».now) }
     ensures fails { IfErr result (λ error. IsExcused error env.old.store env.new.store
         ⊎ (without_message error ≡ IoError TooDeep [])) }
 {
-    cache_laws();
+    cache_laws(&env.store);
     let _integrity = write(env, cache, key, data)?;
     list(env, cache)
 }

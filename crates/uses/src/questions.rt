@@ -3,7 +3,7 @@ ghost use Rattle.std.specs.Prelude.{◌≡◌, ℕ, List, None, false, IfOk, IfE
 ghost use Rattle.cacache_core.specs.declared.errors.Error.TheVariants.{OutOfMemory};
 ghost use Rattle.cacache_core.specs.declared.integrity.digest.Hash.{Hash};
 ghost use Rattle.cacache_sequence.specs.Caches.{IsCache, HasKey, HasContent, LacksKey, Grows, AStepFailed, IsExcused, lies_under};
-ghost use Rattle.cacache_sequence.specs.Looks.{StaysKnown};
+ghost use Rattle.cacache_sequence.specs.Keeping.{StaysKnown};
 ghost use Rattle.uses.specs.Asked.{IsEntryOf};
 
 use cacache::env::{Clock, Env, Names};

@@ -6,7 +6,7 @@ use Rattle.cacache_sequence.proofs.Looked.{finds_key}
 use Rattle.cacache_sequence.proofs.Asking.{asks_content}
 use Rattle.cacache_sequence.proofs.Removals.{removals_last, clearings_empty}
 use Rattle.cacache_sequence.proofs.Planting.{plants_last}
-use Rattle.cacache_sequence.proofs.Inserting.{inserts_last, plain_inserts_are_formed}
+use Rattle.cacache_sequence.proofs.Inserting.{inserts_last, plain_inserts_fit, keys_join, none_lacks}
 use Rattle.cacache_sequence.proofs.laws.cache_laws.Goals as goal
 
 pub returns-clause-fresh : goal.returns-clause-fresh
@@ -55,4 +55,10 @@ pub returns-clause-inserts : goal.returns-clause-inserts
 returns-clause-inserts c = inserts_last
 
 pub returns-clause-plain_inserts : goal.returns-clause-plain_inserts
-returns-clause-plain_inserts c = plain_inserts_are_formed
+returns-clause-plain_inserts c = plain_inserts_fit
+
+pub returns-clause-joins_keys : goal.returns-clause-joins_keys
+returns-clause-joins_keys c = keys_join
+
+pub returns-clause-lacks : goal.returns-clause-lacks
+returns-clause-lacks c = none_lacks

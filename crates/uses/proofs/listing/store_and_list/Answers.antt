@@ -1,12 +1,5 @@
-use Rattle.cacache_core.specs.declared.integrity.algorithm.Algorithm.TheVariants.{Sha256}
-use Rattle.cacache_core.specs.Integrity.{integrity_under}
 use Rattle.uses.proofs.Listed.{stored_listed, list_fails_later}
 use Rattle.uses.proofs.listing.store_and_list.Goals as goal
-
-pub write-requires-clause-free : goal.write-requires-clause-free
-write-requires-clause-free g c =
-    let bytes = c.args.data.now in
-    c.cache_laws.ensures.empty c.args.cache.now (integrity_under Sha256 bytes) bytes c.args.env.now.store c.requires
 
 pub returns-clause-there : goal.returns-clause-there
 returns-clause-there g c =
