@@ -18,6 +18,7 @@ use Rattle.cacache_calls.specs.declared.command.Command.TheVariants as commands
 use Rattle.cacache_calls.specs.declared.command.Export.{Export}
 use Rattle.cacache_calls.specs.declared.command.How.{How}
 use Rattle.cacache_calls.specs.declared.command.How.TheVariants.{Copy, Reflink, HardLink}
+use Rattle.cacache_calls.specs.declared.command.Source.{Source}
 use Rattle.cacache_calls.specs.declared.command.Source.TheVariants as sources
 use Rattle.cacache_calls.specs.declared.reply.Reply.TheVariants.{Stored, Read, Copied, Done}
 use Rattle.cacache_calls.specs.Answers.{done_in, there_in, taken_in, bytes_in, file_in, got_in}
@@ -31,7 +32,7 @@ use Rattle.cacache_calls.specs.Promises.{Exports}
 use Rattle.cacache_calls.specs.Reading.{checked, is_there, is_absent}
 use Rattle.cacache_calls.specs.Replies.{bucket_shown, lookup, Begins, MeetsFound}
 use Rattle.cacache_calls.specs.Runs.{Moves, Runs, Goes}
-use Rattle.cacache_calls.specs.State.{State, doing, looking, reading, asking, opening_file, hashing, copying, over, Aim, to_report, to_read, to_export, to_remove, Lookup, Content, to_verify, reflink, hard_link, Item}
+use Rattle.cacache_calls.specs.State.{State, Site, doing, looking, reading, asking, opening_file, hashing, copying, over, Aim, to_report, to_read, to_export, to_remove, Lookup, Content, to_verify, reflink, hard_link, Item}
 use Rattle.cacache_calls.specs.Table.{piece, wants, after, opening}
 use Rattle.cacache_calls.proofs.Branches.{cond_leads, go_on_leads}
 use Rattle.cacache_calls.proofs.Promises.{calls_answer}
@@ -153,6 +154,11 @@ listing_quiet : (s : Setup) (turns : List Turn) (items : List Item) → TurnsGiv
 listing_quiet s [] items gives = tt
 listing_quiet s (turn ∷ turns) items gives = (listed_quiet s turn turn.move.step gives.0 refl gives.3, listing_quiet s turns gives.1 gives.4)
 
+pub exports_do_nothing : (site : Site) (source : Source) (e : Export) (end : State) (turns : List Turn) → Goes (opening site (commands.Export source e)) (made_in turns) end → EachTurn DoesNothing turns
+exports_do_nothing site (sources.Key key) e end turns goes = each_quiet (opening site (commands.Export (sources.Key key) e)) end turns tt goes
+exports_do_nothing site (sources.Hash i) e end turns goes =
+    each_quiet (opening site (commands.Export (sources.Hash i) e)) end turns (exports (record { cache = site.cache; integrity = i }) e) goes
+
 pub readers_do_nothing : (h : History) → IsLegal h → ReadersDoNothing h
 readers_do_nothing h legal call reply reaches reads = by call.command refl reads (reached h legal call reply reaches).holds.goes
   where
@@ -162,10 +168,7 @@ readers_do_nothing h legal call reply reaches reads = by call.command refl reads
     by (commands.GetHash i) is reads goes = each_quiet (opening (site_of h.setup call.number) (commands.GetHash i)) call.state call.turns tt goes
     by (commands.Exists i) is reads goes = each_quiet (opening (site_of h.setup call.number) (commands.Exists i)) call.state call.turns tt goes
     by commands.Ls is reads goes = let lists = listings_read_value h legal call reply reaches is in listing_quiet h.setup call.turns lists.0 lists.1
-    by (commands.Export (sources.Key key) e) is reads goes =
-        each_quiet (opening (site_of h.setup call.number) (commands.Export (sources.Key key) e)) call.state call.turns tt goes
-    by (commands.Export (sources.Hash i) e) is reads goes =
-        each_quiet (opening (site_of h.setup call.number) (commands.Export (sources.Hash i) e)) call.state call.turns (exports (record { cache = h.setup.cache; integrity = i }) e) goes
+    by (commands.Export source e) is reads goes = exports_do_nothing (site_of h.setup call.number) source e call.state call.turns goes
     by command is reads goes = absurd reads
 
 -- ---- bytes that a read answers

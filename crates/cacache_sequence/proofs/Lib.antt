@@ -33,3 +33,4 @@ pub mod Handed
 pub mod Writers
 pub mod Committing
 pub mod Readers
+pub mod Exports

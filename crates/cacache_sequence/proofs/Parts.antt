@@ -64,7 +64,7 @@ goes_apart s u [] two g = (s, refl, g)
 goes_apart s u (m ∷ one) two g = let rest = goes_apart (after s m.1) u one two g.2 in (rest.0, (g.0, g.1, rest.1), rest.2)
 
 -- where a run leads
-run_goes : (s : State) (moves : Moves) (r : Reply) → Runs s moves r → (u : State) × Goes s moves u
+pub run_goes : (s : State) (moves : Moves) (r : Reply) → Runs s moves r → (u : State) × Goes s moves u
 run_goes s [] r run = (s, refl)
 run_goes s (m ∷ moves) r run = let rest = run_goes (after s m.1) moves r run.2 in (rest.0, (run.0, run.1, rest.1))
 

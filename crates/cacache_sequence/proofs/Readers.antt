@@ -141,7 +141,8 @@ gives_file : (cache : List ℕ) (i : List Hash) (bytes : List ℕ) (r : Result P
 gives_file cache i bytes (Err e) old new sound o logged has = o.excused e refl
 gives_file cache i bytes (Ok file) old new sound o logged has =
     let lead = logs_lead old new ((steps.Open (content_path cache i), answers.File file) ∷ []) (subst (Gains (Some old) (Some new)) (o.file file refl) o.gains) logged in
-    gives_bytes cache old sound file i bytes has lead.0.0
+    let same = gives_bytes cache old sound file i bytes has lead.0.0 in
+    (ap (λ (f : PlainFile). f.bytes) same, ap (λ (f : PlainFile). f.left) same)
 
 pub readers_open : ReadersOpen
 readers_open cache i r old new sound h logged =

@@ -183,7 +183,7 @@ module _ (cache : List ℕ) (number : ℕ) (old new : List LogItem) (sound : IsC
       let same = temp_made (apply (tree_of old) (make_folder cache number) Plain).1 path file lead.0.1.0 in (
         part_keeps moves (persist (commit_of cache put_nothing) file) (refl, tt, (refl, ap (λ (f : PlainTemp). f.path) same, refl))
             (folder_first (tree_of old) (temp_folder cache) answers.Done ((make_file cache number, answers.Temp file) ∷ []) refl) gains,
-        (same, record { old = old; new = new; sound = sound; opens = (h.0, h.1, subst (λ f. Does (make_file cache number) (answers.Temp f) h.0 (Some new)) same h.2); logged = logged }),
+        (ap (λ (f : PlainTemp). f.path) same, ap (λ (f : PlainTemp). f.bytes) same, record { old = old; new = new; sound = sound; opens = (h.0, h.1, subst (λ f. Does (make_file cache number) (answers.Temp f) h.0 (Some new)) same h.2); logged = logged }),
       )
 
 pub writers_open : WritersOpen

@@ -10,3 +10,4 @@ pub mod Keeping
 pub mod Inserts
 pub mod Writers
 pub mod Readers
+pub mod Exports

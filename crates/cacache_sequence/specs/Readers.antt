@@ -1,5 +1,5 @@
 -- What an open reader does on a store in memory, in words of its user.
-use Rattle.std.specs.Prelude.{◌≡◌, ◌⊎◌, ℕ, List, Option, None, Some, Result, Ok, Err}
+use Rattle.std.specs.Prelude.{◌≡◌, ◌⊎◌, ℕ, List, Option, None, Some, Result, Ok, Err, length}
 use Rattle.cacache_core.specs.declared.errors.Error.{Error}
 use Rattle.cacache_core.specs.declared.errors.Error.TheVariants.{EntryNotFound}
 use Rattle.cacache_core.specs.declared.integrity.digest.Hash.{Hash}
@@ -7,7 +7,6 @@ use Rattle.cacache_base.specs.declared.store.answer.Answer.TheVariants as answer
 use Rattle.cacache_base.specs.declared.store.log.LogItem.{LogItem}
 use Rattle.cacache_base.specs.declared.store.plain.PlainFile.{PlainFile}
 use Rattle.cacache_base.specs.declared.store.step.Step.TheVariants as steps
-use Rattle.cacache_disk.specs.Apply.{opened}
 use Rattle.cacache_memory.specs.Replay.{IsLog}
 use Rattle.cacache_entry.specs.Latest.{Found}
 use Rattle.cacache_calls.specs.declared.command.Command.TheVariants as commands
@@ -56,7 +55,7 @@ module _ (cache : List ℕ) where
 
 -- the file has just these bytes to give; and why there is none is excused
 abbrev pub GivesFile : List ℕ → Result PlainFile Error → List LogItem → List LogItem → Type 0
-GivesFile bytes (Ok file) old new = file ≡ opened bytes
+GivesFile bytes (Ok file) old new = (file.bytes ≡ Some bytes) × (file.left ≡ length bytes)
 GivesFile bytes (Err e) old new = IsExcused e old new
 
 -- a reader by integrity has the bytes to give that lie under it

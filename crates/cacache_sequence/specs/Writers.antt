@@ -77,7 +77,8 @@ module _ (cache : List ℕ) (number : ℕ) where
 
   -- the writer's file is empty at first; and why there is none is excused
   abbrev pub HasOpened : Result PlainTemp Error → List LogItem → List LogItem → Type 0
-  HasOpened (Ok file) old new = (file ≡ made_temp (temp_path cache number)) × IsOpened
+  HasOpened (Ok file) old new =
+      (file.path ≡ temp_path cache number) × (file.bytes ≡ Some []) × IsOpened
   HasOpened (Err e) old new = IsExcused e old new
 
 -- ---- a commit

@@ -18,6 +18,7 @@ use Rattle.cacache_calls.specs.Runs.{Moves, reply_of}
 use Rattle.cacache_put.specs.Replies.{looked_up}
 use Rattle.cacache_sequence.specs.Caches.{IsCache, HasKey, HasContent, LacksKey, AStepFailed, IsExcused, Called, Grows, ExcusesLast, lies_under, SaysThere, AsksContent}
 use Rattle.cacache_sequence.specs.Keeping.{found_under}
+use Rattle.cacache_sequence.specs.Inserts.{leads_to}
 use Rattle.cacache_sequence.specs.Looks.{GivesFound, FindsFound, SaysAbsent, AsksAbsent}
 use Rattle.uses.specs.Asked.{IsEntryOf}
 use Rattle.uses.proofs.Told.{excused}
@@ -64,6 +65,14 @@ entry_is i f (Some m) same is = let here : found_view m ≡ f = cc in ap (λ (x 
 pub entry_told : (cache key bytes : List ℕ) (i : List Hash) (r : Result (Option Metadata) Error) (old new : List LogItem) → HasKey cache key i bytes old → Looked cache key r old new → IfOk r (IsEntryOf i)
 entry_told cache key bytes i (Ok found) old new has l = entry_is i has.found found has.integrity (l.ok ∙ has.finds)
 entry_told cache key bytes i (Err e) old new has l = tt
+
+led_is : (i : List Hash) (found : Option Metadata) → option_map (λ (f : Found). f.integrity) (option_map found_view found) ≡ Some i → IsEntryOf i found
+led_is i None is = absurd cc
+led_is i (Some m) is = cc
+
+pub led_told : (cache key : List ℕ) (i : List Hash) (r : Result (Option Metadata) Error) (old new : List LogItem) → leads_to cache key old ≡ Some i → Looked cache key r old new → IfOk r (IsEntryOf i)
+led_told cache key i (Ok found) old new leads l = led_is i found (ap (option_map (λ (f : Found). f.integrity)) l.ok ∙ leads)
+led_told cache key i (Err e) old new leads l = tt
 
 nothing_is : (found : Option Metadata) → option_map found_view found ≡ None → found ≡ None
 nothing_is None is = refl

@@ -1,8 +1,9 @@
 //! Single questions about a cache in memory, each with what its answer says. What is known of the cache stays.
-ghost use Rattle.std.specs.Prelude.{◌≡◌, ℕ, List, None, false, IfOk, IfErr};
+ghost use Rattle.std.specs.Prelude.{◌≡◌, ℕ, List, None, Some, false, IfOk, IfErr};
 ghost use Rattle.cacache_core.specs.declared.errors.Error.TheVariants.{OutOfMemory};
 ghost use Rattle.cacache_core.specs.declared.integrity.digest.Hash.{Hash};
 ghost use Rattle.cacache_sequence.specs.Caches.{IsCache, HasKey, HasContent, LacksKey, Grows, AStepFailed, IsExcused, lies_under};
+ghost use Rattle.cacache_sequence.specs.Inserts.{leads_to};
 ghost use Rattle.cacache_sequence.specs.Keeping.{StaysKnown};
 ghost use Rattle.uses.specs.Asked.{IsEntryOf};
 
@@ -45,6 +46,8 @@ pub(crate) fn metadata<C: Clock, N: Names>(
     ensures known { StaysKnown cache.now env.old.store env.new.store }
     ensures has { (i : List Hash) (bytes : List ℕ)
         → HasKey cache.now key.now i bytes env.old.store → IfOk result (IsEntryOf i) }
+    ensures leads { (i : List Hash) → leads_to cache.now key.now env.old.store ≡ Some i
+        → IfOk result (IsEntryOf i) }
     ensures lacks { LacksKey cache.now key.now env.old.store → IfOk result (λ entry. entry ≡ None) }
     ensures err { IfErr result (λ e. IsExcused e env.old.store env.new.store) }
 {

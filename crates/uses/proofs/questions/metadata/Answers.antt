@@ -1,7 +1,7 @@
 use Rattle.std.proofs.Common.{refl}
 use Rattle.cacache_calls.specs.declared.command.Command.TheVariants as commands
 use Rattle.cacache_put.specs.Replies.{looked_up}
-use Rattle.uses.proofs.Asked.{lookup_told, entry_told, nothing_told}
+use Rattle.uses.proofs.Asked.{lookup_told, entry_told, led_told, nothing_told}
 use Rattle.uses.proofs.Told.{called}
 use Rattle.uses.proofs.questions.metadata.Goals as goal
 
@@ -21,6 +21,7 @@ returns g c =
       grows = laws.grows _ _ _ old new made;
       known = looks.known cache old new (looks.keeps _ _ _ old new tt made);
       has = λ i bytes has. entry_told cache key bytes i r old new has l;
+      leads = λ i leads. led_told cache key i r old new leads l;
       lacks = λ lacks. nothing_told cache key r old new lacks l;
       err = l.err;
     }
