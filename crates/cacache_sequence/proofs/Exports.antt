@@ -8,7 +8,7 @@ use Rattle.cacache_base.specs.declared.store.step.Step.TheVariants as steps
 use Rattle.cacache_base.specs.Plain.{PlainStep, PlainAnswer}
 use Rattle.cacache_memory.specs.Replay.{tree_of}
 use Rattle.cacache_calls.specs.declared.command.Command.TheVariants as commands
-use Rattle.cacache_calls.specs.Runs.{Moves, Runs, Goes}
+use Rattle.cacache_calls.specs.Runs.{Goes}
 use Rattle.cacache_calls.specs.Table.{opening}
 use Rattle.cacache_laws.specs.Kinds.{PathKind, Content as OfContent, Bucket, Temporary, Stray, Elsewhere, IsFor, kind_in_area, kind_beside, path_kind}
 use Rattle.cacache_laws.specs.Value.{Value, value_of_tree}
@@ -71,7 +71,7 @@ and_true : (b : Bool) → b ≡ true → (b && true) ≡ true
 and_true true e = refl
 and_true false e = absurd cc
 
-exports_apart : (cache base to : List ℕ) → IsFor (home_of cache) Elsewhere to → may_export (setup_at cache base) to ≡ true
+pub exports_apart : (cache base to : List ℕ) → IsFor (home_of cache) Elsewhere to → may_export (setup_at cache base) to ≡ true
 exports_apart cache base to for = by (names_of to) for
   where
     by : (r : Result Names Fault) → IfOk r (λ names. path_kind (home_of cache) names ≡ Elsewhere) → may_take (setup_at cache base) r ≡ true

@@ -34,3 +34,4 @@ pub mod Writers
 pub mod Committing
 pub mod Readers
 pub mod Exports
+pub mod Copying

@@ -1,18 +1,15 @@
 -- What is known of a cache stays while it holds the same, and a lookup finds what its key leads to.
 use Rattle.std.proofs.Common.{◌≡◌, ℕ, List, Option, None, Some, refl, ap, ◌∙◌}
-use Rattle.sha1.specs.Sha1.{sha1}
 use Rattle.cacache_core.specs.declared.errors.Error.{Error}
 use Rattle.cacache_core.specs.declared.errors.Error.TheVariants.{EntryNotFound, SizeMismatch, IoError, SerdeError, IntegrityError, OutOfMemory}
 use Rattle.cacache_core.specs.declared.integrity.digest.Hash.{Hash}
-use Rattle.cacache_core.specs.Integrity.{address}
 use Rattle.cacache_base.specs.declared.store.log.LogItem.{LogItem}
-use Rattle.cacache_entry.specs.Latest.{Found, latest}
+use Rattle.cacache_entry.specs.Latest.{Found}
 use Rattle.cacache_calls.specs.declared.command.Command.TheVariants as commands
 use Rattle.cacache_calls.specs.declared.reply.Reply.{Reply}
 use Rattle.cacache_calls.specs.declared.reply.Reply.TheVariants as replies
 use Rattle.cacache_calls.specs.Runs.{plain_reply}
 use Rattle.cacache_laws.specs.Acts.{list_of}
-use Rattle.cacache_history.specs.Reading.{blob_at}
 use Rattle.cacache_sequence.specs.Replies.{UnlessFailed}
 use Rattle.cacache_sequence.specs.Failures.{FailsOnly}
 use Rattle.cacache_sequence.specs.Caches.{HasKey, GivesEntry, FindsKey}
@@ -21,7 +18,7 @@ use Rattle.cacache_sequence.specs.Looks.{SameStaysKnown, GivesFound, FindsFound}
 use Rattle.cacache_sequence.proofs.Known.{Known, known, excuse}
 use Rattle.cacache_sequence.proofs.Keeping.{stays_known}
 use Rattle.cacache_sequence.proofs.Looks.{looks_keep}
-use Rattle.cacache_sequence.proofs.Reading.{content_stays, key_stays, answered}
+use Rattle.cacache_sequence.proofs.Reading.{key_stays, answered}
 
 pub same_stays_known : SameStaysKnown
 same_stays_known cache old new same = stays_known cache old new (record { contents = λ a. ap (λ v. v.contents a) same; lists = λ d. ap (λ v. list_of (v.buckets d)) same })

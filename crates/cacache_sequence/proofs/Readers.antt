@@ -6,7 +6,7 @@ use Rattle.cacache_core.specs.declared.errors.Error.TheVariants.{EntryNotFound, 
 use Rattle.cacache_core.specs.declared.errors.Fault.{Fault}
 use Rattle.cacache_core.specs.declared.errors.Fault.TheVariants as faults
 use Rattle.cacache_core.specs.declared.integrity.digest.Hash.{Hash}
-use Rattle.cacache_core.specs.Integrity.{IsHash, address}
+use Rattle.cacache_core.specs.Integrity.{IsHash}
 use Rattle.cacache_core.specs.PathNames.{home_of}
 use Rattle.cacache_base.specs.declared.store.answer.Answer.TheVariants as answers
 use Rattle.cacache_base.specs.declared.store.log.LogItem.{LogItem}
@@ -33,7 +33,6 @@ use Rattle.cacache_calls.proofs.Branches.{go_on_leads}
 use Rattle.cacache_laws.specs.Shows.{blob_bytes, ShowsContent}
 use Rattle.cacache_laws.specs.Value.{value_of_tree}
 use Rattle.cacache_laws.proofs.Shows.{trees_show}
-use Rattle.cacache_history.specs.Reading.{blob_at}
 use Rattle.cacache_history.proofs.Reading.{content_below}
 use Rattle.cacache_sequence.specs.Sequence.{tree_on, IsSound}
 use Rattle.cacache_sequence.specs.Replies.{entries_on, UnlessFailed}

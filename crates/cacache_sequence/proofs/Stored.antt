@@ -24,7 +24,7 @@ use Rattle.cacache_history.specs.Setup.{Setup, site_of, home}
 use Rattle.cacache_history.specs.Commits.{Deed, does, finds, deeds, IsContent, IsAdded, IsNotOk, Adds, AddsAfter, CommitsAs, IsCase}
 use Rattle.cacache_history.proofs.Digests.{digest_hash}
 use Rattle.cacache_history.proofs.Reading.{bucket_below, content_below}
-use Rattle.cacache_sequence.specs.Sequence.{Call, turns_on, tree_on, Alike, after_deeds, Answers}
+use Rattle.cacache_sequence.specs.Sequence.{turns_on, tree_on, Alike, after_deeds}
 use Rattle.cacache_sequence.specs.Replies.{entries_on}
 use Rattle.cacache_sequence.specs.Stored.{own_hash, HasStored, PutsStore, InsertsAdd, DeletesAdd}
 

@@ -1,13 +1,10 @@
 -- What the opening of a writer leaves in a cache.
 use Rattle.std.proofs.Common.{◌≡◌, ◌⊎◌, inl, inr, ℕ, List, [], ◌∷◌, ◌++◌, Option, None, Some, option_map, Result, Ok, Err, map, refl, sym, ap, subst, ◌∙◌, append-nil}
-use Rattle.sha1.specs.Sha1.{sha1}
 use Rattle.serde_json.specs.Data.{null}
 use Rattle.cacache_core.specs.declared.errors.Error.{Error}
 use Rattle.cacache_core.specs.declared.errors.Error.TheVariants.{EntryNotFound, SizeMismatch, IoError, SerdeError, IntegrityError, OutOfMemory}
 use Rattle.cacache_core.specs.declared.errors.Fault.{Fault}
 use Rattle.cacache_core.specs.declared.integrity.algorithm.Algorithm.TheVariants.{Sha256}
-use Rattle.cacache_core.specs.declared.integrity.digest.Hash.{Hash}
-use Rattle.cacache_core.specs.Integrity.{address}
 use Rattle.cacache_core.specs.PathNames.{Names, names_of, home_of}
 use Rattle.cacache_base.specs.declared.store.answer.Answer.TheVariants as answers
 use Rattle.cacache_base.specs.declared.store.log.LogItem.{LogItem}
@@ -21,7 +18,6 @@ use Rattle.cacache_disk.specs.Tree.{Tree, put}
 use Rattle.cacache_disk.specs.Found.{free}
 use Rattle.cacache_disk.specs.Apply.{apply, unless, made_temp}
 use Rattle.cacache_memory.specs.Replay.{tree_of, IsLog}
-use Rattle.cacache_entry.specs.Latest.{latest}
 use Rattle.cacache_calls.specs.declared.command.Command.TheVariants as commands
 use Rattle.cacache_calls.specs.declared.command.Put.{Put}
 use Rattle.cacache_calls.specs.Causes.{Faulted}
@@ -32,13 +28,12 @@ use Rattle.cacache_calls.specs.State.{State}
 use Rattle.cacache_calls.specs.Storing.{commit_of, persist}
 use Rattle.cacache_calls.specs.Table.{opening}
 use Rattle.cacache_laws.specs.Acts.{MakeFolders, act_at, act_with, folders_left}
-use Rattle.cacache_laws.specs.Value.{Value, value_of_tree}
+use Rattle.cacache_laws.specs.Value.{value_of_tree}
 use Rattle.cacache_history.specs.Setup.{site_of}
 use Rattle.cacache_history.specs.Commits.{deeds_of_act, deeds}
-use Rattle.cacache_history.specs.Reading.{blob_at}
 use Rattle.cacache_sequence.specs.Sequence.{tree_on, turns_on, Alike, after_deeds, IsSound}
 use Rattle.cacache_sequence.specs.Parts.{Begun}
-use Rattle.cacache_sequence.specs.Caches.{IsCache, HasContent, lies_under, Grows, IsExcused, setup_at}
+use Rattle.cacache_sequence.specs.Caches.{IsCache, Grows, IsExcused, setup_at}
 use Rattle.cacache_sequence.specs.Writers.{LeavesCache, Does, FailsAt, make_folder, make_file, OpensWriter, HasOpened, WritersOpen}
 use Rattle.cacache_sequence.proofs.Keeping.{stays_known}
 use Rattle.cacache_sequence.proofs.Logs.{some_same, joined}

@@ -7,7 +7,7 @@ ghost use Rattle.cacache_sequence.specs.Failures.{CallsFailOnly};
 ghost use Rattle.cacache_sequence.specs.Caches.{FreshIsEmpty, CachesLast, WritesLast, ReadsKey, ReadsContent, FindsKey, AsksContent, RemovalsLast, ReadsNone, ClearingsEmpty, PlantsLast, CallsGrow, GrowthsJoin, ExcusesLast};
 ghost use Rattle.cacache_sequence.specs.ListedKeys.{ListingsGive};
 ghost use Rattle.cacache_sequence.specs.Looks.{LooksKeep, SameStaysKnown, FindsFound, AsksAbsent};
-ghost use Rattle.cacache_sequence.specs.Exports.{ExportsKeep};
+ghost use Rattle.cacache_sequence.specs.Exports.{CopiesCount, ExportsKeep};
 ghost use Rattle.cacache_sequence.specs.Inserts.{InsertsLast, PlainInsertsFit, KeysJoin, NoneLacks};
 ghost use Rattle.cacache_sequence.specs.Parts.{LogsLead, CallsBegin, PartsGoOn, LeftAreCases, PartsAnswer, ReadsAreParts, WritesAreParts};
 ghost use Rattle.cacache_sequence.specs.Writers.{WritersOpen, CommitsLast, CommitsStore};
@@ -57,6 +57,7 @@ pub fn cache_laws(store: &MemStore)
     ensures joins { GrowthsJoin }
     ensures excuses { ExcusesLast }
     ensures exports { ExportsKeep }
+    ensures copies_count { CopiesCount }
     ensures inserts { InsertsLast }
     ensures plain_inserts { PlainInsertsFit }
     ensures joins_keys { KeysJoin }

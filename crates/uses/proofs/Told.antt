@@ -13,6 +13,7 @@ use Rattle.cacache_calls.specs.declared.reply.Reply.{Reply}
 use Rattle.cacache_calls.specs.declared.reply.Reply.TheVariants as replies
 use Rattle.cacache_calls.specs.Runs.{Ran, plain_reply, reply_of, without_message}
 use Rattle.cacache_calls.specs.Table.{opening}
+use Rattle.cacache_calls.specs.Verifying.{CountsAs}
 use Rattle.cacache_jobs.specs.Opening.{site_of}
 use Rattle.cacache_put.specs.Replies.{done}
 use Rattle.cacache_sequence.specs.Caches.{IsCache, IsEmptyCache, HasKey, HasContent, LacksKey, Grows, IsExcused, Called, plain_put, GivesBytes, FindsNone, WritesLast, ReadsKey, ReadsContent, ReadsNone, RemovalsLast, ClearingsEmpty, ExcusesLast}
@@ -142,3 +143,9 @@ pub record Emptied (cache : List ℕ) (r : Result (Unit {0}) Error) (new : List 
 pub emptied : ClearingsEmpty → (cache : List ℕ) (r : Result (Unit {0}) Error) (old new : List LogItem) → IsCache cache old → Called cache commands.Clear (reply_of done r) old new → Emptied cache r new
 emptied law cache (Ok u) old new sound c = let w = law cache replies.Done old new sound c in record { sound = w.0; ok = w.1 }
 emptied law cache (Err e) old new sound c = let w = law cache (replies.Refused (without_message e)) old new sound c in record { sound = w.0; ok = tt }
+
+-- ---- a copy
+
+pub counted : (bytes : List ℕ) (r : Result ℕ Error) → CountsAs bytes (reply_of (λ n. replies.Copied n) r) → IfOk r (λ n. n ≡ length bytes)
+counted bytes (Ok n) h = h
+counted bytes (Err e) h = tt

@@ -6,6 +6,7 @@ use Rattle.cacache_sequence.proofs.Looked.{finds_key}
 use Rattle.cacache_sequence.proofs.Asking.{asks_content}
 use Rattle.cacache_sequence.proofs.Removals.{removals_last, clearings_empty}
 use Rattle.cacache_sequence.proofs.Planting.{plants_last}
+use Rattle.cacache_sequence.proofs.Copying.{copies_count}
 use Rattle.cacache_sequence.proofs.Exports.{exports_keep}
 use Rattle.cacache_sequence.proofs.Inserting.{inserts_last, plain_inserts_fit, keys_join, none_lacks}
 use Rattle.cacache_sequence.proofs.laws.cache_laws.Goals as goal
@@ -66,3 +67,6 @@ returns-clause-lacks c = none_lacks
 
 pub returns-clause-exports : goal.returns-clause-exports
 returns-clause-exports c = exports_keep
+
+pub returns-clause-copies_count : goal.returns-clause-copies_count
+returns-clause-copies_count c = copies_count
