@@ -67,6 +67,20 @@ impl<'a, S: Store, C, N> Ls<'a, S, C, N> {
         })
     }
 
+    /// Ends the listing, and hands its environment back as the listing left it.
+    pub fn close(self) -> &'a mut Env<S, C, N>
+        ensures same { result.ghost_name ≡ self.entry.env.ghost_name }
+        ensures left { result.now ≡ self.entry.env.now }
+    {
+        let Ls {
+            env,
+            walk: _walk,
+            visit: _visit,
+            ready: _ready,
+        } = self;
+        env
+    }
+
     /// Makes a visit, after which items may be ready.
     fn go_on(&mut self, visit: Visit) -> errors::Result<()>
         requires { self.old.ready.items ≡ [] }

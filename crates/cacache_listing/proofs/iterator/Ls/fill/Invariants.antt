@@ -1,4 +1,4 @@
-use Rattle.std.proofs.Common.{◌≡◌, ◌≤◌, ℕ, List, Option}
+use Rattle.std.proofs.Common.{◌≤◌, ℕ, List, Option}
 use Rattle.cacache_base.specs.declared.store.log.LogItem.{LogItem}
 use Rattle.cacache_calls.specs.State.{Item}
 use Rattle.cacache_listing.specs.Listing.{Gave, IsListing, KeepsEnv, left, steps_left}
