@@ -5,8 +5,9 @@
 //! store's log shows. It holds for every cache in memory, whatever it holds, and whatever the clock, the numbers, the key
 //! and the bytes. [`from_nothing`] makes such a cache, so that its callers owe nothing at all. [`remove_and_read`] and
 //! [`come_and_go`] remove what was stored. [`store_and_ask`] and [`remove_and_ask`] ask whether a content is there and what
-//! a key leads to, and [`insert_and_find`] looks up an entry that was inserted. [`list`] gives each key that leads to an entry with it, and nothing else, and leaves all as it was.
-//! [`copy_out`] copies a content out of the cache.
+//! a key leads to, and [`insert_and_find`] looks up an entry that was inserted. [`list`] gives each key that leads to an
+//! entry with it, and nothing else, and leaves all as it was. [`copy_out`] copies a content out of the cache. [`count`]
+//! goes through a listing of any store, and closes it.
 //!
 //! How that is proved:
 //!
@@ -23,6 +24,7 @@ mod asking;
 mod calls;
 mod composed;
 mod copying;
+mod counting;
 mod inserting;
 mod listing;
 mod questions;
@@ -30,5 +32,6 @@ mod questions;
 pub use asking::{Stored, remove_and_ask, store_and_ask};
 pub use composed::{Found, come_and_go, from_nothing, remove_and_read, store_and_read};
 pub use copying::copy_out;
+pub use counting::count;
 pub use inserting::insert_and_find;
 pub use listing::{list, store_and_list};
