@@ -1,0 +1,102 @@
+//! Builds in a cache.
+use crate::pieces::{SIZE, read_pieces, write_pieces};
+use cacache::env::{Clock, Env, Names};
+use cacache::errors::IoErrorExt;
+use cacache::store::Store;
+use cacache::{
+    Algorithm, Error, Integrity, Metadata, Result, SyncReader, WriteOpts, copy_sync, link_to_sync,
+    list_sync,
+};
+use std::alloc::Global;
+
+/// The folder of the cache.
+const CACHE: &str = "builds";
+
+/// Builds in a cache, and a report of what became of them.
+#[derive(Drop)]
+pub(crate) struct Builds<S, C, N> {
+    env: Env<S, C, N>,
+    pub(crate) report: String,
+}
+
+/// The line of an entry.
+fn line_of(alloc: Global, entry: Metadata) -> Result<String> {
+    let algorithm = entry.integrity.pick_algorithm();
+    Ok(format!(in alloc; "{}: {} bytes, {algorithm}", entry.key, entry.size)?)
+}
+
+impl<S: Store, C: Clock, N: Names> Builds<S, C, N> {
+    /// The builds that the store of this environment has.
+    pub(crate) fn new(env: Env<S, C, N>) -> Builds<S, C, N> {
+        let report = String::new(env.alloc);
+        Builds { env, report }
+    }
+
+    /// Writes a build as its pieces come. The commit refuses one that isn't whole.
+    fn write(&mut self, name: &str, pieces: u8) -> Result<Integrity> {
+        let alloc = self.env.alloc;
+        let opts = WriteOpts::new().algorithm(Algorithm::Sha512).size(SIZE);
+        let mut writer = opts.open_sync(&mut self.env, CACHE, name)?;
+        let written = write_pieces(alloc, &mut writer, pieces);
+        match written.with_context(|| Ok(format!(in alloc; "Failed to write {name}")?)) {
+            Ok(()) => writer.commit(&mut self.env),
+            Err(error) => {
+                writer.abandon(&mut self.env)?;
+                Err(error)
+            }
+        }
+    }
+
+    /// Stores a build of so many pieces.
+    pub(crate) fn store(&mut self, name: &str, pieces: u8) -> Result<()> {
+        match self.write(name, pieces) {
+            Ok(integrity) => writeln!(self.report, "{name}: stored as {integrity}")?,
+            Err(Error::SizeMismatch(wanted, actual)) => {
+                writeln!(
+                    self.report,
+                    "{name}: not stored, {actual} of {wanted} bytes"
+                )?;
+            }
+            Err(error) => return Err(error),
+        }
+        Ok(())
+    }
+
+    /// Makes a file outside the cache a content, by a link.
+    pub(crate) fn link(&mut self, name: &str, target: &str) -> Result<()> {
+        let integrity = link_to_sync(&mut self.env, CACHE, name, target)?;
+        writeln!(self.report, "{name}: {target} is linked to as {integrity}")?;
+        Ok(())
+    }
+
+    /// Reads a build in pieces. Once all are read, the check says whether they meet the build's integrity.
+    pub(crate) fn verify(&mut self, name: &str) -> Result<()> {
+        let alloc = self.env.alloc;
+        let mut reader = SyncReader::open(&mut self.env, CACHE, name)?;
+        let size = read_pieces(alloc, &mut reader).with_context(|| Ok(format!(in alloc;
+            "Failed to read {name}"
+        )?))?;
+        let algorithm = reader.check()?;
+        writeln!(self.report, "{name}: {size} bytes verified by {algorithm}")?;
+        Ok(())
+    }
+
+    /// Copies a build to a path outside the cache.
+    pub(crate) fn copy(&mut self, name: &str, to: &str) -> Result<()> {
+        let size = copy_sync(&mut self.env, CACHE, name, to)?;
+        writeln!(self.report, "{name}: {size} bytes copied to {to}")?;
+        Ok(())
+    }
+
+    /// Lists the index. Its entries come in an open order, so their lines are sorted.
+    pub(crate) fn list(&mut self) -> Result<()> {
+        let alloc = self.env.alloc;
+        let mut lines = Vec::new(alloc);
+        for entry in list_sync(&mut self.env, CACHE)? {
+            lines.push(line_of(alloc, entry?)?)?;
+        }
+        lines.sort()?;
+        writeln!(self.report, "{}", lines.join(alloc, "\n")?)?;
+        Ok(())
+    }
+}

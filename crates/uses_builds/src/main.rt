@@ -1,0 +1,42 @@
+//! A cache of builds. A build is large, so that it is written and read in pieces. A file that lies outside the cache gets
+//! into it by a link, and a build gets out of it by a copy.
+#![tactic(auto)]
+
+mod builds;
+mod pieces;
+
+use builds::Builds;
+use cacache::Result;
+use cacache::env::{Clock, Env, Names, ProcessNames, SystemClock};
+use cacache::errors::IoErrorExt;
+use cacache::store::{MemStore, Store};
+use pieces::PIECES;
+
+/// A file outside the cache.
+const TOOLCHAIN: &str = "/toolchain";
+
+/// Stores and reads builds.
+fn run<S: Store, C: Clock, N: Names>(builds: &mut Builds<S, C, N>) -> Result<()> {
+    builds.store("app-1.0", PIECES)?;
+    builds.store("app-1.1", PIECES - 1)?;
+    builds.link("toolchain", TOOLCHAIN)?;
+    builds.verify("app-1.0")?;
+    builds.verify("toolchain")?;
+    builds.copy("app-1.0", "/app")?;
+    builds.list()
+}
+
+fn main(rt: HostRuntime) -> Result<()> {
+    let alloc = rt.alloc();
+    // `FolderStore::new(rt)` in the place of this store keeps the builds in real folders, where the file is there already.
+    let mut store = MemStore::new(alloc)?;
+    store.plant(TOOLCHAIN, b"a compiler and its libraries")?;
+    let clock = SystemClock::new(rt);
+    let names = ProcessNames::new(rt);
+    let mut builds = Builds::new(Env::new(alloc, store, clock, names, "/")?);
+    run(&mut builds)?;
+    print!(rt; "{}", builds.report).with_context(|| Ok(String::from_str(
+        alloc,
+        "Failed to print the report",
+    )?))
+}

@@ -1,0 +1,44 @@
+//! A package store. What a lock file names is fetched once and kept by its content. Each read verifies it, so that a
+//! damaged package is found, and fetched again.
+//!
+//! Standard input is the lock file: a line `NAME INTEGRITY` for each package.
+#![tactic(auto)]
+
+mod lock;
+mod packages;
+mod registry;
+
+use cacache::Result;
+use cacache::env::{Clock, Env, Names, ProcessNames, SystemClock};
+use cacache::errors::IoErrorExt;
+use cacache::store::{MemStore, Store};
+use lock::{Package, read_lock};
+use packages::Packages;
+
+/// Gets the packages of the lock file, and gets them twice more once the first one was damaged.
+fn run<S: Store, C: Clock, N: Names>(
+    packages: &mut Packages<S, C, N>,
+    locked: &[Package],
+) -> Result<()> {
+    packages.get_all(locked)?;
+    if let Some(package) = locked.first() {
+        packages.damage(package)?;
+    }
+    packages.get_all(locked)?;
+    packages.get_all(locked)
+}
+
+fn main(rt: HostRuntime) -> Result<()> {
+    let alloc = rt.alloc();
+    let locked = read_lock(&rt)?;
+    // `FolderStore::new(rt)` in the place of this store keeps the packages in real folders.
+    let store = MemStore::new(alloc)?;
+    let clock = SystemClock::new(rt);
+    let names = ProcessNames::new(rt);
+    let mut packages = Packages::new(Env::new(alloc, store, clock, names, "/")?);
+    run(&mut packages, &locked)?;
+    print!(rt; "{}", packages.report).with_context(|| Ok(String::from_str(
+        alloc,
+        "Failed to print the report",
+    )?))
+}
