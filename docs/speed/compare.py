@@ -1,7 +1,7 @@
 #!/usr/bin/env python3
-"""Runs cacache_bench, the bare system calls (floor.c) and the program in turn on tmpfs, and prints medians and ratios.
+"""Runs bench, the bare system calls (floor.c) and the program in turn on tmpfs, and prints medians and ratios.
 
-compare.py BENCH PROGRAM [ROUNDS]: the built binaries of cacache_bench and cacache_cli. Figures by the clock are the programs' own
+compare.py BENCH PROGRAM [ROUNDS]: the built binaries of bench and cacache_cli. Figures by the clock are the programs' own
 (of the whole process for the program cacache); processor time is user and system of the whole process.
 """
 import os

@@ -1,7 +1,7 @@
 #!/usr/bin/env python3
-"""Runs what cacache_bench measures in memory at a small and a large size in turn, and prints medians and their ratios.
+"""Runs what bench measures in memory at a small and a large size in turn, and prints medians and their ratios.
 
-memory.py BENCH [ROUNDS]: the built binary of cacache_bench. Each figure is the nanoseconds of one operation: a key that is put or
+memory.py BENCH [ROUNDS]: the built binary of bench. Each figure is the nanoseconds of one operation: a key that is put or
 listed, an append of 212 bytes, a write of 8 KiB, a move in a world; of a move also its ratio to the same step on a disk alone.
 """
 import os

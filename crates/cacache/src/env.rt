@@ -1,3 +1,3 @@
 //! What a call works with: a store, a clock and a source of numbers for temporary files.
-pub use cacache_base::env::{Clock, CountNames, Env, Names};
 pub use cacache_folder::{ProcessNames, SystemClock};
+pub use cacache_store::env::{Clock, CountNames, Env, Names};

@@ -1,5 +1,10 @@
 //! The index: calls on it, entries, the lines that hold them, and the lookup of a key in a bucket's bytes.
+pub use cacache_async::index::{
+    DeleteAsyncFuture, FindAsyncFuture, InsertAsyncFuture, delete_async, find_async, insert_async,
+};
+pub use cacache_async::rm::{RemoveAsync, RemoveOptsRemoveFuture};
 pub use cacache_entry::{Lookup, Metadata, SerializableMetadata, entries, latest, line};
-pub use cacache_listing::ls;
-pub use cacache_put::index::{delete, find, insert};
-pub use cacache_put::rm::RemoveOpts;
+pub use cacache_index::index::{delete, find};
+pub use cacache_index::rm::RemoveOpts;
+pub use cacache_ls::ls;
+pub use cacache_put::index::insert;

@@ -1,5 +1,5 @@
 //! A content-addressed disk cache: bytes are stored once under what they are known by, found again by a key
-//! or by their integrity, and verified whenever they are read.
+//! or by their integrity, and verified whenever they are read. This crate gives on what the others hold.
 #![tactic(auto)]
 
 pub mod bytes;
@@ -12,25 +12,29 @@ pub mod integrity;
 pub mod jobs;
 pub mod linkto;
 pub mod ls;
+pub mod polled;
 pub mod put;
 pub mod rm;
 pub mod store;
 pub mod text;
+pub mod world;
 
 pub use errors::{Error, Result};
 pub use get::{
-    SyncReader, copy_hash_sync, copy_hash_unchecked_sync, copy_sync, copy_unchecked_sync,
-    exists_sync, hard_link_hash_sync, hard_link_hash_unchecked_sync, hard_link_sync,
-    hard_link_unchecked_sync, metadata_sync, read_hash_sync, read_sync, reflink_hash_sync,
-    reflink_hash_unchecked_sync, reflink_sync, reflink_unchecked_sync,
+    Reader, SyncReader, copy, copy_hash, copy_hash_sync, copy_hash_unchecked,
+    copy_hash_unchecked_sync, copy_sync, copy_unchecked, copy_unchecked_sync, exists, exists_sync,
+    hard_link, hard_link_hash, hard_link_hash_sync, hard_link_hash_unchecked_sync, hard_link_sync,
+    hard_link_unchecked_sync, metadata, metadata_sync, read, read_hash, read_hash_sync, read_sync,
+    reflink, reflink_hash, reflink_hash_sync, reflink_hash_unchecked_sync, reflink_sync,
+    reflink_unchecked, reflink_unchecked_sync,
 };
 pub use index::{Metadata, RemoveOpts};
 pub use integrity::{Algorithm, Integrity};
-pub use linkto::{SyncToLinker, link_to_hash_sync, link_to_sync};
+pub use linkto::{SyncToLinker, ToLinker, link_to, link_to_hash, link_to_hash_sync, link_to_sync};
 pub use ls::list_sync;
 pub use put::{
-    SyncWriter, WriteOpts, write_hash_sync, write_hash_sync_with_algo, write_sync,
-    write_sync_with_algo, write_vec_sync,
+    SyncWriter, WriteOpts, Writer, write, write_hash, write_hash_sync, write_hash_sync_with_algo,
+    write_hash_with_algo, write_sync, write_sync_with_algo, write_vec_sync, write_with_algo,
 };
-pub use rm::{clear_sync, remove_hash_sync, remove_sync};
+pub use rm::{clear, clear_sync, remove, remove_hash, remove_hash_sync, remove_sync};
 pub use serde_json::Value;

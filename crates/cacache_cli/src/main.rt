@@ -29,6 +29,7 @@ fn main(rt: HostRuntime) -> ExitCode {
         return ExitCode::from(1);
     };
     let status = run(
+        &rt,
         &mut env,
         &words,
         &mut rt.stdin(),

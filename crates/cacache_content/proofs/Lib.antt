@@ -1,3 +1,3 @@
-pub mod Opening
-pub mod Stepping
-pub mod Writing
+pub mod OpenedLookups
+pub mod StepAnswers
+pub mod Writes

@@ -1,3 +1,3 @@
-pub mod Reading
-pub mod Stepping
-pub mod Writing
+pub mod OpenReads
+pub mod Passed
+pub mod OpenWrites

@@ -5,18 +5,19 @@ ghost use Rattle.std.specs.Io.KnownBytes.{ReadConsumes};
 ghost use Rattle.cacache_core.specs.declared.integrity.digest.Hash.{Hash};
 ghost use Rattle.cacache_core.specs.Integrity.{Meets, strongest, actual};
 ghost use Rattle.cacache_core.specs.Refusals.{IsCheckFailure};
-ghost use Rattle.cacache_base.specs.Handles.{LeftFalls};
-ghost use Rattle.cacache_content.specs.Reading.{HasRead, OpensHash, OpensKey};
-ghost use Rattle.cacache_content.specs.Stepping.{passed};
+ghost use Rattle.cacache_store.specs.Handles.{LeftFalls};
+ghost use Rattle.cacache_content.specs.OpenReads.{HasRead, OpensHash, OpensKey};
+ghost use Rattle.cacache_content.specs.Passed.{passed};
 
-use cacache_base::env::{Clock, Env, Names};
-use cacache_base::store::{OpenedFile, Step, Store};
-use cacache_calls::answers::file_of;
-use cacache_calls::{Command, Found, Reply};
 use cacache_core::errors::{Error, Result};
 use cacache_core::integrity::{Algorithm, Integrity, IntegrityChecker};
 use cacache_core::text::Text;
+use cacache_entry::Metadata;
 use cacache_jobs::{call, content_path, messages, refused};
+use cacache_store::env::{Clock, Env, Names};
+use cacache_store::store::{OpenedFile, Step, Store};
+use cacache_table::Command;
+use cacache_table::answers::file_of;
 use std::alloc::{AllocError, Global};
 use std::io;
 use std::io::Read;
@@ -66,10 +67,10 @@ pub fn open<S: Store, C: Clock, N: Names>(
 }
 
 /// The integrity that a lookup found.
-fn integrity_of(found: Found) -> Integrity
+fn integrity_of(found: Metadata) -> Integrity
     ensures { result ≡ found.integrity }
 {
-    found.into_metadata().integrity
+    found.integrity
 }
 
 impl<F: OpenedFile> SyncReader<F> {
@@ -89,14 +90,13 @@ impl<F: OpenedFile> SyncReader<F> {
         ensures base { env.new.base ≡ env.old.base }
     {
         let named = Text::from_str(env.alloc, key)?;
-        match call(env, cache, Command::Find(named), 0) {
-            Reply::LookedUp(Some(found)) => open(env, cache, integrity_of(found)),
-            Reply::LookedUp(None) => {
+        match call(env, cache, Command::Find(named), 0).looked_up() {
+            Ok(Some(found)) => open(env, cache, integrity_of(found)),
+            Ok(None) => {
                 let cache = Text::from_str(env.alloc, cache)?;
                 Err(Error::EntryNotFound(cache, Text::from_str(env.alloc, key)?))
             }
-            Reply::Refused(error) => Err(error),
-            _ => unreachable!(),
+            Err(error) => Err(error),
         }
     }
 

@@ -4,24 +4,24 @@ ghost use Rattle.std.specs.Io.{WritesAtMost};
 ghost use Rattle.std.specs.Io.KnownBytes.{Appends, WriteAppends};
 ghost use Rattle.cacache_core.specs.Hashers.{algorithm_of};
 ghost use Rattle.cacache_core.specs.Integrity.{integrity_under};
-ghost use Rattle.cacache_base.specs.declared.store.answer.Answer.TheVariants.{Done};
-ghost use Rattle.cacache_base.specs.Given.{AddsAnswer};
-ghost use Rattle.cacache_calls.specs.declared.reply.Reply.TheVariants.{Stored};
-ghost use Rattle.cacache_calls.specs.Promises.{Stores};
-ghost use Rattle.cacache_calls.specs.Runs.{reply_of};
-ghost use Rattle.cacache_content.specs.Stepping.{Does, FailsAt, passed};
-ghost use Rattle.cacache_content.specs.Writing.{HasTaken, GoesOn, Opens, Ends, Removes, Takes, TakesPart, WholeFails, IsRetried, make_folder as making_folder, make_file as making_file, commit_of, unkeyed};
+ghost use Rattle.cacache_store.specs.declared.store.answer.Answer.TheVariants.{Done};
+ghost use Rattle.cacache_store.specs.Given.{AddsAnswer};
+ghost use Rattle.cacache_table.specs.declared.reply.Reply.TheVariants.{Stored};
+ghost use Rattle.cacache_table.specs.Promises.{Stores};
+ghost use Rattle.cacache_table.specs.Runs.{reply_of};
+ghost use Rattle.cacache_table.specs.SingleSteps.{Does, FailsAt};
+ghost use Rattle.cacache_content.specs.Passed.{passed};
+ghost use Rattle.cacache_content.specs.OpenWrites.{HasTaken, GoesOn, OpensTemp, EndsWriter, RemovesTemp, Takes, TakesPart, WholeFails, IsRetried, make_folder as making_folder, make_file as making_file, content_commit, unkeyed};
 
-use cacache_base::env::{Clock, Env, Names};
-use cacache_base::store::{Step, Store, TempFile};
-use cacache_calls::answers::{done_of, temp_of};
-use cacache_calls::{Json, Options, Reply};
 use cacache_core::errors::Result;
 use cacache_core::hasher::Hasher;
 use cacache_core::integrity::{Algorithm, Integrity};
 use cacache_core::text::Text;
 use cacache_jobs::{Commit, commit_from, messages, refused, temp_folder, temp_path};
-use serde_json::Value;
+use cacache_store::env::{Clock, Env, Names};
+use cacache_store::store::{Step, Store, TempFile};
+use cacache_table::Options;
+use cacache_table::answers::{done_of, temp_of};
 use std::alloc::{AllocError, Global};
 use std::io;
 use std::io::{ErrorKind, Write};
@@ -63,7 +63,7 @@ pub fn open<S: Store>(
     algorithm: Algorithm,
     number: u64,
 ) -> Result<Writer<S::Temp>>
-    ensures { Opens cache.now number S.Temp.seen algorithm result
+    ensures { OpensTemp cache.now number S.Temp.seen algorithm result
         (S.log store.old) (S.log store.new) }
 {
     let cache = Text::from_str(alloc, cache)?;
@@ -97,9 +97,9 @@ pub fn commit<S: Store, C, N>(
     options: Options,
 ) -> Result<Integrity>
     ensures stored { (bytes : List ℕ) → HasTaken writer bytes
-        → Stores (commit_of writer bytes key moment options) (reply_of Stored result) }
+        → Stores (content_commit writer bytes key moment options) (reply_of Stored result) }
     ensures ran { (bytes : List ℕ) → HasTaken writer bytes
-        → Ends S.Temp.seen writer (commit_of writer bytes key moment options)
+        → EndsWriter S.Temp.seen writer (content_commit writer bytes key moment options)
         (reply_of Stored result) (S.log env.old.store) (S.log env.new.store) }
     ensures clock { env.new.clock ≡ env.old.clock }
     ensures names { env.new.names ≡ env.old.names }
@@ -121,18 +121,14 @@ pub fn commit<S: Store, C, N>(
         moment,
         options,
     };
-    match commit_from(env, commit, file) {
-        Reply::Stored(integrity) => Ok(integrity),
-        Reply::Refused(error) => Err(error),
-        _ => unreachable!(),
-    }
+    commit_from(env, commit, file).stored()
 }
 
 /// Removes the writer's file.
 ///
 /// `IoError` says that it couldn't be removed. Contents and index stay as they were.
 pub fn abandon<S: Store>(alloc: Global, store: &mut S, writer: Writer<S::Temp>) -> Result<()>
-    ensures { Removes writer.path result (S.log store.old) (S.log store.new) }
+    ensures { RemovesTemp writer.path result (S.log store.old) (S.log store.new) }
 {
     let Writer {
         cache: _cache,
@@ -168,7 +164,7 @@ impl<T: TempFile> Writer<T> {
     ) -> Result<Writer<T>>
         ensures opens { (number : ℕ)
             × AddsAnswer (N.given env.old.names) (N.given env.new.names) number
-            × Opens cache.now number T.seen algo result
+            × OpensTemp cache.now number T.seen algo result
             (S.log env.old.store) (S.log env.new.store) }
         ensures clock { env.new.clock ≡ env.old.clock }
         ensures base { env.new.base ≡ env.old.base }
@@ -189,19 +185,13 @@ impl<T: TempFile> Writer<T> {
         ensures stored { (bytes : List ℕ) → HasTaken self bytes
             → IfOk result (λ i. i ≡ integrity_under (algorithm_of self.hasher) bytes) }
         ensures ran { (bytes : List ℕ) → HasTaken self bytes
-            → Ends T.seen self (unkeyed self bytes) (reply_of Stored result)
+            → EndsWriter T.seen self (unkeyed self bytes) (reply_of Stored result)
             (S.log env.old.store) (S.log env.new.store) }
         ensures clock { env.new.clock ≡ env.old.clock }
         ensures names { env.new.names ≡ env.old.names }
         ensures base { env.new.base ≡ env.old.base }
     {
-        let options = Options {
-            algorithm: self.hasher.algorithm(),
-            size: None,
-            integrity: None,
-            metadata: Json::new(Value::Null),
-            raw_metadata: None,
-        };
+        let options = Options::blank(self.hasher.algorithm());
         commit(env, self, None, 0, options)
     }
 }

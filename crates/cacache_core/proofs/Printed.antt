@@ -14,7 +14,7 @@ use Rattle.cacache_core.specs.declared.integrity.algorithm.Algorithm.{Algorithm}
 use Rattle.cacache_core.specs.declared.integrity.algorithm.Algorithm.TheVariants.{Sha1, Sha256, Sha384, Sha512}
 use Rattle.cacache_core.specs.declared.integrity.digest.Hash.{Hash}
 use Rattle.cacache_core.specs.Integrity.{IsHash, IsIntegrity}
-use Rattle.cacache_core.specs.Texts.{name_of, hash_text, text_of, is_blank, is_some_text, words, decoded_hash, read_word, first_and, read_words, kept_hashes, read_integrity}
+use Rattle.cacache_core.specs.Texts.{name_of, hash_text, integrity_text, is_blank, is_some_text, words, decoded_hash, read_word, first_and, read_words, kept_hashes, read_integrity}
 
 -- a byte that is no blank
 abbrev IsLetter : ℕ → Type 0
@@ -98,10 +98,10 @@ words_more h t =
     ap (λ (l : List (List ℕ)). filter is_some_text l) (slice_split_at is_blank (hash_text h) 32 t (letters-hash_text h) refl)
     ∙ ap (λ (b : Bool). cond b (hash_text h ∷ words t) (words t)) (some-hash_text h)
 
-pub words-text_of : (hs : List Hash) → words (text_of hs) ≡ map hash_text hs
+pub words-text_of : (hs : List Hash) → words (integrity_text hs) ≡ map hash_text hs
 words-text_of [] = refl
 words-text_of (h ∷ []) = words_one h
-words-text_of (h ∷ g ∷ hs) = words_more h (text_of (g ∷ hs)) ∙ ap (λ (l : List (List ℕ)). hash_text h ∷ l) (words-text_of (g ∷ hs))
+words-text_of (h ∷ g ∷ hs) = words_more h (integrity_text (g ∷ hs)) ∙ ap (λ (l : List (List ℕ)). hash_text h ∷ l) (words-text_of (g ∷ hs))
 
 -- ---- and each reads as its hash
 
@@ -124,7 +124,7 @@ read_words-hash_text [] all = refl
 read_words-hash_text (h ∷ hs) all =
     ap₂ first_and (read_word-hash_text h (All-head IsHash h hs all)) (read_words-hash_text hs (All-tail IsHash h hs all))
 
-pub printed : (i : List Hash) → IsIntegrity i → read_integrity (text_of i) ≡ Ok i
+pub printed : (i : List Hash) → IsIntegrity i → read_integrity (integrity_text i) ≡ Ok i
 unfolding read_integrity
 printed [] is = absurd (omega (arith, is.nonempty))
 printed (h ∷ hs) is =

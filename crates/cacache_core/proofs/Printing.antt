@@ -4,14 +4,14 @@ use Rattle.std.proofs.lemmas.List.{take_more, take_all}
 use Rattle.std.proofs.lemmas.List.Concat.{flat_map-append}
 use Rattle.std.specs.List.{flat_map}
 use Rattle.cacache_core.specs.declared.integrity.digest.Hash.{Hash}
-use Rattle.cacache_core.specs.Texts.{hash_text, text_of}
+use Rattle.cacache_core.specs.Texts.{hash_text, integrity_text}
 
 -- a hash after the one before it
 abbrev pub spaced : Hash → List ℕ
 spaced h = 32 ∷ hash_text h
 
 -- the first hash, and then each other after a space
-pub text_of-cons : (h : Hash) (hs : List Hash) → text_of (h ∷ hs) ≡ hash_text h ++ flat_map spaced hs
+pub text_of-cons : (h : Hash) (hs : List Hash) → integrity_text (h ∷ hs) ≡ hash_text h ++ flat_map spaced hs
 text_of-cons h [] = rw append-nil
 text_of-cons h (g ∷ hs) = ap (λ t. hash_text h ++ 32 ∷ t) (text_of-cons g hs)
 
@@ -26,7 +26,7 @@ spaced_more hs i h below is =
 
 -- all of them
 pub spaced_all : (hs : List Hash) (i : ℕ) (h : Hash) → 0 < length hs → length hs - 1 ≤ i → h ≡ get_or hs 0 h
-    → hash_text h ++ flat_map spaced (take i (take (length hs - 1) (drop 1 hs))) ≡ text_of hs
+    → hash_text h ++ flat_map spaced (take i (take (length hs - 1) (drop 1 hs))) ≡ integrity_text hs
 spaced_all [] i h some past is = absurd (omega arith)
 spaced_all (g ∷ hs) i h some past is =
     let whole : take i (take (length (g ∷ hs) - 1) hs) ≡ hs =

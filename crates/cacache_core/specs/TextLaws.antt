@@ -3,11 +3,11 @@ use Rattle.std.specs.Prelude.{◌≡◌, ◌↔◌, ℕ, List, Ok}
 use Rattle.base64.specs.GeneralPurpose.{IsBytes}
 use Rattle.cacache_core.specs.declared.integrity.digest.Hash.{Hash}
 use Rattle.cacache_core.specs.Integrity.{IsIntegrity}
-use Rattle.cacache_core.specs.Texts.{text_of, read_integrity, IsIntegrityText}
+use Rattle.cacache_core.specs.Texts.{integrity_text, read_integrity, IsIntegrityText}
 
 -- the printed text of an integrity reads as that integrity
 abbrev pub PrintedTextsRead : Type 0
-PrintedTextsRead = (i : List Hash) → IsIntegrity i → read_integrity (text_of i) ≡ Ok i
+PrintedTextsRead = (i : List Hash) → IsIntegrity i → read_integrity (integrity_text i) ≡ Ok i
 
 -- a text reads as an integrity exactly where it is one of its texts
 abbrev pub IntegrityTextsRead : Type 0

@@ -26,10 +26,10 @@ abbrev pub hash_text : Hash → List ℕ
 hash_text h = name_of h.algorithm ++ 45 ∷ encode_of standard h.digest
 
 -- the hashes' texts with one space between
-abbrev pub text_of : List Hash → List ℕ
-text_of [] = []
-text_of (h ∷ []) = hash_text h
-text_of (h ∷ g ∷ hs) = hash_text h ++ 32 ∷ text_of (g ∷ hs)
+abbrev pub integrity_text : List Hash → List ℕ
+integrity_text [] = []
+integrity_text (h ∷ []) = hash_text h
+integrity_text (h ∷ g ∷ hs) = hash_text h ++ 32 ∷ integrity_text (g ∷ hs)
 
 -- ---- reading
 

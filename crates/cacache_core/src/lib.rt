@@ -7,6 +7,7 @@ pub mod digest;
 pub mod errors;
 pub mod hasher;
 pub mod integrity;
+pub mod keeping;
 pub mod laws;
 pub mod paths;
 pub mod text;

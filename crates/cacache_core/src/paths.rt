@@ -3,6 +3,7 @@
 ghost use Rattle.std.specs.Prelude.{◌≡◌, ◌≤◌, ◌<◌, ◌++◌, ◌∷◌, [], ℕ, List, IfOk, OnOk, IfSome, length, drop, slice_index, encode_utf8, string_bytes};
 ghost use Rattle.hex.specs.Hex.{encode_lower, lower_digits};
 ghost use Rattle.cacache_core.specs.Integrity.{address as address_of};
+ghost use Rattle.cacache_core.specs.PathNames.{is_above, is_name};
 ghost use Rattle.cacache_core.specs.Paths.{join as join_of, joined, cut_digits, content_names, bucket_names_of, bucket_names, temp_names, folder_names};
 
 use crate::digest::Hash;
@@ -36,6 +37,20 @@ pub fn join(alloc: Global, path: &str, name: &str) -> Result<Text, AllocError>
     let mut joined = roomy(alloc, path)?;
     push_name(&mut joined, name)?;
     Ok(Text::new(joined))
+}
+
+/// Whether a piece of a path is `..`, which no path may have.
+pub fn is_above(piece: &str) -> bool
+    ensures { result ≡ is_above piece.now }
+{
+    piece == ".."
+}
+
+/// Whether a piece of a path names something: it is neither empty nor `.`.
+pub fn is_name(piece: &str) -> bool
+    ensures { result ≡ is_name piece.now }
+{
+    !(piece.is_empty() || piece == ".")
 }
 
 /// Where a file lies.

@@ -5,7 +5,7 @@ use Rattle.cacache_core.specs.declared.errors.Fault.{Fault}
 use Rattle.cacache_disk.specs.declared.node.Node.TheVariants.{Link}
 use Rattle.cacache_core.specs.PathNames.{Names}
 use Rattle.cacache_disk.specs.Tree.{Tree, look}
-use Rattle.cacache_disk.specs.Found.{followed, standing, and_then}
+use Rattle.cacache_disk.specs.LedTo.{followed, standing, and_then}
 
 pub followed_next : (most : ℕ) (t : Tree) (names : Names) (target : List ℕ) → Some (Link target) ≡ look t names → 0 < most
     → followed most t names ≡ and_then (standing t target) (followed (most - 1) t)

@@ -3,26 +3,26 @@ use Rattle.std.proofs.Common.{◌≡◌, ◌∙◌, ℕ, Bool, true, false, cond
 use Rattle.std.specs.Prelude.{Option, None, Some, Result, Ok, Err}
 use Rattle.cacache_core.specs.declared.errors.Fault.{Fault}
 use Rattle.cacache_core.specs.declared.errors.Fault.TheVariants.{InvalidInput}
-use Rattle.cacache_base.specs.declared.store.answer.Answer.TheVariants.{Failed}
-use Rattle.cacache_base.specs.declared.store.step.Step.TheVariants.{MakeDirs, CreateTemp, Write, Persist, Append, ReadAll, Open, Read, Size, Exists, Symlink, Copy, Reflink, HardLink, ReadDir, RemoveFile, RemoveDir}
-use Rattle.cacache_base.specs.Fits.{Fits}
-use Rattle.cacache_base.specs.Plain.{PlainStep, PlainAnswer}
+use Rattle.cacache_store.specs.declared.store.answer.Answer.TheVariants.{Failed}
+use Rattle.cacache_store.specs.declared.store.step.Step.TheVariants.{MakeDirs, CreateTemp, Write, Persist, Append, ReadAll, Open, Read, Size, Exists, Symlink, Copy, Reflink, HardLink, ReadDir, RemoveFile, RemoveDir}
+use Rattle.cacache_store.specs.Fits.{Fits}
+use Rattle.cacache_store.specs.Plain.{PlainStep, PlainAnswer}
 use Rattle.cacache_disk.specs.declared.change.Change.TheVariants as change
 use Rattle.cacache_disk.specs.declared.change.Plan.{Plan}
 use Rattle.cacache_disk.specs.declared.luck.Luck.{Luck}
 use Rattle.cacache_disk.specs.declared.luck.Luck.TheVariants.{Plain, Fail, Take}
 use Rattle.cacache_disk.specs.Tree.{Tree}
-use Rattle.cacache_disk.specs.Found.{dirs, writable, file_at}
-use Rattle.cacache_disk.specs.Apply.{unless, plain, apply, fails, fault_of, left_by, made_up, is_parted}
+use Rattle.cacache_disk.specs.LedTo.{dirs, writable, file_at}
+use Rattle.cacache_disk.specs.Apply.{unless, plain, apply, fails, fault_told, left_by, made_up, is_parted}
 use Rattle.cacache_disk.specs.Plans.{changed, IsPlan, most_of, left_over, with_luck}
 
-unless_fault : {A : Type 0} (r : Result A Fault) (t : Tree) (go same : A → PlainAnswer × Tree) → ((a : A) → fault_of (go a).0 ≡ fault_of (same a).0)
-    → fault_of (unless r t go).0 ≡ fault_of (unless r t same).0
+unless_fault : {A : Type 0} (r : Result A Fault) (t : Tree) (go same : A → PlainAnswer × Tree) → ((a : A) → fault_told (go a).0 ≡ fault_told (same a).0)
+    → fault_told (unless r t go).0 ≡ fault_told (unless r t same).0
 unless_fault (Ok a) t go same h = h a
 unless_fault (Err fault) t go same h = refl
 
 -- a step that is done in part fails as the whole step does
-part_fault : (t : Tree) (step : PlainStep) (part : Option ℕ) → fault_of (plain t step None).0 ≡ fault_of (plain t step (cond (is_parted step) part None)).0
+part_fault : (t : Tree) (step : PlainStep) (part : Option ℕ) → fault_told (plain t step None).0 ≡ fault_told (plain t step (cond (is_parted step) part None)).0
 part_fault t (MakeDirs p) part = unless_fault (dirs t p) t _ _ (λ _. refl)
 part_fault t (CreateTemp p) part = refl
 part_fault t (Write f bytes) part = refl
@@ -58,7 +58,7 @@ unfolding apply
 lucky t step Plain plan is = is.0
 lucky t step (Take most) plan is = is.0
 lucky t step (Fail fault part) plan is =
-    let good = part_fault t step part ∙ ap (λ (r : PlainAnswer × Tree). fault_of r.0) is.0 ∙ is.1 in
+    let good = part_fault t step part ∙ ap (λ (r : PlainAnswer × Tree). fault_told r.0) is.0 ∙ is.1 in
     ap (λ own. fails own fault t (left_by t step part)) good ∙ ap (λ (left : Tree). (Failed (made_up fault), left)) (left_same t step part plan is.0)
 
 pub lucky_fits : (t : Tree) (step : PlainStep) (luck : Luck) (plan : Plan) → IsPlan t step (most_of step luck) plan → Fits step (with_luck step luck plan).answer
@@ -72,4 +72,4 @@ unfolding apply
 unlucky t step Plain own is = is
 unlucky t step (Take most) own is = is
 unlucky t step (Fail fault part) own is =
-    ap (λ own. fails own fault t (left_by t step part)) (part_fault t step part ∙ ap (λ (r : PlainAnswer × Tree). fault_of r.0) is)
+    ap (λ own. fails own fault t (left_by t step part)) (part_fault t step part ∙ ap (λ (r : PlainAnswer × Tree). fault_told r.0) is)

@@ -9,12 +9,12 @@ use Rattle.cacache_core.specs.Paths.{folder_names}
 use Rattle.cacache_disk.specs.declared.node.Node.{Node}
 use Rattle.cacache_disk.specs.declared.node.Node.TheVariants.{Folder, File, Link}
 use Rattle.cacache_disk.specs.Tree.{Tree, Names, look, put, cut, bare, names_cmp, same_path}
-use Rattle.cacache_disk.specs.Found.{dirs_fault, is_in_way}
+use Rattle.cacache_disk.specs.LedTo.{dirs_fault, is_in_way}
 use Rattle.cacache_disk.specs.Apply.{make_some, if_missing}
 use Rattle.cacache_disk.specs.Rooted.{is_folder, StandsIn, AreProper, Rooted}
 use Rattle.cacache_disk.proofs.Maps.{total, same_path-true}
-use Rattle.cacache_disk.proofs.Puts.{look-put, look-cut, folders-cut}
-use Rattle.cacache_disk.proofs.Walks.{make_none}
+use Rattle.cacache_disk.proofs.PutNodes.{look-put, look-cut, folders-cut}
+use Rattle.cacache_disk.proofs.PathFolders.{make_none}
 
 -- proper names whose folder stands
 pub record CanStand (t : Tree) (p : Names) : Type 0 where

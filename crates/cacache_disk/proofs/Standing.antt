@@ -5,10 +5,10 @@ use Rattle.cacache_disk.specs.declared.node.Node.{Node}
 use Rattle.cacache_disk.specs.declared.node.Node.TheVariants.{Folder, File, Link}
 use Rattle.cacache_disk.specs.Tree.{Tree, Names, look}
 use Rattle.cacache_core.specs.PathNames.{names_of}
-use Rattle.cacache_disk.specs.Found.{way_fault, through, dirs_fault, place, or_fault}
+use Rattle.cacache_disk.specs.LedTo.{way_fault, through, dirs_fault, place, or_fault}
 use Rattle.cacache_disk.specs.Apply.{make_some}
 use Rattle.cacache_disk.specs.Rooted.{Rooted, StandsIn}
-use Rattle.cacache_disk.proofs.Walks.{drop_here, front_next}
+use Rattle.cacache_disk.proofs.PathFolders.{drop_here, front_next}
 use Rattle.cacache_disk.specs.Deepest.{IsMissing, IsDeepest, way_past, dirs_past, MakesFrom}
 
 -- above what stands are folders

@@ -3,12 +3,12 @@ use Rattle.std.specs.Prelude.{ℕ, ◌-◌, ◌==◌, Bool, true, false, if◌th
 use Rattle.std.specs.Result.{result_ok}
 use Rattle.cacache_core.specs.declared.errors.Fault.{Fault}
 use Rattle.cacache_core.specs.declared.errors.Fault.TheVariants.{NotFound, NotADirectory, IsADirectory, InvalidInput, Closed, Device}
-use Rattle.cacache_base.specs.declared.store.plain.PlainFile.{PlainFile}
-use Rattle.cacache_base.specs.declared.store.plain.PlainTemp.{PlainTemp}
-use Rattle.cacache_base.specs.declared.store.step.Step.TheVariants.{MakeDirs, CreateTemp, Write, Persist, Append, ReadAll, Open, Read, Size, Exists, Symlink, Copy, Reflink, HardLink, ReadDir, RemoveFile, RemoveDir}
-use Rattle.cacache_base.specs.declared.store.answer.Answer.TheVariants as answer
-use Rattle.cacache_base.specs.declared.store.answer.Answer.TheVariants.{Done, Temp, Wrote, Took, Bytes, Got, There, Length, Failed}
-use Rattle.cacache_base.specs.Plain.{PlainStep, PlainAnswer}
+use Rattle.cacache_store.specs.declared.store.plain.PlainFile.{PlainFile}
+use Rattle.cacache_store.specs.declared.store.plain.PlainTemp.{PlainTemp}
+use Rattle.cacache_store.specs.declared.store.step.Step.TheVariants.{MakeDirs, CreateTemp, Write, Persist, Append, ReadAll, Open, Read, Size, Exists, Symlink, Copy, Reflink, HardLink, ReadDir, RemoveFile, RemoveDir}
+use Rattle.cacache_store.specs.declared.store.answer.Answer.TheVariants as answer
+use Rattle.cacache_store.specs.declared.store.answer.Answer.TheVariants.{Done, Temp, Wrote, Took, Bytes, Got, There, Length, Failed}
+use Rattle.cacache_store.specs.Plain.{PlainStep, PlainAnswer}
 use Rattle.cacache_disk.specs.declared.find.Wanted.TheVariants as wanted
 use Rattle.cacache_disk.specs.declared.luck.Luck.{Luck}
 use Rattle.cacache_disk.specs.declared.luck.Luck.TheVariants.{Plain, Fail, Take}
@@ -16,7 +16,7 @@ use Rattle.cacache_disk.specs.declared.node.Node.{Node}
 use Rattle.cacache_disk.specs.declared.node.Node.TheVariants.{Folder, File, Link}
 use Rattle.cacache_core.specs.PathNames.{Names, names_of}
 use Rattle.cacache_disk.specs.Tree.{Tree, look, put, cut, bytes_of, listing}
-use Rattle.cacache_disk.specs.Found.{and_then, or_fault, suited, dirs_fault, dirs, free, known, kept, replaceable, writable, file_at, found, linked, folder, removable, emptied}
+use Rattle.cacache_disk.specs.LedTo.{and_then, or_fault, suited, dirs_fault, dirs, free, known, kept, replaceable, writable, file_at, found, linked, folder, removable, emptied}
 
 -- a fault fails the step and changes nothing; else it goes on from what was found
 abbrev pub unless : {A : Type 0} → Result A Fault → Tree → (A → PlainAnswer × Tree)
@@ -157,9 +157,9 @@ left_by t step None = t
 left_by t step (Some part) = if is_parted step then (plain t step (Some part)).1 else t
 
 -- why a step failed, if it did
-abbrev pub fault_of : PlainAnswer → Option Fault
-fault_of (Failed fault) = Some fault
-fault_of _ = None
+abbrev pub fault_told : PlainAnswer → Option Fault
+fault_told (Failed fault) = Some fault
+fault_told _ = None
 
 -- the step's own failure wins over a made-up one
 abbrev pub fails : Option Fault → Fault → Tree → Tree → PlainAnswer × Tree
@@ -171,7 +171,7 @@ unfoldable pub apply : Tree → PlainStep → Luck → PlainAnswer × Tree
 apply t step Plain = plain t step None
 apply t step (Take most) = plain t step (if is_taking step then Some most else None)
 apply t step (Fail fault part) =
-    fails (fault_of (plain t step None).0) fault t (left_by t step part)
+    fails (fault_told (plain t step None).0) fault t (left_by t step part)
 
 -- the names of a path's folder
 abbrev pub above_last : Names → Names

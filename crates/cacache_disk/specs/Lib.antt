@@ -1,5 +1,5 @@
 pub mod Tree
-pub mod Found
+pub mod LedTo
 pub mod Apply
 pub mod Stops
 pub mod Plans

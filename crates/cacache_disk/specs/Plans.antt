@@ -1,8 +1,8 @@
 -- What a step is about to do, against the table of steps.
 use Rattle.std.specs.Prelude.{◌≡◌, ℕ, Bool, List, Option, None, Some, if◌then◌else◌, take, drop}
-use Rattle.cacache_base.specs.declared.store.answer.Answer.TheVariants.{Failed}
-use Rattle.cacache_base.specs.Fits.{Fits}
-use Rattle.cacache_base.specs.Plain.{PlainStep}
+use Rattle.cacache_store.specs.declared.store.answer.Answer.TheVariants.{Failed}
+use Rattle.cacache_store.specs.Fits.{Fits}
+use Rattle.cacache_store.specs.Plain.{PlainStep}
 use Rattle.cacache_disk.specs.declared.change.Change.{Change}
 use Rattle.cacache_disk.specs.declared.change.Change.TheVariants as change
 use Rattle.cacache_disk.specs.declared.change.Plan.{Plan}
@@ -12,7 +12,7 @@ use Rattle.cacache_disk.specs.declared.node.Node.TheVariants.{File}
 use Rattle.cacache_disk.specs.declared.stop.Stop.{Stop}
 use Rattle.cacache_disk.specs.declared.stop.Stop.TheVariants as stop
 use Rattle.cacache_disk.specs.Tree.{Tree, Names, put, cut}
-use Rattle.cacache_disk.specs.Apply.{plain, make_some, lengthened, is_taking, is_parted, made_up, fault_of}
+use Rattle.cacache_disk.specs.Apply.{plain, make_some, lengthened, is_taking, is_parted, made_up, fault_told}
 
 -- the tree with a file put at a path, where one is given
 abbrev pub with_file : Option (Names × List ℕ) → Tree → Tree
@@ -33,7 +33,7 @@ changed t (change.Remove p) = cut t p
 abbrev pub IsPlan : Tree → PlainStep → Option ℕ → Plan → Type 0
 IsPlan t step most plan =
     (plain t step most ≡ (plan.answer, changed t plan.change))
-    × (fault_of plan.answer ≡ None) × Fits step plan.answer
+    × (fault_told plan.answer ≡ None) × Fits step plan.answer
 
 -- the step fails as the table says; memory may be refused anywhere
 abbrev pub Refuses : Tree → PlainStep → Option ℕ → Stop → Type 0

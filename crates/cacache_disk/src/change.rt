@@ -8,8 +8,8 @@ use crate::contents::Contents;
 use crate::node::Node;
 use crate::nodes::Nodes;
 use crate::path::Path;
-use cacache_base::store::{Answer, PlainFile, PlainTemp};
 use cacache_core::bytes::Bytes;
+use cacache_store::store::{Answer, PlainFile, PlainTemp};
 use std::alloc::AllocError;
 
 /// What a step changes.

@@ -1,7 +1,7 @@
 //! A disk in memory, step by step.
 ghost use Rattle.std.specs.Prelude.{◌≡◌, false, IfOk, OnOk, OnErr, MatchResult, Ok, Err, option_map, option_copied};
 ghost use Rattle.std.specs.Arc.{arc_value};
-ghost use Rattle.cacache_base.specs.Fits.{Fits, is_no_memory};
+ghost use Rattle.cacache_store.specs.Fits.{Fits, is_no_memory};
 ghost use Rattle.cacache_disk.specs.Rooted.{Rooted};
 ghost use Rattle.cacache_disk.specs.Tree.{bare};
 ghost use Rattle.cacache_disk.specs.Apply.{apply, planted, bytes_at};
@@ -13,9 +13,10 @@ use crate::nodes::Nodes;
 use crate::path::Path;
 use crate::steps::answers::copy_of;
 use crate::stop::Stop;
-use cacache_base::store::{Answer, PlainFile, PlainTemp, Step};
 use cacache_core::bytes::Bytes;
 use cacache_core::errors::Fault;
+use cacache_core::keeping::let_go;
+use cacache_store::store::{Answer, PlainFile, PlainTemp, Step};
 use std::alloc::{AllocError, Global};
 use std::marker::Model;
 use std::sync::Arc;
@@ -53,9 +54,6 @@ fn when_done<T: Drop>(done: Result<(), AllocError>, value: T) -> Result<T, Alloc
         Err(error) => Err(error),
     }
 }
-
-/// Lets a value go: one call in place of its parts.
-pub(crate) fn let_go<T: Drop>(_value: T) {}
 
 impl Disk {
     /// A disk that holds nothing but its top folder.

@@ -1,7 +1,7 @@
 //! What a path leads to, or why it leads nowhere.
 ghost use Rattle.std.specs.Prelude.{◌≡◌, [], None, Ok, IfOk, IfErr, option_copied};
 ghost use Rattle.cacache_disk.specs.Tree.{look};
-ghost use Rattle.cacache_disk.specs.Found.{place, followed, leads, at, end_at, misfit, suited, file_at, kept, linked, emptied, dirs_fault};
+ghost use Rattle.cacache_disk.specs.LedTo.{place, followed, leads, at, end_at, misfit, suited, file_at, kept, linked, emptied, dirs_fault};
 ghost use Rattle.cacache_disk.specs.Deepest.{MakesFrom};
 ghost use Rattle.cacache_disk.specs.Stops.{Stops, Blocks};
 
@@ -76,7 +76,7 @@ pub(crate) fn suited(wanted: Wanted, node: Option<&Node>, names: Path) -> Result
 
 impl Disk {
     /// The names of a path whose folder stands, and what stands there.
-    #[tactic(auto, unfolding(crate::specs::Found::place))]
+    #[tactic(auto, unfolding(crate::specs::LedTo::place))]
     fn place(&self, path: &str) -> Result<(Path, Option<&Node>), Stop>
         ensures ok { IfOk result (λ r. place self.now path.now ≡ Ok r.0) }
         ensures node { IfOk result (λ r. option_copied r.1 ≡ look self.now r.0) }
@@ -103,7 +103,7 @@ impl Disk {
     }
 
     /// Where names lead through at most so many links.
-    #[tactic(auto, unfolding(crate::specs::Found::followed, crate::specs::Found::standing))]
+    #[tactic(auto, unfolding(crate::specs::LedTo::followed, crate::specs::LedTo::standing))]
     fn followed(&self, names: Path, most: u8) -> Result<Path, Stop>
         ensures ok { IfOk result (λ end. followed most self.now names ≡ Ok end) }
         ensures err { IfErr result (λ stop. Stops stop (followed most self.now names)) }
@@ -123,7 +123,7 @@ impl Disk {
     }
 
     /// Where a path leads, and what stands there.
-    #[tactic(auto, unfolding(crate::specs::Found::leads))]
+    #[tactic(auto, unfolding(crate::specs::LedTo::leads))]
     fn leads(&self, path: &str) -> Result<(Path, Option<&Node>), Stop>
         ensures ok { IfOk result (λ r. leads self.now path.now ≡ Ok r.0) }
         ensures node { IfOk result (λ r. option_copied r.1 ≡ look self.now r.0) }
@@ -145,7 +145,7 @@ impl Disk {
     }
 
     /// The bytes of the file that a path leads to. A folder there is the given fault.
-    #[tactic(auto, unfolding(crate::specs::Found::file_at))]
+    #[tactic(auto, unfolding(crate::specs::LedTo::file_at))]
     pub(crate) fn file_at(&self, path: &str, folder: Fault) -> Result<&Contents, Stop>
         ensures ok { IfOk result (λ bytes. file_at self.now path.now folder ≡ Ok bytes.now) }
         ensures err { IfErr result (λ stop. Stops stop (file_at self.now path.now folder)) }
@@ -160,7 +160,7 @@ impl Disk {
     }
 
     /// The names of a temporary file's path, where the file still stands.
-    #[tactic(auto, unfolding(crate::specs::Found::kept))]
+    #[tactic(auto, unfolding(crate::specs::LedTo::kept))]
     pub(crate) fn kept(&self, path: &str) -> Result<Path, Stop>
         ensures ok { IfOk result (λ names. kept self.now path.now ≡ Ok names) }
         ensures err { IfErr result (λ stop. Stops stop (kept self.now path.now)) }
@@ -172,7 +172,7 @@ impl Disk {
     }
 
     /// A copy of the file or link at a path, its bytes shared.
-    #[tactic(auto, unfolding(crate::specs::Found::linked))]
+    #[tactic(auto, unfolding(crate::specs::LedTo::linked))]
     pub(crate) fn linked(&self, path: &str) -> Result<Node, Stop>
         ensures ok { IfOk result (λ node. linked self.now path.now ≡ Ok node) }
         ensures err { IfErr result (λ stop. Stops stop (linked self.now path.now)) }
@@ -186,7 +186,7 @@ impl Disk {
     }
 
     /// The names of an empty folder other than the top.
-    #[tactic(auto, unfolding(crate::specs::Found::emptied, crate::specs::Found::folder))]
+    #[tactic(auto, unfolding(crate::specs::LedTo::emptied, crate::specs::LedTo::folder))]
     pub(crate) fn emptied(&self, path: &str) -> Result<Path, Stop>
         ensures ok { IfOk result (λ names. emptied self.now path.now ≡ Ok names) }
         ensures err { IfErr result (λ stop. Stops stop (emptied self.now path.now)) }

@@ -6,10 +6,10 @@ ghost use Rattle.std.specs.Ordering.{nat_cmp};
 ghost use Rattle.std.specs.Cmp;
 ghost use Rattle.std.specs.Cmp.Lexicographic.{pointwise, slice_cmp, texts_ties, nat_list_eq_equiv, nat_list_cmp_total, texts_po};
 ghost use Rattle.cacache_core.specs.PathNames.{IsProperName};
-ghost use Rattle.cacache_base.specs.Fits.{AreProperNames};
+ghost use Rattle.cacache_store.specs.Fits.{AreProperNames};
 
-use cacache_base::store::{Kind, Listing, Name};
 use cacache_core::text::Text;
+use cacache_store::store::{Kind, Listing, Name};
 use std::alloc::{AllocError, Global};
 use std::cmp::Ordering;
 use std::marker::Model;
@@ -104,8 +104,8 @@ pub(crate) struct ProperNames {
 
 impl Model for ProperNames {
     ghost use Rattle.std.specs.Prelude.{List};
-    ghost use Rattle.cacache_base.specs.Fits.{AreProperNames};
-    ghost use Rattle.cacache_base.specs.declared.store.answer.Name.{Name};
+    ghost use Rattle.cacache_store.specs.Fits.{AreProperNames};
+    ghost use Rattle.cacache_store.specs.declared.store.answer.Name.{Name};
 
     ghost Value = { List Name };
 

@@ -4,9 +4,9 @@ ghost use Rattle.cacache_disk.specs.declared.node.Node.TheVariants.{File};
 ghost use Rattle.cacache_disk.specs.Tree.{bytes_of, kind_of};
 
 use crate::contents::Contents;
-use cacache_base::store::Kind;
 use cacache_core::bytes::Bytes;
 use cacache_core::text::Text;
+use cacache_store::store::Kind;
 use std::alloc::AllocError;
 
 /// What stands at a path of a disk.

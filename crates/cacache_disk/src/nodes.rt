@@ -2,7 +2,7 @@
 ghost use Rattle.std.specs.Prelude.{◌≡◌, ◌==◌, ◌++◌, IfOk, OnOk, OnErr, length, option_copied};
 ghost use Rattle.std.specs.FinMap as map;
 ghost use Rattle.cacache_disk.specs.declared.node.Node.TheVariants.{File};
-ghost use Rattle.cacache_base.specs.Fits.{AreProperNames};
+ghost use Rattle.cacache_store.specs.Fits.{AreProperNames};
 ghost use Rattle.cacache_disk.specs.Tree.{look, put, cut, listing};
 ghost use Rattle.cacache_disk.specs.Apply.{lengthened};
 
@@ -10,8 +10,8 @@ use crate::contents::Contents;
 use crate::name::ProperNames;
 use crate::node::Node;
 use crate::path::Path;
-use cacache_base::store::Listing;
 use cacache_core::bytes::Bytes;
+use cacache_store::store::Listing;
 use std::alloc::{AllocError, Global};
 use std::collections::BTreeMap;
 use std::marker::Model;

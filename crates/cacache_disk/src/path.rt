@@ -3,7 +3,7 @@ ghost use Rattle.std.specs.Prelude.{◌≡◌, ◌+◌, ◌-◌, ◌++◌, ◌�
 ghost use Rattle.cacache_disk.specs.Tree.{is_below, is_child};
 ghost use Rattle.cacache_disk.specs.Stops.{Stops};
 ghost use Rattle.std.specs.Bool.{OnTrue};
-ghost use Rattle.cacache_core.specs.PathNames.{names_of, is_above, is_name};
+ghost use Rattle.cacache_core.specs.PathNames.{names_of};
 ghost use Rattle.std.proofs.Common.{refl};
 ghost use Rattle.std.specs.Bool.{nat_eq};
 ghost use Rattle.std.specs.Ordering.{nat_cmp};
@@ -13,6 +13,7 @@ ghost use Rattle.std.specs.Cmp.Lexicographic.{pointwise, slice_cmp, slice_partia
 use crate::name::ProperName;
 use crate::stop::Stop;
 use cacache_core::errors::Fault;
+use cacache_core::paths::{is_above, is_name};
 use cacache_core::text::Text;
 use std::alloc::{AllocError, Global};
 use std::cmp::Ordering;
@@ -138,20 +139,6 @@ impl Clone for Path {
         let alloc = *self.names.allocator();
         self.front(alloc, self.names.len())
     }
-}
-
-/// Whether it is `..`.
-fn is_above(piece: &str) -> bool
-    ensures { result ≡ is_above piece.now }
-{
-    piece == ".."
-}
-
-/// Whether it names something.
-fn is_name(piece: &str) -> bool
-    ensures { result ≡ is_name piece.now }
-{
-    !(piece.is_empty() || piece == ".")
 }
 
 impl PartialEq for Path {

@@ -1,6 +1,6 @@
 //! Steps on a disk.
 ghost use Rattle.std.specs.Prelude.{◌≡◌, Option, false, IfOk, IfErr};
-ghost use Rattle.cacache_base.specs.Fits.{Fits, is_no_memory};
+ghost use Rattle.cacache_store.specs.Fits.{Fits, is_no_memory};
 ghost use Rattle.cacache_disk.specs.Apply.{apply, is_taking, is_parted, made_up};
 ghost use Rattle.cacache_disk.specs.Plans.{IsPlan, Refuses, changed, most_of, with_luck, left_over};
 
@@ -11,11 +11,12 @@ mod handles;
 mod links;
 
 use crate::change::{Change, Plan};
-use crate::disk::{Disk, let_go};
+use crate::disk::Disk;
 use crate::luck::Luck;
 use crate::stop::Stop;
-use cacache_base::store::{Answer, PlainFile, PlainTemp, Step};
 use cacache_core::errors::Fault;
+use cacache_core::keeping::let_go;
+use cacache_store::store::{Answer, PlainFile, PlainTemp, Step};
 use std::alloc::AllocError;
 
 /// Whether a take does only a part of the step.

@@ -1,13 +1,13 @@
-pub mod Causes
+pub mod EntryCauses
 pub mod Cuts
 pub mod Digits
 pub mod Lines
 pub mod Levels
 pub mod Lookups
-pub mod Parts
+pub mod TextParts
 pub mod Pieces
-pub mod Plain
+pub mod PlainTexts
 pub mod ReadsBack
 pub mod Torn
-pub mod Utf8
+pub mod EntryUtf8
 pub mod WellRead

@@ -10,17 +10,17 @@ use Rattle.hex.specs.Hex.{lower_digits}
 use Rattle.serde_json.specs.Data.{object}
 use Rattle.cacache_core.specs.Digests.{sha256_hex}
 use Rattle.cacache_entry.specs.Entry.{Entry, members_of, text_of, piece_of, line_of}
-use Rattle.cacache_entry.specs.Reading.{entry_of, read_entry}
-use Rattle.cacache_entry.specs.Fits.{IsEntry, Fits}
+use Rattle.cacache_entry.specs.EntryTexts.{entry_read, read_entry}
+use Rattle.cacache_entry.specs.FittingEntries.{IsEntry, IsWritable}
 use Rattle.cacache_entry.specs.Bucket.{cut, without_cr, entry_of_parts, entry_of_piece, pieces_of, entries_of}
-use Rattle.cacache_entry.specs.Laws.{EmptyHoldsNothing, LinesAppend, TornTextsReadAsNothing, TornLinesAddNothing, TornLinesHurtNoOther}
+use Rattle.cacache_entry.specs.EntryLaws.{EmptyHoldsNothing, LinesAppend, TornTextsReadAsNothing, TornLinesAddNothing, TornLinesHurtNoOther}
 use Rattle.cacache_entry.proofs.Cuts.{lacks, lacks-append, lacks-take, cut-append, cut-lacks, without_cr-lacks}
 use Rattle.cacache_entry.proofs.Pieces.{entries_split}
 use Rattle.cacache_entry.proofs.Digits.{lacks-sha256_hex, IsUtf8-piece}
-use Rattle.cacache_entry.proofs.Plain.{lacks-plain, plain-compact_text}
+use Rattle.cacache_entry.proofs.PlainTexts.{lacks-plain, plain-compact_text}
 use Rattle.cacache_entry.proofs.ReadsBack.{MembersAreWhole-members_of, read_entry-text_of}
 use Rattle.cacache_entry.proofs.Torn.{read-torn}
-use Rattle.cacache_entry.proofs.Utf8.{IsUtf8-text_of}
+use Rattle.cacache_entry.proofs.EntryUtf8.{IsUtf8-text_of}
 
 -- behind bytes and a line feed, a piece with no LF and no CR adds the entry that it is
 entries_piece : (x p : List ℕ) (o : Option Entry) → lacks 10 p ≡ true → lacks 13 p ≡ true → entry_of_piece p ≡ o → entries_of (x ++ 10 ∷ p) ≡ entries_of x ++ cons_option o []
@@ -43,7 +43,7 @@ take_past (x ∷ s) t b m (suc k) e = ap (λ l. x ∷ l) (take_past s t b m k (o
 pub torn_texts_read_as_nothing : TornTextsReadAsNothing
 torn_texts_read_as_nothing e n h f short = read-torn (members_of e) (MembersAreWhole-members_of e h f) n short
 
-module _ (e : Entry) (h : IsEntry e) (f : Fits e) where
+module _ (e : Entry) (h : IsEntry e) (f : IsWritable e) where
   lacks-text_of : (at : ℕ) → at < 32 → lacks at (text_of e) ≡ true
   lacks-text_of at low = lacks-plain at low (text_of e) (plain-compact_text (object (members_of e)) (MembersAreWhole-members_of e h f))
 
@@ -75,7 +75,7 @@ module _ (e : Entry) (h : IsEntry e) (f : Fits e) where
       let inside : m < length (text_of e) = omega (arith, length-append digest (9 ∷ text_of e)) in
       let rest = take m (text_of e) in
       ap (λ p. entry_of_parts (cut 9 p)) (take_past digest (text_of e) 9 m k (omega arith)) ∙ ap entry_of_parts (two_parts rest (lacks-take 9 m (text_of e) (lacks-text_of 9 (omega arith))))
-      ∙ ap (λ o. cond (bytes_eq digest (sha256_hex rest)) (option_and_then entry_of o) None) (torn_texts_read_as_nothing e m h f inside) ∙ both_none (bytes_eq digest (sha256_hex rest))
+      ∙ ap (λ o. cond (bytes_eq digest (sha256_hex rest)) (option_and_then entry_read o) None) (torn_texts_read_as_nothing e m h f inside) ∙ both_none (bytes_eq digest (sha256_hex rest))
 
   entry_of_piece-torn : (k : ℕ) → k < length (piece_of e) → entry_of_piece (take k (piece_of e)) ≡ None
   entry_of_piece-torn k short =
@@ -86,7 +86,7 @@ pub lines_append : LinesAppend
 lines_append x e h f = entries_piece x (piece_of e) (Some e) (lacks-piece_of e h f 10 (omega arith) refl refl) (lacks-piece_of e h f 13 (omega arith) refl refl) (entry_of_piece-whole e h f)
 
 -- the pieces of bytes and a line behind them
-pub pieces_of-line : (x : List ℕ) (e : Entry) → IsEntry e → Fits e → pieces_of (x ++ line_of e) ≡ pieces_of x ++ piece_of e ∷ []
+pub pieces_of-line : (x : List ℕ) (e : Entry) → IsEntry e → IsWritable e → pieces_of (x ++ line_of e) ≡ pieces_of x ++ piece_of e ∷ []
 pieces_of-line x e h f =
     let p = piece_of e in
     ap (map without_cr) (cut-append 10 x p ∙ ap (λ ps. cut 10 x ++ ps) (cut-lacks 10 p (lacks-piece_of e h f 10 (omega arith) refl refl)))

@@ -8,7 +8,7 @@ use Rattle.memchr.specs.Find.{IsLastByte, is_byte}
 use Rattle.cacache_entry.specs.Entry.{Entry, piece_of}
 use Rattle.cacache_entry.specs.Bucket.{cut, without_cr, entry_of_piece, pieces_of, entries_of}
 use Rattle.cacache_entry.specs.Latest.{Found, answer_to, after_entry, latest, NoneAnswers, decides, count_to_deciding, pieces_read}
-use Rattle.cacache_entry.specs.Laws.{LastAnswerDecides, NoAnswerIsNone, LastLineIsEnough}
+use Rattle.cacache_entry.specs.EntryLaws.{LastAnswerDecides, NoAnswerIsNone, LastLineIsEnough}
 use Rattle.cacache_entry.proofs.Lines.{pieces_of-line, entry_of_piece-whole}
 use Rattle.cacache_entry.proofs.Pieces.{found, cut-last, entries-piece, entries-last}
 

@@ -5,7 +5,7 @@ use Rattle.std.proofs.lemmas.List.{drop_more, get_or-drop, map-append}
 use Rattle.std.proofs.lemmas.List.Elements.{filter_map-append}
 use Rattle.cacache_core.specs.Digests.{sha256_hex}
 use Rattle.cacache_entry.specs.Entry.{Entry}
-use Rattle.cacache_entry.specs.Reading.{read_entry}
+use Rattle.cacache_entry.specs.EntryTexts.{read_entry}
 use Rattle.cacache_entry.specs.Bucket.{cut, without_cr, entry_of_parts, entry_of_piece, entries_of, CutsAt}
 use Rattle.std.proofs.lemmas.Str.{IsUtf8-from_is_utf8, is_utf8-from_IsUtf8}
 use Rattle.std.proofs.lemmas.Slice.Eq.{bytes_eq-Decides}
@@ -13,7 +13,7 @@ use Rattle.std.specs.Prelude.{MatchOption, IsUtf8, is_some, map, filter_map}
 use Rattle.std.specs.Option.{option_to_list}
 use Rattle.std.specs.List.{cons_option}
 use Rattle.std.specs.Str.{is_utf8}
-use Rattle.cacache_entry.specs.Laws.{EntriesSplit}
+use Rattle.cacache_entry.specs.EntryLaws.{EntriesSplit}
 use Rattle.memchr.specs.Find.{IsFirstByte, IsLastByte, is_byte}
 use Rattle.cacache_entry.proofs.Cuts.{lacks, cut_some, cut-append, cut-lacks}
 

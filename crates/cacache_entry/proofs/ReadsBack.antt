@@ -21,8 +21,8 @@ use Rattle.serde_json.specs.Written.{number_text, outline, items_outline, member
 use Rattle.serde_json.proofs.Numbers.{number_of-decimal, number_of-negative}
 use Rattle.serde_json.proofs.Texts.{print-outline}
 use Rattle.cacache_entry.specs.Entry.{Entry, text_or_null, byte_items, bytes_or_null, members_of, text_of}
-use Rattle.cacache_entry.specs.Reading.{text_or_none, bytes_of, bytes_or_none, entry_of, read_entry}
-use Rattle.cacache_entry.specs.Fits.{EachIsByte, AreBytes, AreAbove, IsOrdered, ItemsAreOrdered, MembersAreOrdered, IsWholeNumber, IsWhole, ItemsAreWhole, MembersAreWhole, IsEntry, Fits}
+use Rattle.cacache_entry.specs.EntryTexts.{text_or_none, bytes_of, bytes_or_none, entry_read, read_entry}
+use Rattle.cacache_entry.specs.FittingEntries.{EachIsByte, AreBytes, AreAbove, IsOrdered, ItemsAreOrdered, MembersAreOrdered, IsWholeNumber, IsWhole, ItemsAreWhole, MembersAreWhole, IsEntry, IsWritable}
 
 -- ---- the outline of a value nests as the value does
 
@@ -216,11 +216,11 @@ IsOrdered-text_or_null None = tt
 IsOrdered-text_or_null (Some s) = tt
 
 -- an entry's members have whole numbers alone
-pub MembersAreWhole-members_of : (e : Entry) → IsEntry e → Fits e → MembersAreWhole (members_of e)
+pub MembersAreWhole-members_of : (e : Entry) → IsEntry e → IsWritable e → MembersAreWhole (members_of e)
 MembersAreWhole-members_of e h f = (tt, (IsWhole-text_or_null e.integrity, (f.time, (f.size, (f.whole, (IsWhole-bytes_or_null e.raw_metadata h.raw_metadata, tt))))))
 
 -- what the members of an entry read as: they are put in the order of their names
-of_members-members_of : (e : Entry) → IsEntry e → Fits e
+of_members-members_of : (e : Entry) → IsEntry e → IsWritable e
     → of_members (members_outline (members_of e)) no_members
     ≡ Some (member (codes "integrity") (text_or_null e.integrity)
     (member (codes "key") (string e.key)
@@ -237,8 +237,8 @@ of_members-members_of e h f =
       of_json-outline (bytes_or_null e.raw_metadata) (IsWhole-bytes_or_null e.raw_metadata h.raw_metadata) (IsOrdered-bytes_or_null e.raw_metadata),
     ) refl
 
-entry_of-members_of : (e : Entry) → IsEntry e → Fits e
-    → entry_of (object (member (codes "integrity") (text_or_null e.integrity)
+entry_of-members_of : (e : Entry) → IsEntry e → IsWritable e
+    → entry_read (object (member (codes "integrity") (text_or_null e.integrity)
     (member (codes "key") (string e.key)
     (member (codes "metadata") e.metadata
     (member (codes "raw_metadata") (bytes_or_null e.raw_metadata)
@@ -252,7 +252,7 @@ entry_of-members_of e h f =
     ) refl
 
 -- an entry that fits reads back from its own text as itself
-pub read_entry-text_of : (e : Entry) → IsEntry e → Fits e → read_entry (text_of e) ≡ Some e
+pub read_entry-text_of : (e : Entry) → IsEntry e → IsWritable e → read_entry (text_of e) ≡ Some e
 read_entry-text_of e h f =
-    ap (option_and_then entry_of) (read-compact_text (object (members_of e)) (MembersAreWhole-members_of e h f) f.nests ∙ ap (option_map object) (of_members-members_of e h f))
+    ap (option_and_then entry_read) (read-compact_text (object (members_of e)) (MembersAreWhole-members_of e h f) f.nests ∙ ap (option_map object) (of_members-members_of e h f))
     ∙ entry_of-members_of e h f

@@ -16,7 +16,7 @@ use Rattle.json.proofs.Unique.Spelling.{value-json_tokens_back}
 use Rattle.serde_json.specs.Data.{Num, unsigned, negative, float, Data, null, boolean, number, string, array, object, Items, no_items, item, Members, no_members, member}
 use Rattle.serde_json.specs.Read.{read, max_depth}
 use Rattle.serde_json.specs.Written.{number_text, comma_if, compact_text, items_text, members_text}
-use Rattle.cacache_entry.specs.Fits.{IsWholeNumber, IsWhole, ItemsAreWhole, MembersAreWhole}
+use Rattle.cacache_entry.specs.FittingEntries.{IsWholeNumber, IsWhole, ItemsAreWhole, MembersAreWhole}
 use Rattle.cacache_entry.proofs.ReadsBack.{from_grammar}
 use Rattle.cacache_entry.proofs.Levels.{next, after_byte, level, mode, level-value}
 

@@ -14,7 +14,7 @@ use Rattle.serde_json.specs.Read.{is_integer, float_of, number_from, number_of, 
 use Rattle.std.specs.Prelude.{IsUtf8}
 use Rattle.json.proofs.Printed.Utf8.{IsUtf8-are_ascii}
 use Rattle.serde_json.specs.Written.{compact_text, has_float, items_have_float, members_have_float}
-use Rattle.cacache_entry.specs.Fits.{IsJson, AreAbove, IsOrdered, ItemsAreOrdered, MembersAreOrdered, IsWholeNumber, IsWhole, ItemsAreWhole, MembersAreWhole}
+use Rattle.cacache_entry.specs.FittingEntries.{IsJson, AreAbove, IsOrdered, ItemsAreOrdered, MembersAreOrdered, IsWholeNumber, IsWhole, ItemsAreWhole, MembersAreWhole}
 
 abbrev Given : {A : Type 0} → (A → Type 0) → Option A → Type 0
 Given P None = ⊤

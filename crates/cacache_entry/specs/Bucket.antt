@@ -4,7 +4,7 @@ use Rattle.std.specs.List.{slice_split}
 use Rattle.std.specs.Str.{is_utf8}
 use Rattle.cacache_core.specs.Digests.{sha256_hex}
 use Rattle.cacache_entry.specs.Entry.{Entry}
-use Rattle.cacache_entry.specs.Reading.{read_entry}
+use Rattle.cacache_entry.specs.EntryTexts.{read_entry}
 
 -- what stands between the bytes c
 abbrev pub cut : ℕ → List ℕ → List (List ℕ)

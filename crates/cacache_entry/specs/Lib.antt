@@ -1,8 +1,8 @@
 pub mod Entry
 pub mod Tokens
-pub mod Reading
-pub mod Fits
+pub mod EntryTexts
+pub mod FittingEntries
 pub mod Bucket
 pub mod Latest
 pub mod View
-pub mod Laws
+pub mod EntryLaws

@@ -4,7 +4,7 @@ use Rattle.serde_json.specs.View.{view}
 use Rattle.cacache_core.specs.declared.errors.Error.{Error}
 use Rattle.cacache_core.specs.declared.errors.Error.TheVariants.{SerdeError, OutOfMemory}
 use Rattle.cacache_entry.specs.Entry.{Entry}
-use Rattle.cacache_entry.specs.Fits.{cause_of}
+use Rattle.cacache_entry.specs.FittingEntries.{cause_of}
 use Rattle.cacache_entry.specs.Latest.{Found}
 use Rattle.cacache_entry.specs.declared.metadata.SerializableMetadata.{SerializableMetadata}
 use Rattle.cacache_entry.specs.declared.metadata.Metadata.{Metadata}

@@ -1,8 +1,8 @@
 //! The laws of entries, buckets and lookups. Each call does nothing, and its clauses are the laws.
-ghost use Rattle.cacache_entry.specs.Laws.{NoCauseIsFit, FlatEntriesFit, BareEntriesFit};
-ghost use Rattle.cacache_entry.specs.Laws.{EmptyHoldsNothing, EntriesSplit, LinesAppend};
-ghost use Rattle.cacache_entry.specs.Laws.{TornTextsReadAsNothing, TornLinesAddNothing, TornLinesHurtNoOther};
-ghost use Rattle.cacache_entry.specs.Laws.{LastAnswerDecides, NoAnswerIsNone, LastLineIsEnough};
+ghost use Rattle.cacache_entry.specs.EntryLaws.{NoCauseIsFit, FlatEntriesFit, BareEntriesFit};
+ghost use Rattle.cacache_entry.specs.EntryLaws.{EmptyHoldsNothing, EntriesSplit, LinesAppend};
+ghost use Rattle.cacache_entry.specs.EntryLaws.{TornTextsReadAsNothing, TornLinesAddNothing, TornLinesHurtNoOther};
+ghost use Rattle.cacache_entry.specs.EntryLaws.{LastAnswerDecides, NoAnswerIsNone, LastLineIsEnough};
 
 /// Which entries can be written.
 pub fn entry_laws()

@@ -11,6 +11,7 @@ mod write;
 mod written;
 
 pub use laws::{bucket_laws, entry_laws, lookup_laws};
+pub use limits::is_whole;
 pub use metadata::{Metadata, SerializableMetadata};
 pub use read::entries;
 pub use search::{Lookup, answer_of_entry, latest};

@@ -6,9 +6,9 @@ ghost use Rattle.serde_json.specs.View.{view, items_view, members_view};
 
 use serde_json::{Map, Value};
 
-/// Whether each number of the value is whole in 64 bits.
+/// Whether each number of the value is whole in 64 bits. Only such values can be written as metadata.
 #[cycle(whole)]
-pub(crate) fn is_whole(value: &Value) -> bool
+pub fn is_whole(value: &Value) -> bool
     ensures { result ≡ not (has_float (view value.now)) }
 {
     match value {

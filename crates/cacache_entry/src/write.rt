@@ -6,7 +6,7 @@ ghost use Rattle.serde_json.specs.Written.{has_float, compact_text};
 ghost use Rattle.serde_json.specs.View.{view};
 ghost use Rattle.cacache_core.specs.Digests.{sha256_hex};
 ghost use Rattle.cacache_entry.specs.Entry.{line_of, text_of};
-ghost use Rattle.cacache_entry.specs.Fits.{AreBytes, IsJson, IsEntry, Fits, cause_of as cause_of_entry};
+ghost use Rattle.cacache_entry.specs.FittingEntries.{AreBytes, IsJson, IsEntry, IsWritable, cause_of as cause_of_entry};
 ghost use Rattle.cacache_entry.specs.Tokens.{text_token, front_tokens, bytes_tokens};
 ghost use Rattle.cacache_entry.specs.View.{entry_view, IsRefusal, refusal_text};
 
@@ -37,7 +37,7 @@ const METADATA_LEVELS: u64 = 126;
 pub fn line(alloc: Global, entry: &SerializableMetadata) -> errors::Result<Vec<u8>>
     ensures line { IfOk result (λ bytes. bytes.items ≡ line_of (entry_view entry.now)) }
     ensures entry { OnOk result (IsEntry (entry_view entry.now)) }
-    ensures fits { OnOk result (Fits (entry_view entry.now)) }
+    ensures fits { OnOk result (IsWritable (entry_view entry.now)) }
     ensures cause { OnOk result (cause_of_entry (entry_view entry.now) ≡ None) }
     ensures refused { IfErr result (IsRefusal (entry_view entry.now)) }
 {
@@ -77,7 +77,7 @@ pub(crate) fn fitting_line(
     requires { cause_of_entry (entry_view entry.now) ≡ None }
     ensures line { IfOk result (λ bytes. bytes.items ≡ line_of (entry_view entry.now)) }
     ensures entry { OnOk result (IsEntry (entry_view entry.now)) }
-    ensures fits { OnOk result (Fits (entry_view entry.now)) }
+    ensures fits { OnOk result (IsWritable (entry_view entry.now)) }
 {
     let mut room = Vec::with_capacity(alloc, entry.key.len().saturating_add(LINE_ROOM))?;
     room.extend_from_slice(HEAD)?;

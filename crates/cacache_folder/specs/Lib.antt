@@ -1,2 +1,2 @@
-pub mod Handles
-pub mod Parts
+pub mod FolderHandles
+pub mod PartialSteps

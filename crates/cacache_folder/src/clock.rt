@@ -2,7 +2,7 @@
 ghost use Rattle.std.specs.Prelude.{◌≡◌, ◌-◌, ◌/◌, ◌^◌, MatchResult, min};
 ghost use Rattle.std.specs.Duration.{as_nanos};
 
-use cacache_base::env::Clock;
+use cacache_store::env::Clock;
 use std::io;
 use std::time::{Clock as SystemTimes, Duration};
 

@@ -1,9 +1,9 @@
 //! Real folders as a store.
 ghost use Rattle.std.specs.Prelude.{◌≡◌, false, None, IfOk};
-ghost use Rattle.cacache_base.specs.Plain.{plain_step, plain_answer};
-ghost use Rattle.cacache_base.specs.Fits.{Fits, is_no_memory};
-ghost use Rattle.cacache_folder.specs.Handles.{seen_file, seen_temp};
-ghost use Rattle.cacache_folder.specs.Parts.{HandsBackWhole};
+ghost use Rattle.cacache_store.specs.Plain.{plain_step, plain_answer};
+ghost use Rattle.cacache_store.specs.Fits.{Fits, is_no_memory};
+ghost use Rattle.cacache_folder.specs.FolderHandles.{seen_file, seen_temp};
+ghost use Rattle.cacache_folder.specs.PartialSteps.{HandsBackWhole};
 
 mod again;
 mod answers;
@@ -16,7 +16,7 @@ mod temp;
 mod whole;
 
 use answers::{created, given, moved, readable, written};
-use cacache_base::store::{Answer, FileHandle, Step, Store, TempHandle};
+use cacache_store::store::{Answer, FileHandle, Step, Store, TempHandle};
 use faults::refused;
 pub use opened::FolderFile;
 use std::io::ErrorKind;

@@ -2,7 +2,7 @@
 ghost use Rattle.std.specs.Prelude.{◌≡◌, ◌+◌, ◌*◌, ◌%◌, ◌^◌};
 
 use crate::clock::SystemClock;
-use cacache_base::env::{Clock, Names};
+use cacache_store::env::{Clock, Names};
 use std::marker::Model;
 use std::process;
 use std::rt::HostRuntime;

@@ -2,35 +2,35 @@
 use Rattle.std.proofs.Common.{◌≡◌, ℕ, List, [], ◌∷◌, ◌++◌, Option, None, Some, sym, subst}
 use Rattle.cacache_core.specs.Paths.{bucket_names}
 use Rattle.cacache_core.specs.PathNames.{names_of, names_below}
-use Rattle.cacache_base.specs.declared.store.step.Step.TheVariants as steps
-use Rattle.cacache_base.specs.Plain.{PlainStep}
+use Rattle.cacache_store.specs.declared.store.step.Step.TheVariants as steps
+use Rattle.cacache_store.specs.Plain.{PlainStep}
 use Rattle.cacache_disk.specs.declared.luck.Luck.{Luck}
-use Rattle.cacache_calls.specs.declared.reply.Reply.{Reply}
-use Rattle.cacache_calls.specs.Sound as calls
-use Rattle.cacache_calls.proofs.Sound.{steps_allowed}
-use Rattle.cacache_laws.specs.Opening.{LieApart}
+use Rattle.cacache_table.specs.declared.reply.Reply.{Reply}
+use Rattle.cacache_table.specs.Sound as calls
+use Rattle.cacache_table.proofs.Sound.{steps_allowed}
+use Rattle.cacache_value.specs.OpeningTrees.{LieApart}
 use Rattle.cacache_history.specs.declared.record.Record.{Record}
 use Rattle.cacache_history.specs.declared.record.Record.TheVariants.{Began, Moved, Stopped}
-use Rattle.cacache_history.specs.Setup.{Setup, site_of, home, may_export, is_outside}
-use Rattle.cacache_history.specs.History.{Call, Now, History, Turn, Made, first, moved_tree, next, replay, now_at, MayMove, MayCome, Legal, IsLegal, Reaches}
+use Rattle.cacache_history.specs.Setup.{Setup, call_site, home, may_export, is_outside}
+use Rattle.cacache_history.specs.History.{Call, Now, History, Turn, Made, first, moved_tree, next, replayed, now_at, MayMove, MayCome, Legal, IsLegal, Reaches}
 use Rattle.cacache_history.specs.Turns.{EachTurn}
 use Rattle.cacache_history.proofs.Holding.{AllHold, CallHolds, of_caller, made_proper, next_holds, first_opens, first_holds, legal_before}
-use Rattle.cacache_history.proofs.Reading.{bucket_below}
-use Rattle.cacache_history.specs.Places.{TurnAt}
+use Rattle.cacache_history.proofs.ShownTurns.{bucket_below}
+use Rattle.cacache_history.specs.TurnPlaces.{TurnAt}
 use Rattle.cacache_history.proofs.Turned.{reached_turns}
 use Rattle.cacache_history.specs.Buckets.{BucketsHaveKeys, BucketsAreOfKeys, BucketsHoldOwn}
 use Rattle.cacache_history.proofs.Owned.{AppendsOwn, TreeOwn, step_own, opening_own}
-use Rattle.cacache_entry.proofs.Causes.{Fits-no_cause}
+use Rattle.cacache_entry.proofs.EntryCauses.{Fits-no_cause}
 use Rattle.cacache_disk.specs.Tree.{Tree}
 use Rattle.cacache_history.proofs.Keyed.{ToKeys, step_keyed, opening_keyed}
 
 -- a step that a call may make appends to the bucket of a key
-to_keys : (s : Setup) (n : ℕ) (step : PlainStep) → calls.Allowed (site_of s n) (may_export s) (is_outside s) step → ToKeys (home s) step
+to_keys : (s : Setup) (n : ℕ) (step : PlainStep) → calls.Allowed (call_site s n) (may_export s) (is_outside s) step → ToKeys (home s) step
 to_keys s n (steps.Append p line) a = (a.0.key, subst (λ q. names_of q ≡ names_below (home s) (bucket_names a.0.key)) (sym a.3) (bucket_below s a.0.key))
 to_keys s n other a = tt
 
 -- of an entry's line, whose key it is
-appends_own : (s : Setup) (n : ℕ) (step : PlainStep) → calls.Allowed (site_of s n) (may_export s) (is_outside s) step → AppendsOwn (home s) step
+appends_own : (s : Setup) (n : ℕ) (step : PlainStep) → calls.Allowed (call_site s n) (may_export s) (is_outside s) step → AppendsOwn (home s) step
 appends_own s n (steps.Append p line) a = record {
   entry = a.0;
   formed = a.1;
@@ -50,7 +50,7 @@ module _ (s : Setup) (apart : LieApart (home s) s.outside) where
   move_keyed w luck None reply call h mine may k = k
   move_keyed w luck (Some made) reply call h mine may k =
       let proper = made_proper s apart w.tree luck made reply call mine may in
-      let allowed = steps_allowed (site_of s call.number) (may_export s) (is_outside s) call.state made.0 mine.sound may.0 in
+      let allowed = steps_allowed (call_site s call.number) (may_export s) (is_outside s) call.state made.0 mine.sound may.0 in
       record {
         keyed = step_keyed (home s) w.tree h.placed k.keyed made.0 luck proper (to_keys s call.number made.0 allowed);
         own = step_own (home s) w.tree made.0 luck h.placed proper (appends_own s call.number made.0 allowed) k.own;
@@ -61,7 +61,7 @@ module _ (s : Setup) (apart : LieApart (home s) s.outside) where
   next_keyed w (Moved caller luck made reply) may h k = move_keyed w luck made reply may.0 h (of_caller s may.0 _ may.1 (h.calls caller)) may.2 k
   next_keyed w (Stopped caller) may h k = k
 
-  all_keyed : (w : Now) (records : List Record) → Legal s w records → AllHold s w → Keeps s w.tree → Keeps s (replay s w records).tree
+  all_keyed : (w : Now) (records : List Record) → Legal s w records → AllHold s w → Keeps s w.tree → Keeps s (replayed s w records).tree
   all_keyed w [] legal h k = k
   all_keyed w (r ∷ records) legal h k = all_keyed (next s w r) records legal.1 (next_holds s apart w r legal.0 h) (next_keyed w r legal.0 h k)
 

@@ -7,42 +7,43 @@ use Rattle.cacache_core.specs.declared.errors.Error.TheVariants.{SizeMismatch, I
 use Rattle.cacache_core.specs.declared.errors.IntegrityFault.TheVariants.{Check}
 use Rattle.cacache_core.specs.declared.integrity.digest.Hash.{Hash}
 use Rattle.cacache_core.specs.PathNames.{Names}
-use Rattle.cacache_base.specs.declared.store.plain.PlainTemp.{PlainTemp}
-use Rattle.cacache_base.specs.declared.store.plain.PlainFile.{PlainFile}
-use Rattle.cacache_base.specs.declared.store.step.Step.TheVariants as steps
-use Rattle.cacache_base.specs.declared.store.answer.Answer.TheVariants as answers
-use Rattle.cacache_base.specs.Plain.{PlainStep, PlainAnswer}
+use Rattle.cacache_store.specs.declared.store.plain.PlainTemp.{PlainTemp}
+use Rattle.cacache_store.specs.declared.store.plain.PlainFile.{PlainFile}
+use Rattle.cacache_store.specs.declared.store.step.Step.TheVariants as steps
+use Rattle.cacache_store.specs.declared.store.answer.Answer.TheVariants as answers
+use Rattle.cacache_store.specs.Plain.{PlainStep, PlainAnswer}
 use Rattle.cacache_disk.specs.declared.luck.Luck.{Luck}
 use Rattle.cacache_disk.specs.declared.node.Node.TheVariants.{File}
 use Rattle.cacache_disk.specs.Tree.{Tree, put}
-use Rattle.cacache_disk.specs.Found.{free}
+use Rattle.cacache_disk.specs.LedTo.{free}
 use Rattle.cacache_disk.specs.Apply.{apply, grown, taken, unless, made_temp}
-use Rattle.cacache_calls.specs.declared.command.Command.{Command}
-use Rattle.cacache_calls.specs.declared.command.Command.TheVariants as commands
-use Rattle.cacache_calls.specs.declared.command.Export.{Export}
-use Rattle.cacache_calls.specs.declared.command.How.{How}
-use Rattle.cacache_calls.specs.declared.command.How.TheVariants.{Copy, Reflink, HardLink}
-use Rattle.cacache_calls.specs.declared.command.Source.TheVariants as sources
-use Rattle.cacache_calls.specs.declared.reply.Reply.TheVariants.{Read, Copied, Listed, Done}
+use Rattle.cacache_table.specs.declared.command.Command.{Command}
+use Rattle.cacache_table.specs.declared.command.Command.TheVariants as commands
+use Rattle.cacache_table.specs.declared.command.Export.{Export}
+use Rattle.cacache_table.specs.declared.command.How.{How}
+use Rattle.cacache_table.specs.declared.command.How.TheVariants.{Copy, Reflink, HardLink}
+use Rattle.cacache_table.specs.declared.command.Source.TheVariants as sources
+use Rattle.cacache_table.specs.declared.reply.Reply.TheVariants.{Read, Copied, Listed, Done}
 use Rattle.cacache_core.specs.Integrity.{integrity_under, actual}
 use Rattle.cacache_core.specs.Meeting.{meets}
-use Rattle.cacache_base.specs.declared.store.answer.Name.{Name}
+use Rattle.cacache_store.specs.declared.store.answer.Name.{Name}
 use Rattle.cacache_entry.specs.Latest.{Found}
-use Rattle.cacache_calls.specs.Places.{content_path}
-use Rattle.cacache_calls.specs.Reading.{checked, is_there, is_absent}
-use Rattle.cacache_calls.specs.Exporting.{export_from, export_content, export, verified, counted}
-use Rattle.cacache_calls.specs.Looking.{found_in, content_of, found_for, after_bucket, no_bucket}
-use Rattle.cacache_calls.specs.Walking.{most, failed, give, miss, walk_on, tasks_of, leaving, too_many, entered, unread_bucket, listed, visit_step, after_visit, items_in}
-use Rattle.cacache_calls.specs.State.{State, doing, creating, writing, persisting, linking, confirming, appending, looking, reading, asking, sizing, opening_file, hashing, copying, walking, over, Site, Commit, Insertion, Aim, to_report, to_read, to_export, to_remove, Lookup, Content, to_verify, to_link, Errand, make_folder, remove, reflink, hard_link, Item, Visit, enter, read_bucket, remove_file, remove_folder, Task, visit, stumble, Walk}
-use Rattle.cacache_calls.specs.Answers.{done_in, temp_in, written_in, there_in, taken_in, bytes_in, file_in, got_in, length_in, names_in}
-use Rattle.cacache_calls.specs.Common.{ends_with, fails, errand_step}
-use Rattle.cacache_calls.specs.Inserting.{insertion, deletion, unless_refused, refused_cause, bucket_line, after_append}
-use Rattle.cacache_calls.specs.Storing.{insertion_of, indexed, sized, matches, compared, placed, write_rest, after_write, after_confirm}
-use Rattle.cacache_calls.specs.Linking.{target_of, after_size, after_read}
-use Rattle.cacache_calls.specs.Table.{wants, after, opening}
-use Rattle.cacache_calls.proofs.Branches.{cond_leads, go_on_leads}
-use Rattle.cacache_laws.specs.Acts.{Act, PutBytes, PutLink}
-use Rattle.cacache_laws.proofs.Shows.{apply_answer}
+use Rattle.cacache_table.specs.StepPaths.{content_path}
+use Rattle.cacache_table.specs.ContentReads.{checked, is_there, is_absent}
+use Rattle.cacache_table.specs.Exporting.{export_from, export_content, export, verified, counted}
+use Rattle.cacache_table.specs.Looking.{found_in, found_content, found_for, after_bucket, no_bucket}
+use Rattle.cacache_table.specs.Walking.{most, failed, give, miss, walk_on, tasks_of, leaving, too_many, entered, unread_bucket, listed, visit_step, after_visit, items_in}
+use Rattle.cacache_table.specs.State.{State, doing, creating, writing, persisting, linking, confirming, appending, looking, reading, asking, sizing, opening_file, hashing, copying, walking, over, Site, Commit, Insertion, Aim, to_report, to_read, to_export, to_remove, Lookup, Content, to_verify, to_link, Errand, make_folder, remove, reflink, hard_link, Item, Visit, enter, read_bucket, remove_file, remove_folder, Task, visit, stumble, Walk}
+use Rattle.cacache_table.specs.Answers.{done_in, temp_in, written_in, there_in, taken_in, bytes_in, file_in, got_in, length_in, names_in}
+use Rattle.cacache_table.specs.Common.{ends_with, fails, errand_step}
+use Rattle.cacache_table.specs.Inserting.{insertion, deletion, unless_refused, refused_cause, bucket_line, after_append}
+use Rattle.cacache_table.specs.Storing.{insertion_of, indexed, sized, matches, compared, placed, write_rest, after_write, after_confirm}
+use Rattle.cacache_table.specs.Linking.{link_target, after_size, after_read}
+use Rattle.cacache_table.specs.Table.{wants, after, opening}
+use Rattle.cacache_table.proofs.Branches.{cond_leads, go_on_leads}
+use Rattle.cacache_value.specs.Acts.{Act, PutBytes, PutLink}
+use Rattle.cacache_value.proofs.Shows.{apply_answer}
+use Rattle.cacache_table.proofs.Sound.{some_is}
 
 -- what a call makes a content of: bytes, and the path where they go; or a link to a target
 pub data Own : Type 0 where
@@ -52,7 +53,7 @@ pub data Own : Type 0 where
 -- other calls than a put or a link make none
 abbrev pub own_of : Site → Command → Own
 own_of site (commands.Put p) = own_bytes p.data (content_path site.cache (integrity_under p.options.algorithm p.data))
-own_of site (commands.Link l) = own_link (target_of site l).path
+own_of site (commands.Link l) = own_link (link_target site l).path
 own_of site command = own_bytes [] []
 
 -- how it becomes the content at a path
@@ -98,9 +99,6 @@ Makes own step = Unit {0}
 
 -- ---- the step of a state
 
-wanted : (P : PlainStep → Type 0) (a b : PlainStep) → Some a ≡ Some b → P a → P b
-wanted P a b e h = let same : a ≡ b = cc in subst P same h
-
 errand_makes : (own : Own) (errand : Errand) → Makes own (errand_step errand)
 errand_makes own (make_folder path) = tt
 errand_makes own (remove path) = tt
@@ -114,23 +112,23 @@ visit_makes own (remove_file p) = tt
 visit_makes own (remove_folder p) = tt
 
 pub carries_makes : (own : Own) (s : State) (step : PlainStep) → Carries own s → wants s ≡ Some step → Makes own step
-carries_makes own (doing errand s) step h w = wanted (Makes own) _ step w (errand_makes own errand)
-carries_makes own (creating number c rest) step h w = wanted (Makes own) _ step w tt
-carries_makes own (writing c file rest) step h w = wanted (Makes own) (steps.Write file rest) step w tt
-carries_makes own (persisting c file) step h w = wanted (Makes own) _ step w h
-carries_makes own (linking c target) step h w = wanted (Makes own) _ step w h
-carries_makes own (confirming c fault) step h w = wanted (Makes own) _ step w tt
-carries_makes own (appending i) step h w = wanted (Makes own) _ step w tt
-carries_makes own (sizing t) step h w = wanted (Makes own) (steps.Size t.path) step w tt
-carries_makes own (opening_file (to_link t)) step h w = wanted (Makes own) (steps.Open t.path) step w tt
-carries_makes own (hashing (to_link t) file bytes) step h w = wanted (Makes own) _ step w tt
-carries_makes own (looking l) step h w = wanted (Makes own) _ step w tt
-carries_makes own (reading k) step h w = wanted (Makes own) _ step w tt
-carries_makes own (asking k) step h w = wanted (Makes own) _ step w tt
-carries_makes own (opening_file (to_verify k e)) step h w = wanted (Makes own) (steps.Open (content_path k.cache k.integrity)) step w tt
-carries_makes own (hashing (to_verify k e) file bytes) step h w = wanted (Makes own) _ step w tt
-carries_makes own (copying from to verified) step h w = wanted (Makes own) _ step w tt
-carries_makes own (walking w v todo) step h e = wanted (Makes own) _ step e (visit_makes own v)
+carries_makes own (doing errand s) step h w = some_is (Makes own) _ step w (errand_makes own errand)
+carries_makes own (creating number c rest) step h w = some_is (Makes own) _ step w tt
+carries_makes own (writing c file rest) step h w = some_is (Makes own) (steps.Write file rest) step w tt
+carries_makes own (persisting c file) step h w = some_is (Makes own) _ step w h
+carries_makes own (linking c target) step h w = some_is (Makes own) _ step w h
+carries_makes own (confirming c fault) step h w = some_is (Makes own) _ step w tt
+carries_makes own (appending i) step h w = some_is (Makes own) _ step w tt
+carries_makes own (sizing t) step h w = some_is (Makes own) (steps.Size t.path) step w tt
+carries_makes own (opening_file (to_link t)) step h w = some_is (Makes own) (steps.Open t.path) step w tt
+carries_makes own (hashing (to_link t) file bytes) step h w = some_is (Makes own) _ step w tt
+carries_makes own (looking l) step h w = some_is (Makes own) _ step w tt
+carries_makes own (reading k) step h w = some_is (Makes own) _ step w tt
+carries_makes own (asking k) step h w = some_is (Makes own) _ step w tt
+carries_makes own (opening_file (to_verify k e)) step h w = some_is (Makes own) (steps.Open (content_path k.cache k.integrity)) step w tt
+carries_makes own (hashing (to_verify k e) file bytes) step h w = some_is (Makes own) _ step w tt
+carries_makes own (copying from to verified) step h w = some_is (Makes own) _ step w tt
+carries_makes own (walking w v todo) step h e = some_is (Makes own) _ step e (visit_makes own v)
 carries_makes own (over reply) step h w = absurd cc
 
 -- ---- answers of the disk
@@ -213,7 +211,7 @@ module _ (own : Own) where
   founds l to_read None = tt
   founds l to_read (Some f) = tt
   founds l (to_export e) None = tt
-  founds l (to_export e) (Some f) = exports (content_of l f) e
+  founds l (to_export e) (Some f) = exports (found_content l f) e
 
   unfound : (l : Lookup) (fault : Fault) → Carries own (no_bucket l fault)
   unfound l faults.NotFound = founds l l.aim None
@@ -257,7 +255,7 @@ module _ (own : Own) where
     Goes s step = a ≡ (apply t step luck).0 → Carries own (after s a)
 
     to_wanted : (s : State) (asked step : PlainStep) → Some asked ≡ Some step → Goes s asked → Goes s step
-    to_wanted s asked step w h = wanted (Goes s) asked step w h
+    to_wanted s asked step w h = some_is (Goes s) asked step w h
 
     creates : (number : ℕ) (c : Commit) (rest path : List ℕ) → GoesTo own c → AreBytes own rest → Goes (creating number c rest) (steps.CreateTemp path)
     unfolding Goes

@@ -3,27 +3,28 @@ use Rattle.std.proofs.Common.{◌≡◌, ◌⊎◌, inl, inr, ◌≤◌, ℕ, Bo
 use Rattle.std.proofs.lemmas.Bool.{leb-true, leb-false}
 use Rattle.cacache_core.specs.declared.errors.Fault.{Fault}
 use Rattle.cacache_core.specs.PathNames.{Names, names_of}
-use Rattle.cacache_base.specs.declared.store.plain.PlainTemp.{PlainTemp}
-use Rattle.cacache_base.specs.declared.store.step.Step.TheVariants as steps
-use Rattle.cacache_base.specs.declared.store.answer.Answer.TheVariants as answers
-use Rattle.cacache_base.specs.Plain.{PlainStep, PlainAnswer}
+use Rattle.cacache_store.specs.declared.store.plain.PlainTemp.{PlainTemp}
+use Rattle.cacache_store.specs.declared.store.step.Step.TheVariants as steps
+use Rattle.cacache_store.specs.declared.store.answer.Answer.TheVariants as answers
+use Rattle.cacache_store.specs.Plain.{PlainStep, PlainAnswer}
 use Rattle.cacache_disk.specs.declared.luck.Luck.{Luck}
 use Rattle.cacache_disk.specs.Tree.{Tree}
-use Rattle.cacache_disk.specs.Found.{place, leads, writable, free, replaceable, known, kept}
+use Rattle.cacache_disk.specs.LedTo.{place, leads, writable, free, replaceable, known, kept}
 use Rattle.cacache_disk.specs.Apply.{apply, unless}
 use Rattle.cacache_entry.specs.Entry.{Entry, line_of}
 use Rattle.cacache_entry.specs.Bucket.{entries_of}
-use Rattle.cacache_entry.specs.Fits.{IsEntry, Fits}
-use Rattle.cacache_calls.specs.Effects.{Effect, stored, sent, changed, effect, effects_of, TookAll}
-use Rattle.cacache_laws.specs.Acts.{PutBytes, PutLink, AddEntries, MakeFolders, act_at, act_with, folders_left, amount_left, act_of}
-use Rattle.cacache_laws.proofs.Lines.{whole_line, torn_line}
-use Rattle.cacache_laws.proofs.Shows.{apply_answer}
+use Rattle.cacache_entry.specs.FittingEntries.{IsEntry, IsWritable}
+use Rattle.cacache_table.specs.Effects.{Effect, stored, sent, changed, effect, effects_of, TookAll}
+use Rattle.cacache_value.specs.Acts.{PutBytes, PutLink, AddEntries, MakeFolders, act_at, act_with, folders_left, amount_left, act_of}
+use Rattle.cacache_value.proofs.AppendedLines.{whole_line, torn_line}
+use Rattle.cacache_value.proofs.Shows.{apply_answer}
 use Rattle.cacache_history.specs.Setup.{Setup}
 use Rattle.cacache_history.specs.History.{Turn}
 use Rattle.cacache_history.specs.Turns.{made_in, EachTurn}
 use Rattle.cacache_history.specs.Commits.{Deed, does, finds, deeds_of_act, finds_in, deeds}
 use Rattle.cacache_history.proofs.Carrying.{Own, own_bytes, own_link, put_own, Holds, IsTarget, Makes}
 use Rattle.cacache_history.proofs.Holding.{TurnsHold}
+use Rattle.cacache_value.proofs.FoundPaths.{unreachable}
 
 -- ---- steps on texts that name nothing fail
 
@@ -39,10 +40,6 @@ no_place : (t : Tree) (path : List ℕ) (fault : Fault) → names_of path ≡ Er
 unfolding place
 no_place t path fault e = rw e refl
 
-no_append : (t : Tree) (path : List ℕ) (fault : Fault) → names_of path ≡ Err fault → writable t path ≡ Err fault
-unfolding writable leads
-no_append t path fault e = rw (no_place t path fault e) refl
-
 no_persist : (t : Tree) (path : List ℕ) (fault : Fault) → names_of path ≡ Err fault → replaceable t path ≡ Err fault
 unfolding replaceable
 no_persist t path fault e = rw (no_place t path fault e) refl
@@ -53,7 +50,7 @@ no_link t path fault e = rw (no_place t path fault e) refl
 
 module _ (t : Tree) (path : List ℕ) (luck : Luck) (fault : Fault) (e : names_of path ≡ Err fault) where
   append_fails : (bytes : List ℕ) → IsFailed (apply t (steps.Append path bytes) luck).0
-  append_fails bytes = apply_answer IsFailed (λ other. tt) t (steps.Append path bytes) luck (λ most. rw (no_append t path fault e) tt)
+  append_fails bytes = apply_answer IsFailed (λ other. tt) t (steps.Append path bytes) luck (λ most. rw (unreachable t path fault e) tt)
 
   persist_fails : (file : PlainTemp) → IsFailed (apply t (steps.Persist file path) luck).0
   persist_fails file =
@@ -77,7 +74,7 @@ SendsEntry path e a new =
     ⊎ ((names : Names) × (names_of path ≡ Ok names) × (new ≡ does (AddEntries names (e ∷ [])) ∷ []))
 
 abbrev pub SendsAt : List ℕ → List ℕ → PlainAnswer → List Deed → Type 0
-SendsAt path line a new = (e : Entry) → IsEntry e → Fits e → line ≡ line_of e → SendsEntry path e a new
+SendsAt path line a new = (e : Entry) → IsEntry e → IsWritable e → line ≡ line_of e → SendsEntry path e a new
 
 -- the deeds of these effects
 abbrev pub Realizes : Own → List Effect → List Deed → Type 0
@@ -96,7 +93,7 @@ took_left : (line : List ℕ) (luck : Luck) (a : PlainAnswer) → TookAll line a
 took_left line luck (answers.Took n) h = (n, refl, h)
 took_left line luck a h = absurd h
 
-module _ (path : List ℕ) (e : Entry) (formed : IsEntry e) (fits : Fits e) (luck : Luck) (a : PlainAnswer) where
+module _ (path : List ℕ) (e : Entry) (formed : IsEntry e) (fits : IsWritable e) (luck : Luck) (a : PlainAnswer) where
   -- what an append of the line did, where so much of it was left
   left_deeds : Names → Option ℕ → List Deed
   left_deeds names left = deeds_of_act (act_with left (λ count. AddEntries names (entries_of (take count (line_of e))))) ++ []

@@ -5,31 +5,31 @@ use Rattle.sha1.specs.Sha1.{sha1}
 use Rattle.cacache_core.specs.declared.errors.Fault.{Fault}
 use Rattle.cacache_core.specs.declared.integrity.digest.Hash.{Hash}
 use Rattle.cacache_core.specs.Integrity.{IsHash, IsIntegrity}
-use Rattle.cacache_base.specs.declared.store.step.Step.TheVariants as steps
-use Rattle.cacache_base.specs.declared.store.answer.Answer.TheVariants as answers
-use Rattle.cacache_base.specs.Plain.{PlainAnswer}
+use Rattle.cacache_store.specs.declared.store.step.Step.TheVariants as steps
+use Rattle.cacache_store.specs.declared.store.answer.Answer.TheVariants as answers
+use Rattle.cacache_store.specs.Plain.{PlainAnswer}
 use Rattle.cacache_disk.specs.Apply.{apply}
 use Rattle.cacache_entry.specs.Latest.{Found}
-use Rattle.cacache_calls.specs.declared.answers.Refusal.{Refusal}
-use Rattle.cacache_calls.specs.declared.reply.Reply.{Reply}
-use Rattle.cacache_calls.specs.Places.{bucket_path, content_path}
-use Rattle.cacache_calls.specs.Replies.{bucket_shown, lookup}
-use Rattle.cacache_laws.specs.Shows.{ShowsContent}
+use Rattle.cacache_table.specs.declared.answers.Refusal.{Refusal}
+use Rattle.cacache_table.specs.declared.reply.Reply.{Reply}
+use Rattle.cacache_table.specs.StepPaths.{bucket_path, content_path}
+use Rattle.cacache_table.specs.Replies.{bucket_shown, lookup}
+use Rattle.cacache_value.specs.Shows.{ShowsContent}
 use Rattle.cacache_history.specs.Setup.{Setup}
 use Rattle.cacache_history.specs.History.{Turn}
 use Rattle.cacache_history.specs.Turns.{made_in}
-use Rattle.cacache_history.specs.Reading.{entries_at, bucket_read}
+use Rattle.cacache_history.specs.ShownTurns.{entries_at, bucket_read}
 use Rattle.cacache_history.proofs.Holding.{TurnHolds, TurnsHold}
-use Rattle.cacache_base.specs.declared.store.plain.PlainFile.{PlainFile}
-use Rattle.cacache_calls.specs.declared.command.Source.{Source}
-use Rattle.cacache_calls.specs.declared.command.Source.TheVariants as sources
-use Rattle.cacache_calls.specs.Verifying.{Verifies, VerifiesContent}
+use Rattle.cacache_store.specs.declared.store.plain.PlainFile.{PlainFile}
+use Rattle.cacache_table.specs.declared.command.Source.{Source}
+use Rattle.cacache_table.specs.declared.command.Source.TheVariants as sources
+use Rattle.cacache_table.specs.Verifying.{Verifies, VerifiesContent}
 use Rattle.cacache_history.specs.History.{NamesSource}
-use Rattle.cacache_laws.specs.Shows.{blob_bytes}
-use Rattle.cacache_history.specs.Reading.{content_at}
-use Rattle.cacache_history.specs.Replies.{VerifiesHeld, ExportsHeld}
-use Rattle.cacache_history.proofs.Opening.{EachAsks, OnDisks, gives_all}
-use Rattle.cacache_history.proofs.Reading.{bucket_below, content_below, shows, bucket_at_turn, first_turn, FoundHas, bucket_has}
+use Rattle.cacache_value.specs.Shows.{blob_bytes}
+use Rattle.cacache_history.specs.ShownTurns.{content_at}
+use Rattle.cacache_history.specs.TurnReplies.{VerifiesHeld, ExportsHeld}
+use Rattle.cacache_history.proofs.OpenedContents.{EachAsks, OnDisks, gives_all}
+use Rattle.cacache_history.proofs.ShownTurns.{bucket_below, content_below, shows, bucket_at_turn, first_turn, FoundHas, bucket_has}
 
 found_integrity : (s : Setup) (found : Found) (r : Result (Option Found) Refusal) → r ≡ Ok (Some found) → FoundHas s r → IsIntegrity found.integrity
 found_integrity s found r e h = let same : FoundHas s (Ok (Some found)) = subst (FoundHas s) e h in same

@@ -6,22 +6,22 @@ use Rattle.std.proofs.lemmas.List.Elements.{All-nil, All-cons, All-append}
 use Rattle.cacache_core.specs.declared.errors.Fault.{Fault}
 use Rattle.cacache_core.specs.Paths.{bucket_names_of}
 use Rattle.cacache_core.specs.PathNames.{Names, names_of}
-use Rattle.cacache_base.specs.declared.store.step.Step.TheVariants as steps
-use Rattle.cacache_base.specs.declared.store.answer.Answer.TheVariants as answers
-use Rattle.cacache_base.specs.Plain.{PlainStep, PlainAnswer}
+use Rattle.cacache_store.specs.declared.store.step.Step.TheVariants as steps
+use Rattle.cacache_store.specs.declared.store.answer.Answer.TheVariants as answers
+use Rattle.cacache_store.specs.Plain.{PlainStep, PlainAnswer}
 use Rattle.cacache_disk.specs.declared.luck.Luck.{Luck}
 use Rattle.cacache_disk.specs.Tree.{Tree}
 use Rattle.cacache_disk.specs.Apply.{apply}
 use Rattle.cacache_entry.specs.Entry.{Entry, line_of}
 use Rattle.cacache_entry.specs.Bucket.{entries_of}
-use Rattle.cacache_entry.specs.Fits.{IsEntry}
-use Rattle.cacache_laws.specs.Kinds.{is_path_of}
-use Rattle.cacache_laws.specs.Value.{Value, wide_value}
-use Rattle.cacache_laws.specs.Acts.{Act, Nothing, PutBytes, PutLink, AddEntries, Drop, MakeFolders, DropFolder, act_at, act_with, act_if_done, folders_left, amount_left, act_of, change, list_of}
-use Rattle.cacache_laws.specs.Placed.{IsLine, Placed, Proper}
-use Rattle.cacache_laws.specs.Opening.{IsOpening}
-use Rattle.cacache_laws.proofs.Lines.{whole_line, torn_line}
-use Rattle.cacache_laws.proofs.Traces.{steps_act}
+use Rattle.cacache_entry.specs.FittingEntries.{IsEntry}
+use Rattle.cacache_value.specs.Kinds.{is_path_of}
+use Rattle.cacache_value.specs.Value.{Value, wide_value}
+use Rattle.cacache_value.specs.Acts.{Act, Nothing, PutBytes, PutLink, AddEntries, Drop, MakeFolders, DropFolder, act_at, act_with, act_if_done, folders_left, amount_left, act_of, change, list_of}
+use Rattle.cacache_value.specs.Placed.{IsEntryLine, Placed, Proper}
+use Rattle.cacache_value.specs.OpeningTrees.{IsOpening}
+use Rattle.cacache_value.proofs.AppendedLines.{whole_line, torn_line}
+use Rattle.cacache_value.proofs.Traces.{steps_act}
 
 abbrev pub Formed : (List ℕ → Option (List Entry)) → Type 0
 Formed buckets = (digest : List ℕ) → All IsEntry (list_of (buckets digest))
@@ -62,13 +62,13 @@ done_formed : (a : PlainAnswer) (act : Act) → AddsFormed act → AddsFormed (a
 done_formed answers.Done act h = h
 done_formed other act h = tt
 
-left_formed : (e : Entry) (bytes : List ℕ) (line : IsLine bytes) (count : ℕ) (b : Bool) → nat_le (length (line_of line.entry)) count ≡ b → All IsEntry (entries_of (take count (line_of line.entry)))
+left_formed : (e : Entry) (bytes : List ℕ) (line : IsEntryLine bytes) (count : ℕ) (b : Bool) → nat_le (length (line_of line.entry)) count ≡ b → All IsEntry (entries_of (take count (line_of line.entry)))
 left_formed e bytes line count true is =
     subst (All IsEntry) (sym (whole_line line.entry count line.formed line.fits (leb-true _ _ is))) (All-cons IsEntry line.entry [] line.formed (All-nil IsEntry))
 left_formed e bytes line count false is =
     subst (All IsEntry) (sym (torn_line line.entry count line.formed line.fits (leb-false _ _ is))) (All-nil IsEntry)
 
-line_formed : (bytes : List ℕ) → IsLine bytes → (count : ℕ) → All IsEntry (entries_of (take count bytes))
+line_formed : (bytes : List ℕ) → IsEntryLine bytes → (count : ℕ) → All IsEntry (entries_of (take count bytes))
 line_formed bytes line count =
     subst (λ b. All IsEntry (entries_of (take count b))) (sym line.same) (left_formed line.entry bytes line count (nat_le (length (line_of line.entry)) count) refl)
 

@@ -1,26 +1,26 @@
 -- What holds at each place of a legal history.
 use Rattle.std.proofs.Common.{◌≡◌, ◌==◌, ℕ, Bool, true, false, cond, List, [], ◌∷◌, ◌++◌, Option, None, Some, option_map, refl, sym, ap, subst}
-use Rattle.cacache_base.specs.Fits.{Fits}
+use Rattle.cacache_store.specs.Fits.{Fits}
 use Rattle.cacache_disk.specs.declared.luck.Luck.{Luck}
 use Rattle.cacache_disk.specs.Tree.{Tree}
 use Rattle.cacache_disk.specs.Apply.{apply}
 use Rattle.cacache_disk.specs.Rooted.{Rooted}
-use Rattle.cacache_disk.proofs.Kept.{steps_keep_rooted}
-use Rattle.cacache_calls.specs.declared.command.Command.{Command}
-use Rattle.cacache_calls.specs.declared.reply.Reply.{Reply}
-use Rattle.cacache_calls.specs.Table.{after, opening}
-use Rattle.cacache_calls.specs.Runs.{Goes}
-use Rattle.cacache_calls.specs.Sound.{Sound, MayBegin}
-use Rattle.cacache_calls.proofs.Going.{goes_on}
-use Rattle.cacache_calls.proofs.Sound.{begins_sound, stays_sound}
-use Rattle.cacache_laws.specs.Placed.{Placed, Proper}
-use Rattle.cacache_laws.specs.Opening.{LieApart, IsOpening}
-use Rattle.cacache_laws.proofs.Opening.{files_open}
-use Rattle.cacache_laws.proofs.Traces.{steps_keep_placed}
+use Rattle.cacache_disk.proofs.KeptFolders.{steps_keep_rooted}
+use Rattle.cacache_table.specs.declared.command.Command.{Command}
+use Rattle.cacache_table.specs.declared.reply.Reply.{Reply}
+use Rattle.cacache_table.specs.Table.{after, opening}
+use Rattle.cacache_table.specs.Runs.{Goes}
+use Rattle.cacache_table.specs.Sound.{Sound, MayBegin}
+use Rattle.cacache_table.proofs.Going.{goes_on}
+use Rattle.cacache_table.proofs.Sound.{begins_sound, stays_sound}
+use Rattle.cacache_value.specs.Placed.{Placed, Proper}
+use Rattle.cacache_value.specs.OpeningTrees.{LieApart, IsOpening}
+use Rattle.cacache_value.proofs.OpeningTrees.{files_open}
+use Rattle.cacache_value.proofs.Traces.{steps_keep_placed}
 use Rattle.cacache_history.specs.declared.record.Record.{Record}
 use Rattle.cacache_history.specs.declared.record.Record.TheVariants.{Began, Moved, Stopped}
-use Rattle.cacache_history.specs.Setup.{Setup, site_of, home, may_export, is_outside}
-use Rattle.cacache_history.specs.History.{Turn, Call, Now, History, Made, first, begins, turn_of, moved, unless_over, moved_tree, next, replay, now_at, NamesIntegrity, MayMove, MayCome, Legal, IsLegal}
+use Rattle.cacache_history.specs.Setup.{Setup, call_site, home, may_export, is_outside}
+use Rattle.cacache_history.specs.History.{Turn, Call, Now, History, Made, first, begins, turn_of, moved, unless_over, moved_tree, next, replayed, now_at, NamesIntegrity, MayMove, MayCome, Legal, IsLegal}
 use Rattle.cacache_history.specs.Turns.{made_in, EachTurn}
 use Rattle.cacache_history.proofs.Carrying.{own_of, Carries, Makes, opening_carries, carries_makes, carries_on}
 use Rattle.cacache_history.proofs.Proper.{sound_proper}
@@ -41,13 +41,13 @@ TurnsHold s (turn ∷ turns) = TurnHolds s turn × TurnsHold s turns
 
 -- the turns took the call from its opening to its state, which is sound
 pub record CallHolds (s : Setup) (call : Call) : Type 0 where
-  pub may : MayBegin (site_of s call.number) (may_export s) (is_outside s) call.command
+  pub may : MayBegin (call_site s call.number) (may_export s) (is_outside s) call.command
   pub named : NamesIntegrity call.command
-  pub goes : Goes (opening (site_of s call.number) call.command) (made_in call.turns) call.state
-  pub sound : Sound (site_of s call.number) (may_export s) (is_outside s) call.state
+  pub goes : Goes (opening (call_site s call.number) call.command) (made_in call.turns) call.state
+  pub sound : Sound (call_site s call.number) (may_export s) (is_outside s) call.state
   pub turns : TurnsHold s call.turns
-  pub carries : Carries (own_of (site_of s call.number) call.command) call.state
-  pub makes : EachTurn (λ turn. Makes (own_of (site_of s call.number) call.command) turn.move.step) call.turns
+  pub carries : Carries (own_of (call_site s call.number) call.command) call.state
+  pub makes : EachTurn (λ turn. Makes (own_of (call_site s call.number) call.command) turn.move.step) call.turns
 
 abbrev pub CallAt : Setup → Option Call → Type 0
 CallAt s None = Unit {0}
@@ -62,14 +62,14 @@ pub record AllHold (s : Setup) (w : Now) : Type 0 where
 
 -- ---- a call
 
-pub begins_hold : (s : Setup) (n : ℕ) (command : Command) → MayBegin (site_of s n) (may_export s) (is_outside s) command → NamesIntegrity command → CallHolds s (begins s n command)
+pub begins_hold : (s : Setup) (n : ℕ) (command : Command) → MayBegin (call_site s n) (may_export s) (is_outside s) command → NamesIntegrity command → CallHolds s (begins s n command)
 begins_hold s n command may named = record {
   may = may;
   named = named;
   goes = refl;
-  sound = begins_sound (site_of s n) (may_export s) (is_outside s) command may;
+  sound = begins_sound (call_site s n) (may_export s) (is_outside s) command may;
   turns = tt;
-  carries = opening_carries (site_of s n) command;
+  carries = opening_carries (call_site s n) command;
   makes = tt;
 }
 
@@ -93,13 +93,13 @@ module _ (s : Setup) (w : Now) (h : AllHold s w) (luck : Luck) where
   moved_holds (Some made) reply call mine may = record {
     may = mine.may;
     named = mine.named;
-    goes = subst (λ moves. Goes (opening (site_of s call.number) call.command) moves (after call.state made.1)) (sym (made_more call.turns (turn_of w.tree luck made)))
-        (goes_on (opening (site_of s call.number) call.command) (made_in call.turns) call.state made.0 made.1 mine.goes may.0 may.2);
-    sound = stays_sound (site_of s call.number) (may_export s) (is_outside s) call.state made.0 made.1 mine.sound may.0 may.2;
+    goes = subst (λ moves. Goes (opening (call_site s call.number) call.command) moves (after call.state made.1)) (sym (made_more call.turns (turn_of w.tree luck made)))
+        (goes_on (opening (call_site s call.number) call.command) (made_in call.turns) call.state made.0 made.1 mine.goes may.0 may.2);
+    sound = stays_sound (call_site s call.number) (may_export s) (is_outside s) call.state made.0 made.1 mine.sound may.0 may.2;
     turns = turns_more s call.turns (turn_of w.tree luck made) mine.turns (record { placed = h.placed; rooted = h.rooted; formed = h.formed; answered = may.1; fits = may.2 });
-    carries = carries_on (own_of (site_of s call.number) call.command) w.tree luck made.1 call.state made.0 mine.carries may.0 may.1;
-    makes = each_more (λ turn. Makes (own_of (site_of s call.number) call.command) turn.move.step) call.turns (turn_of w.tree luck made) mine.makes
-        (carries_makes (own_of (site_of s call.number) call.command) call.state made.0 mine.carries may.0);
+    carries = carries_on (own_of (call_site s call.number) call.command) w.tree luck made.1 call.state made.0 mine.carries may.0 may.1;
+    makes = each_more (λ turn. Makes (own_of (call_site s call.number) call.command) turn.move.step) call.turns (turn_of w.tree luck made) mine.makes
+        (carries_makes (own_of (call_site s call.number) call.command) call.state made.0 mine.carries may.0);
   }
 
 -- ---- any record
@@ -129,7 +129,7 @@ module _ (s : Setup) (apart : LieApart (home s) s.outside) where
   tree_holds w luck None reply call h mine may = (h.placed, h.rooted, h.formed, h.right)
   tree_holds w luck (Some made) reply call h mine may =
       let proper = made_proper w.tree luck made reply call mine may in
-      let makes = carries_makes (own_of (site_of s call.number) call.command) call.state made.0 mine.carries may.0 in (
+      let makes = carries_makes (own_of (call_site s call.number) call.command) call.state made.0 mine.carries may.0 in (
         steps_keep_placed (home s) w.tree made.0 luck h.placed proper,
         steps_keep_rooted w.tree made.0 luck h.rooted,
         step_formed (home s) w.tree made.0 luck h.placed proper h.formed,
@@ -168,7 +168,7 @@ module _ (s : Setup) (apart : LieApart (home s) s.outside) where
     calls = λ k. set_at (CallAt s) (k == caller) None (w.calls k) tt (h.calls k);
   }
 
-  pub all_hold : (w : Now) (records : List Record) → Legal s w records → AllHold s w → AllHold s (replay s w records)
+  pub all_hold : (w : Now) (records : List Record) → Legal s w records → AllHold s w → AllHold s (replayed s w records)
   all_hold w [] legal h = h
   all_hold w (r ∷ records) legal h = all_hold (next s w r) records legal.1 (next_holds w r legal.0 h)
 
@@ -188,11 +188,11 @@ pub legal_front : (s : Setup) (w : Now) (before later : List Record) → Legal s
 legal_front s w [] later legal = tt
 legal_front s w (r ∷ before) later legal = (legal.0, legal_front s (next s w r) before later legal.1)
 
-pub legal_rest : (s : Setup) (w : Now) (before later : List Record) → Legal s w (before ++ later) → Legal s (replay s w before) later
+pub legal_rest : (s : Setup) (w : Now) (before later : List Record) → Legal s w (before ++ later) → Legal s (replayed s w before) later
 legal_rest s w [] later legal = legal
 legal_rest s w (r ∷ before) later legal = legal_rest s (next s w r) before later legal.1
 
-pub replay_more : (s : Setup) (w : Now) (before more : List Record) → replay s w (before ++ more) ≡ replay s (replay s w before) more
+pub replay_more : (s : Setup) (w : Now) (before more : List Record) → replayed s w (before ++ more) ≡ replayed s (replayed s w before) more
 replay_more s w [] more = refl
 replay_more s w (r ∷ before) more = replay_more s (next s w r) before more
 

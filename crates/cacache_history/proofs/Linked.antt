@@ -4,30 +4,30 @@ use Rattle.std.proofs.lemmas.Bool.{eqb-true}
 use Rattle.std.proofs.lemmas.Option.{same_Some}
 use Rattle.cacache_core.specs.declared.errors.Fault.TheVariants as faults
 use Rattle.cacache_core.specs.declared.errors.Error.{Error}
-use Rattle.cacache_base.specs.declared.store.plain.PlainFile.{PlainFile}
-use Rattle.cacache_base.specs.declared.store.plain.PlainTemp.{PlainTemp}
-use Rattle.cacache_base.specs.declared.store.step.Step.TheVariants as steps
-use Rattle.cacache_base.specs.declared.store.answer.Answer.TheVariants as answers
-use Rattle.cacache_base.specs.Fits.{Fits}
-use Rattle.cacache_base.specs.Plain.{PlainAnswer}
-use Rattle.cacache_calls.specs.declared.answers.Refusal.{Refusal}
-use Rattle.cacache_calls.specs.declared.answers.Refusal.TheVariants as refusals
-use Rattle.cacache_calls.specs.declared.command.Command.TheVariants as commands
-use Rattle.cacache_calls.specs.declared.command.Link.{Link}
-use Rattle.cacache_calls.specs.declared.command.Put.{Put}
-use Rattle.cacache_calls.specs.declared.reply.Reply.{Reply}
-use Rattle.cacache_calls.specs.declared.reply.Reply.TheVariants.{Refused}
-use Rattle.cacache_calls.specs.Answers.{done_in, file_in, got_in, length_in}
-use Rattle.cacache_calls.specs.Common.{fails, refuse, go_on}
-use Rattle.cacache_calls.specs.Effects.{effect, effects_of, IsRefused, DoesNothing, Commits}
-use Rattle.cacache_calls.specs.Linking.{target_of, with_size, after_size, commit_for, after_read}
-use Rattle.cacache_calls.specs.Places.{temp_path, temp_folder, content_path}
-use Rattle.cacache_calls.specs.Runs.{Moves, Runs}
-use Rattle.cacache_calls.specs.State.{State, persisting, linking, confirming, sizing, opening_file, hashing, over, Site, Commit, Target, to_link}
-use Rattle.cacache_calls.specs.Storing.{placed, persist, link, write_rest}
-use Rattle.cacache_calls.specs.Table.{piece, opening}
-use Rattle.cacache_calls.specs.Verifying.{Gives, ReadsWhole}
-use Rattle.cacache_calls.proofs.Effects.{puts_commit}
+use Rattle.cacache_store.specs.declared.store.plain.PlainFile.{PlainFile}
+use Rattle.cacache_store.specs.declared.store.plain.PlainTemp.{PlainTemp}
+use Rattle.cacache_store.specs.declared.store.step.Step.TheVariants as steps
+use Rattle.cacache_store.specs.declared.store.answer.Answer.TheVariants as answers
+use Rattle.cacache_store.specs.Fits.{Fits}
+use Rattle.cacache_store.specs.Plain.{PlainAnswer}
+use Rattle.cacache_table.specs.declared.answers.Refusal.{Refusal}
+use Rattle.cacache_table.specs.declared.answers.Refusal.TheVariants as refusals
+use Rattle.cacache_table.specs.declared.command.Command.TheVariants as commands
+use Rattle.cacache_table.specs.declared.command.Link.{Link}
+use Rattle.cacache_table.specs.declared.command.Put.{Put}
+use Rattle.cacache_table.specs.declared.reply.Reply.{Reply}
+use Rattle.cacache_table.specs.declared.reply.Reply.TheVariants.{Refused}
+use Rattle.cacache_table.specs.Answers.{done_in, file_in, got_in, length_in}
+use Rattle.cacache_table.specs.Common.{fails, refuse, go_on}
+use Rattle.cacache_table.specs.Effects.{effect, effects_of, IsRefused, DoesNothing, Commits}
+use Rattle.cacache_table.specs.Linking.{link_target, with_size, after_size, commit_for, after_read}
+use Rattle.cacache_table.specs.StepPaths.{temp_path, temp_folder, content_path}
+use Rattle.cacache_table.specs.Runs.{Moves, Runs}
+use Rattle.cacache_table.specs.State.{State, persisting, linking, confirming, sizing, opening_file, hashing, over, Site, Commit, Target, to_link}
+use Rattle.cacache_table.specs.Storing.{placed, persist, link, write_rest}
+use Rattle.cacache_table.specs.Table.{piece, opening}
+use Rattle.cacache_table.specs.Verifying.{Gives, ReadsWhole}
+use Rattle.cacache_table.proofs.Effects.{puts_commit}
 use Rattle.cacache_history.specs.Commits.{ReadsTarget}
 
 -- ---- from the link on, a call goes as a put
@@ -191,5 +191,5 @@ sizes r t ((a, x) ∷ moves) run =
     by_answer x fits run = absurd fits
 
 pub links_read : (site : Site) (l : Link) (moves : Moves) (r : Reply) → Runs (opening site (commands.Link l)) moves r
-    → DoesNothing (effects_of moves) r ⊎ ReadsTarget (target_of site l).path (CommitsOf r (target_of site l) moves) moves
-links_read site l moves r run = sizes r (target_of site l) moves run
+    → DoesNothing (effects_of moves) r ⊎ ReadsTarget (link_target site l).path (CommitsOf r (link_target site l) moves) moves
+links_read site l moves r run = sizes r (link_target site l) moves run

@@ -7,35 +7,35 @@ use Rattle.cacache_core.specs.declared.errors.Fault.TheVariants as faults
 use Rattle.cacache_core.specs.PathNames.{Names, names_of, names_below, IsProperName}
 use Rattle.cacache_core.specs.Paths.{join, joined}
 use Rattle.cacache_core.proofs.JoinedNames.{joined_texts_name}
-use Rattle.cacache_base.specs.declared.store.answer.Kind.{Kind}
-use Rattle.cacache_base.specs.declared.store.answer.Kind.TheVariants as kinds
-use Rattle.cacache_base.specs.declared.store.answer.Name.{Name}
-use Rattle.cacache_base.specs.declared.store.step.Step.TheVariants as steps
-use Rattle.cacache_base.specs.Plain.{PlainStep}
-use Rattle.cacache_base.specs.Fits.{Fits, AreProperNames}
+use Rattle.cacache_store.specs.declared.store.answer.Kind.{Kind}
+use Rattle.cacache_store.specs.declared.store.answer.Kind.TheVariants as kinds
+use Rattle.cacache_store.specs.declared.store.answer.Name.{Name}
+use Rattle.cacache_store.specs.declared.store.step.Step.TheVariants as steps
+use Rattle.cacache_store.specs.Plain.{PlainStep}
+use Rattle.cacache_store.specs.Fits.{Fits, AreProperNames}
 use Rattle.cacache_disk.specs.Apply.{apply}
-use Rattle.cacache_calls.specs.declared.answers.Refusal.{Refusal}
-use Rattle.cacache_calls.specs.declared.answers.Refusal.TheVariants as refusals
-use Rattle.cacache_calls.specs.declared.command.Command.TheVariants as commands
-use Rattle.cacache_calls.specs.declared.reply.Reply.{Reply}
-use Rattle.cacache_calls.specs.declared.reply.Reply.TheVariants.{Listed, Done}
-use Rattle.cacache_calls.specs.Answers.{bytes_in, names_in}
-use Rattle.cacache_calls.specs.Common.{fails, go_on}
-use Rattle.cacache_calls.specs.Listing.{too_deep}
-use Rattle.cacache_calls.specs.Runs.{Runs}
-use Rattle.cacache_calls.specs.State.{State, walking, over, Item, Visit, enter, read_bucket, remove_file, remove_folder, Task, visit, stumble, Walk}
-use Rattle.cacache_calls.specs.Table.{wants, after, opening}
-use Rattle.cacache_calls.specs.Walking.{most, failed, give, miss, walk_on, task_of, tasks_of, leaving, too_many, entered, unread_bucket, listed, items_in, visit_step, after_visit}
-use Rattle.cacache_calls.proofs.Branches.{cond_leads}
-use Rattle.cacache_history.specs.Setup.{Setup, site_of, home}
+use Rattle.cacache_table.specs.declared.answers.Refusal.{Refusal}
+use Rattle.cacache_table.specs.declared.answers.Refusal.TheVariants as refusals
+use Rattle.cacache_table.specs.declared.command.Command.TheVariants as commands
+use Rattle.cacache_table.specs.declared.reply.Reply.{Reply}
+use Rattle.cacache_table.specs.declared.reply.Reply.TheVariants.{Listed, Done}
+use Rattle.cacache_table.specs.Answers.{bytes_in, names_in}
+use Rattle.cacache_table.specs.Common.{fails, go_on}
+use Rattle.cacache_table.specs.ListReplies.{too_deep}
+use Rattle.cacache_table.specs.Runs.{Runs}
+use Rattle.cacache_table.specs.State.{State, walking, over, Item, Visit, enter, read_bucket, remove_file, remove_folder, Task, visit, stumble, Walk}
+use Rattle.cacache_table.specs.Table.{wants, after, opening}
+use Rattle.cacache_table.specs.Walking.{most, failed, give, miss, walk_on, task_of, tasks_of, leaving, too_many, entered, unread_bucket, listed, items_in, visit_step, after_visit}
+use Rattle.cacache_table.proofs.Branches.{cond_leads}
+use Rattle.cacache_history.specs.Setup.{Setup, call_site, home}
 use Rattle.cacache_history.specs.History.{Turn}
 use Rattle.cacache_history.specs.Turns.{made_in, EachTurn}
 use Rattle.cacache_history.proofs.Holding.{TurnHolds, TurnsHold}
-use Rattle.cacache_history.specs.Listings.{IsIndexFolder, NoneTwice}
-use Rattle.cacache_history.proofs.Told.{AreDistinct, names_told, listing_distinct}
+use Rattle.cacache_history.specs.ListingTurns.{IsIndexFolder, NoneTwice}
+use Rattle.cacache_history.proofs.ToldFolders.{AreDistinct, names_told, listing_distinct}
 use Rattle.cacache_history.proofs.Bucketed.{KeyedTurn}
-use Rattle.cacache_history.proofs.Walks.{Visits, Tasks, tasks_append, no_leaving, folder_tasks, proper_names, below_is, child_named}
-use Rattle.cacache_history.proofs.Apart.{ApartAll, AllApart, children, children_apart, BelowSome, below_child, never_below, never_deeper}
+use Rattle.cacache_history.proofs.ListingWalks.{Visits, Tasks, tasks_append, no_leaving, folder_tasks, proper_names, below_is, child_named}
+use Rattle.cacache_history.proofs.ApartPaths.{ApartAll, AllApart, children, children_apart, BelowSome, below_child, never_below, never_deeper}
 
 -- ---- tasks and turns
 
@@ -263,18 +263,18 @@ module _ (s : Setup) where
     unread turn turns top w fault none holds is e (Err refusals.Memory) got h = ends [] turns h
 
     unnamed : (n : ℕ) (fault : Fault) (turns : List Turn) → names_of (join s.cache (codes "index-v5")) ≡ Err fault → TurnsHold s turns → EachTurn (KeyedTurn s) turns
-        → Runs (opening (site_of s n) commands.Ls) (made_in turns) r → NoneTwice turns
+        → Runs (opening (call_site s n) commands.Ls) (made_in turns) r → NoneTwice turns
     unnamed n fault [] none hold keyed run = tt
     unnamed n fault (turn ∷ turns) none hold keyed run =
         first_alone turn turns
         (unread turn turns (join s.cache (codes "index-v5")) (record { clears = false; items = []; left = most }) fault none hold.0 (some_same (steps.ReadDir (join s.cache (codes "index-v5"))) turn.move.step run.0) refl
-        (names_in turn.move.answer) refl (runs_rest (after (opening (site_of s n) commands.Ls) turn.move.answer) turns hold.1 keyed.1 run.2))
+        (names_in turn.move.answer) refl (runs_rest (after (opening (call_site s n) commands.Ls) turn.move.answer) turns hold.1 keyed.1 run.2))
 
-    pub none_twice : (n : ℕ) (turns : List Turn) → TurnsHold s turns → EachTurn (KeyedTurn s) turns → Runs (opening (site_of s n) commands.Ls) (made_in turns) r → NoneTwice turns
+    pub none_twice : (n : ℕ) (turns : List Turn) → TurnsHold s turns → EachTurn (KeyedTurn s) turns → Runs (opening (call_site s n) commands.Ls) (made_in turns) r → NoneTwice turns
     none_twice n turns hold keyed run = by (names_of (join s.cache (codes "index-v5"))) refl
       where
         by : (x : Result Names Fault) → names_of (join s.cache (codes "index-v5")) ≡ x → NoneTwice turns
         by (Ok q) is =
             let top : IsIndexFolder s (join s.cache (codes "index-v5")) = ([], All-nil IsProperName, omega arith, refl) in
-            (runs_rest (opening (site_of s n) commands.Ls) turns hold keyed run refl (top, ([], All-nil IsProperName, omega arith, refl, refl)) tt q [] is tt (tt, tt)).1
+            (runs_rest (opening (call_site s n) commands.Ls) turns hold keyed run refl (top, ([], All-nil IsProperName, omega arith, refl, refl)) tt q [] is tt (tt, tt)).1
         by (Err fault) is = unnamed n fault turns is hold keyed run

@@ -14,33 +14,33 @@ use Rattle.cacache_core.specs.PathNames.{Names, names_of, names_below}
 use Rattle.cacache_core.specs.Paths.{joined, bucket_names}
 use Rattle.cacache_core.proofs.PathLemmas.{keys_have_digests}
 use Rattle.cacache_core.proofs.PathTexts.{paths_differ}
-use Rattle.cacache_base.specs.declared.store.step.Step.TheVariants as steps
-use Rattle.cacache_base.specs.declared.store.answer.Answer.TheVariants as answers
-use Rattle.cacache_base.specs.Plain.{PlainStep, PlainAnswer}
+use Rattle.cacache_store.specs.declared.store.step.Step.TheVariants as steps
+use Rattle.cacache_store.specs.declared.store.answer.Answer.TheVariants as answers
+use Rattle.cacache_store.specs.Plain.{PlainStep, PlainAnswer}
 use Rattle.cacache_disk.specs.declared.luck.Luck.{Luck}
 use Rattle.cacache_disk.specs.Tree.{Tree}
 use Rattle.cacache_disk.specs.Apply.{apply}
 use Rattle.cacache_disk.proofs.Maps.{same_path-true}
 use Rattle.cacache_entry.specs.Entry.{Entry, line_of}
 use Rattle.cacache_entry.specs.Bucket.{entries_of}
-use Rattle.cacache_entry.specs.Fits.{IsEntry, Fits}
+use Rattle.cacache_entry.specs.FittingEntries.{IsEntry, IsWritable}
 use Rattle.cacache_entry.specs.Latest.{Found, found_of, answer_of_integrity, answer_of, after_entry, latest}
-use Rattle.cacache_calls.specs.declared.answers.Refusal.{Refusal}
-use Rattle.cacache_calls.specs.declared.answers.Refusal.TheVariants as refusals
-use Rattle.cacache_calls.specs.State.{Item}
-use Rattle.cacache_calls.specs.Walking.{once, items_of, failed}
-use Rattle.cacache_laws.specs.Kinds.{is_path_of}
-use Rattle.cacache_laws.specs.Value.{Value, wide_value}
-use Rattle.cacache_laws.specs.Acts.{Act, Nothing, PutBytes, PutLink, AddEntries, Drop, MakeFolders, DropFolder, act_at, act_with, act_if_done, folders_left, amount_left, act_of, change, list_of}
-use Rattle.cacache_laws.specs.Placed.{Placed, Proper}
-use Rattle.cacache_laws.specs.Opening.{IsOpening}
-use Rattle.cacache_laws.proofs.Lines.{whole_line, torn_line}
-use Rattle.cacache_laws.proofs.Traces.{steps_act}
+use Rattle.cacache_table.specs.declared.answers.Refusal.{Refusal}
+use Rattle.cacache_table.specs.declared.answers.Refusal.TheVariants as refusals
+use Rattle.cacache_table.specs.State.{Item}
+use Rattle.cacache_table.specs.Walking.{once, items_of, failed}
+use Rattle.cacache_value.specs.Kinds.{is_path_of}
+use Rattle.cacache_value.specs.Value.{Value, wide_value}
+use Rattle.cacache_value.specs.Acts.{Act, Nothing, PutBytes, PutLink, AddEntries, Drop, MakeFolders, DropFolder, act_at, act_with, act_if_done, folders_left, amount_left, act_of, change, list_of}
+use Rattle.cacache_value.specs.Placed.{Placed, Proper}
+use Rattle.cacache_value.specs.OpeningTrees.{IsOpening}
+use Rattle.cacache_value.proofs.AppendedLines.{whole_line, torn_line}
+use Rattle.cacache_value.proofs.Traces.{steps_act}
 use Rattle.cacache_history.specs.Setup.{Setup}
 use Rattle.cacache_history.specs.History.{Turn}
-use Rattle.cacache_history.specs.Reading.{entries_at, shown, by_entries}
+use Rattle.cacache_history.specs.ShownTurns.{entries_at, shown, by_entries}
 use Rattle.cacache_history.specs.Buckets.{HoldOwn}
-use Rattle.cacache_history.specs.Listings.{IsFound}
+use Rattle.cacache_history.specs.ListingTurns.{IsFound}
 
 -- an entry of this bucket
 abbrev pub OfBucket : List ℕ → Entry → Type 0
@@ -76,7 +76,7 @@ change_own home v (DropFolder path) a h key = h key
 pub record OwnLine (home : Option Names) (path bytes : List ℕ) : Type 0 where
   pub entry : Entry
   pub formed : IsEntry entry
-  pub fits : Fits entry
+  pub fits : IsWritable entry
   pub same : bytes ≡ line_of entry
   pub here : names_of path ≡ names_below home (bucket_names entry.key)
 
@@ -92,7 +92,7 @@ one_bucket cache (Some folder) a key names e is =
     let same = append_cancel_left folder (bucket_names key) (bucket_names a) (same_path-true (folder ++ bucket_names key) names is ∙ sym there) in
     (paths_differ.buckets cache (sha1 a) (sha1 key) (keys_have_digests a) (keys_have_digests key)).0 (ap (joined cache) (sym same))
 
-left_own : (P : Entry → Type 0) (e : Entry) (count : ℕ) (b : Bool) → IsEntry e → Fits e → P e → nat_le (length (line_of e)) count ≡ b → All P (entries_of (take count (line_of e)))
+left_own : (P : Entry → Type 0) (e : Entry) (count : ℕ) (b : Bool) → IsEntry e → IsWritable e → P e → nat_le (length (line_of e)) count ≡ b → All P (entries_of (take count (line_of e)))
 left_own P e count true formed fits own is = subst (All P) (sym (whole_line e count formed fits (leb-true _ _ is))) (All-cons P e [] own (All-nil P))
 left_own P e count false formed fits own is = subst (All P) (sym (torn_line e count formed fits (leb-false _ _ is))) (All-nil P)
 

@@ -3,13 +3,13 @@ use Rattle.std.proofs.Common.{◌≡◌, ◌==◌, ℕ, Bool, true, false, cond,
 use Rattle.cacache_core.specs.PathNames.{Names, names_of}
 use Rattle.cacache_disk.specs.declared.node.Node.TheVariants.{File}
 use Rattle.cacache_disk.specs.Tree.{Tree, look, put}
-use Rattle.cacache_disk.specs.Found.{or_fault, dirs_fault, where_no_folder}
+use Rattle.cacache_disk.specs.LedTo.{or_fault, dirs_fault, where_no_folder}
 use Rattle.cacache_disk.specs.Apply.{planted, above_last, make_some}
-use Rattle.cacache_disk.proofs.Finding.{no_folder_at, and_then_ok, or_fault_none}
-use Rattle.cacache_disk.proofs.Planting.{Ends, empty, last, ends, above_last-snoc}
-use Rattle.cacache_laws.specs.Kinds.{PathKind, Bucket, Elsewhere, kind_beside, path_kind, IsFor}
-use Rattle.cacache_laws.proofs.Apart.{further, inner_used}
-use Rattle.cacache_laws.proofs.Finding.{of_names}
+use Rattle.cacache_disk.proofs.FoundNodes.{no_folder_at, and_then_ok, or_fault_none}
+use Rattle.cacache_disk.proofs.PlantedNodes.{Ends, empty, last, ends, above_last-snoc}
+use Rattle.cacache_value.specs.Kinds.{PathKind, Bucket, Elsewhere, kind_beside, path_kind, IsFor}
+use Rattle.cacache_value.proofs.KindsApart.{further, inner_used}
+use Rattle.cacache_value.proofs.FoundPaths.{of_names}
 use Rattle.cacache_history.specs.Buckets.{BucketsHaveKeys}
 use Rattle.cacache_history.proofs.Keyed.{put_keyed, make_at}
 

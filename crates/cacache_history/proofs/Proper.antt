@@ -7,20 +7,20 @@ use Rattle.cacache_core.specs.Digests.{digest}
 use Rattle.cacache_core.specs.Integrity.{hash_of, integrity_under}
 use Rattle.cacache_core.specs.PathNames.{Names, names_of, home_of}
 use Rattle.cacache_core.proofs.PathLemmas.{keys_have_digests}
-use Rattle.cacache_base.specs.declared.store.step.Step.TheVariants as steps
-use Rattle.cacache_base.specs.Plain.{PlainStep}
+use Rattle.cacache_store.specs.declared.store.step.Step.TheVariants as steps
+use Rattle.cacache_store.specs.Plain.{PlainStep}
 use Rattle.cacache_disk.proofs.Maps.{same_path-true}
-use Rattle.cacache_entry.proofs.Causes.{Fits-no_cause}
-use Rattle.cacache_calls.specs.Places.{temp_path, temp_folder, content_path, content_folder, bucket_path, bucket_folder}
-use Rattle.cacache_calls.specs.State.{State}
-use Rattle.cacache_calls.specs.Table.{wants}
-use Rattle.cacache_calls.specs.Sound as calls
-use Rattle.cacache_calls.proofs.Sound.{steps_allowed}
-use Rattle.cacache_laws.specs.Kinds.{Content, Bucket, Temporary, Way, Elsewhere, kind_beside, path_kind, IsFor}
-use Rattle.cacache_laws.specs.Placed.{IsLine, Proper}
-use Rattle.cacache_laws.specs.Opening.{LieApart}
-use Rattle.cacache_laws.proofs.Paths.{paths_are_for, folders_are_ways}
-use Rattle.cacache_history.specs.Setup.{Setup, site_of, home, are_apart, apart_from_home, apart_from_files, may_take, may_export, same_place, is_among, is_outside}
+use Rattle.cacache_entry.proofs.EntryCauses.{Fits-no_cause}
+use Rattle.cacache_table.specs.StepPaths.{temp_path, temp_folder, content_path, content_folder, bucket_path, bucket_folder}
+use Rattle.cacache_table.specs.State.{State}
+use Rattle.cacache_table.specs.Table.{wants}
+use Rattle.cacache_table.specs.Sound as calls
+use Rattle.cacache_table.proofs.Sound.{steps_allowed}
+use Rattle.cacache_value.specs.Kinds.{Content, Bucket, Temporary, Way, Elsewhere, kind_beside, path_kind, IsFor}
+use Rattle.cacache_value.specs.Placed.{IsEntryLine, Proper}
+use Rattle.cacache_value.specs.OpeningTrees.{LieApart}
+use Rattle.cacache_value.proofs.PathKinds.{paths_are_for, folders_are_ways}
+use Rattle.cacache_history.specs.Setup.{Setup, call_site, home, are_apart, apart_from_home, apart_from_files, may_take, may_export, same_place, is_among, is_outside}
 use Rattle.cacache_history.proofs.Digests.{digest_hash}
 
 -- ---- exports and links
@@ -94,24 +94,24 @@ module _ (cache : List ℕ) where
 -- ---- steps
 
 module _ (s : Setup) (n : ℕ) (apart : LieApart (home s) s.outside) where
-  folder_for : (p : List ℕ) → calls.IsFolder (site_of s n) p → IsFor (home s) Way p
+  folder_for : (p : List ℕ) → calls.IsFolder (call_site s n) p → IsFor (home s) Way p
   folder_for p (inl e) = subst (IsFor (home s) Way) (sym e) (temps_for s.cache)
   folder_for p (inr (inl c)) = subst (IsFor (home s) Way) (sym c.2) (contents_for s.cache c.0 c.1)
   folder_for p (inr (inr b)) = subst (IsFor (home s) Way) (sym b.1) (buckets_for s.cache b.0)
 
-  content_of : (p : List ℕ) → calls.IsContent (site_of s n) p → IsFor (home s) Content p
+  content_of : (p : List ℕ) → calls.IsContent (call_site s n) p → IsFor (home s) Content p
   content_of p c = subst (IsFor (home s) Content) (sym c.2) (content_for s.cache c.0 c.1)
 
   temp_of : (p : List ℕ) → p ≡ temp_path s.cache n → IsFor (home s) Temporary p
   temp_of p e = subst (IsFor (home s) Temporary) (sym e) (temp_for s.cache n)
 
-  line_of : (p line : List ℕ) → calls.IsLine (site_of s n) p line → IsFor (home s) Bucket p × IsLine line
+  line_of : (p line : List ℕ) → calls.IsLine (call_site s n) p line → IsFor (home s) Bucket p × IsEntryLine line
   line_of p line l = (
     subst (IsFor (home s) Bucket) (sym l.3) (bucket_for s.cache l.0.key),
     record { entry = l.0; formed = l.1; fits = Fits-no_cause l.0 l.1 l.2; same = l.4 },
   )
 
-  allowed_proper : (step : PlainStep) → calls.Allowed (site_of s n) (may_export s) (is_outside s) step → Proper (home s) step
+  allowed_proper : (step : PlainStep) → calls.Allowed (call_site s n) (may_export s) (is_outside s) step → Proper (home s) step
   allowed_proper (steps.MakeDirs p) a = folder_for p a
   allowed_proper (steps.CreateTemp p) a = temp_of p a
   allowed_proper (steps.Write file bytes) a = tt
@@ -131,6 +131,6 @@ module _ (s : Setup) (n : ℕ) (apart : LieApart (home s) s.outside) where
   allowed_proper (steps.RemoveDir p) a = tt
 
   -- the step that a sound state wants
-  pub sound_proper : (state : State) (step : PlainStep) → calls.Sound (site_of s n) (may_export s) (is_outside s) state
+  pub sound_proper : (state : State) (step : PlainStep) → calls.Sound (call_site s n) (may_export s) (is_outside s) state
       → wants state ≡ Some step → Proper (home s) step
-  sound_proper state step sound w = allowed_proper step (steps_allowed (site_of s n) (may_export s) (is_outside s) state step sound w)
+  sound_proper state step sound w = allowed_proper step (steps_allowed (call_site s n) (may_export s) (is_outside s) state step sound w)

@@ -4,22 +4,22 @@ use Rattle.cacache_core.specs.declared.errors.Fault.{Fault}
 use Rattle.cacache_core.specs.declared.integrity.digest.Hash.{Hash}
 use Rattle.cacache_core.specs.PathNames.{Names, names_of}
 use Rattle.cacache_core.specs.Paths.{content_names}
-use Rattle.cacache_base.specs.declared.store.step.Step.TheVariants as steps
-use Rattle.cacache_base.specs.declared.store.answer.Answer.TheVariants as answers
-use Rattle.cacache_base.specs.Plain.{PlainStep, PlainAnswer}
+use Rattle.cacache_store.specs.declared.store.step.Step.TheVariants as steps
+use Rattle.cacache_store.specs.declared.store.answer.Answer.TheVariants as answers
+use Rattle.cacache_store.specs.Plain.{PlainStep, PlainAnswer}
 use Rattle.cacache_disk.specs.declared.luck.Luck.{Luck}
 use Rattle.cacache_entry.specs.Bucket.{entries_of}
-use Rattle.cacache_calls.specs.declared.reply.Reply.{Reply}
-use Rattle.cacache_calls.specs.Places.{content_path}
-use Rattle.cacache_calls.specs.State.{Commit, Insertion}
-use Rattle.cacache_calls.specs.Storing.{insertion_of}
-use Rattle.cacache_laws.specs.Acts.{Act, Nothing, PutBytes, PutLink, AddEntries, Drop, MakeFolders, DropFolder, act_at, act_with, act_if_done, folders_left, amount_left, act_of, change}
-use Rattle.cacache_laws.specs.Kinds.{is_path_of}
-use Rattle.cacache_laws.specs.Traces.{Move}
-use Rattle.cacache_laws.specs.Value.{Blob, InFile, AtLink, Value}
+use Rattle.cacache_table.specs.declared.reply.Reply.{Reply}
+use Rattle.cacache_table.specs.StepPaths.{content_path}
+use Rattle.cacache_table.specs.State.{Commit, Insertion}
+use Rattle.cacache_table.specs.Storing.{insertion_of}
+use Rattle.cacache_value.specs.Acts.{Act, Nothing, PutBytes, PutLink, AddEntries, Drop, MakeFolders, DropFolder, act_at, act_with, act_if_done, folders_left, amount_left, act_of, change}
+use Rattle.cacache_value.specs.Kinds.{is_path_of}
+use Rattle.cacache_value.specs.Traces.{Move}
+use Rattle.cacache_value.specs.Value.{Blob, InFile, AtLink, Value}
 use Rattle.cacache_history.specs.History.{Turn}
-use Rattle.cacache_history.specs.Commits.{Deed, does, finds, deeds_of_act, finds_in, deeds_of, deeds, IsContent, IsAdded, Adds, AddsAfter, CommitsAs}
-use Rattle.cacache_history.specs.Entries.{IsAmong}
+use Rattle.cacache_history.specs.Commits.{Deed, does, finds, deeds_of_act, finds_in, deeds_of, deeds, PutsContent, IsAdded, InsertionAdds, AddsAfter, CommitsAs}
+use Rattle.cacache_history.specs.AddedEntries.{IsAmong}
 
 -- ---- the step that puts a link
 
@@ -118,7 +118,7 @@ module _ (names : Names) (target : List ℕ) where
   not_entry i (does act) is same = let no : PutLink names target ≡ AddEntries is.0 (i.entry ∷ []) = (let x : PutLink names target ≡ act = cc in x ∙ is.2) in absurd cc
   not_entry i (finds path) is same = absurd cc
 
-  not_added : (i : Insertion) (ds : List Deed) (reply : Option Reply) → Adds i ds reply → IsAmong the_link ds → ⊥
+  not_added : (i : Insertion) (ds : List Deed) (reply : Option Reply) → InsertionAdds i ds reply → IsAmong the_link ds → ⊥
   not_added i ds reply (inl nothing) among = not_among ds nothing.0 among
   not_added i ds reply (inr h) among =
       elim (subst (IsAmong the_link) h.2 among) [
@@ -130,7 +130,7 @@ module _ (names : Names) (target : List ℕ) where
   not_after c None ds reply none among = not_among ds none among
   not_after c (Some key) ds reply adds among = not_added (insertion_of c key) ds reply adds among
 
-  content_place : (c : Commit) (to : List ℕ) (content : Deed) → IsContent c (λ n. PutLink n to) content → the_link ≡ content → names_of (content_path c.cache c.computed) ≡ Ok names
+  content_place : (c : Commit) (to : List ℕ) (content : Deed) → PutsContent c (λ n. PutLink n to) content → the_link ≡ content → names_of (content_path c.cache c.computed) ≡ Ok names
   content_place c to (does act) is same =
       let put : PutLink names target ≡ PutLink is.0 to = (let x : PutLink names target ≡ act = cc in x ∙ is.2) in
       let n : is.0 ≡ names = cc in

@@ -11,24 +11,24 @@ use Rattle.cacache_core.specs.Paths.{joined, content_names}
 use Rattle.cacache_core.proofs.JoinedNames.{joined_texts_name}
 use Rattle.cacache_core.proofs.PathTexts.{paths_differ}
 use Rattle.cacache_core.proofs.ProperNames.{names_are_proper}
-use Rattle.cacache_base.specs.declared.store.plain.PlainTemp.{PlainTemp}
-use Rattle.cacache_base.specs.declared.store.step.Step.TheVariants as steps
-use Rattle.cacache_base.specs.declared.store.answer.Answer.TheVariants as answers
-use Rattle.cacache_base.specs.Plain.{PlainStep, PlainAnswer}
+use Rattle.cacache_store.specs.declared.store.plain.PlainTemp.{PlainTemp}
+use Rattle.cacache_store.specs.declared.store.step.Step.TheVariants as steps
+use Rattle.cacache_store.specs.declared.store.answer.Answer.TheVariants as answers
+use Rattle.cacache_store.specs.Plain.{PlainStep, PlainAnswer}
 use Rattle.cacache_disk.specs.declared.luck.Luck.{Luck}
 use Rattle.cacache_disk.specs.Tree.{Tree}
 use Rattle.cacache_disk.specs.Apply.{apply}
 use Rattle.cacache_disk.proofs.Maps.{same_path-true}
-use Rattle.cacache_calls.specs.declared.command.Command.{Command}
-use Rattle.cacache_calls.specs.declared.command.Command.TheVariants as commands
-use Rattle.cacache_calls.specs.Places.{content_path}
-use Rattle.cacache_laws.specs.Kinds.{is_path_of}
-use Rattle.cacache_laws.specs.Value.{Blob, InFile, AtLink, Value, wide_value}
-use Rattle.cacache_laws.specs.Acts.{Act, Nothing, PutBytes, PutLink, AddEntries, Drop, MakeFolders, DropFolder, act_at, act_with, act_if_done, folders_left, amount_left, act_of, change}
-use Rattle.cacache_laws.specs.Placed.{Placed, Proper}
-use Rattle.cacache_laws.specs.Opening.{IsOpening}
-use Rattle.cacache_laws.proofs.Traces.{steps_act}
-use Rattle.cacache_history.specs.Setup.{Setup, site_of, home}
+use Rattle.cacache_table.specs.declared.command.Command.{Command}
+use Rattle.cacache_table.specs.declared.command.Command.TheVariants as commands
+use Rattle.cacache_table.specs.StepPaths.{content_path}
+use Rattle.cacache_value.specs.Kinds.{is_path_of}
+use Rattle.cacache_value.specs.Value.{Blob, InFile, AtLink, Value, wide_value}
+use Rattle.cacache_value.specs.Acts.{Act, Nothing, PutBytes, PutLink, AddEntries, Drop, MakeFolders, DropFolder, act_at, act_with, act_if_done, folders_left, amount_left, act_of, change}
+use Rattle.cacache_value.specs.Placed.{Placed, Proper}
+use Rattle.cacache_value.specs.OpeningTrees.{IsOpening}
+use Rattle.cacache_value.proofs.Traces.{steps_act}
+use Rattle.cacache_history.specs.Setup.{Setup, call_site, home}
 use Rattle.cacache_history.specs.Values.{HasDigest, AreRight}
 use Rattle.cacache_history.proofs.Carrying.{Own, own_bytes, own_link, own_of, Holds, IsAt, Makes}
 use Rattle.cacache_history.proofs.Digests.{digest_hash}
@@ -98,7 +98,7 @@ nowhere : (folder : Option Names) → OwnRight folder (own_bytes [] [])
 unfolding names_of
 nowhere folder names e h is here = absurd cc
 
-own_right : (s : Setup) (n : ℕ) (command : Command) → OwnRight (home s) (own_of (site_of s n) command)
+own_right : (s : Setup) (n : ℕ) (command : Command) → OwnRight (home s) (own_of (call_site s n) command)
 own_right s n (commands.Put p) = put_at s.cache p.options.algorithm p.data
 own_right s n (commands.Link l) = tt
 own_right s n other = nowhere (home s)
@@ -158,12 +158,12 @@ step_right folder own (steps.ReadDir p) luck a right makes = tt
 abbrev pub TreeRight : Option Names → Tree → Type 0
 TreeRight folder t = AreRight (wide_value folder t).contents
 
-pub stays_right : (s : Setup) (n : ℕ) (command : Command) (t : Tree) (step : PlainStep) (luck : Luck) → Placed (home s) t → Proper (home s) step → Makes (own_of (site_of s n) command) step
+pub stays_right : (s : Setup) (n : ℕ) (command : Command) (t : Tree) (step : PlainStep) (luck : Luck) → Placed (home s) t → Proper (home s) step → Makes (own_of (call_site s n) command) step
     → TreeRight (home s) t → TreeRight (home s) (apply t step luck).1
 stays_right s n command t step luck placed proper makes right =
     subst (λ v. AreRight v.contents) (sym (steps_act (home s) t step luck placed proper))
     (change_right (home s) (wide_value (home s) t) (act_of step luck (apply t step luck).0)
-    (step_right (home s) (own_of (site_of s n) command) step luck (apply t step luck).0 (own_right s n command) makes) right)
+    (step_right (home s) (own_of (call_site s n) command) step luck (apply t step luck).0 (own_right s n command) makes) right)
 
 pub opening_right : (folder : Option Names) (t : Tree) → IsOpening folder t → TreeRight folder t
 opening_right folder t o h is bytes e = let none : None ≡ Some (InFile bytes) = ap (λ v. v.contents h) (sym o.nothing) ∙ e in absurd cc

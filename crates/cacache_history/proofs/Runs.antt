@@ -2,16 +2,16 @@
 use Rattle.std.proofs.Common.{◌≡◌, ◌⊎◌, inl, inr, ◌∷◌, Option, None, Some, option_map, refl, sym, ap, subst, ◌∙◌}
 use Rattle.cacache_core.specs.declared.errors.Error.TheVariants.{EntryNotFound, SizeMismatch, IoError, SerdeError, IntegrityError, OutOfMemory}
 use Rattle.cacache_disk.specs.declared.luck.Luck.{Luck}
-use Rattle.cacache_calls.specs.declared.reply.Reply.{Reply}
-use Rattle.cacache_calls.specs.declared.reply.Reply.TheVariants as replies
-use Rattle.cacache_calls.specs.Table.{opening}
-use Rattle.cacache_calls.specs.Runs.{Runs, Goes, plain_reply}
-use Rattle.cacache_calls.proofs.Going.{goes_over, goes_lost}
+use Rattle.cacache_table.specs.declared.reply.Reply.{Reply}
+use Rattle.cacache_table.specs.declared.reply.Reply.TheVariants as replies
+use Rattle.cacache_table.specs.Table.{opening}
+use Rattle.cacache_table.specs.Runs.{Runs, Goes, plain_reply}
+use Rattle.cacache_table.proofs.Going.{goes_over, goes_lost}
 use Rattle.cacache_history.specs.declared.record.Record.TheVariants.{Moved}
-use Rattle.cacache_history.specs.Setup.{site_of}
+use Rattle.cacache_history.specs.Setup.{call_site}
 use Rattle.cacache_history.specs.History.{Call, Now, History, Made, moved, now_at, Ends, MayMove, IsLegal, Reaches}
 use Rattle.cacache_history.specs.Turns.{made_in}
-use Rattle.cacache_history.specs.Places.{CallsAreRuns}
+use Rattle.cacache_history.specs.TurnPlaces.{CallsAreRuns}
 use Rattle.cacache_history.proofs.Holding.{CallHolds, of_caller, moved_holds, held_at, legal_after}
 
 -- what holds of a call that a history reaches, and how it ends
@@ -37,11 +37,11 @@ reached h legal call reply r =
 
 -- a call that is over made a run with its reply
 pub reply_run : (h : History) (call : Call) (r : Reply) → Reached h call (Some r)
-    → (r ≡ replies.Refused OutOfMemory) ⊎ Runs (opening (site_of h.setup call.number) call.command) (made_in call.turns) (plain_reply r)
+    → (r ≡ replies.Refused OutOfMemory) ⊎ Runs (opening (call_site h.setup call.number) call.command) (made_in call.turns) (plain_reply r)
 reply_run h call r x =
     elim x.ends [
-      | inl e ↦ inr (goes_over (opening (site_of h.setup call.number) call.command) (made_in call.turns) (plain_reply r)
-          (subst (λ s. Goes (opening (site_of h.setup call.number) call.command) (made_in call.turns) s) e x.holds.goes))
+      | inl e ↦ inr (goes_over (opening (call_site h.setup call.number) call.command) (made_in call.turns) (plain_reply r)
+          (subst (λ s. Goes (opening (call_site h.setup call.number) call.command) (made_in call.turns) s) e x.holds.goes))
       | inr e ↦ inl e
     ]
 
@@ -50,8 +50,8 @@ calls_are_runs h legal call r reaches = reply_run h call r (reached h legal call
 
 -- every call made a run that out of memory may end
 pub lost_run : (h : History) (call : Call) (reply : Option Reply) → Reached h call reply
-    → Runs (opening (site_of h.setup call.number) call.command) (made_in call.turns) (replies.Refused OutOfMemory)
-lost_run h call reply x = goes_lost (opening (site_of h.setup call.number) call.command) (made_in call.turns) call.state x.holds.goes
+    → Runs (opening (call_site h.setup call.number) call.command) (made_in call.turns) (replies.Refused OutOfMemory)
+lost_run h call reply x = goes_lost (opening (call_site h.setup call.number) call.command) (made_in call.turns) call.state x.holds.goes
 
 -- without its message, a reply is out of memory only where it was
 pub memory_plain : (r : Reply) → plain_reply r ≡ replies.Refused OutOfMemory → r ≡ replies.Refused OutOfMemory

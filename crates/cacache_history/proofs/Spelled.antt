@@ -12,7 +12,7 @@ use Rattle.cacache_core.specs.Texts.{read_integrity}
 use Rattle.cacache_core.proofs.Decoded.{bytes_append}
 use Rattle.cacache_core.proofs.Relation.{read_is_integrity}
 use Rattle.cacache_entry.specs.Entry.{Entry}
-use Rattle.cacache_entry.specs.Fits.{IsUtf8IfAny, IsEntry}
+use Rattle.cacache_entry.specs.FittingEntries.{IsUtf8IfAny, IsEntry}
 use Rattle.cacache_entry.specs.Latest.{Found, answer_read, answer_of, after_entry, latest, found_of}
 
 -- ---- UTF-8 is bytes

@@ -1,12 +1,12 @@
 -- Each turn of a call is a move of the history.
 use Rattle.std.proofs.Common.{◌≡◌, ◌==◌, ℕ, List, [], ◌∷◌, ◌++◌, Option, None, Some, option_map, refl, sym, subst, ◌∙◌, append_assoc, append-nil}
 use Rattle.cacache_disk.specs.declared.luck.Luck.{Luck}
-use Rattle.cacache_calls.specs.declared.reply.Reply.{Reply}
+use Rattle.cacache_table.specs.declared.reply.Reply.{Reply}
 use Rattle.cacache_history.specs.declared.record.Record.{Record}
 use Rattle.cacache_history.specs.declared.record.Record.TheVariants.{Began, Moved, Stopped}
 use Rattle.cacache_history.specs.History.{History, Call, Made, first, begins, turn_of, moved, unless_over, moved_call, next, now_at, Reaches}
 use Rattle.cacache_history.specs.Turns.{EachTurn}
-use Rattle.cacache_history.specs.Places.{TurnAt, TurnsAreMoves}
+use Rattle.cacache_history.specs.TurnPlaces.{TurnAt, TurnsAreMoves}
 use Rattle.cacache_history.proofs.Holding.{each_more, set_at, ended_at, replay_more}
 
 abbrev TurnsAt : History → Option Call → Type 0

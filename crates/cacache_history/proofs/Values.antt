@@ -1,27 +1,27 @@
 -- The value follows the acts of the records, and buckets only grow.
 use Rattle.std.proofs.Common.{◌≡◌, ℕ, Bool, true, false, cond, List, [], ◌∷◌, ◌++◌, Option, None, Some, refl, sym, ap, subst, ◌∙◌}
 use Rattle.cacache_disk.specs.declared.luck.Luck.{Luck}
-use Rattle.cacache_calls.specs.declared.reply.Reply.{Reply}
+use Rattle.cacache_table.specs.declared.reply.Reply.{Reply}
 use Rattle.cacache_core.specs.declared.integrity.digest.Hash.{Hash}
 use Rattle.cacache_core.specs.PathNames.{Names}
 use Rattle.cacache_core.specs.Paths.{content_names}
-use Rattle.cacache_laws.specs.Kinds.{is_path_of}
-use Rattle.cacache_laws.specs.Value.{Blob, InFile, AtLink, Value, wide_value, value_of_tree}
-use Rattle.cacache_laws.specs.Acts.{Act, Nothing, PutBytes, PutLink, AddEntries, Drop, MakeFolders, DropFolder, act_of, change, list_of}
-use Rattle.cacache_laws.specs.Traces.{Move, IsTrace, tree_after, acts}
-use Rattle.cacache_laws.specs.Opening.{LieApart}
-use Rattle.cacache_laws.proofs.Traces.{traces_act, traces_show, buckets_grow}
+use Rattle.cacache_value.specs.Kinds.{is_path_of}
+use Rattle.cacache_value.specs.Value.{Blob, InFile, AtLink, Value, wide_value, value_of_tree}
+use Rattle.cacache_value.specs.Acts.{Act, Nothing, PutBytes, PutLink, AddEntries, Drop, MakeFolders, DropFolder, act_of, change, list_of}
+use Rattle.cacache_value.specs.Traces.{Move, IsTrace, tree_after, acts}
+use Rattle.cacache_value.specs.OpeningTrees.{LieApart}
+use Rattle.cacache_value.proofs.Traces.{traces_act, traces_show, buckets_grow}
 use Rattle.cacache_history.specs.declared.record.Record.{Record}
 use Rattle.cacache_history.specs.declared.record.Record.TheVariants.{Began, Moved, Stopped}
 use Rattle.cacache_history.specs.Setup.{Setup, home}
-use Rattle.cacache_history.specs.History.{Call, Now, History, Made, first, next, replay, now_at, MayMove, Legal, IsLegal}
+use Rattle.cacache_history.specs.History.{Call, Now, History, Made, first, next, replayed, now_at, MayMove, Legal, IsLegal}
 use Rattle.cacache_history.specs.Values.{steps_of, ValueFollowsActs, BucketsOnlyGrow, KeepsContent, KeepContent, IsThere, ContentsStay, ContentsAreRight}
 use Rattle.cacache_history.proofs.Holding.{AllHold, of_caller, made_proper, next_holds, first_opens, first_holds, legal_front, replay_more, legal_before, legal_after, held_at}
 
 -- the steps of these records are proper, have the disk's answers, and lead to the tree
 pub record Traced (s : Setup) (w : Now) (records : List Record) : Type 0 where
   pub trace : IsTrace (home s) w.tree (steps_of records)
-  pub leads : tree_after w.tree (steps_of records) ≡ (replay s w records).tree
+  pub leads : tree_after w.tree (steps_of records) ≡ (replayed s w records).tree
 
 module _ (s : Setup) (apart : LieApart (home s) s.outside) where
   move_traced : (w : Now) (caller : ℕ) (luck : Luck) (made : Option Made) (reply : Option Reply) (records : List Record) (call : Call) → w.calls caller ≡ Some call

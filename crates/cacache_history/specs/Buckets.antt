@@ -7,8 +7,8 @@ use Rattle.cacache_disk.specs.declared.node.Node.{Node}
 use Rattle.cacache_disk.specs.declared.node.Node.TheVariants.{Folder}
 use Rattle.cacache_disk.specs.Tree.{Tree, look}
 use Rattle.cacache_entry.specs.Entry.{Entry}
-use Rattle.cacache_laws.specs.Acts.{list_of}
-use Rattle.cacache_laws.specs.Kinds.{Bucket, path_kind}
+use Rattle.cacache_value.specs.Acts.{list_of}
+use Rattle.cacache_value.specs.Kinds.{Bucket, path_kind}
 use Rattle.cacache_history.specs.declared.record.Record.{Record}
 use Rattle.cacache_history.specs.Setup.{home}
 use Rattle.cacache_history.specs.History.{History, now_at}
@@ -43,6 +43,7 @@ abbrev pub HoldOwn : (List ℕ → Option (List Entry)) → Type 0
 HoldOwn buckets =
     (key : List ℕ) → All (λ e. sha1 e.key ≡ sha1 key) (list_of (buckets (sha1 key)))
 
+-- so it is at each place of a history
 abbrev pub BucketsHoldOwn : History → Type 0
 BucketsHoldOwn h =
     (before later : List Record) → h.records ≡ before ++ later

@@ -2,28 +2,29 @@
 -- entry.
 use Rattle.std.specs.Prelude.{◌≡◌, ◌⊎◌, ◌<◌, ◌^◌, ℕ, true, List, [], ◌∷◌, ◌++◌, Option, None, Some, Ok, length}
 use Rattle.cacache_core.specs.PathNames.{Names, names_of}
-use Rattle.cacache_base.specs.declared.store.step.Step.TheVariants as steps
-use Rattle.cacache_base.specs.declared.store.answer.Answer.TheVariants as answers
-use Rattle.cacache_base.specs.Plain.{PlainStep, PlainAnswer}
-use Rattle.cacache_calls.specs.declared.command.Command.{Command}
-use Rattle.cacache_calls.specs.declared.command.Command.TheVariants as commands
-use Rattle.cacache_calls.specs.declared.reply.Reply.{Reply}
-use Rattle.cacache_calls.specs.declared.reply.Reply.TheVariants.{Refused}
-use Rattle.cacache_calls.specs.Places.{content_path, bucket_path}
-use Rattle.cacache_calls.specs.State.{Site, Commit, Insertion, Target}
-use Rattle.cacache_calls.specs.Inserting.{insertion, deletion}
-use Rattle.cacache_calls.specs.Storing.{insertion_of, commit_of}
-use Rattle.cacache_calls.specs.Linking.{commit_for, target_of}
-use Rattle.cacache_calls.specs.Runs.{Moves}
-use Rattle.cacache_calls.specs.Verifying.{ReadsWhole}
-use Rattle.cacache_laws.specs.Acts.{Act, Nothing, PutBytes, PutLink, AddEntries, Drop, MakeFolders, DropFolder, act_of}
-use Rattle.cacache_laws.specs.Traces.{Move}
-use Rattle.cacache_history.specs.Setup.{site_of}
+use Rattle.cacache_store.specs.declared.store.step.Step.TheVariants as steps
+use Rattle.cacache_store.specs.declared.store.answer.Answer.TheVariants as answers
+use Rattle.cacache_store.specs.Plain.{PlainStep, PlainAnswer}
+use Rattle.cacache_table.specs.declared.command.Command.{Command}
+use Rattle.cacache_table.specs.declared.command.Command.TheVariants as commands
+use Rattle.cacache_table.specs.declared.reply.Reply.{Reply}
+use Rattle.cacache_table.specs.declared.reply.Reply.TheVariants.{Refused}
+use Rattle.cacache_table.specs.StepPaths.{content_path, bucket_path}
+use Rattle.cacache_table.specs.State.{Site, Commit, Insertion, Target}
+use Rattle.cacache_table.specs.Inserting.{insertion, deletion}
+use Rattle.cacache_table.specs.Storing.{insertion_of, put_commit}
+use Rattle.cacache_table.specs.Linking.{commit_for, link_target}
+use Rattle.cacache_table.specs.Runs.{Moves}
+use Rattle.cacache_table.specs.Verifying.{ReadsWhole}
+use Rattle.cacache_value.specs.Acts.{Act, Nothing, PutBytes, PutLink, AddEntries, Drop, MakeFolders, DropFolder, act_of}
+use Rattle.cacache_value.specs.Traces.{Move}
+use Rattle.cacache_history.specs.Setup.{call_site}
 use Rattle.cacache_history.specs.History.{History, Turn, Call, Reaches}
 use Rattle.cacache_history.specs.Turns.{made_in}
 
 -- ---- deeds
 
+-- what a step does to contents or buckets, or finds there
 pub data Deed : Type 0 where
   -- it acts so on contents or buckets
   does : Act → Deed
@@ -46,6 +47,7 @@ abbrev pub finds_in : PlainStep → PlainAnswer → List Deed
 finds_in (steps.Exists path) (answers.There true) = finds path ∷ []
 finds_in step answer = []
 
+-- what one move did, and what it found
 abbrev pub deeds_of : Move → List Deed
 deeds_of m = deeds_of_act (act_of m.step m.luck m.answer) ++ finds_in m.step m.answer
 
@@ -57,10 +59,10 @@ deeds (turn ∷ turns) = deeds_of turn.move ++ deeds turns
 -- ---- the cases
 
 -- the content is put at the place of its integrity, or is found there
-abbrev pub IsContent : Commit → (Names → Act) → Deed → Type 0
-IsContent c put (does act) =
+abbrev pub PutsContent : Commit → (Names → Act) → Deed → Type 0
+PutsContent c put (does act) =
     (names : Names) × (names_of (content_path c.cache c.computed) ≡ Ok names) × (act ≡ put names)
-IsContent c put (finds path) = path ≡ content_path c.cache c.computed
+PutsContent c put (finds path) = path ≡ content_path c.cache c.computed
 
 -- the entry is added to the bucket of its key
 abbrev pub IsAdded : Insertion → Deed → Type 0
@@ -80,19 +82,19 @@ abbrev pub DidNothing : List Deed → Option Reply → Type 0
 DidNothing ds reply = (ds ≡ []) × IsNotOk reply
 
 -- an insertion did nothing, or added its entry
-abbrev pub Adds : Insertion → List Deed → Option Reply → Type 0
-Adds i ds reply = DidNothing ds reply ⊎ ((entry : Deed) × IsAdded i entry × (ds ≡ entry ∷ []))
+abbrev pub InsertionAdds : Insertion → List Deed → Option Reply → Type 0
+InsertionAdds i ds reply = DidNothing ds reply ⊎ ((entry : Deed) × IsAdded i entry × (ds ≡ entry ∷ []))
 
 -- once the content is there, a commit with a key adds its entry
 abbrev pub AddsAfter : Commit → Option (List ℕ) → List Deed → Option Reply → Type 0
 AddsAfter c None ds reply = ds ≡ []
-AddsAfter c (Some key) ds reply = Adds (insertion_of c key) ds reply
+AddsAfter c (Some key) ds reply = InsertionAdds (insertion_of c key) ds reply
 
 -- a commit did nothing, or put its content, and then what follows it
 abbrev pub CommitsAs : Commit → (Names → Act) → List Deed → Option Reply → Type 0
 CommitsAs c put ds reply =
     DidNothing ds reply
-    ⊎ ((content : Deed) × (more : List Deed) × IsContent c put content × (ds ≡ content ∷ more)
+    ⊎ ((content : Deed) × (more : List Deed) × PutsContent c put content × (ds ≡ content ∷ more)
     × AddsAfter c c.key more reply)
 
 -- the moves begin with the target's size and then read it to its end; this is so of its bytes
@@ -115,14 +117,14 @@ LinksAs t turns reply =
 -- what a call of this command did, by the reply that it has so far
 abbrev pub IsCase : Site → Command → List Turn → Option Reply → Type 0
 IsCase site (commands.Put p) turns reply =
-    CommitsAs (commit_of site.cache p) (λ names. PutBytes names p.data) (deeds turns) reply
-IsCase site (commands.Link l) turns reply = LinksAs (target_of site l) turns reply
-IsCase site (commands.Insert i) turns reply = Adds (insertion site.cache i) (deeds turns) reply
-IsCase site (commands.Delete d) turns reply = Adds (deletion site.cache d) (deeds turns) reply
+    CommitsAs (put_commit site.cache p) (λ names. PutBytes names p.data) (deeds turns) reply
+IsCase site (commands.Link l) turns reply = LinksAs (link_target site l) turns reply
+IsCase site (commands.Insert i) turns reply = InsertionAdds (insertion site.cache i) (deeds turns) reply
+IsCase site (commands.Delete d) turns reply = InsertionAdds (deletion site.cache d) (deeds turns) reply
 IsCase site command turns reply = Unit {0}
 
 -- each commit did one of the cases, whether it is over or was left on its way
 abbrev pub CommitsAreCases : History → Type 0
 CommitsAreCases h =
     (call : Call) (reply : Option Reply) → Reaches h call reply
-    → IsCase (site_of h.setup call.number) call.command call.turns reply
+    → IsCase (call_site h.setup call.number) call.command call.turns reply

@@ -1,13 +1,13 @@
 -- The claim as a whole.
 use Rattle.cacache_history.specs.Buckets.{BucketsAreOfKeys, IndexIsShallow, BucketsHoldOwn}
 use Rattle.cacache_history.specs.Commits.{CommitsAreCases}
-use Rattle.cacache_history.specs.Entries.{EntriesNameContents, PutsLeaveContents}
+use Rattle.cacache_history.specs.AddedEntries.{EntriesNameContents, PutsLeaveContents}
 use Rattle.cacache_history.specs.History.{History, IsLegal}
-use Rattle.cacache_history.specs.Links.{LinksWereRight, LinksAreRight}
-use Rattle.cacache_history.specs.Listings.{ListingsReadValue}
-use Rattle.cacache_history.specs.Places.{TurnsAreMoves, CallsAreRuns}
-use Rattle.cacache_history.specs.Readers.{ReadersDoNothing, ReadsAreVerified}
-use Rattle.cacache_history.specs.Replies.{RepliesReadValue, IoErrorsHaveCauses}
+use Rattle.cacache_history.specs.LinkedContents.{LinksWereRight, LinksAreRight}
+use Rattle.cacache_history.specs.ListingTurns.{ListingsReadValue}
+use Rattle.cacache_history.specs.TurnPlaces.{TurnsAreMoves, CallsAreRuns}
+use Rattle.cacache_history.specs.ReadingCalls.{ReadersDoNothing, ReadsAreVerified}
+use Rattle.cacache_history.specs.TurnReplies.{RepliesReadValue, RepliesHaveCauses}
 use Rattle.cacache_history.specs.Values.{ValueFollowsActs, BucketsOnlyGrow, ContentsStay, ContentsAreRight}
 
 -- Over every interleaving of callers' store steps, with failed steps, short appends and callers
@@ -55,7 +55,7 @@ pub record Headline (h : History) : Type 0 where
   -- so is the content of a put that answered, with a key or without
   pub stored : PutsLeaveContents h
   -- each `IoError` has a cause in its call's own steps
-  pub causes : IoErrorsHaveCauses h
+  pub causes : RepliesHaveCauses h
 
 -- so it is of every legal history
 abbrev pub HeadlineHolds : Type 0

@@ -4,30 +4,31 @@ use Rattle.std.specs.Prelude.{◌≡◌, ◌⊎◌, ◌<◌, ◌+◌, ◌==◌, 
 use Rattle.cacache_core.specs.declared.errors.Fault.{Fault}
 use Rattle.cacache_core.specs.declared.errors.Error.TheVariants.{OutOfMemory}
 use Rattle.cacache_core.specs.Integrity.{IsIntegrity}
-use Rattle.cacache_base.specs.Plain.{PlainStep, PlainAnswer}
-use Rattle.cacache_base.specs.Fits.{Fits}
+use Rattle.cacache_store.specs.Plain.{PlainStep, PlainAnswer}
+use Rattle.cacache_store.specs.Fits.{Fits}
 use Rattle.cacache_disk.specs.declared.luck.Luck.{Luck}
 use Rattle.cacache_disk.specs.Tree.{Tree, bare}
 use Rattle.cacache_disk.specs.Apply.{apply}
-use Rattle.cacache_calls.specs.declared.command.Command.{Command}
-use Rattle.cacache_calls.specs.declared.command.Command.TheVariants as commands
-use Rattle.cacache_calls.specs.declared.command.Source.{Source}
-use Rattle.cacache_calls.specs.declared.command.Source.TheVariants as sources
-use Rattle.cacache_calls.specs.declared.reply.Reply.{Reply}
-use Rattle.cacache_calls.specs.declared.reply.Reply.TheVariants.{Refused}
-use Rattle.cacache_calls.specs.State.{State, over}
-use Rattle.cacache_calls.specs.Table.{wants, after, opening}
-use Rattle.cacache_calls.specs.Runs.{plain_reply}
-use Rattle.cacache_calls.specs.Sound.{MayBegin}
-use Rattle.cacache_laws.specs.Traces.{Move}
-use Rattle.cacache_laws.specs.Opening.{with_files, LieApart}
+use Rattle.cacache_table.specs.declared.command.Command.{Command}
+use Rattle.cacache_table.specs.declared.command.Command.TheVariants as commands
+use Rattle.cacache_table.specs.declared.command.Source.{Source}
+use Rattle.cacache_table.specs.declared.command.Source.TheVariants as sources
+use Rattle.cacache_table.specs.declared.reply.Reply.{Reply}
+use Rattle.cacache_table.specs.declared.reply.Reply.TheVariants.{Refused}
+use Rattle.cacache_table.specs.State.{State, over}
+use Rattle.cacache_table.specs.Table.{wants, after, opening}
+use Rattle.cacache_table.specs.Runs.{plain_reply}
+use Rattle.cacache_table.specs.Sound.{MayBegin}
+use Rattle.cacache_value.specs.Traces.{Move}
+use Rattle.cacache_value.specs.OpeningTrees.{with_files, LieApart}
 use Rattle.cacache_history.specs.declared.record.Record.{Record}
 use Rattle.cacache_history.specs.declared.record.Record.TheVariants.{Began, Moved, Stopped}
-use Rattle.cacache_history.specs.Setup.{Setup, site_of, home, may_export, is_outside}
+use Rattle.cacache_history.specs.Setup.{Setup, call_site, home, may_export, is_outside}
 
 -- what callers share, and what happened, oldest first
 pub record History : Type 0 where
   pub setup : Setup
+  -- what happened, oldest first
   pub records : List Record
 
 -- ---- what stands at a place
@@ -50,6 +51,7 @@ pub record Now : Type 0 where
   pub calls : ℕ → Option Call
   pub begun : ℕ
 
+-- the tree, or a bare one where there is none
 abbrev pub tree_in : Result Tree Fault → Tree
 tree_in (Ok t) = t
 tree_in (Err fault) = bare
@@ -70,13 +72,14 @@ begins s number command = record {
   command = command;
   number = number;
   turns = [];
-  state = opening (site_of s number) command;
+  state = opening (call_site s number) command;
 }
 
 -- a step with its answer
 abbrev pub Made : Type 0
 Made = PlainStep × PlainAnswer
 
+-- the turn of a step that was made on this tree
 abbrev pub turn_of : Tree → Luck → Made → Turn
 turn_of t luck made = record {
   place = t;
@@ -98,6 +101,7 @@ abbrev pub unless_over : Option Reply → Option Call → Option Call
 unless_over None call = call
 unless_over (Some reply) call = None
 
+-- the tree after a move
 abbrev pub moved_tree : Tree → Luck → Option Made → Tree
 moved_tree t luck None = t
 moved_tree t luck (Some made) = (apply t made.0 luck).1
@@ -125,13 +129,13 @@ next s w (Stopped caller) = record {
 }
 
 -- after these records
-abbrev pub replay : Setup → Now → List Record → Now
-replay s w [] = w
-replay s w (r ∷ records) = replay s (next s w r) records
+abbrev pub replayed : Setup → Now → List Record → Now
+replayed s w [] = w
+replayed s w (r ∷ records) = replayed s (next s w r) records
 
 -- what stands after the first records of a history
 abbrev pub now_at : History → List Record → Now
-now_at h before = replay h.setup (first h.setup) before
+now_at h before = replayed h.setup (first h.setup) before
 
 -- ---- which records may come
 
@@ -153,6 +157,7 @@ abbrev pub NamesSource : Source → Type 0
 NamesSource (sources.Key key) = Unit {0}
 NamesSource (sources.Hash i) = IsIntegrity i
 
+-- so is that of a content which a command reads, asks about, exports or removes
 abbrev pub NamesIntegrity : Command → Type 0
 NamesIntegrity (commands.GetHash i) = IsIntegrity i
 NamesIntegrity (commands.Exists i) = IsIntegrity i
@@ -164,7 +169,7 @@ NamesIntegrity command = Unit {0}
 abbrev pub MayCome : Setup → Now → Record → Type 0
 MayCome s w (Began caller command) =
     (caller < s.callers) × (w.calls caller ≡ None)
-    × MayBegin (site_of s w.begun) (may_export s) (is_outside s) command × NamesIntegrity command
+    × MayBegin (call_site s w.begun) (may_export s) (is_outside s) command × NamesIntegrity command
 MayCome s w (Moved caller luck made reply) =
     (call : Call) × (w.calls caller ≡ Some call) × MayMove w.tree call.state luck made reply
 MayCome s w (Stopped caller) = (call : Call) × (w.calls caller ≡ Some call)

@@ -3,7 +3,7 @@ use Rattle.std.specs.Prelude.{ℕ, Bool, true, false, ◌&&◌, ◌||◌, List, 
 use Rattle.cacache_core.specs.declared.errors.Fault.{Fault}
 use Rattle.cacache_core.specs.PathNames.{Names, names_of, home_of}
 use Rattle.cacache_disk.specs.Tree.{same_path}
-use Rattle.cacache_calls.specs.State.{Site}
+use Rattle.cacache_table.specs.State.{Site}
 
 -- the cache, the folder where relative link targets start, the files that links may lead to, and
 -- how many callers there are
@@ -14,8 +14,8 @@ pub record Setup : Type 0 where
   pub callers : ℕ
 
 -- where the call with this number works
-abbrev pub site_of : Setup → ℕ → Site
-site_of s number = record { cache = s.cache; base = s.base; number = number }
+abbrev pub call_site : Setup → ℕ → Site
+call_site s number = record { cache = s.cache; base = s.base; number = number }
 
 -- the names of the cache's folder
 abbrev pub home : Setup → Option Names
@@ -51,6 +51,7 @@ abbrev pub may_take : Setup → Result Names Fault → Bool
 may_take s (Ok path) = apart_from_home (home s) path && apart_from_files s.outside path
 may_take s (Err fault) = true
 
+-- an export may go to what this text names
 abbrev pub may_export : Setup → List ℕ → Bool
 may_export s path = may_take s (names_of path)
 
@@ -66,5 +67,6 @@ abbrev pub is_among : List (List ℕ × List ℕ) → List ℕ → Bool
 is_among [] path = false
 is_among (file ∷ files) path = same_place (names_of file.0) (names_of path) || is_among files path
 
+-- a link may lead here: one of the outside files lies here
 abbrev pub is_outside : Setup → List ℕ → Bool
 is_outside s path = is_among s.outside path

@@ -6,11 +6,11 @@ use Rattle.cacache_core.specs.Integrity.{IsHash, hash_of}
 use Rattle.cacache_core.specs.PathNames.{Names}
 use Rattle.cacache_core.specs.Paths.{content_names}
 use Rattle.cacache_entry.specs.Entry.{Entry}
-use Rattle.cacache_laws.specs.Value.{Blob, InFile, Value, empty_value, wide_value, cache_part, value_of_tree}
-use Rattle.cacache_laws.specs.Kinds.{is_path_of}
-use Rattle.cacache_laws.specs.Acts.{Act, Drop, act_of, list_of}
-use Rattle.cacache_laws.specs.Traces.{Move, acts}
-use Rattle.cacache_laws.specs.Laws.{KeepBucket, IsLonger}
+use Rattle.cacache_value.specs.Value.{Blob, InFile, Value, empty_value, wide_value, cache_part, value_of_tree}
+use Rattle.cacache_value.specs.Kinds.{is_path_of}
+use Rattle.cacache_value.specs.Acts.{Act, Drop, act_of, list_of}
+use Rattle.cacache_value.specs.Traces.{Move, acts}
+use Rattle.cacache_value.specs.ValueLaws.{KeepBucket, IsLonger}
 use Rattle.cacache_history.specs.declared.record.Record.{Record}
 use Rattle.cacache_history.specs.declared.record.Record.TheVariants.{Began, Moved, Stopped}
 use Rattle.cacache_history.specs.Setup.{home}
@@ -68,6 +68,7 @@ KeepContent folder address [] = Unit {0}
 KeepContent folder address (m ∷ moves) =
     KeepsContent folder address (act_of m.step m.luck m.answer) × KeepContent folder address moves
 
+-- a content is there
 abbrev pub IsThere : Option Blob → Type 0
 IsThere None = ⊥
 IsThere (Some blob) = Unit {0}

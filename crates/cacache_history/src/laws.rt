@@ -1,7 +1,7 @@
 //! What holds of every legal history, on functions that do nothing.
 ghost use Rattle.std.specs.Prelude.{List, ℕ};
 ghost use Rattle.cacache_disk.specs.declared.luck.Luck.{Luck};
-ghost use Rattle.cacache_history.specs.Cases.{CasesHold, LookupCases};
+ghost use Rattle.cacache_history.specs.LegalCases.{CasesHold, LookupCases};
 ghost use Rattle.cacache_history.specs.Headline.{HeadlineHolds};
 
 /// The claim as a whole, of every legal history: see `Headline`.

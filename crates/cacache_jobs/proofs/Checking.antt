@@ -6,16 +6,16 @@ use Rattle.cacache_core.specs.Integrity.{Meets, actual}
 use Rattle.cacache_core.specs.Meeting.{meets}
 use Rattle.cacache_core.specs.Refusals.{IsCheckFailure}
 use Rattle.cacache_core.proofs.Meeting.{meets_finds}
-use Rattle.cacache_calls.specs.declared.reply.Reply.TheVariants.{Read}
-use Rattle.cacache_calls.specs.Reading.{checked}
-use Rattle.cacache_calls.specs.State.{Content, over}
-use Rattle.cacache_calls.specs.Runs.{EndsAs}
+use Rattle.cacache_table.specs.declared.reply.Reply.TheVariants.{Read}
+use Rattle.cacache_table.specs.ContentReads.{checked}
+use Rattle.cacache_table.specs.State.{Content, over}
+use Rattle.cacache_table.specs.Runs.{EndsAs}
 
 -- bytes that meet the integrity are answered
 pub checked_met : (k : Content) (b : List ℕ) → Meets k.integrity b → checked k b ≡ over (Read b)
 checked_met k b m = rw ((meets_finds k.integrity b).1 m) refl
 
-unmet_test : (k : Content) (b : List ℕ) → (Meets k.integrity b → ⊥) → meets k.integrity b ≡ false
+pub unmet_test : (k : Content) (b : List ℕ) → (Meets k.integrity b → ⊥) → meets k.integrity b ≡ false
 unmet_test k b unmet = by_test (meets k.integrity b) refl
   where
     by_test : (v : Bool) → meets k.integrity b ≡ v → v ≡ false

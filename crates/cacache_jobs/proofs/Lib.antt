@@ -1,9 +1,9 @@
 pub mod Checking
-pub mod Effort
+pub mod PhaseEffort
 pub mod Running
 pub mod Calling
 pub mod Hashed
 pub mod Verified
 pub mod Refusing
 pub mod Matching
-pub mod Writing
+pub mod WrittenCommits

@@ -8,9 +8,9 @@ use Rattle.cacache_core.specs.declared.integrity.digest.Hash.{Hash}
 use Rattle.cacache_core.specs.Refusals.{IsReadFailure}
 use Rattle.cacache_core.specs.Texts.{read_integrity}
 use Rattle.cacache_entry.specs.View.{IsRefusal}
-use Rattle.cacache_calls.specs.State.{Insertion}
-use Rattle.cacache_calls.specs.Inserting.{insert, no_integrity, refused_cause}
-use Rattle.cacache_calls.specs.Runs.{EndsAs}
+use Rattle.cacache_table.specs.State.{Insertion}
+use Rattle.cacache_table.specs.Inserting.{insert, no_integrity, refused_cause}
+use Rattle.cacache_table.specs.Runs.{EndsAs}
 
 -- an entry that is refused ends the call so
 pub refusal_ends : (j : Insertion) (e : Error) → IsRefusal j.entry e → EndsAs e (insert j)

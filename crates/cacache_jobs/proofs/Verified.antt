@@ -6,21 +6,15 @@ use Rattle.cacache_core.specs.Integrity.{Meets, actual}
 use Rattle.cacache_core.specs.Meeting.{meets}
 use Rattle.cacache_core.specs.Refusals.{IsCheckFailure}
 use Rattle.cacache_core.proofs.Meeting.{meets_finds}
-use Rattle.cacache_calls.specs.declared.command.Export.{Export}
-use Rattle.cacache_calls.specs.Exporting.{verified, export_content}
-use Rattle.cacache_calls.specs.State.{Content}
-use Rattle.cacache_calls.specs.Runs.{EndsAs}
+use Rattle.cacache_table.specs.declared.command.Export.{Export}
+use Rattle.cacache_table.specs.Exporting.{verified, export_content}
+use Rattle.cacache_table.specs.State.{Content}
+use Rattle.cacache_table.specs.Runs.{EndsAs}
+use Rattle.cacache_jobs.proofs.Checking.{unmet_test}
 
 -- bytes that meet the integrity are exported
 pub verified_met : (k : Content) (e : Export) (b : List ℕ) → Meets k.integrity b → verified k e b ≡ export_content k e (Some (length b))
 verified_met k e b m = rw ((meets_finds k.integrity b).1 m) refl
-
-unmet_test : (k : Content) (b : List ℕ) → (Meets k.integrity b → ⊥) → meets k.integrity b ≡ false
-unmet_test k b unmet = by_test (meets k.integrity b) refl
-  where
-    by_test : (v : Bool) → meets k.integrity b ≡ v → v ≡ false
-    by_test true e = absurd (unmet ((meets_finds k.integrity b).0 e))
-    by_test false e = refl
 
 -- bytes that don't are refused, with what was wanted and what they are known by
 pub verified_unmet : (k : Content) (x : Export) (b : List ℕ) (e : Error) → (Meets k.integrity b → ⊥) → IsCheckFailure k.integrity (actual k.integrity b) e → EndsAs e (verified k x b)

@@ -1,11 +1,11 @@
 -- A bound on the steps that a call still takes.
 use Rattle.std.specs.Prelude.{ℕ, ◌+◌, ◌*◌, ◌^◌, length}
-use Rattle.cacache_base.specs.declared.store.plain.PlainFile.{PlainFile}
-use Rattle.cacache_base.specs.declared.store.plain.PlainTemp.{PlainTemp}
-use Rattle.cacache_base.specs.Plain.{PlainStep, plain_step}
-use Rattle.cacache_base.specs.declared.store.step.Step.TheVariants as steps
-use Rattle.cacache_calls.specs.Runs.{weight, weights}
-use Rattle.cacache_walks.specs.Standing.{visit_of, pending}
+use Rattle.cacache_store.specs.declared.store.plain.PlainFile.{PlainFile}
+use Rattle.cacache_store.specs.declared.store.plain.PlainTemp.{PlainTemp}
+use Rattle.cacache_store.specs.Plain.{PlainStep, plain_step}
+use Rattle.cacache_store.specs.declared.store.step.Step.TheVariants as steps
+use Rattle.cacache_table.specs.Runs.{weight, weights}
+use Rattle.cacache_walks.specs.WalkStates.{visit_of, pending}
 use Rattle.cacache_jobs.specs.declared.stage.Then.{Then}
 use Rattle.cacache_jobs.specs.declared.stage.Then.TheVariants as thens
 use Rattle.cacache_jobs.specs.declared.stage.Stage.{Stage}
@@ -46,6 +46,7 @@ stage_effort (stages.Linking c target) step = 4
 stage_effort (stages.Walking w v) step =
     2 * w.left + weight (visit_of v) + weights (pending w.todo.items)
 
+-- of a phase; a call that is over takes no step
 abbrev pub phase_effort : {F T : Type 0} → (F → PlainFile) → (T → PlainTemp) → Phase F T → ℕ
 phase_effort file temp (phases.Wanting stage step) = stage_effort stage (plain_step file temp step)
 phase_effort file temp (phases.Over reply) = 0

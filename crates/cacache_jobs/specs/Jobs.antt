@@ -1,14 +1,14 @@
 -- Where a job stands between two calls of it.
 use Rattle.std.specs.Prelude.{◌≡◌, ◌⊎◌, Bool, true, false, Option, Some, None}
 use Rattle.cacache_core.specs.declared.errors.Error.TheVariants.{OutOfMemory}
-use Rattle.cacache_base.specs.declared.store.plain.PlainFile.{PlainFile}
-use Rattle.cacache_base.specs.declared.store.plain.PlainTemp.{PlainTemp}
-use Rattle.cacache_base.specs.Plain.{PlainStep, plain_step}
-use Rattle.cacache_calls.specs.State.{State, over}
-use Rattle.cacache_calls.specs.Runs.{plain_reply}
-use Rattle.cacache_calls.specs.Table.{wants}
-use Rattle.cacache_calls.specs.declared.reply.Reply.{Reply}
-use Rattle.cacache_calls.specs.declared.reply.Reply.TheVariants.{Refused}
+use Rattle.cacache_store.specs.declared.store.plain.PlainFile.{PlainFile}
+use Rattle.cacache_store.specs.declared.store.plain.PlainTemp.{PlainTemp}
+use Rattle.cacache_store.specs.Plain.{PlainStep, plain_step}
+use Rattle.cacache_table.specs.State.{State, over}
+use Rattle.cacache_table.specs.Runs.{plain_reply}
+use Rattle.cacache_table.specs.Table.{wants}
+use Rattle.cacache_table.specs.declared.reply.Reply.{Reply}
+use Rattle.cacache_table.specs.declared.reply.Reply.TheVariants.{Refused}
 use Rattle.cacache_jobs.specs.declared.phase.Phase.{Phase}
 use Rattle.cacache_jobs.specs.declared.phase.Phase.TheVariants as phases
 use Rattle.cacache_jobs.specs.declared.job.Next.{Next}
@@ -16,7 +16,7 @@ use Rattle.cacache_jobs.specs.declared.job.Next.TheVariants as next
 use Rattle.cacache_jobs.specs.declared.job.Standing.{Standing}
 use Rattle.cacache_jobs.specs.declared.job.Standing.TheVariants as standings
 use Rattle.cacache_jobs.specs.declared.job.Job.{Job}
-use Rattle.cacache_jobs.specs.Standing.{IsAt, PhaseAt}
+use Rattle.cacache_jobs.specs.JobStates.{IsAt, PhaseAt}
 
 -- ---- of a standing
 
@@ -41,25 +41,30 @@ abbrev pub PhaseGoesTo :
     {F T : Type 0} → (F → PlainFile) → (T → PlainTemp) → Phase F T → State → Type 0
 PhaseGoesTo file temp phase s = PhaseAt file temp phase s ⊎ LostMemory phase
 
+-- no step is out, and the call goes on to this state, unless memory was refused
 abbrev pub GoesOnTo :
     {F T : Type 0} → (F → PlainFile) → (T → PlainTemp) → Standing F T → State → Type 0
 GoesOnTo file temp (standings.At phase) s = PhaseGoesTo file temp phase s
 GoesOnTo file temp standing s = ⊥
 
+-- a step is out
 abbrev pub is_out : {F T : Type 0} → Standing F T → Bool
 is_out (standings.Out stage) = true
 is_out standing = false
 
+-- no step is out, and the reply wasn't handed out
 abbrev pub is_idle : {F T : Type 0} → Standing F T → Bool
 is_idle (standings.At phase) = true
 is_idle standing = false
 
-abbrev pub reply_of : {F T : Type 0} → Phase F T → Option Reply
-reply_of (phases.Over reply) = Some reply
-reply_of phase = None
+-- the reply of a call that is over
+abbrev pub reply_over : {F T : Type 0} → Phase F T → Option Reply
+reply_over (phases.Over reply) = Some reply
+reply_over phase = None
 
+-- the reply of a call that is over, until it is handed out
 abbrev pub reply_at : {F T : Type 0} → Standing F T → Option Reply
-reply_at (standings.At phase) = reply_of phase
+reply_at (standings.At phase) = reply_over phase
 reply_at standing = None
 
 -- ---- of a job
@@ -88,6 +93,7 @@ can_go_on job = is_idle job.standing
 abbrev pub reply_in : {F T : Type 0} → Job F T → Option Reply
 reply_in job = reply_at job.standing
 
+-- what is handed out is a step
 abbrev pub is_step : {F T : Type 0} → Next F T → Bool
 is_step (next.Step step) = true
 is_step (next.Over reply) = false

@@ -1,6 +1,7 @@
-pub mod Standing
-pub mod Opening
+pub mod JobStates
+pub mod Sites
+pub mod Environment
 pub mod Jobs
 pub mod Effort
-pub mod Found
-pub mod Entries
+pub mod ReadFirst
+pub mod IntoBuckets

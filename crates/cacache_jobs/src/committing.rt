@@ -1,17 +1,17 @@
 //! Commits of contents whose bytes stand in a temporary file.
 ghost use Rattle.std.specs.Prelude.{◌≡◌};
 ghost use Rattle.cacache_core.specs.declared.errors.Error.TheVariants.{OutOfMemory};
-ghost use Rattle.cacache_calls.specs.Promises.{Stores};
-ghost use Rattle.cacache_calls.specs.Runs.{Ran, plain_reply};
-ghost use Rattle.cacache_calls.specs.Storing.{persist};
-ghost use Rattle.cacache_calls.specs.declared.reply.Reply.TheVariants.{Refused};
-ghost use Rattle.cacache_jobs.specs.Standing.{commit_of};
+ghost use Rattle.cacache_table.specs.Promises.{OnlyStores, Stores};
+ghost use Rattle.cacache_table.specs.Runs.{Ran, plain_reply};
+ghost use Rattle.cacache_table.specs.Storing.{persist};
+ghost use Rattle.cacache_table.specs.declared.reply.Reply.TheVariants.{Refused};
+ghost use Rattle.cacache_jobs.specs.JobStates.{commit_of};
 
 use crate::run::finish;
 use crate::storing::{Commit, begin_commit};
-use cacache_base::env::Env;
-use cacache_base::store::Store;
-use cacache_calls::Reply;
+use cacache_store::env::Env;
+use cacache_store::store::Store;
+use cacache_table::Reply;
 
 /// Makes the temporary file the content that the commit says, and goes on to its end. The reply is that of a run of the
 /// call from there on, and where the store keeps its log, that run is what the log gained. The clock, the numbers and the
@@ -20,6 +20,7 @@ pub fn commit_from<S: Store, C, N>(env: &mut Env<S, C, N>, commit: Commit, file:
     ensures ran { Ran (persist (commit_of commit) (S.Temp.seen file))
         (plain_reply result) (S.log env.old.store) (S.log env.new.store) }
     ensures promised { Stores (commit_of commit) (plain_reply result) }
+    ensures stored { OnlyStores (plain_reply result) }
 
     // A caller that finds no memory for the reply answers as if the run had found none.
     ensures lost { Ran (persist (commit_of commit) (S.Temp.seen file))

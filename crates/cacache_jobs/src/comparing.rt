@@ -1,8 +1,8 @@
 //! What was said of a content is compared with it.
 ghost use Rattle.std.specs.Prelude.{◌≡◌, IfOk, IfErr};
-ghost use Rattle.cacache_calls.specs.Storing.{placed, sized, indexed, matches};
-ghost use Rattle.cacache_calls.specs.Runs.{EndsAs};
-ghost use Rattle.cacache_jobs.specs.Standing.{commit_of};
+ghost use Rattle.cacache_table.specs.Storing.{placed, sized, indexed, matches};
+ghost use Rattle.cacache_table.specs.Runs.{EndsAs};
+ghost use Rattle.cacache_jobs.specs.JobStates.{commit_of};
 
 use crate::storing::Commit;
 use cacache_core::errors::{self, Error, IntegrityFault};

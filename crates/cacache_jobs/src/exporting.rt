@@ -1,20 +1,20 @@
 //! Exports: an unchecked one is one step; a checked one reads the content to its end first.
-ghost use Rattle.cacache_calls.specs.Common.{go_on, fails};
-ghost use Rattle.cacache_calls.specs.Exporting.{export as export_of, export_from as export_from_of, counted as counted_of};
-ghost use Rattle.cacache_calls.specs.State.{over};
-ghost use Rattle.cacache_calls.specs.declared.reply.Reply.TheVariants.{Copied};
-ghost use Rattle.cacache_jobs.specs.Standing.{Leads, content_of};
+ghost use Rattle.cacache_table.specs.Common.{go_on, fails};
+ghost use Rattle.cacache_table.specs.Exporting.{export as export_of, export_from as export_from_of, counted as counted_of};
+ghost use Rattle.cacache_table.specs.State.{over};
+ghost use Rattle.cacache_table.specs.declared.reply.Reply.TheVariants.{Copied};
+ghost use Rattle.cacache_jobs.specs.JobStates.{Leads, content_of};
 
-use crate::keeping::{beside, let_go};
 use crate::phase::{Phase, refused};
 use crate::places::content_path;
 use crate::reading::Content;
 use crate::stage::{Last, Stage, Then};
 use crate::{hashing, messages};
-use cacache_base::store::{FileHandle, Step, TempHandle};
-use cacache_calls::{Export, How, Refusal, Reply};
 use cacache_core::errors;
+use cacache_core::keeping::{beside, let_go};
 use cacache_core::text::Text;
+use cacache_store::store::{FileHandle, Step, TempHandle};
+use cacache_table::{Export, How, Refusal, Reply};
 use std::alloc::Global;
 
 /// Exports a content; a checked export opens it first.

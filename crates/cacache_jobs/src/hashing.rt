@@ -1,31 +1,31 @@
 //! Files that are read to their end, each byte hashed once and none kept: contents to verify, and targets of links.
 ghost use Rattle.std.specs.Prelude.{◌≡◌, ℕ, List, [], ◌++◌, length};
-ghost use Rattle.cacache_calls.specs.Common.{go_on, fails};
-ghost use Rattle.cacache_calls.specs.Linking.{after_read, hashed as hashed_of};
-ghost use Rattle.cacache_calls.specs.Places.{content_path as content_path_of};
-ghost use Rattle.cacache_calls.specs.Exporting.{verified as verified_of};
+ghost use Rattle.cacache_table.specs.Common.{go_on, fails};
+ghost use Rattle.cacache_table.specs.Linking.{after_read, hashed as hashed_of};
+ghost use Rattle.cacache_table.specs.StepPaths.{content_path as content_path_of};
+ghost use Rattle.cacache_table.specs.Exporting.{verified as verified_of};
 ghost use Rattle.cacache_core.specs.Pieces.{Compares};
-ghost use Rattle.cacache_calls.specs.State.{Content as Named, Hashing as Purpose, opening_file, hashing as hashing_state, to_verify};
-ghost use Rattle.cacache_calls.specs.Seen.{seen_by, got_as};
-ghost use Rattle.cacache_jobs.specs.Standing.{Leads, Hashes, content_of};
+ghost use Rattle.cacache_table.specs.State.{Content as Named, Hashing as Purpose, opening_file, hashing as hashing_state, to_verify};
+ghost use Rattle.cacache_table.specs.Seen.{seen_by, got_as};
+ghost use Rattle.cacache_jobs.specs.JobStates.{Leads, HashesFor, content_of};
 
-use crate::keeping::beside;
 use crate::linking::Target;
 use crate::phase::{Phase, refused};
 use crate::reading::Content;
 use crate::stage::Stage;
 use crate::{exporting, messages};
-use cacache_base::store::{FileHandle, Step, TempHandle};
-use cacache_calls::answers::Got;
-use cacache_calls::{Export, Refusal};
 use cacache_core::errors::{self, Error};
 use cacache_core::hasher::Hasher;
 use cacache_core::integrity::IntegrityChecker;
+use cacache_core::keeping::beside;
 use cacache_core::text::Text;
+use cacache_store::store::{FileHandle, Step, TempHandle};
+use cacache_table::answers::Got;
+use cacache_table::{Export, Refusal};
 use std::alloc::Global;
 
 /// A read asks for at most so many bytes.
-const PIECE: usize = 8192;
+pub const PIECE: usize = 8192;
 
 /// What a file is read to its end for, with what hashes its bytes.
 pub enum Hashing {
@@ -72,7 +72,7 @@ pub(crate) fn opened<F: FileHandle, T: TempHandle>(
     hashing: Box<Hashing>,
     file: Result<F, Refusal>,
 ) -> errors::Result<Phase<F, T>>
-    ensures { (h : Purpose) → Hashes hashing.value h []
+    ensures { (h : Purpose) → HashesFor hashing.value h []
         → Leads F.seen T.seen result
         (go_on (seen_by F.seen file) fails (λ f. hashing_state h f [])) }
 {
@@ -107,7 +107,7 @@ impl Hashing {
         alloc: Global,
         size: usize,
     ) -> errors::Result<Phase<F, T>>
-        ensures { (h : Purpose) (bytes : List ℕ) → Hashes self h bytes → size ≡ length bytes
+        ensures { (h : Purpose) (bytes : List ℕ) → HashesFor self h bytes → size ≡ length bytes
             → Leads F.seen T.seen result (hashed_of h bytes) }
     {
         match self {
@@ -123,8 +123,8 @@ impl Hashing {
 
     /// Hashes these bytes after those before.
     fn feed(&mut self, piece: &[u8])
-        ensures { (h : Purpose) (bytes : List ℕ) → Hashes self.old h bytes
-            → Hashes self.new h (bytes ++ piece.now) }
+        ensures { (h : Purpose) (bytes : List ℕ) → HashesFor self.old h bytes
+            → HashesFor self.new h (bytes ++ piece.now) }
     {
         match self {
             Hashing::Verify(checker, _, _) => checker.input(piece),
@@ -140,7 +140,7 @@ fn piece<F: FileHandle, T: TempHandle>(
     size: usize,
     got: Got<F>,
 ) -> errors::Result<Phase<F, T>>
-    ensures { (h : Purpose) (bytes : List ℕ) → Hashes hashing.value h bytes → size ≡ length bytes
+    ensures { (h : Purpose) (bytes : List ℕ) → HashesFor hashing.value h bytes → size ≡ length bytes
         → Leads F.seen T.seen result (after_read h bytes (got_as F.seen got)) }
 {
     let Got { file, bytes } = got;
@@ -162,7 +162,7 @@ pub(crate) fn read<F: FileHandle, T: TempHandle>(
     size: usize,
     got: Result<Got<F>, Refusal>,
 ) -> errors::Result<Phase<F, T>>
-    ensures { (h : Purpose) (bytes : List ℕ) → Hashes hashing.value h bytes → size ≡ length bytes
+    ensures { (h : Purpose) (bytes : List ℕ) → HashesFor hashing.value h bytes → size ≡ length bytes
         → Leads F.seen T.seen result
         (go_on (seen_by (got_as F.seen) got) fails (after_read h bytes)) }
 {

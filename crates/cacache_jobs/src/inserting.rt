@@ -1,28 +1,28 @@
 //! How an entry goes into its bucket: the test of the entry, the bucket's folder, one append.
 ghost use Rattle.std.specs.Prelude.{◌≡◌, None, IfOk, IfErr, OnOk, option_map, string_bytes, length};
 ghost use Rattle.cacache_core.specs.declared.errors.Error.TheVariants.{OutOfMemory};
-ghost use Rattle.cacache_calls.specs.Common.{go_on, fails};
-ghost use Rattle.cacache_calls.specs.Inserting.{insert as insert_of, insertion as insertion_of, deletion as deletion_of, after_append, bucket_line, refused_cause, given_or, given_text, no_integrity as without_integrity};
-ghost use Rattle.cacache_calls.specs.Places.{bucket_path};
-ghost use Rattle.cacache_calls.specs.State.{Insertion as Inserted, appending};
+ghost use Rattle.cacache_table.specs.Common.{go_on, fails};
+ghost use Rattle.cacache_table.specs.Inserting.{insert as insert_of, insertion as insertion_of, deletion as deletion_of, after_append, bucket_line, refused_cause, given_or, given_text, no_integrity as without_integrity};
+ghost use Rattle.cacache_table.specs.StepPaths.{bucket_path};
+ghost use Rattle.cacache_table.specs.State.{Insertion as Inserted, appending};
 ghost use Rattle.cacache_entry.specs.View.{entry_view};
-ghost use Rattle.cacache_calls.specs.Runs.{EndsAs};
-ghost use Rattle.cacache_jobs.specs.Entries.{entry_with, into_bucket};
-ghost use Rattle.cacache_jobs.specs.Standing.{Leads, PhaseAt, Inserts, told};
+ghost use Rattle.cacache_table.specs.Runs.{EndsAs};
+ghost use Rattle.cacache_jobs.specs.IntoBuckets.{entry_with, into_bucket};
+ghost use Rattle.cacache_jobs.specs.JobStates.{Leads, PhaseAt, IsInsertion, told};
 
-use crate::keeping::beside;
 use crate::messages;
 use crate::phase::{Phase, refused};
 use crate::places::bucket_place;
 use crate::stage::{Stage, Then};
-use cacache_base::store::{FileHandle, Step, TempHandle};
-use cacache_calls::{Delete, Insert, Json, Options, Refusal, Reply};
 use cacache_core::bytes::Bytes;
 use cacache_core::errors::{self, Fault};
 use cacache_core::integrity::Integrity;
+use cacache_core::keeping::beside;
 use cacache_core::paths::Place;
 use cacache_core::text::Text;
 use cacache_entry::{SerializableMetadata, line};
+use cacache_store::store::{FileHandle, Step, TempHandle};
+use cacache_table::{Delete, Insert, Json, Options, Refusal, Reply};
 use serde_json::Value;
 use std::alloc::{AllocError, Global};
 
@@ -99,8 +99,8 @@ pub(crate) fn entry_of(
 /// The line of an entry that can be written, as its bucket has it.
 ///
 /// `SerdeError` where the entry can't be written.
-#[tactic(auto, using(crate::proofs::Refusing::refusal_ends), unfolding(cacache_calls::specs::Inserting::bucket_line, cacache_calls::specs::Inserting::refused_cause))]
-pub fn line_of(alloc: Global, entry: &SerializableMetadata) -> errors::Result<Bytes>
+#[tactic(auto, using(crate::proofs::Refusing::refusal_ends), unfolding(cacache_table::specs::Inserting::bucket_line, cacache_table::specs::Inserting::refused_cause))]
+fn line_of(alloc: Global, entry: &SerializableMetadata) -> errors::Result<Bytes>
     ensures line { IfOk result (λ line. (j : Inserted) → j.entry ≡ entry_view entry.now
         → line ≡ bucket_line j) }
     ensures fits { OnOk result ((j : Inserted) → j.entry ≡ entry_view entry.now
@@ -118,7 +118,7 @@ fn make_bucket<F: FileHandle, T: TempHandle>(
     insertion: Insertion,
     line: Bytes,
 ) -> errors::Result<Phase<F, T>>
-    ensures { (j : Inserted) → Inserts insertion j → line ≡ bucket_line j
+    ensures { (j : Inserted) → IsInsertion insertion j → line ≡ bucket_line j
         → Leads F.seen T.seen result (into_bucket j) }
 {
     let place = bucket_place(alloc, insertion.cache.as_str(), insertion.key.as_str())?;
@@ -162,7 +162,7 @@ pub(crate) fn append<F: FileHandle, T: TempHandle>(
     line: Bytes,
     path: Text,
 ) -> Phase<F, T>
-    ensures { (j : Inserted) → Inserts insertion j → line ≡ bucket_line j
+    ensures { (j : Inserted) → IsInsertion insertion j → line ≡ bucket_line j
         → path ≡ bucket_path j.cache j.entry.key → PhaseAt F.seen T.seen result (appending j) }
 {
     let size = line.len();
@@ -176,7 +176,7 @@ pub(crate) fn appended<F: FileHandle, T: TempHandle>(
     size: usize,
     taken: Result<usize, Refusal>,
 ) -> errors::Result<Phase<F, T>>
-    ensures { (j : Inserted) → Inserts insertion j → size ≡ length (bucket_line j)
+    ensures { (j : Inserted) → IsInsertion insertion j → size ≡ length (bucket_line j)
         → Leads F.seen T.seen result (go_on taken fails (after_append j)) }
 {
     let refusal = match taken {

@@ -1,19 +1,19 @@
 //! One call, which asks for its steps.
 ghost use Rattle.std.specs.Prelude.{◌≡◌, IfOk, IsTrue, option_map};
-ghost use Rattle.cacache_base.specs.Plain.{PlainStep, plain_step, plain_answer};
-ghost use Rattle.cacache_calls.specs.State.{State};
-ghost use Rattle.cacache_calls.specs.Table.{opening, after};
-ghost use Rattle.cacache_jobs.specs.Opening.{site_of};
+ghost use Rattle.cacache_store.specs.Plain.{PlainStep, plain_step, plain_answer};
+ghost use Rattle.cacache_table.specs.State.{State};
+ghost use Rattle.cacache_table.specs.Table.{opening, after};
+ghost use Rattle.cacache_jobs.specs.Sites.{site_of};
 ghost use Rattle.cacache_jobs.specs.Jobs.{Stands, HasOut, GoesTo, PhaseGoesTo, HandsOut, Tells, is_step, has_out, can_go_on, reply_in};
-ghost use Rattle.cacache_jobs.specs.Standing.{Leads, PhaseAt};
+ghost use Rattle.cacache_jobs.specs.JobStates.{Leads, PhaseAt};
 
-use crate::keeping::{let_go, set};
 use crate::opening::open;
 use crate::phase::Phase;
 use crate::stage::Stage;
-use cacache_base::store::{Answer, FileHandle, Step, TempHandle};
-use cacache_calls::{Command, Reply};
 use cacache_core::errors::{self, Error};
+use cacache_core::keeping::{let_go, set};
+use cacache_store::store::{Answer, FileHandle, Step, TempHandle};
+use cacache_table::{Command, Reply};
 use std::alloc::{AllocError, Global};
 use std::mem::replace;
 

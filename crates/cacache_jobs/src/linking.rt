@@ -1,28 +1,28 @@
 //! Links: the target is read to its end, and a link to it becomes the content.
 ghost use Rattle.std.specs.Prelude.{◌≡◌, ℕ, List, IfOk, length};
 ghost use Rattle.cacache_core.specs.Integrity.{integrity_under};
-ghost use Rattle.cacache_calls.specs.Common.{go_on, fails};
-ghost use Rattle.cacache_calls.specs.Linking.{based as based_of, target_of as link_target, with_size as sized_target, after_size, commit_for};
-ghost use Rattle.cacache_calls.specs.Places.{content_path as content_path_of};
-ghost use Rattle.cacache_jobs.specs.Opening.{site_of};
-ghost use Rattle.cacache_calls.specs.State.{sizing, opening_file, to_link, linking as linking_state};
-ghost use Rattle.cacache_calls.specs.Storing.{link as link_of};
-ghost use Rattle.cacache_jobs.specs.Standing.{Leads, commit_of, target_of};
+ghost use Rattle.cacache_table.specs.Common.{go_on, fails};
+ghost use Rattle.cacache_table.specs.Linking.{based as based_of, link_target, with_size as sized_target, after_size, commit_for};
+ghost use Rattle.cacache_table.specs.StepPaths.{content_path as content_path_of};
+ghost use Rattle.cacache_jobs.specs.Sites.{site_of};
+ghost use Rattle.cacache_table.specs.State.{sizing, opening_file, to_link, linking as linking_state};
+ghost use Rattle.cacache_table.specs.Storing.{link as link_of};
+ghost use Rattle.cacache_jobs.specs.JobStates.{Leads, commit_of, target_of};
 
 use crate::hashing::Hashing;
-use crate::keeping::beside;
 use crate::messages;
 use crate::phase::{Phase, refused};
 use crate::places::content_place;
 use crate::stage::{Stage, Then};
 use crate::storing::Commit;
-use cacache_base::store::{FileHandle, Step, TempHandle};
-use cacache_calls::{Link, Options, Refusal};
 use cacache_core::errors;
 use cacache_core::hasher::Hasher;
 use cacache_core::integrity::Integrity;
+use cacache_core::keeping::beside;
 use cacache_core::paths::{self, Place};
 use cacache_core::text::Text;
+use cacache_store::store::{FileHandle, Step, TempHandle};
+use cacache_table::{Link, Options, Refusal};
 use std::alloc::{AllocError, Global};
 
 /// A file that is to be linked to.

@@ -1,24 +1,24 @@
 //! Lookups of keys, and what the found entry is wanted for.
 ghost use Rattle.std.specs.Prelude.{◌≡◌, IfOk, IfErr};
 ghost use Rattle.cacache_core.specs.declared.errors.Error.TheVariants.{OutOfMemory};
-ghost use Rattle.cacache_calls.specs.Common.{go_on};
-ghost use Rattle.cacache_calls.specs.Looking.{found_for, found_in, after_bucket, no_bucket};
-ghost use Rattle.cacache_calls.specs.State.{looking as looking_state};
-ghost use Rattle.cacache_jobs.specs.Standing.{Leads, lookup_of, aim_of};
+ghost use Rattle.cacache_table.specs.Common.{go_on};
+ghost use Rattle.cacache_table.specs.Looking.{found_for, found_in, after_bucket, no_bucket};
+ghost use Rattle.cacache_table.specs.State.{looking as looking_state};
+ghost use Rattle.cacache_jobs.specs.JobStates.{Leads, lookup_of, aim_of};
 
-use crate::keeping::{beside, let_go};
 use crate::phase::{Phase, refused};
 use crate::places::bucket_path;
 use crate::reading::Content;
 use crate::stage::Stage;
 use crate::{exporting, messages, reading, removing};
-use cacache_base::store::{FileHandle, Step, TempHandle};
-use cacache_calls::{Export, Found, Refusal, Reply};
 use cacache_core::bytes::Bytes;
 use cacache_core::errors::{self, Error, Fault};
 use cacache_core::integrity::Integrity;
+use cacache_core::keeping::{beside, let_go};
 use cacache_core::text::Text;
 use cacache_entry::{Metadata, latest};
+use cacache_store::store::{FileHandle, Step, TempHandle};
+use cacache_table::{Export, Found, Refusal, Reply};
 use std::alloc::Global;
 
 /// What a key is looked up for.
@@ -117,7 +117,7 @@ fn not_found<F: FileHandle, T: TempHandle>(
 }
 
 /// What the bytes of the bucket answer to the lookup.
-#[tactic(auto, unfolding(cacache_calls::specs::Looking::found_in))]
+#[tactic(auto, unfolding(cacache_table::specs::Looking::found_in))]
 fn entry_in(alloc: Global, lookup: &Lookup, bytes: &[u8]) -> errors::Result<Option<Found>>
     ensures found { IfOk result (λ found. found ≡ found_in lookup.now.key bytes.now) }
     ensures refused { IfErr result (λ e. e ≡ OutOfMemory) }

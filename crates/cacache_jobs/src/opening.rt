@@ -1,24 +1,24 @@
 //! Where calls begin.
 ghost use Rattle.std.specs.Prelude.{ℕ, List, true, false, codes};
 ghost use Rattle.cacache_core.specs.Paths.{join as join_of};
-ghost use Rattle.cacache_calls.specs.State.{looking as looking_state, reading as reading_state, asking as asking_state};
-ghost use Rattle.cacache_calls.specs.Table.{opening};
-ghost use Rattle.cacache_calls.specs.Walking.{walk};
-ghost use Rattle.cacache_calls.specs.declared.command.Command.TheVariants as commands;
-ghost use Rattle.cacache_jobs.specs.Opening.{site_of};
-ghost use Rattle.cacache_jobs.specs.Standing.{Leads, aim_of};
+ghost use Rattle.cacache_table.specs.State.{looking as looking_state, reading as reading_state, asking as asking_state};
+ghost use Rattle.cacache_table.specs.Table.{opening};
+ghost use Rattle.cacache_table.specs.Walking.{walk};
+ghost use Rattle.cacache_table.specs.declared.command.Command.TheVariants as commands;
+ghost use Rattle.cacache_jobs.specs.Sites.{site_of};
+ghost use Rattle.cacache_jobs.specs.JobStates.{Leads, aim_of};
 
-use crate::keeping::beside;
 use crate::looking::{Aim, Lookup};
 use crate::phase::Phase;
 use crate::reading::Content;
 use crate::{exporting, inserting, linking, looking, reading, removing, storing, walking};
-use cacache_base::store::{FileHandle, TempHandle};
-use cacache_calls::{Command, Export, Source};
 use cacache_core::errors;
 use cacache_core::integrity::Integrity;
+use cacache_core::keeping::beside;
 use cacache_core::paths::join;
 use cacache_core::text::Text;
+use cacache_store::store::{FileHandle, TempHandle};
+use cacache_table::{Command, Export, Source};
 use std::alloc::Global;
 
 /// Where a lookup of a key begins.

@@ -1,12 +1,12 @@
 //! Where a call is while no step of it is out.
-ghost use Rattle.cacache_calls.specs.Common.{refuse, fails};
-ghost use Rattle.cacache_calls.specs.Runs.{EndsAs};
+ghost use Rattle.cacache_table.specs.Common.{refuse, fails};
+ghost use Rattle.cacache_table.specs.Runs.{EndsAs};
 
 use crate::stage::Stage;
-use cacache_base::store::Step;
-use cacache_calls::{Refusal, Reply};
 use cacache_core::errors::Error;
 use cacache_core::text::Text;
+use cacache_store::store::Step;
+use cacache_table::{Refusal, Reply};
 use std::alloc::AllocError;
 
 /// Where a call is while no step of it is out.

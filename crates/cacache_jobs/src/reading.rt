@@ -1,19 +1,23 @@
 //! Reads of contents, and the question whether one is there.
-ghost use Rattle.cacache_calls.specs.Common.{go_on, fails};
-ghost use Rattle.cacache_calls.specs.Reading.{checked as checked_of, is_there, is_absent};
-ghost use Rattle.cacache_calls.specs.State.{reading as reading_state, asking as asking_state};
-ghost use Rattle.cacache_jobs.specs.Standing.{Leads, content_of};
+ghost use Rattle.cacache_table.specs.Common.{go_on, fails};
+ghost use Rattle.cacache_table.specs.ContentReads.{checked as checked_of, is_there as is_there_state, is_absent};
+ghost use Rattle.cacache_table.specs.declared.reply.Reply.TheVariants.{Exists};
+ghost use Rattle.cacache_table.specs.Replies.{there_reply};
+ghost use Rattle.cacache_table.specs.Runs.{reply_of};
+ghost use Rattle.std.specs.Prelude.{◌≡◌};
+ghost use Rattle.cacache_table.specs.State.{reading as reading_state, asking as asking_state};
+ghost use Rattle.cacache_jobs.specs.JobStates.{Leads, content_of};
 
 use crate::messages;
 use crate::phase::{Phase, refused};
 use crate::places::content_path;
 use crate::stage::Stage;
-use cacache_base::store::{FileHandle, Step, TempHandle};
-use cacache_calls::{Refusal, Reply};
 use cacache_core::bytes::Bytes;
 use cacache_core::errors::{self, Error};
 use cacache_core::integrity::Integrity;
 use cacache_core::text::Text;
+use cacache_store::store::{FileHandle, Step, TempHandle};
+use cacache_table::{Refusal, Reply};
 use std::alloc::Global;
 
 /// A content that is read or asked for.
@@ -73,15 +77,24 @@ pub(crate) fn read<F: FileHandle, T: TempHandle>(
     }
 }
 
-/// After the question; a store that couldn't tell has no content.
+/// What the answer to the question says: a store that couldn't tell has no content.
+///
+/// `OutOfMemory` where memory was refused for the question.
+pub fn is_there(there: Result<bool, Refusal>) -> errors::Result<bool>
+    ensures { reply_of Exists result ≡ there_reply there }
+{
+    match there {
+        Ok(there) => Ok(there),
+        Err(Refusal::Fault(_)) => Ok(false),
+        Err(Refusal::Memory) => Err(Error::OutOfMemory),
+    }
+}
+
+/// After the question.
 pub(crate) fn asked<F: FileHandle, T: TempHandle>(
     there: Result<bool, Refusal>,
 ) -> errors::Result<Phase<F, T>>
-    ensures { Leads F.seen T.seen result (go_on there is_absent is_there) }
+    ensures { Leads F.seen T.seen result (go_on there is_absent is_there_state) }
 {
-    match there {
-        Ok(there) => Ok(Phase::Over(Reply::Exists(there))),
-        Err(Refusal::Fault(_)) => Ok(Phase::Over(Reply::Exists(false))),
-        Err(Refusal::Memory) => Err(Error::OutOfMemory),
-    }
+    Ok(Phase::Over(Reply::Exists(is_there(there)?)))
 }

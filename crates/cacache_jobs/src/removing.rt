@@ -1,19 +1,19 @@
 //! Removals of one content, or of one key.
 ghost use Rattle.std.specs.Prelude.{◌≡◌, List, ℕ};
-ghost use Rattle.cacache_calls.specs.State.{over};
-ghost use Rattle.cacache_calls.specs.Places.{bucket_path as bucket_path_of};
-ghost use Rattle.cacache_calls.specs.Removing.{remove_content as remove_content_of, remove_bucket as remove_bucket_of};
-ghost use Rattle.cacache_calls.specs.declared.reply.Reply.TheVariants.{Done};
-ghost use Rattle.cacache_jobs.specs.Standing.{Leads};
+ghost use Rattle.cacache_table.specs.State.{over};
+ghost use Rattle.cacache_table.specs.StepPaths.{bucket_path as bucket_path_of};
+ghost use Rattle.cacache_table.specs.Removing.{remove_content as remove_content_of, remove_bucket as remove_bucket_of};
+ghost use Rattle.cacache_table.specs.declared.reply.Reply.TheVariants.{Done};
+ghost use Rattle.cacache_jobs.specs.JobStates.{Leads};
 
-use crate::keeping::beside;
 use crate::phase::Phase;
 use crate::places::{bucket_path, content_path};
 use crate::stage::{Last, Stage, Then};
-use cacache_base::store::{FileHandle, Step, TempHandle};
 use cacache_core::errors;
 use cacache_core::integrity::Integrity;
+use cacache_core::keeping::beside;
 use cacache_core::text::Text;
+use cacache_store::store::{FileHandle, Step, TempHandle};
 use std::alloc::Global;
 
 /// Removes the content of an integrity.

@@ -1,19 +1,19 @@
 //! Links to targets that were read to their end before.
 ghost use Rattle.std.specs.Prelude.{◌≡◌};
 ghost use Rattle.cacache_core.specs.declared.errors.Error.TheVariants.{OutOfMemory};
-ghost use Rattle.cacache_calls.specs.Promises.{Stores};
-ghost use Rattle.cacache_calls.specs.Runs.{Ran, plain_reply};
-ghost use Rattle.cacache_calls.specs.Storing.{link as link_of};
-ghost use Rattle.cacache_calls.specs.declared.reply.Reply.TheVariants.{Refused};
-ghost use Rattle.cacache_jobs.specs.Standing.{commit_of};
+ghost use Rattle.cacache_table.specs.Promises.{OnlyStores, Stores};
+ghost use Rattle.cacache_table.specs.Runs.{Ran, plain_reply};
+ghost use Rattle.cacache_table.specs.Storing.{link as link_of};
+ghost use Rattle.cacache_table.specs.declared.reply.Reply.TheVariants.{Refused};
+ghost use Rattle.cacache_jobs.specs.JobStates.{commit_of};
 
 use crate::linking::link;
 use crate::run::finish;
 use crate::storing::Commit;
-use cacache_base::env::Env;
-use cacache_base::store::Store;
-use cacache_calls::Reply;
 use cacache_core::text::Text;
+use cacache_store::env::Env;
+use cacache_store::store::Store;
+use cacache_table::Reply;
 
 /// Makes a link to the target the content that the commit says, and goes on to its end. The reply is that of a run of
 /// the call from there on, and where the store keeps its log, that run is what the log gained. The clock, the numbers and
@@ -22,6 +22,7 @@ pub fn link_from<S: Store, C, N>(env: &mut Env<S, C, N>, commit: Commit, target:
     ensures ran { Ran (link_of (commit_of commit) target)
         (plain_reply result) (S.log env.old.store) (S.log env.new.store) }
     ensures promised { Stores (commit_of commit) (plain_reply result) }
+    ensures stored { OnlyStores (plain_reply result) }
 
     // A caller that finds no memory for the reply answers as if the run had found none.
     ensures lost { Ran (link_of (commit_of commit) target)

@@ -1,23 +1,23 @@
 //! Runs a call on a store.
 ghost use Rattle.std.specs.Prelude.{◌≡◌};
 ghost use Rattle.cacache_core.specs.declared.errors.Error.TheVariants.{OutOfMemory};
-ghost use Rattle.cacache_calls.specs.Promises.{Answers};
-ghost use Rattle.cacache_calls.specs.Runs.{Ran, plain_reply};
-ghost use Rattle.cacache_calls.specs.State.{State};
-ghost use Rattle.cacache_calls.specs.Table.{opening};
-ghost use Rattle.cacache_calls.specs.declared.reply.Reply.TheVariants.{Refused};
-ghost use Rattle.cacache_jobs.specs.Found.{FindsBytes, ReadsFirst};
+ghost use Rattle.cacache_table.specs.Promises.{Answers};
+ghost use Rattle.cacache_table.specs.Runs.{Ran, plain_reply};
+ghost use Rattle.cacache_table.specs.State.{State};
+ghost use Rattle.cacache_table.specs.Table.{opening};
+ghost use Rattle.cacache_table.specs.declared.reply.Reply.TheVariants.{Refused};
+ghost use Rattle.cacache_jobs.specs.ReadFirst.{FindsBytes, ReadsFirst};
 ghost use Rattle.cacache_jobs.specs.Jobs.{Stands};
-ghost use Rattle.cacache_jobs.specs.Opening.{site_of};
-ghost use Rattle.cacache_jobs.specs.Standing.{Leads, PhaseAt};
+ghost use Rattle.cacache_jobs.specs.Sites.{site_of};
+ghost use Rattle.cacache_jobs.specs.JobStates.{Leads, PhaseAt};
 
 use crate::job::{Job, settled};
 use crate::opening::open;
 use crate::phase::Phase;
-use cacache_base::env::Env;
-use cacache_base::store::Store;
-use cacache_calls::{Command, Reply};
 use cacache_core::errors;
+use cacache_store::env::Env;
+use cacache_store::store::Store;
+use cacache_table::{Command, Reply};
 use std::alloc::Global;
 
 /// Does the steps of a call from this phase on, until it is over.

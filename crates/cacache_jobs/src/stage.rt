@@ -1,13 +1,12 @@
 //! How far a call is while a step of it is out, and where the answer takes it.
-ghost use Rattle.cacache_base.specs.Plain.{plain_answer};
-ghost use Rattle.cacache_calls.specs.Common.{go_on, fails};
-ghost use Rattle.cacache_calls.specs.State.{State};
-ghost use Rattle.cacache_calls.specs.Table.{after};
-ghost use Rattle.cacache_jobs.specs.Standing.{Leads, StageAt, ThenAt};
+ghost use Rattle.cacache_store.specs.Plain.{plain_answer};
+ghost use Rattle.cacache_table.specs.Common.{go_on, fails};
+ghost use Rattle.cacache_table.specs.State.{State};
+ghost use Rattle.cacache_table.specs.Table.{after};
+ghost use Rattle.cacache_jobs.specs.JobStates.{Leads, StageAt, ThenAt};
 
 use crate::hashing::Hashing;
 use crate::inserting::Insertion;
-use crate::keeping::let_go;
 use crate::linking::Target;
 use crate::looking::Lookup;
 use crate::phase::{Phase, refused};
@@ -16,14 +15,15 @@ use crate::storing::Commit;
 use crate::{
     exporting, hashing, inserting, linking, looking, messages, reading, removing, storing, walking,
 };
-use cacache_base::store::{Answer, FileHandle, TempHandle};
-use cacache_calls::answers::{
-    bytes_of, done_of, file_of, got_of, length_of, taken_of, temp_of, there_of, written_of,
-};
-use cacache_calls::{Refusal, Reply};
 use cacache_core::bytes::Bytes;
 use cacache_core::errors::{self, Fault};
+use cacache_core::keeping::let_go;
 use cacache_core::text::Text;
+use cacache_store::store::{Answer, FileHandle, TempHandle};
+use cacache_table::answers::{
+    bytes_of, done_of, file_of, got_of, length_of, taken_of, temp_of, there_of, written_of,
+};
+use cacache_table::{Refusal, Reply};
 use cacache_walks::{Visit, Walk};
 use std::alloc::{AllocError, Global};
 

@@ -2,29 +2,29 @@
 ghost use Rattle.std.specs.Prelude.{◌≡◌, ℕ, IfOk, IfErr, drop};
 ghost use Rattle.cacache_core.specs.Integrity.{integrity_under};
 ghost use Rattle.cacache_core.specs.declared.errors.Error.TheVariants.{OutOfMemory};
-ghost use Rattle.cacache_calls.specs.Common.{go_on, fails};
-ghost use Rattle.cacache_calls.specs.Places.{content_path as content_path_of, temp_path as temp_path_of};
-ghost use Rattle.cacache_calls.specs.State.{Site, creating, persisting, confirming};
-ghost use Rattle.cacache_calls.specs.Storing.{persist as persist_of, write_rest as write_rest_of, placed as placed_of, indexed, after_write, after_confirm, commit_of as put_commit, store as store_of};
-ghost use Rattle.cacache_calls.specs.Seen.{seen_by, written_as};
-ghost use Rattle.cacache_jobs.specs.Standing.{Leads, PhaseAt, commit_of};
+ghost use Rattle.cacache_table.specs.Common.{go_on, fails};
+ghost use Rattle.cacache_table.specs.StepPaths.{content_path as content_path_of, temp_path as temp_path_of};
+ghost use Rattle.cacache_table.specs.State.{Site, creating, persisting, confirming};
+ghost use Rattle.cacache_table.specs.Storing.{persist as persist_of, write_rest as write_rest_of, placed as placed_of, indexed, after_write, after_confirm, put_commit, store as store_of};
+ghost use Rattle.cacache_table.specs.Seen.{seen_by, written_as};
+ghost use Rattle.cacache_jobs.specs.JobStates.{Leads, PhaseAt, commit_of};
 
 use crate::comparing::{compare_integrity, compare_size};
 use crate::inserting::{entry_of, insert};
-use crate::keeping::{beside, let_go};
 use crate::messages;
 use crate::phase::{Phase, refused};
 use crate::places::{content_path, content_place, temp_place};
 use crate::stage::{Stage, Then};
-use cacache_base::store::{FileHandle, Step, TempHandle};
-use cacache_calls::answers::Written;
-use cacache_calls::{Options, Put, Refusal, Reply};
 use cacache_core::bytes::Bytes;
 use cacache_core::errors::{self, Error, Fault};
 use cacache_core::hasher::Hasher;
 use cacache_core::integrity::{Algorithm, Integrity};
+use cacache_core::keeping::{beside, let_go};
 use cacache_core::paths::Place;
 use cacache_core::text::Text;
+use cacache_store::store::{FileHandle, Step, TempHandle};
+use cacache_table::answers::Written;
+use cacache_table::{Options, Put, Refusal, Reply};
 use std::alloc::Global;
 
 /// A content on its way to its place: what it is known by, and what was said of it.
@@ -122,7 +122,7 @@ pub(crate) fn create<F: FileHandle, T: TempHandle>(
 }
 
 /// The temporary file has all its bytes: makes the content's folder.
-fn fill_place<F: FileHandle, T: TempHandle>(
+fn make_content_folder<F: FileHandle, T: TempHandle>(
     alloc: Global,
     commit: Box<Commit>,
     file: T,
@@ -145,7 +145,7 @@ pub(crate) fn begin_commit<F: FileHandle, T: TempHandle>(
 ) -> errors::Result<Phase<F, T>>
     ensures { Leads F.seen T.seen result (persist_of (commit_of commit) (T.seen file)) }
 {
-    fill_place(alloc, Box::new(alloc, commit)?, file)
+    make_content_folder(alloc, Box::new(alloc, commit)?, file)
 }
 
 /// Writes what is left of the bytes, or goes on to the content's folder.
@@ -158,7 +158,7 @@ fn write_rest<F: FileHandle, T: TempHandle>(
     ensures { Leads F.seen T.seen result (write_rest_of (commit_of commit.value) (T.seen file) rest) }
 {
     if rest.is_empty() {
-        return fill_place(alloc, commit, file);
+        return make_content_folder(alloc, commit, file);
     }
     let shared = rest.share()?;
     Ok(Phase::Wanting(Stage::Writing(commit, rest), Step::Write(file, shared)))

@@ -1,17 +1,17 @@
 //! Walks through folders as calls: a clearing removes all, a listing reads each bucket.
 ghost use Rattle.std.specs.Prelude.{[]};
-ghost use Rattle.cacache_base.specs.Plain.{plain_answer};
-ghost use Rattle.cacache_calls.specs.State.{State};
-ghost use Rattle.cacache_calls.specs.Walking.{walk as walk_from, after_visit};
-ghost use Rattle.cacache_walks.specs.Standing.{Counts, WalksAt, visit_of, pending, walk_of};
-ghost use Rattle.cacache_jobs.specs.Standing.{Leads};
+ghost use Rattle.cacache_store.specs.Plain.{plain_answer};
+ghost use Rattle.cacache_table.specs.State.{State};
+ghost use Rattle.cacache_table.specs.Walking.{walk as walk_from, after_visit};
+ghost use Rattle.cacache_walks.specs.WalkStates.{Counts, WalksAt, visit_of, pending, walk_of};
+ghost use Rattle.cacache_jobs.specs.JobStates.{Leads};
 
-use crate::keeping::beside;
 use crate::phase::Phase;
 use crate::stage::Stage;
-use cacache_base::store::{Answer, FileHandle, TempHandle};
 use cacache_core::errors;
+use cacache_core::keeping::beside;
 use cacache_core::text::Text;
+use cacache_store::store::{Answer, FileHandle, TempHandle};
 use cacache_walks::{Visit, Walk};
 use std::alloc::Global;
 

@@ -1,3 +1,3 @@
-mod Keeping
-mod Plain
-mod Making
+mod LogSteps
+mod PlainLuck
+mod LoggedSteps

@@ -1,3 +1,3 @@
 pub mod Replay
-pub mod Refusals
-pub mod Kept
+pub mod PlantRefusals
+pub mod StoreKept

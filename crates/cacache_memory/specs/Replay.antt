@@ -2,11 +2,11 @@
 use Rattle.std.specs.Prelude.{◌≡◌, ℕ, List, [], ◌∷◌, Option, None, Some, Result, Ok, Err}
 use Rattle.std.specs.Result.{result_err}
 use Rattle.cacache_core.specs.declared.errors.Fault.{Fault}
-use Rattle.cacache_base.specs.declared.store.step.Step.TheVariants.{MakeDirs, ReadAll}
-use Rattle.cacache_base.specs.declared.store.answer.Answer.TheVariants.{Done, Bytes, NoMemory}
-use Rattle.cacache_base.specs.declared.store.log.LogItem.{LogItem}
-use Rattle.cacache_base.specs.declared.store.log.LogItem.TheVariants.{Made, Foreign, ForeignFolder}
-use Rattle.cacache_base.specs.Plain.{PlainStep, PlainAnswer}
+use Rattle.cacache_store.specs.declared.store.step.Step.TheVariants.{MakeDirs, ReadAll}
+use Rattle.cacache_store.specs.declared.store.answer.Answer.TheVariants.{Done, Bytes, NoMemory}
+use Rattle.cacache_store.specs.declared.store.log.LogItem.{LogItem}
+use Rattle.cacache_store.specs.declared.store.log.LogItem.TheVariants.{Made, Foreign, ForeignFolder}
+use Rattle.cacache_store.specs.Plain.{PlainStep, PlainAnswer}
 use Rattle.cacache_disk.specs.declared.luck.Luck.TheVariants.{Plain}
 use Rattle.cacache_disk.specs.Tree.{Tree, bare}
 use Rattle.cacache_disk.specs.Apply.{apply, planted}
@@ -23,10 +23,10 @@ after t (Foreign path bytes) = changed t (planted t path bytes)
 after t (ForeignFolder path) = (apply t (MakeDirs path) Plain).1
 
 -- a step has the disk's answer on this tree, and what is foreign doesn't fail
-abbrev pub Happens : Tree → LogItem → Type 0
-Happens t (Made step answer) = answer ≡ (apply t step Plain).0
-Happens t (Foreign path bytes) = result_err (planted t path bytes) ≡ None
-Happens t (ForeignFolder path) = (apply t (MakeDirs path) Plain).0 ≡ Done
+abbrev pub HappensOn : Tree → LogItem → Type 0
+HappensOn t (Made step answer) = answer ≡ (apply t step Plain).0
+HappensOn t (Foreign path bytes) = result_err (planted t path bytes) ≡ None
+HappensOn t (ForeignFolder path) = (apply t (MakeDirs path) Plain).0 ≡ Done
 
 -- the tree after the items of a log, one after another
 abbrev pub replay : Tree → List LogItem → Tree
@@ -36,7 +36,7 @@ replay t (item ∷ log) = replay (after t item) log
 -- each item of the log can happen at its place
 abbrev pub IsReplayable : Tree → List LogItem → Type 0
 IsReplayable t [] = Unit {0}
-IsReplayable t (item ∷ log) = Happens t item × IsReplayable (after t item) log
+IsReplayable t (item ∷ log) = HappensOn t item × IsReplayable (after t item) log
 
 -- the tree of a store whose log this is
 unfoldable pub tree_of : List LogItem → Tree
@@ -47,15 +47,15 @@ unfoldable pub IsLog : List LogItem → Type 0
 IsLog log = IsReplayable bare log
 
 -- the bytes in the answer of a step that reads a file, none in any other
-abbrev pub bytes_in : PlainAnswer → Option (List ℕ)
-bytes_in (Bytes bytes) = Some bytes
-bytes_in _ = None
+abbrev pub bytes_told : PlainAnswer → Option (List ℕ)
+bytes_told (Bytes bytes) = Some bytes
+bytes_told _ = None
 
 -- the bytes that reading the whole file gives, none where that fails
 abbrev pub shown : Tree → List ℕ → Option (List ℕ)
-shown t path = bytes_in (apply t (ReadAll path) Plain).0
+shown t path = bytes_told (apply t (ReadAll path) Plain).0
 
 -- the answer is the disk's, but for want of memory
-abbrev pub Answers : Tree → PlainStep → PlainAnswer → Type 0
-Answers t step (NoMemory back) = Unit {0}
-Answers t step answer = answer ≡ (apply t step Plain).0
+abbrev pub AnsweredByDisk : Tree → PlainStep → PlainAnswer → Type 0
+AnsweredByDisk t step (NoMemory back) = Unit {0}
+AnsweredByDisk t step answer = answer ≡ (apply t step Plain).0

@@ -2,21 +2,22 @@
 ghost use Rattle.std.specs.Prelude.{◌≡◌, ◌∷◌, ◌++◌, [], ◌<◌, Some, IfOk, IfErr, IfNone, OnOk, OnErr, OnSome, option_map, vec_len, vec_capacity};
 ghost use Rattle.std.specs.Result.{result_err};
 ghost use Rattle.cacache_core.specs.declared.errors.Error.TheVariants.{OutOfMemory};
-ghost use Rattle.cacache_base.specs.declared.store.log.LogItem.TheVariants.{Foreign, ForeignFolder};
-ghost use Rattle.cacache_base.specs.declared.store.step.Step.TheVariants.{MakeDirs};
-ghost use Rattle.cacache_base.specs.declared.store.answer.Answer.TheVariants.{Done};
-ghost use Rattle.cacache_base.specs.Fits.{Fits, Logs};
+ghost use Rattle.cacache_store.specs.declared.store.log.LogItem.TheVariants.{Foreign, ForeignFolder};
+ghost use Rattle.cacache_store.specs.declared.store.step.Step.TheVariants.{MakeDirs};
+ghost use Rattle.cacache_store.specs.declared.store.answer.Answer.TheVariants.{Done};
+ghost use Rattle.cacache_store.specs.Fits.{Fits, Logs};
 ghost use Rattle.cacache_disk.specs.declared.luck.Luck.TheVariants.{Plain};
-ghost use Rattle.cacache_disk.specs.Apply.{apply, planted};
-ghost use Rattle.cacache_memory.specs.Replay.{tree_of, IsLog, shown, Answers};
-ghost use Rattle.cacache_memory.specs.Refusals.{fault_in, IsDueTo, IsEarned};
+ghost use Rattle.cacache_disk.specs.Apply.{apply, planted, fault_told};
+ghost use Rattle.cacache_memory.specs.Replay.{tree_of, IsLog, shown, AnsweredByDisk};
+ghost use Rattle.cacache_memory.specs.PlantRefusals.{IsDueTo, IsEarned};
 
-use cacache_base::store::{Answer, LogItem, PlainFile, PlainTemp, Step, Store};
 use cacache_core::bytes::Bytes;
 use cacache_core::errors;
 use cacache_core::errors::{Error, Fault};
+use cacache_core::keeping::let_go;
 use cacache_core::text::Text;
 use cacache_disk::{Disk, Luck};
+use cacache_store::store::{Answer, LogItem, PlainFile, PlainTemp, Step, Store};
 use std::alloc::{AllocError, Global};
 use std::marker::Model;
 
@@ -28,9 +29,6 @@ fn make_room(log: &mut Vec<LogItem>) -> Result<(), AllocError>
     log.reserve(1)?;
     Ok(())
 }
-
-/// Lets a value go: one call in place of its parts.
-fn let_go<T: Drop>(_value: T) {}
 
 /// One item more, for which there is room.
 fn note(log: &mut Vec<LogItem>, item: LogItem)
@@ -52,7 +50,7 @@ fn refused(alloc: Global, fault: Fault, what: &str, path: &Text) -> Error
 
 /// The fault of a failed answer.
 fn fault_of(answer: &Answer<PlainFile, PlainTemp>) -> Option<Fault>
-    ensures { result ≡ fault_in answer.now }
+    ensures { result ≡ fault_told answer.now }
 {
     match answer {
         Answer::Failed(fault) => Some(*fault),
@@ -63,7 +61,7 @@ fn fault_of(answer: &Answer<PlainFile, PlainTemp>) -> Option<Fault>
 /// Makes the missing folders of the path, or gives the fault of that.
 fn make_folders(disk: &mut Disk, path: Text) -> Result<Option<Fault>, AllocError>
     ensures fault { IfOk result (λ fault.
-        fault ≡ fault_in (apply disk.old (MakeDirs path) Plain).0) }
+        fault ≡ fault_told (apply disk.old (MakeDirs path) Plain).0) }
     ensures made { IfOk result (λ fault.
         IfNone fault (apply disk.old (MakeDirs path) Plain ≡ (Done, disk.new))) }
     ensures failed { IfOk result (λ fault. OnSome fault (disk.new ≡ disk.old)) }
@@ -89,15 +87,15 @@ pub struct MemStore {
 
 impl Model for MemStore {
     ghost use Rattle.std.specs.Prelude.{List};
-    ghost use Rattle.cacache_base.specs.declared.store.log.LogItem.{LogItem};
+    ghost use Rattle.cacache_store.specs.declared.store.log.LogItem.{LogItem};
 
     ghost Value = { List LogItem };
 
     ghost view = { λ s. s.log.items };
 
-    ghost use Rattle.cacache_memory.specs.Kept.{IsKept};
+    ghost use Rattle.cacache_memory.specs.StoreKept.{StoreIsKept};
 
-    ghost invariant = { IsKept };
+    ghost invariant = { StoreIsKept };
 }
 
 impl MemStore {
@@ -150,7 +148,7 @@ impl MemStore {
         ensures ok { OnOk result (self.new ≡ self.old ++ ForeignFolder path.now ∷ []) }
         ensures err { OnErr result (self.new ≡ self.old) }
         ensures earned { IsEarned
-            (fault_in (apply (tree_of self.old) (MakeDirs path.now) Plain).0) result }
+            (fault_told (apply (tree_of self.old) (MakeDirs path.now) Plain).0) result }
     {
         let path = Text::from_str(self.alloc, path)?;
         make_room(&mut self.log)?;
@@ -187,7 +185,7 @@ impl Store for MemStore {
     fn step(&mut self, step: Step<PlainFile, PlainTemp>) -> Answer<PlainFile, PlainTemp>
         ensures fits { Fits step result }
         ensures logged { Logs (Some self.old) (Some self.new) step result }
-        ensures answers { Answers (tree_of self.old) step result }
+        ensures answers { AnsweredByDisk (tree_of self.old) step result }
     {
         if make_room(&mut self.log).is_err() {
             return Answer::NoMemory(step);

@@ -1,3 +1,3 @@
 pub mod Appending
 pub mod Texts
-pub mod Listings
+pub mod PrintedLines

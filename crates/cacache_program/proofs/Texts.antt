@@ -6,8 +6,8 @@ use Rattle.hex.proofs.HexLemmas.{length-encode_with}
 use Rattle.sha2.specs.Sha256.{sha256}
 use Rattle.sha2.proofs.Facts256.{length-sha256}
 use Rattle.cacache.specs.Entries.{Entry, Found, text_of, line_of, sha256_hex}
-use Rattle.cacache_program.specs.Entries.{entry_text}
-use Rattle.cacache_program.specs.Finding.{found_line}
+use Rattle.cacache_program.specs.PrintedEntries.{entry_text}
+use Rattle.cacache_program.specs.WordFind.{found_line}
 
 -- a digest has 64 digits
 length-sha256_hex : (bytes : List ℕ) → length (sha256_hex bytes) ≡ 64

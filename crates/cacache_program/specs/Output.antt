@@ -14,9 +14,9 @@ PutsOut bytes before after status =
     ((status ≡ 0) × Appends before after bytes) ⊎ ((status ≡ 1) × AppendsPart before after bytes)
 
 -- these bytes were put out; where there are none, the word failed and put nothing out
-abbrev pub Tells : Option (List ℕ) → Option (List ℕ) → Option (List ℕ) → ℕ → Type 0
-Tells (Some bytes) before after status = PutsOut bytes before after status
-Tells None before after status = (status ≡ 1) × (after ≡ before)
+abbrev pub PutsOutOrFails : Option (List ℕ) → Option (List ℕ) → Option (List ℕ) → ℕ → Type 0
+PutsOutOrFails (Some bytes) before after status = PutsOut bytes before after status
+PutsOutOrFails None before after status = (status ≡ 1) × (after ≡ before)
 
 -- the status after a reply of which nothing is put out
 abbrev pub status_of : Reply → ℕ

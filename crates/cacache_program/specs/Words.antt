@@ -1,7 +1,7 @@
 -- The words of a command line.
 use Rattle.std.specs.Prelude.{◌≡◌, ◌≢◌, ℕ, List, [], ◌∷◌, Option, None, Some, IfNone, IfSome, MatchOption, String, string_bytes, codes}
 
--- a command's name, its cache and its key, if there is one
+-- a command's name, its cache and its key, if there is one; of a storm the threads and the keys
 pub record Asked : Type 0 where
   pub name : List ℕ
   pub cache : List ℕ
@@ -28,14 +28,15 @@ Keyed a name P = IfSome a.key (λ key. a.name ≡ name → P a.cache key)
 abbrev pub Unkeyed : Asked → List ℕ → (List ℕ → Type 0) → Type 0
 Unkeyed a name P = IfNone a.key (a.name ≡ name → P a.cache)
 
--- the name is none that goes with a cache alone
+-- the name is none that goes with one word more
 abbrev pub IsNoUnkeyed : List ℕ → Type 0
 IsNoUnkeyed name = (name ≢ codes "ls") × (name ≢ codes "clear")
 
--- the name is none that goes with a cache and a key
+-- the name is none that goes with two words more
 abbrev pub IsNoKeyed : List ℕ → Type 0
 IsNoKeyed name =
     (name ≢ codes "write") × (name ≢ codes "read") × (name ≢ codes "find") × (name ≢ codes "remove")
+    × (name ≢ codes "storm")
 
 -- what is asked for is nothing that the program knows
 abbrev pub IsWrong : Asked → Type 0

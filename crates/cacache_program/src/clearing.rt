@@ -1,6 +1,6 @@
 //! The word `clear`.
 ghost use Rattle.std.specs.Prelude.{◌≡◌};
-ghost use Rattle.cacache_program.specs.Clearing.{Clears};
+ghost use Rattle.cacache_program.specs.WordClear.{Clears};
 
 use crate::output::call_failed;
 use cacache::env::{Clock, Env, Names};

@@ -1,7 +1,7 @@
 //! Entries as they are printed.
 ghost use Rattle.std.specs.Prelude.{◌≡◌, IfOk};
 ghost use Rattle.cacache.specs.Entries.{entry_view, found_view};
-ghost use Rattle.cacache_program.specs.Entries.{entry_of, entry_text};
+ghost use Rattle.cacache_program.specs.PrintedEntries.{printed_entry, entry_text};
 
 use cacache::index::{SerializableMetadata, line};
 use cacache::{Metadata, Result};
@@ -12,7 +12,7 @@ const TEXT: usize = 66;
 
 /// An entry that was found, as its line says it.
 fn entry_of(alloc: Global, found: Metadata) -> std::result::Result<SerializableMetadata, AllocError>
-    ensures { IfOk result (λ entry. entry_view entry ≡ entry_of (found_view found)) }
+    ensures { IfOk result (λ entry. entry_view entry ≡ printed_entry (found_view found)) }
 {
     let integrity = Some(found.integrity.to_string(alloc)?);
     Ok(SerializableMetadata {

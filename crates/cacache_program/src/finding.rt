@@ -1,8 +1,8 @@
 //! The word `find`.
 ghost use Rattle.std.specs.Prelude.{◌≡◌, ◌++◌, ◌∷◌, [], IfOk, option_map};
 ghost use Rattle.cacache.specs.Entries.{found_view};
-ghost use Rattle.cacache_program.specs.Entries.{entry_text};
-ghost use Rattle.cacache_program.specs.Finding.{Finds, found_line};
+ghost use Rattle.cacache_program.specs.PrintedEntries.{entry_text};
+ghost use Rattle.cacache_program.specs.WordFind.{PrintsFound, found_line};
 
 use crate::entries::entry_text;
 use crate::output::{call_failed, put_out};
@@ -33,7 +33,7 @@ pub(crate) fn find<S: Store, C: Clock, N: Names, W: Write, E: Write>(
     output: &mut W,
     errors: &mut E,
 ) -> u8
-    ensures does { Finds S.log cache.now key.now env.old env.new
+    ensures does { PrintsFound S.log cache.now key.now env.old env.new
         (W.contents output.old) (W.contents output.new) result }
     ensures quiet { result ≡ 0 → errors.new ≡ errors.old }
 {

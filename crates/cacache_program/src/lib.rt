@@ -10,6 +10,8 @@ mod output;
 mod program;
 mod reading;
 mod removing;
+mod storming;
 mod writing;
 
-pub use program::{USAGE, run, without_words};
+pub use output::USAGE;
+pub use program::{run, without_words};

@@ -1,7 +1,7 @@
 //! The lines of a listing.
 ghost use Rattle.std.specs.Prelude.{◌≡◌, ◌++◌, ◌||◌, IfOk, OnOk, is_some, is_err, option_to_list, map, filter_map};
 ghost use Rattle.cacache.specs.Entries.{found_view};
-ghost use Rattle.cacache_program.specs.Listing.{IsListing, has_error, line_in, line_of, text_of};
+ghost use Rattle.cacache_program.specs.WordLs.{IsPrintedListing, has_error, line_in, line_of, listing_text};
 ghost use Rattle.cacache_program.specs.Lines.{line_view, lines_of};
 
 use crate::entries::entry_text;
@@ -77,7 +77,7 @@ fn gathered(alloc: Global, items: Vec<std::result::Result<Found, Error>>) -> Res
 
 /// The lines as they are printed, each with a line feed.
 fn text_of(alloc: Global, lines: &[Line]) -> Result<Vec<u8>>
-    ensures { IfOk result (λ text. text.items ≡ text_of (map line_view lines.now)) }
+    ensures { IfOk result (λ text. text.items ≡ listing_text (map line_view lines.now)) }
 {
     let mut text = Vec::new(alloc);
     for line in lines {
@@ -92,7 +92,7 @@ pub(crate) fn listing_of(
     alloc: Global,
     items: Vec<std::result::Result<Found, Error>>,
 ) -> Result<Listing>
-    ensures text { IfOk result (λ l. IsListing items.items l.text.items) }
+    ensures text { IfOk result (λ l. IsPrintedListing items.items l.text.items) }
     ensures error { IfOk result (λ l. is_some l.first_error ≡ has_error items.items) }
 {
     let Lines {

@@ -1,7 +1,7 @@
 //! The word `ls`.
 ghost use Rattle.std.specs.Prelude.{◌≡◌, is_some};
 ghost use Rattle.cacache.specs.Calls.{Calls, reply_of};
-ghost use Rattle.cacache_program.specs.Listing.{Lists, PutsListing, listed};
+ghost use Rattle.cacache_program.specs.WordLs.{PrintsListing, PutsListing, listed};
 
 use crate::lines::{Listing, listing_of};
 use crate::output::{call_failed, put_out, write_whole};
@@ -52,7 +52,7 @@ pub(crate) fn ls<S: Store, C: Clock, N: Names, W: Write, E: Write>(
     output: &mut W,
     errors: &mut E,
 ) -> u8
-    ensures does { Lists S.log cache.now env.old env.new
+    ensures does { PrintsListing S.log cache.now env.old env.new
         (W.contents output.old) (W.contents output.new) result }
     ensures quiet { result ≡ 0 → errors.new ≡ errors.old }
 {

@@ -2,35 +2,28 @@
 ghost use Rattle.std.specs.Prelude.{◌≡◌, ◌≢◌, ◌≤◌, codes, option_map};
 ghost use Rattle.std.specs.IoError.{error_kind};
 ghost use Rattle.cacache_program.specs.Words.{asked_of, Keyed, Unkeyed, IsWrong};
-ghost use Rattle.cacache_program.specs.Writing.{Writes};
-ghost use Rattle.cacache_program.specs.Reading.{Reads};
-ghost use Rattle.cacache_program.specs.Finding.{Finds};
-ghost use Rattle.cacache_program.specs.Removing.{Removes};
-ghost use Rattle.cacache_program.specs.Clearing.{Clears};
-ghost use Rattle.cacache_program.specs.Listing.{Lists};
+ghost use Rattle.cacache_program.specs.WordWrite.{Writes};
+ghost use Rattle.cacache_program.specs.WordRead.{Reads};
+ghost use Rattle.cacache_program.specs.WordFind.{PrintsFound};
+ghost use Rattle.cacache_program.specs.WordRemove.{PrintsRemoval};
+ghost use Rattle.cacache_program.specs.WordClear.{Clears};
+ghost use Rattle.cacache_program.specs.WordLs.{PrintsListing};
+ghost use Rattle.cacache_program.specs.WordStorm.{Storms};
 
 use crate::clearing::clear;
 use crate::finding::find;
 use crate::listing::ls;
-use crate::output::stream_failed;
+use crate::output::{misused, stream_failed};
 use crate::reading::read;
 use crate::removing::remove;
+use crate::storming::storm;
 use crate::writing::write;
 use cacache::env::{Clock, Env, Names};
 use cacache::store::Store;
 use std::io::{self, ErrorKind, Read, Write};
-
-/// What the program says to wrong words.
-pub const USAGE: &str =
-    "usage: cacache write|read|find|remove CACHE KEY | ls|clear CACHE | storm THREADS KEYS\n";
-
-/// Prints the usage, and returns the status of wrong words.
-fn misused<E: Write>(errors: &mut E) -> u8
-    ensures { result ≡ 2 }
-{
-    let _ = errors.write_all(USAGE.as_bytes());
-    2
-}
+use std::sync::Wait;
+use std::thread::Threads;
+use std::time;
 
 /// The name, the cache and the key that the words give; an empty name where there are fewer or more.
 fn asked(words: &[String]) -> (&str, &str, Option<&str>)
@@ -50,8 +43,18 @@ fn asked(words: &[String]) -> (&str, &str, Option<&str>)
 /// Does what the words say, and returns the status: 0, or 1 if the call or a stream failed, which
 /// is printed on `errors`, or 2 for wrong words. A failed write to `errors` changes no status.
 ///
-/// If the input fails, nothing is stored. If the output fails, what was stored stays.
-pub fn run<S: Store, C: Clock, N: Names, R: Read, W: Write, E: Write>(
+/// If the input fails, nothing is stored. If the output fails, what was stored stays. It waits for
+/// the threads of a storm, and else for nobody.
+pub fn run<
+    T: Threads + Wait + time::Clock + AllocGlobal + Sync,
+    S: Store,
+    C: Clock,
+    N: Names,
+    R: Read,
+    W: Write,
+    E: Write,
+>(
+    rt: &T,
     env: &mut Env<S, C, N>,
     words: &[String],
     input: &mut R,
@@ -69,21 +72,25 @@ pub fn run<S: Store, C: Clock, N: Names, R: Read, W: Write, E: Write>(
         Reads S.log cache key env.old env.new
         (W.contents output.old) (W.contents output.new) result) }
     ensures finds { Keyed (asked_of words.now) (codes "find") (λ cache key.
-        Finds S.log cache key env.old env.new
+        PrintsFound S.log cache key env.old env.new
         (W.contents output.old) (W.contents output.new) result) }
     ensures removes { Keyed (asked_of words.now) (codes "remove") (λ cache key.
-        Removes S.log C.given cache key env.old env.new result × (output.new ≡ output.old)) }
+        PrintsRemoval S.log C.given cache key env.old env.new result × (output.new ≡ output.old)) }
     ensures clears { Unkeyed (asked_of words.now) (codes "clear") (λ cache.
         Clears S.log cache env.old env.new result × (output.new ≡ output.old)) }
     ensures lists { Unkeyed (asked_of words.now) (codes "ls") (λ cache.
-        Lists S.log cache env.old env.new
+        PrintsListing S.log cache env.old env.new
         (W.contents output.old) (W.contents output.new) result) }
+    ensures storms { Keyed (asked_of words.now) (codes "storm") (λ threads keys.
+        Storms threads keys (W.contents output.old) (W.contents output.new) result
+        × (env.new ≡ env.old)) }
 {
     match asked(words) {
         ("write", cache, Some(key)) => write(env, cache, key, input, output, errors),
         ("read", cache, Some(key)) => read(env, cache, key, output, errors),
         ("find", cache, Some(key)) => find(env, cache, key, output, errors),
         ("remove", cache, Some(key)) => remove(env, cache, key, errors),
+        ("storm", threads, Some(keys)) => storm(rt, threads, keys, output, errors),
         ("clear", cache, None) => clear(env, cache, errors),
         ("ls", cache, None) => ls(env, cache, output, errors),
         _ => misused(errors),

@@ -1,6 +1,6 @@
 //! The word `read`.
 ghost use Rattle.std.specs.Prelude.{◌≡◌};
-ghost use Rattle.cacache_program.specs.Reading.{Reads};
+ghost use Rattle.cacache_program.specs.WordRead.{Reads};
 
 use crate::output::{call_failed, put_out};
 use cacache::env::{Clock, Env, Names};

@@ -1,6 +1,6 @@
 //! The word `remove`.
 ghost use Rattle.std.specs.Prelude.{◌≡◌};
-ghost use Rattle.cacache_program.specs.Removing.{Removes};
+ghost use Rattle.cacache_program.specs.WordRemove.{PrintsRemoval};
 
 use crate::output::call_failed;
 use cacache::env::{Clock, Env, Names};
@@ -14,7 +14,7 @@ pub(crate) fn remove<S: Store, C: Clock, N: Names, E: Write>(
     key: &str,
     errors: &mut E,
 ) -> u8
-    ensures does { Removes S.log C.given cache.now key.now env.old env.new result }
+    ensures does { PrintsRemoval S.log C.given cache.now key.now env.old env.new result }
     ensures quiet { result ≡ 0 → errors.new ≡ errors.old }
 {
     match cacache::remove_sync(env, cache, key) {

@@ -1,8 +1,8 @@
 //! The word `write`.
 ghost use Rattle.std.specs.Prelude.{◌≡◌, ◌++◌, ◌∷◌, []};
-ghost use Rattle.cacache.specs.Integrities.{text_of};
+ghost use Rattle.cacache.specs.Integrities.{integrity_text};
 ghost use Rattle.cacache_program.specs.Output.{PutsOut};
-ghost use Rattle.cacache_program.specs.Writing.{Writes};
+ghost use Rattle.cacache_program.specs.WordWrite.{Writes};
 
 use crate::output::{call_failed, put_out, stream_failed};
 use cacache::Integrity;
@@ -18,7 +18,7 @@ fn print<W: Write, E: Write>(
     output: &mut W,
     errors: &mut E,
 ) -> u8
-    ensures put { PutsOut (text_of integrity.now ++ 10 ∷ [])
+    ensures put { PutsOut (integrity_text integrity.now ++ 10 ∷ [])
         (W.contents output.old) (W.contents output.new) result }
     ensures quiet { result ≡ 0 → errors.new ≡ errors.old }
 {

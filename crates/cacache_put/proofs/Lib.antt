@@ -1,5 +1,3 @@
-mod Appending
-mod Finding
-mod Links
+mod LinkCalls
 mod Linkers
 mod Wholes

@@ -4,31 +4,31 @@ use Rattle.std.proofs.lemmas.Bool.{eqb-true}
 use Rattle.std.proofs.lemmas.List.{map-append}
 use Rattle.cacache_core.specs.declared.errors.Error.{Error}
 use Rattle.cacache_core.specs.declared.errors.Error.TheVariants.{OutOfMemory}
-use Rattle.cacache_base.specs.declared.store.answer.Answer.TheVariants as answers
-use Rattle.cacache_base.specs.declared.store.log.LogItem.{LogItem}
-use Rattle.cacache_base.specs.declared.store.log.LogItem.TheVariants.{Made}
-use Rattle.cacache_base.specs.declared.store.plain.PlainFile.{PlainFile}
-use Rattle.cacache_base.specs.declared.store.step.Step.TheVariants as steps
-use Rattle.cacache_base.specs.Fits.{Fits, Logs, is_no_memory}
-use Rattle.cacache_base.specs.Plain.{PlainStep, PlainAnswer}
-use Rattle.cacache_calls.specs.declared.answers.Refusal.{Refusal}
-use Rattle.cacache_calls.specs.declared.reply.Reply.{Reply}
-use Rattle.cacache_calls.specs.declared.reply.Reply.TheVariants.{Refused}
-use Rattle.cacache_calls.specs.Answers.{file_in, got_in, length_in}
-use Rattle.cacache_calls.specs.Common.{fails, go_on, refuse}
-use Rattle.cacache_calls.specs.Linking.{after_size, after_read}
-use Rattle.cacache_calls.specs.Runs.{Moves, Runs, Goes, Gone, Gains, Ran, EndsAs, without_message}
-use Rattle.cacache_calls.specs.State.{State, hashing, over, Hashing, Target, to_link}
-use Rattle.cacache_calls.specs.Table.{wants, after, piece}
-use Rattle.cacache_calls.proofs.Going.{answer_cases, no_gain, gone_nowhere, gone_on, gone_over, gone_lost, unmoved}
-use Rattle.cacache_calls.proofs.Memory.{no_memory_after}
+use Rattle.cacache_store.specs.declared.store.answer.Answer.TheVariants as answers
+use Rattle.cacache_store.specs.declared.store.log.LogItem.{LogItem}
+use Rattle.cacache_store.specs.declared.store.log.LogItem.TheVariants.{Made}
+use Rattle.cacache_store.specs.declared.store.plain.PlainFile.{PlainFile}
+use Rattle.cacache_store.specs.declared.store.step.Step.TheVariants as steps
+use Rattle.cacache_store.specs.Fits.{Fits, Logs, is_no_memory}
+use Rattle.cacache_store.specs.Plain.{PlainStep, PlainAnswer}
+use Rattle.cacache_table.specs.declared.answers.Refusal.{Refusal}
+use Rattle.cacache_table.specs.declared.reply.Reply.{Reply}
+use Rattle.cacache_table.specs.declared.reply.Reply.TheVariants.{Refused}
+use Rattle.cacache_table.specs.Answers.{file_in, got_in, length_in}
+use Rattle.cacache_table.specs.Common.{fails, go_on, refuse}
+use Rattle.cacache_table.specs.Linking.{after_size, after_read}
+use Rattle.cacache_table.specs.Runs.{Moves, Runs, Goes, Gone, Gains, Ran, EndsAs, without_message}
+use Rattle.cacache_table.specs.State.{State, hashing, over, Hashing, Target, to_link}
+use Rattle.cacache_table.specs.Table.{wants, after, piece}
+use Rattle.cacache_table.proofs.Going.{answer_cases, no_gain, gone_nowhere, gone_on, gone_over, gone_lost, unmoved}
+use Rattle.cacache_table.proofs.Memory.{no_memory_after}
 use Rattle.cacache_jobs.proofs.Hashed.{more_read}
-use Rattle.cacache_put.specs.declared.linked.Linked.{Linked}
+use Rattle.cacache_put.specs.declared.link_target.Linked.{Linked}
 use Rattle.cacache_put.specs.declared.linker.SyncToLinker.{SyncToLinker}
-use Rattle.cacache_content.specs.Reading.{FailsToOpen}
-use Rattle.cacache_content.specs.Stepping.{Does, FailsAt}
-use Rattle.cacache_content.proofs.Stepping.{Refuses, file_refused, refused_fails}
-use Rattle.cacache_put.specs.Linkers.{AsksSize, HasSize, FailsToSize, OpensLinker, OpensSized, OpensTarget, asks_size, asks_file, target_at}
+use Rattle.cacache_content.specs.OpenReads.{FailsToOpen}
+use Rattle.cacache_table.specs.SingleSteps.{Does, FailsAt}
+use Rattle.cacache_content.proofs.StepAnswers.{Refuses, file_refused, refused_fails}
+use Rattle.cacache_put.specs.OpenLinkers.{AsksSize, HasSize, FailsToSize, OpensLinker, OpensSized, OpensTarget, asks_size, asks_file, target_at}
 use Rattle.cacache_put.specs.Rest.{links}
 
 -- ---- one part of a run after another

@@ -5,25 +5,25 @@ use Rattle.std.specs.Prelude.{IfOk}
 use Rattle.cacache_core.specs.declared.errors.Error.{Error}
 use Rattle.cacache_core.specs.declared.errors.Error.TheVariants.{IoError, OutOfMemory}
 use Rattle.cacache_core.specs.declared.integrity.digest.Hash.{Hash}
-use Rattle.cacache_base.specs.declared.store.answer.Answer.TheVariants as answers
-use Rattle.cacache_base.specs.declared.store.log.LogItem.{LogItem}
-use Rattle.cacache_base.specs.declared.store.plain.PlainFile.{PlainFile}
-use Rattle.cacache_base.specs.declared.store.step.Step.TheVariants as steps
-use Rattle.cacache_base.specs.Plain.{PlainAnswer}
-use Rattle.cacache_calls.specs.declared.answers.Refusal.{Refusal}
-use Rattle.cacache_calls.specs.declared.answers.Refusal.TheVariants as refusals
-use Rattle.cacache_calls.specs.declared.reply.Reply.TheVariants.{Stored, Refused}
-use Rattle.cacache_calls.specs.Answers.{got_in, refusal_in}
-use Rattle.cacache_calls.specs.Common.{ends_with, fails, go_on, refuse}
-use Rattle.cacache_calls.specs.Linking.{after_read, commit_for}
-use Rattle.cacache_calls.specs.Promises.{Stores}
-use Rattle.cacache_calls.specs.Runs.{Moves, Runs, Ran, reply_of}
-use Rattle.cacache_calls.specs.State.{Target, hashing, to_link}
-use Rattle.cacache_calls.specs.Table.{piece}
-use Rattle.cacache_calls.specs.Verifying.{Gives}
-use Rattle.cacache_calls.proofs.Promises.{runs_keep}
+use Rattle.cacache_store.specs.declared.store.answer.Answer.TheVariants as answers
+use Rattle.cacache_store.specs.declared.store.log.LogItem.{LogItem}
+use Rattle.cacache_store.specs.declared.store.plain.PlainFile.{PlainFile}
+use Rattle.cacache_store.specs.declared.store.step.Step.TheVariants as steps
+use Rattle.cacache_store.specs.Plain.{PlainAnswer}
+use Rattle.cacache_table.specs.declared.answers.Refusal.{Refusal}
+use Rattle.cacache_table.specs.declared.answers.Refusal.TheVariants as refusals
+use Rattle.cacache_table.specs.declared.reply.Reply.TheVariants.{Stored, Refused}
+use Rattle.cacache_table.specs.Answers.{got_in, refusal_in}
+use Rattle.cacache_table.specs.Common.{ends_with, fails, go_on, refuse}
+use Rattle.cacache_table.specs.Linking.{after_read, commit_for}
+use Rattle.cacache_table.specs.Promises.{Stores}
+use Rattle.cacache_table.specs.Runs.{Moves, Runs, Ran, reply_of}
+use Rattle.cacache_table.specs.State.{Target, hashing, to_link}
+use Rattle.cacache_table.specs.Table.{piece}
+use Rattle.cacache_table.specs.Verifying.{Gives}
+use Rattle.cacache_table.proofs.Promises.{runs_keep}
 use Rattle.cacache_put.specs.declared.linker.SyncToLinker.{SyncToLinker}
-use Rattle.cacache_put.specs.Linkers.{StoresWhole, stands_at, target_at}
+use Rattle.cacache_put.specs.OpenLinkers.{StoresWhole, stands_at, target_at}
 use Rattle.cacache_put.specs.Rest.{links}
 
 module _ (t : Target) (i : List Hash) where

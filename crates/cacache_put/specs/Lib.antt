@@ -1,9 +1,6 @@
-pub mod Reaching
 pub mod Options
-pub mod Replies
-pub mod Lookups
-pub mod Writes
-pub mod Links
-pub mod Linkers
+pub mod Puts
+pub mod LinkCalls
+pub mod OpenLinkers
 pub mod Rest
-pub mod Writers
+pub mod KeyedWriters

@@ -4,7 +4,7 @@ use Rattle.serde_json.specs.Data.{Data, null}
 use Rattle.cacache_core.specs.declared.integrity.algorithm.Algorithm.{Algorithm}
 use Rattle.cacache_core.specs.declared.integrity.algorithm.Algorithm.TheVariants.{Sha256}
 use Rattle.cacache_core.specs.declared.integrity.digest.Hash.{Hash}
-use Rattle.cacache_calls.specs.declared.command.Options.{Options}
+use Rattle.cacache_table.specs.declared.command.Options.{Options}
 
 -- what was said of a content and of its entry
 pub record Said : Type 0 where
@@ -35,14 +35,4 @@ options_of s = record {
   integrity = s.integrity;
   metadata = s.metadata;
   raw_metadata = s.raw_metadata;
-}
-
--- blank options of a command with this algorithm
-abbrev pub blank : Algorithm → Options
-blank a = record {
-  algorithm = a;
-  size = None;
-  integrity = None;
-  metadata = null;
-  raw_metadata = None;
 }

@@ -3,13 +3,13 @@ use Rattle.std.specs.Prelude.{◌≡◌, ℕ, List, Option, Result, Ok, Err, len
 use Rattle.cacache_core.specs.declared.errors.Error.{Error}
 use Rattle.cacache_core.specs.declared.integrity.hasher.Hasher.{Hasher}
 use Rattle.cacache_core.specs.Hashers.{Holds, algorithm_of}
-use Rattle.cacache_base.specs.declared.store.log.LogItem.{LogItem}
-use Rattle.cacache_base.specs.declared.store.plain.PlainFile.{PlainFile}
-use Rattle.cacache_calls.specs.declared.reply.Reply.TheVariants.{Refused}
-use Rattle.cacache_calls.specs.Linking.{commit_for}
-use Rattle.cacache_calls.specs.Runs.{Gone, Ran, without_message}
-use Rattle.cacache_calls.specs.State.{State, hashing, to_link, Target}
-use Rattle.cacache_calls.specs.Storing.{link}
+use Rattle.cacache_store.specs.declared.store.log.LogItem.{LogItem}
+use Rattle.cacache_store.specs.declared.store.plain.PlainFile.{PlainFile}
+use Rattle.cacache_table.specs.declared.reply.Reply.TheVariants.{Refused}
+use Rattle.cacache_table.specs.Linking.{commit_for}
+use Rattle.cacache_table.specs.Runs.{Gone, Ran, without_message}
+use Rattle.cacache_table.specs.State.{State, hashing, to_link, Target}
+use Rattle.cacache_table.specs.Storing.{link}
 
 -- a link is made of its target once these bytes were read of it, and no more
 abbrev pub links : Target → List ℕ → State

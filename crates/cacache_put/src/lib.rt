@@ -1,17 +1,12 @@
-//! Calls that write: bytes and links into a cache, entries into its index, and removals.
+//! Calls that write: bytes and links into a cache, and entries into its index.
 #![tactic(auto)]
 
-mod adding;
 pub mod index;
-mod keeping;
-mod linked;
+mod link_opts;
+mod link_target;
 pub mod linker;
-mod linking;
 pub mod linkto;
-mod moment;
 pub mod opts;
 pub mod put;
-mod replies;
 mod rest;
-pub mod rm;
 pub mod writer;

@@ -4,30 +4,29 @@ ghost use Rattle.std.specs.Io.{ReadsAtMost};
 ghost use Rattle.std.specs.Io.KnownBytes.{ReadConsumes};
 ghost use Rattle.cacache_core.specs.declared.integrity.algorithm.Algorithm.TheVariants.{Sha256};
 ghost use Rattle.cacache_core.specs.Integrity.{integrity_under};
-ghost use Rattle.cacache_base.specs.Handles.{LeftFalls};
-ghost use Rattle.cacache_calls.specs.declared.reply.Reply.TheVariants.{Stored};
-ghost use Rattle.cacache_calls.specs.Runs.{Ran, reply_of};
-ghost use Rattle.cacache_calls.specs.State.{hashing, to_link};
+ghost use Rattle.cacache_store.specs.Handles.{LeftFalls};
+ghost use Rattle.cacache_table.specs.declared.reply.Reply.TheVariants.{Stored};
+ghost use Rattle.cacache_table.specs.Runs.{Ran, reply_of};
+ghost use Rattle.cacache_table.specs.State.{hashing, to_link};
 ghost use Rattle.cacache_core.specs.Hashers.{Holds, algorithm_of};
-ghost use Rattle.cacache_content.specs.Stepping.{passed};
-ghost use Rattle.cacache_put.specs.Linkers.{AsksSize, Commits, HasTaken, Opens, OpensLinker, OpensSized, OpensTarget, OpensWithSize, Sizes, StoresWhole, asks_file, asks_size, linked_by, linked_to, target_at};
-ghost use Rattle.cacache_put.specs.Options.{blank as blank_options, nothing_said};
+ghost use Rattle.cacache_content.specs.Passed.{passed};
+ghost use Rattle.cacache_put.specs.OpenLinkers.{AsksSize, CommitsLink, HasHashed, OpensLink, OpensLinker, OpensSized, OpensTarget, OpensWithSize, Sizes, StoresWhole, asks_file, asks_size, linked_by, linked_to, target_at};
+ghost use Rattle.cacache_table.specs.Blank.{blank};
+ghost use Rattle.cacache_put.specs.Options.{nothing_said};
 ghost use Rattle.cacache_put.specs.Rest.{links};
 
-use crate::keeping::let_go;
-use crate::linked::Linked;
-use crate::moment::moment;
-use crate::put::blank;
+use crate::link_target::Linked;
 use crate::rest::read_rest;
-use cacache_base::env::{Clock, Env, Names};
-use cacache_base::store::{OpenedFile, Step, Store};
-use cacache_calls::Reply;
-use cacache_calls::answers::{file_of, length_of};
 use cacache_core::errors::{Error, Result};
 use cacache_core::hasher::Hasher;
 use cacache_core::integrity::{Algorithm, Integrity};
+use cacache_core::keeping::let_go;
 use cacache_core::text::Text;
-use cacache_jobs::{link_from, messages, refused};
+use cacache_jobs::{link_from, messages, moment, refused};
+use cacache_store::env::{Clock, Env, Names};
+use cacache_store::store::{OpenedFile, Step, Store};
+use cacache_table::Options;
+use cacache_table::answers::{file_of, length_of};
 use std::alloc::Global;
 use std::io;
 use std::io::Read;
@@ -113,11 +112,7 @@ fn finish<S: Store, C, N>(
     ensures base { env.new.base ≡ env.old.base }
 {
     let (commit, target) = linked.into_commit(computed, count, moment);
-    match link_from(env, commit, target) {
-        Reply::Stored(integrity) => Ok(integrity),
-        Reply::Refused(error) => Err(error),
-        _ => unreachable!(),
-    }
+    link_from(env, commit, target).stored()
 }
 
 /// Reads the rest of the target, of which so many bytes were hashed, and makes the link.
@@ -159,15 +154,23 @@ impl<F: OpenedFile> SyncToLinker<F> {
         algo: Algorithm,
         target: &str,
     ) -> Result<SyncToLinker<F>>
-        ensures opens { Opens F.seen S.log env.old env.new (linked_by env.old.base cache.now None
+        ensures opens { OpensLink F.seen S.log env.old env.new (linked_by env.old.base cache.now None
             target.now (record nothing_said { algorithm = algo })) result }
         ensures begins { OpensLinker F.seen (Some 0) (asks_file (linked_to env.old.base cache.now
-            None target.now (Some 0) (blank_options algo))) result
+            None target.now (Some 0) (blank algo))) result
             (S.log env.old.store) (S.log env.new.store) }
     {
         let alloc = env.alloc;
         let base = env.base.as_str();
-        let linked = Linked::new(alloc, base, cache, None, target, Some(0), blank(algo))?;
+        let linked = Linked::new(
+            alloc,
+            base,
+            cache,
+            None,
+            target,
+            Some(0),
+            Options::blank(algo),
+        )?;
         open_target(alloc, &mut env.store, linked)
     }
 
@@ -184,13 +187,13 @@ impl<F: OpenedFile> SyncToLinker<F> {
         ensures opens { OpensWithSize F.seen S.log env.old env.new (linked_by env.old.base cache.now
             (Some key.now) target.now nothing_said) result }
         ensures begins { OpensLinker F.seen None (asks_size (linked_to env.old.base cache.now
-            (Some key.now) target.now None (blank_options Sha256))) result
+            (Some key.now) target.now None (blank Sha256))) result
             (S.log env.old.store) (S.log env.new.store) }
     {
         let alloc = env.alloc;
         let base = env.base.as_str();
         let key = Some(Text::from_str(alloc, key)?);
-        let options = blank(Algorithm::Sha256);
+        let options = Options::blank(Algorithm::Sha256);
         let linked = Linked::new(alloc, base, cache, key, target, None, options)?;
         open_sized(alloc, &mut env.store, linked)
     }
@@ -204,12 +207,12 @@ impl<F: OpenedFile> SyncToLinker<F> {
         ensures opens { OpensWithSize F.seen S.log env.old env.new (linked_by env.old.base cache.now
             None target.now nothing_said) result }
         ensures begins { OpensLinker F.seen (Some 0) (asks_size (linked_to env.old.base cache.now
-            None target.now (Some 0) (blank_options Sha256))) result
+            None target.now (Some 0) (blank Sha256))) result
             (S.log env.old.store) (S.log env.new.store) }
     {
         let alloc = env.alloc;
         let base = env.base.as_str();
-        let options = blank(Algorithm::Sha256);
+        let options = Options::blank(Algorithm::Sha256);
         let linked = Linked::new(alloc, base, cache, None, target, Some(0), options)?;
         open_sized(alloc, &mut env.store, linked)
     }
@@ -226,10 +229,10 @@ impl<F: OpenedFile> SyncToLinker<F> {
         self,
         env: &mut Env<S, C, N>,
     ) -> Result<Integrity>
-        ensures whole { (bytes : List ℕ) → HasTaken self bytes → IfOk result
+        ensures whole { (bytes : List ℕ) → HasHashed self bytes → IfOk result
             (λ i. StoresWhole F.seen self bytes i (S.log env.old.store) (S.log env.new.store)) }
-        ensures ran { (bytes : List ℕ) → HasTaken self bytes
-            → Commits F.seen S.log C.given env.old env.new self bytes (reply_of Stored result) }
+        ensures ran { (bytes : List ℕ) → HasHashed self bytes
+            → CommitsLink F.seen S.log C.given env.old env.new self bytes (reply_of Stored result) }
     {
         let SyncToLinker {
             linked,
@@ -257,8 +260,8 @@ impl<F: OpenedFile> Read for SyncToLinker<F> {
         ensures bytes { ReadConsumes (F.seen self.old.file).bytes (F.seen self.new.file).bytes
             result buf.new }
         ensures left { LeftFalls (F.seen self.old.file).left (F.seen self.new.file).left result }
-        ensures so_far { (bytes : List ℕ) → HasTaken self.old bytes
-            → HasTaken self.new (bytes ++ passed result buf.new) }
+        ensures so_far { (bytes : List ℕ) → HasHashed self.old bytes
+            → HasHashed self.new (bytes ++ passed result buf.new) }
         ensures linked { self.new.linked ≡ self.old.linked }
         ensures earned { F.reads self.old.file (length buf.old) result self.new.file }
     {

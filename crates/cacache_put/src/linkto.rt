@@ -1,24 +1,22 @@
 //! Calls that make a content of a link to a file.
 ghost use Rattle.std.specs.Prelude.{◌≡◌, None, Some, IfOk};
 ghost use Rattle.cacache_core.specs.declared.integrity.algorithm.Algorithm.TheVariants.{Sha256};
-ghost use Rattle.cacache_calls.specs.declared.command.Command.TheVariants as commands;
-ghost use Rattle.cacache_calls.specs.declared.reply.Reply.TheVariants.{Stored};
-ghost use Rattle.cacache_calls.specs.Linking.{based, target_of};
-ghost use Rattle.cacache_calls.specs.Runs.{reply_of};
-ghost use Rattle.cacache_jobs.specs.Found.{Linked};
-ghost use Rattle.cacache_jobs.specs.Opening.{site_of};
-ghost use Rattle.cacache_put.specs.Links.{link_to, HoldsTarget};
-ghost use Rattle.cacache_put.specs.Writes.{Calls, RunsTimed};
+ghost use Rattle.cacache_table.specs.declared.command.Command.TheVariants as commands;
+ghost use Rattle.cacache_table.specs.declared.reply.Reply.TheVariants.{Stored};
+ghost use Rattle.cacache_table.specs.Linking.{based, link_target};
+ghost use Rattle.cacache_table.specs.Runs.{reply_of};
+ghost use Rattle.cacache_jobs.specs.ReadFirst.{Linked};
+ghost use Rattle.cacache_jobs.specs.Sites.{site_of};
+ghost use Rattle.cacache_put.specs.LinkCalls.{link_to, HoldsTarget};
+ghost use Rattle.cacache_jobs.specs.Environment.{Calls, RunsTimed};
 
-use crate::moment::moment;
-use crate::put::blank;
-use cacache_base::env::{Clock, Env, Names};
-use cacache_base::store::Store;
-use cacache_calls::{Command, Link, Reply};
 use cacache_core::errors::Result;
 use cacache_core::integrity::{Algorithm, Integrity};
 use cacache_core::text::Text;
-use cacache_jobs::call;
+use cacache_jobs::{call, moment};
+use cacache_store::env::{Clock, Env, Names};
+use cacache_store::store::Store;
+use cacache_table::{Command, Link, Options};
 
 /// Makes the call of a link to the target.
 fn linked<S: Store, C, N>(
@@ -29,24 +27,20 @@ fn linked<S: Store, C, N>(
     moment: u128,
 ) -> Result<Integrity>
     ensures linked { IfOk result (λ i. Linked
-        (target_of (site_of cache.now env.old.base 0) (link_to key target.now moment))
+        (link_target (site_of cache.now env.old.base 0) (link_to key target.now moment))
         (Stored i) (S.log env.old.store) (S.log env.new.store)) }
     ensures ran { Calls S.log env.old env.new cache.now
         (commands.Link (link_to key target.now moment)) (reply_of Stored result) }
 {
     let target = Text::from_str(env.alloc, target)?;
-    let options = blank(Algorithm::Sha256);
+    let options = Options::blank(Algorithm::Sha256);
     let link = Link {
         key,
         target,
         moment,
         options,
     };
-    match call(env, cache, Command::Link(link), 0) {
-        Reply::Stored(integrity) => Ok(integrity),
-        Reply::Refused(error) => Err(error),
-        _ => unreachable!(),
-    }
+    call(env, cache, Command::Link(link), 0).stored()
 }
 
 /// Makes a link to the target the content of its bytes, under the key, and answers their SHA-256 integrity. The target is

@@ -2,17 +2,17 @@
 ghost use Rattle.std.specs.Prelude.{◌≡◌, None, Some, IfOk, option_map};
 ghost use Rattle.serde_json.specs.View.{view};
 ghost use Rattle.cacache_put.specs.Options.{nothing_said, options_of};
-ghost use Rattle.cacache_put.specs.Writers.{Opens};
+ghost use Rattle.cacache_put.specs.KeyedWriters.{OpensKeyed};
 
-use crate::keeping::beside;
 use crate::writer::{SyncWriter, open_writer};
-use cacache_base::env::{Clock, Env, Names};
-use cacache_base::store::Store;
-use cacache_calls::{Json, Options};
 use cacache_core::bytes::Bytes;
 use cacache_core::errors;
 use cacache_core::integrity::{Algorithm, Integrity};
+use cacache_core::keeping::beside;
 use cacache_core::text::Text;
+use cacache_store::env::{Clock, Env, Names};
+use cacache_store::store::Store;
+use cacache_table::{Json, Options};
 use serde_json::Value;
 use std::alloc::{AllocError, Global};
 use std::marker::Model;
@@ -31,7 +31,7 @@ pub struct WriteOpts {
 impl Model for WriteOpts {
     ghost use Rattle.std.specs.Prelude.{option_map};
     ghost use Rattle.std.specs.Coded.{codes};
-    ghost use Rattle.cacache_calls.specs.JsonCode.{data_code};
+    ghost use Rattle.cacache_table.specs.JsonCode.{data_code};
     ghost use Rattle.cacache_put.specs.Options.{Said};
 
     ghost Value = { Said };
@@ -127,8 +127,8 @@ impl WriteOpts {
         opts
     }
 
-    /// The time that was set.
-    pub(crate) fn set_time(&self) -> Option<u128>
+    /// The time that was set, in milliseconds since 1970.
+    pub fn set_time(&self) -> Option<u128>
         ensures { result ≡ self.now.time }
     {
         self.time
@@ -144,7 +144,7 @@ impl WriteOpts {
         cache: &str,
         key: &str,
     ) -> errors::Result<SyncWriter<S::Temp>>
-        ensures opens { Opens S.Temp.seen S.log N.given env.old env.new cache.now (Some key.now)
+        ensures opens { OpensKeyed S.Temp.seen S.log N.given env.old env.new cache.now (Some key.now)
             self result }
     {
         let number = env.names.fresh();
@@ -160,7 +160,7 @@ impl WriteOpts {
         env: &mut Env<S, C, N>,
         cache: &str,
     ) -> errors::Result<SyncWriter<S::Temp>>
-        ensures opens { Opens S.Temp.seen S.log N.given env.old env.new cache.now None
+        ensures opens { OpensKeyed S.Temp.seen S.log N.given env.old env.new cache.now None
             self result }
     {
         let number = env.names.fresh();
@@ -168,7 +168,7 @@ impl WriteOpts {
     }
 
     /// The options of a command.
-    pub(crate) fn into_options(self, alloc: Global) -> Result<Options, AllocError>
+    pub fn into_options(self, alloc: Global) -> Result<Options, AllocError>
         ensures { IfOk result (λ options. options ≡ options_of self) }
     {
         let WriteOpts {

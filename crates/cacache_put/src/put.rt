@@ -2,35 +2,21 @@
 ghost use Rattle.std.specs.Prelude.{◌≡◌, ℕ, IfOk};
 ghost use Rattle.cacache_core.specs.declared.integrity.algorithm.Algorithm.TheVariants.{Sha256};
 ghost use Rattle.cacache_core.specs.Integrity.{integrity_under};
-ghost use Rattle.cacache_calls.specs.declared.command.Command.TheVariants as commands;
-ghost use Rattle.cacache_calls.specs.declared.reply.Reply.TheVariants.{Stored};
-ghost use Rattle.cacache_calls.specs.Runs.{reply_of};
-ghost use Rattle.cacache_put.specs.Options.{blank};
-ghost use Rattle.cacache_put.specs.Writes.{Steps, RunsNumbered, RunsPut, keyed_put, unkeyed_put};
+ghost use Rattle.cacache_table.specs.declared.command.Command.TheVariants as commands;
+ghost use Rattle.cacache_table.specs.declared.reply.Reply.TheVariants.{Stored};
+ghost use Rattle.cacache_table.specs.Runs.{reply_of};
+ghost use Rattle.cacache_jobs.specs.Environment.{Steps, RunsNumbered, RunsPut};
+ghost use Rattle.cacache_put.specs.Puts.{keyed_put, unkeyed_put};
 
-use cacache_base::env::{Clock, Env, Names};
-use cacache_base::store::Store;
-use cacache_calls::{Command, Json, Options, Put, Reply};
 use cacache_core::bytes::Bytes;
 use cacache_core::errors::Result;
 use cacache_core::integrity::{Algorithm, Integrity};
 use cacache_core::text::Text;
 use cacache_jobs::call;
-use serde_json::Value;
+use cacache_store::env::{Clock, Env, Names};
+use cacache_store::store::Store;
+use cacache_table::{Command, Options, Put};
 use std::alloc::{AllocError, Global};
-
-/// Options of a command that say no more than the algorithm.
-pub(crate) fn blank(algorithm: Algorithm) -> Options
-    ensures { result ≡ blank algorithm }
-{
-    Options {
-        algorithm,
-        size: None,
-        integrity: None,
-        metadata: Json::new(Value::Null),
-        raw_metadata: None,
-    }
-}
 
 /// What to store: the bytes, under a key.
 fn keyed(
@@ -45,7 +31,7 @@ fn keyed(
     let key = Some(Text::from_str(alloc, key)?);
     let data = Bytes::new(alloc, data)?;
     let moment = u128::from(moment);
-    let options = blank(algorithm);
+    let options = Options::blank(algorithm);
     Ok(Put {
         key,
         data,
@@ -59,7 +45,7 @@ fn unkeyed(alloc: Global, algorithm: Algorithm, data: &[u8]) -> std::result::Res
     ensures { IfOk result (λ put. put ≡ unkeyed_put algorithm «data».now) }
 {
     let data = Bytes::new(alloc, Vec::from_slice(alloc, data)?)?;
-    let options = blank(algorithm);
+    let options = Options::blank(algorithm);
     Ok(Put {
         key: None,
         data,
@@ -83,11 +69,7 @@ fn stored<S: Store, C, N>(
     ensures clock { env.new.clock ≡ env.old.clock }
     ensures names { env.new.names ≡ env.old.names }
 {
-    match call(env, cache, Command::Put(put), number) {
-        Reply::Stored(integrity) => Ok(integrity),
-        Reply::Refused(error) => Err(error),
-        _ => unreachable!(),
-    }
+    call(env, cache, Command::Put(put), number).stored()
 }
 
 /// Stores the bytes under the key, and answers their SHA-256 integrity. The entry has the clock's moment,

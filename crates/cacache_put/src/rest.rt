@@ -1,18 +1,15 @@
 //! The rest of a target, which a commit reads.
 ghost use Rattle.std.specs.Prelude.{◌≡◌, ℕ, List, length};
 ghost use Rattle.cacache_core.specs.Hashers.{Holds};
-ghost use Rattle.cacache_calls.specs.State.{Target};
+ghost use Rattle.cacache_table.specs.State.{Target};
 ghost use Rattle.cacache_put.specs.Rest.{ReadsRest};
 
-use cacache_base::store::{Step, Store};
-use cacache_calls::answers::{Got, got_of};
 use cacache_core::errors::{Error, Result};
 use cacache_core::hasher::Hasher;
-use cacache_jobs::{messages, refused};
+use cacache_jobs::{PIECE, messages, refused};
+use cacache_store::store::{Step, Store};
+use cacache_table::answers::{Got, got_of};
 use std::alloc::Global;
-
-/// A read asks for at most so many bytes.
-const PIECE: usize = 8192;
 
 /// Reads the target to its end and hashes it, so many bytes having been read before, and answers how many it has.
 pub(crate) fn read_rest<S: Store>(

@@ -2,24 +2,24 @@
 ghost use Rattle.std.specs.Prelude.{◌≡◌, ℕ, List, Some, IfErr, IsOk, OnOk, OnErr, length};
 ghost use Rattle.std.specs.Io.{WritesAtMost};
 ghost use Rattle.std.specs.Io.KnownBytes.{Appends, WriteAppends};
-ghost use Rattle.cacache_calls.specs.declared.reply.Reply.TheVariants.{Stored};
-ghost use Rattle.cacache_calls.specs.Promises.{Stores};
-ghost use Rattle.cacache_calls.specs.Runs.{reply_of};
-ghost use Rattle.cacache_content.specs.Stepping.{passed};
-ghost use Rattle.cacache_content.specs.Writing.{HasTaken, GoesOn, Removes, Takes, TakesPart, WholeFails, IsRetried};
+ghost use Rattle.cacache_table.specs.declared.reply.Reply.TheVariants.{Stored};
+ghost use Rattle.cacache_table.specs.Promises.{Stores};
+ghost use Rattle.cacache_table.specs.Runs.{reply_of};
+ghost use Rattle.cacache_content.specs.Passed.{passed};
+ghost use Rattle.cacache_content.specs.OpenWrites.{HasTaken, GoesOn, RemovesTemp, Takes, TakesPart, WholeFails, IsRetried};
 ghost use Rattle.cacache_put.specs.Options.{nothing_said};
-ghost use Rattle.cacache_put.specs.Writers.{OpensAt, Opens, Commits, commit_of};
+ghost use Rattle.cacache_put.specs.KeyedWriters.{OpensAt, OpensKeyed, CommitsWriter, writer_commit};
 
-use crate::keeping::{beside, let_go};
-use crate::moment::moment_of;
 use crate::opts::WriteOpts;
-use cacache_base::env::{Clock, Env, Names};
-use cacache_base::store::{Store, TempFile};
-use cacache_calls::Options;
 use cacache_content::writer::{Writer, abandon, commit, open};
 use cacache_core::errors::Result;
 use cacache_core::integrity::{Algorithm, Integrity};
+use cacache_core::keeping::{beside, let_go};
 use cacache_core::text::Text;
+use cacache_jobs::moment_of;
+use cacache_store::env::{Clock, Env, Names};
+use cacache_store::store::{Store, TempFile};
+use cacache_table::Options;
 use std::alloc::Global;
 use std::io;
 use std::io::Write;
@@ -68,7 +68,7 @@ impl<T: TempFile> SyncWriter<T> {
         cache: &str,
         key: &str,
     ) -> Result<SyncWriter<T>>
-        ensures opens { Opens T.seen S.log N.given env.old env.new cache.now (Some key.now)
+        ensures opens { OpensKeyed T.seen S.log N.given env.old env.new cache.now (Some key.now)
             nothing_said result }
     {
         WriteOpts::new().open_sync(env, cache, key)
@@ -81,7 +81,7 @@ impl<T: TempFile> SyncWriter<T> {
         cache: &str,
         key: &str,
     ) -> Result<SyncWriter<T>>
-        ensures opens { Opens T.seen S.log N.given env.old env.new cache.now (Some key.now)
+        ensures opens { OpensKeyed T.seen S.log N.given env.old env.new cache.now (Some key.now)
             (record nothing_said { algorithm = algo }) result }
     {
         WriteOpts::new().algorithm(algo).open_sync(env, cache, key)
@@ -101,9 +101,9 @@ impl<T: TempFile> SyncWriter<T> {
         env: &mut Env<S, C, N>,
     ) -> Result<Integrity>
         ensures stored { (bytes : List ℕ) → HasTaken self.writer bytes
-            → (moment : ℕ) × Stores (commit_of self bytes moment) (reply_of Stored result) }
+            → (moment : ℕ) × Stores (writer_commit self bytes moment) (reply_of Stored result) }
         ensures ran { (bytes : List ℕ) → HasTaken self.writer bytes
-            → Commits T.seen S.log C.given env.old env.new self bytes (reply_of Stored result) }
+            → CommitsWriter T.seen S.log C.given env.old env.new self bytes (reply_of Stored result) }
         ensures names { env.new.names ≡ env.old.names }
         ensures base { env.new.base ≡ env.old.base }
     {
@@ -124,7 +124,7 @@ impl<T: TempFile> SyncWriter<T> {
         self,
         env: &mut Env<S, C, N>,
     ) -> Result<()>
-        ensures removes { Removes self.writer.path result
+        ensures removes { RemovesTemp self.writer.path result
             (S.log env.old.store) (S.log env.new.store) }
         ensures clock { env.new.clock ≡ env.old.clock }
         ensures names { env.new.names ≡ env.old.names }

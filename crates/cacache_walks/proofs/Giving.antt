@@ -3,15 +3,15 @@ use Rattle.std.proofs.Common.{◌≡◌, ℕ, ◌+◌, ◌<◌, ◌≤◌, List,
 use Rattle.std.proofs.Math.Seq.{take-append-add}
 use Rattle.std.proofs.lemmas.List.{take-map, length-map}
 use Rattle.std.proofs.lemmas.Bool.{lt-leb}
-use Rattle.cacache_calls.specs.State.{State, Item, Walk}
-use Rattle.cacache_calls.specs.Walking.{most, give, miss, too_many, walk_on, walk_ends}
-use Rattle.cacache_calls.specs.Runs.{plain_item}
+use Rattle.cacache_table.specs.State.{State, Item, Walk}
+use Rattle.cacache_table.specs.Walking.{most, give, miss, too_many, walk_on, walk_ends}
+use Rattle.cacache_table.specs.Runs.{plain_item}
 use Rattle.cacache_core.specs.declared.errors.Error.{Error}
 use Rattle.cacache_core.specs.declared.errors.Fault.{Fault}
 use Rattle.cacache_walks.specs.declared.visit.Task.{Task}
 use Rattle.cacache_walks.specs.declared.visit.Task.TheVariants.{Stumble}
 use Rattle.cacache_walks.specs.declared.walk.Walk as walks
-use Rattle.cacache_walks.specs.Standing.{Counts, Bounds, WalkGives, pending, walk_of}
+use Rattle.cacache_walks.specs.WalkStates.{Counts, Bounds, WalkGives, pending, walk_of}
 use Rattle.cacache_walks.proofs.Walks.{taken_more, pending_push}
 
 module _ (taken xs ys : List Item) (room : ℕ) (counts : length taken + length xs + room ≡ most) (over : room < length ys) where

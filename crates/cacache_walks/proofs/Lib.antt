@@ -1,3 +1,3 @@
-pub mod Listed
+pub mod BucketItems
 pub mod Walks
 pub mod Giving

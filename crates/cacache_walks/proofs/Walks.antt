@@ -1,10 +1,10 @@
 -- How the stack of a walk stands for the table's list of tasks, and how its items grow.
 use Rattle.std.proofs.Common.{◌≡◌, List, [], ◌∷◌, ◌++◌, map, sym, ◌∙◌, ap, append_assoc}
 use Rattle.std.proofs.lemmas.List.{map-append, reverse-append}
-use Rattle.cacache_calls.specs.State.{Item}
-use Rattle.cacache_calls.specs.Runs.{plain_item}
+use Rattle.cacache_table.specs.State.{Item}
+use Rattle.cacache_table.specs.Runs.{plain_item}
 use Rattle.cacache_walks.specs.declared.visit.Task.{Task}
-use Rattle.cacache_walks.specs.Standing.{task_of, pending}
+use Rattle.cacache_walks.specs.WalkStates.{task_of, pending}
 
 -- a task that is put on the stack comes first
 pub pending_push : (stack : List Task) (t : Task) → pending (stack ++ t ∷ []) ≡ task_of t ∷ pending stack

@@ -5,7 +5,7 @@ use Rattle.cacache_entry.specs.Entry.{Entry}
 use Rattle.cacache_entry.specs.Latest.{latest}
 use Rattle.cacache_entry.specs.View.{entry_view}
 use Rattle.cacache_entry.specs.declared.metadata.SerializableMetadata.{SerializableMetadata}
-use Rattle.cacache_calls.specs.State.{Item}
+use Rattle.cacache_table.specs.State.{Item}
 
 -- the keys of entries
 abbrev pub keys_in : List SerializableMetadata → List (List ℕ)

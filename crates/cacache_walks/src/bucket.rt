@@ -5,13 +5,13 @@ ghost use Rattle.cacache_core.specs.declared.errors.Error.TheVariants.{OutOfMemo
 ghost use Rattle.cacache_entry.specs.Bucket.{entries_of};
 ghost use Rattle.cacache_entry.specs.Latest.{latest as latest_of};
 ghost use Rattle.cacache_entry.specs.View.{found_view};
-ghost use Rattle.cacache_calls.specs.Runs.{plain_item};
-ghost use Rattle.cacache_calls.specs.Walking.{items_in};
+ghost use Rattle.cacache_table.specs.Runs.{plain_item};
+ghost use Rattle.cacache_table.specs.Walking.{items_in};
 ghost use Rattle.cacache_walks.specs.Listed.{keys_in, added_at, EndsWith};
 
-use cacache_calls::Found;
 use cacache_core::errors::{self, Error};
 use cacache_entry::{Metadata, SerializableMetadata, answer_of_entry, entries, latest};
+use cacache_table::Found;
 use std::alloc::Global;
 
 /// Whether one of the entries has this key.

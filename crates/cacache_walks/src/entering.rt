@@ -1,18 +1,18 @@
 //! The names of a folder that a walk enters, and the tasks that they bring.
 ghost use Rattle.std.specs.Prelude.{◌≡◌, ◌++◌, List, OnOk};
-ghost use Rattle.cacache_calls.specs.Common.{go_on};
-ghost use Rattle.cacache_calls.specs.State.{Item};
-ghost use Rattle.cacache_calls.specs.Walking.{walk_on as walk_on_of, miss as miss_of, entered as entered_of, task_of as table_task, tasks_of, leaving};
-ghost use Rattle.cacache_walks.specs.Standing.{Counts, WalkLeads, task_of, pending, walk_of};
+ghost use Rattle.cacache_table.specs.Common.{go_on};
+ghost use Rattle.cacache_table.specs.State.{Item};
+ghost use Rattle.cacache_table.specs.Walking.{walk_on as walk_on_of, miss as miss_of, entered as entered_of, task_of as table_task, tasks_of, leaving};
+ghost use Rattle.cacache_walks.specs.WalkStates.{Counts, WalkLeads, task_of, pending, walk_of};
 
 use crate::messages;
 use crate::visit::{Task, Visit};
 use crate::walk::Walk;
-use cacache_base::store::{Kind, Listing, Name};
-use cacache_calls::Refusal;
 use cacache_core::errors::{self, Fault};
 use cacache_core::paths::join;
 use cacache_core::text::Text;
+use cacache_store::store::{Kind, Listing, Name};
+use cacache_table::Refusal;
 use std::alloc::{AllocError, Global};
 
 /// Folders below this level aren't entered.
@@ -120,7 +120,7 @@ impl Walk {
     }
 
     /// After a folder was to be listed.
-    pub(crate) fn named(
+    pub(crate) fn after_listing(
         &mut self,
         alloc: Global,
         folder: Text,

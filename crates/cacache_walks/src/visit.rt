@@ -1,12 +1,12 @@
 //! What a walk does next.
 ghost use Rattle.std.specs.Prelude.{◌≡◌, IfOk};
-ghost use Rattle.cacache_base.specs.Plain.{plain_step};
-ghost use Rattle.cacache_calls.specs.Walking.{visit_step};
-ghost use Rattle.cacache_walks.specs.Standing.{visit_of};
+ghost use Rattle.cacache_store.specs.Plain.{plain_step};
+ghost use Rattle.cacache_table.specs.Walking.{visit_step};
+ghost use Rattle.cacache_walks.specs.WalkStates.{visit_of};
 
-use cacache_base::store::{FileHandle, Step, TempHandle};
 use cacache_core::errors::Fault;
 use cacache_core::text::Text;
+use cacache_store::store::{FileHandle, Step, TempHandle};
 use std::alloc::AllocError;
 
 /// One step of a walk, by its path.

@@ -1,20 +1,20 @@
 //! A walk, which makes one visit after another.
 ghost use Rattle.std.specs.Prelude.{◌≡◌, ◌+◌, List, [], OnOk, IfOk, IfErr, length, map, Some};
-ghost use Rattle.cacache_base.specs.Plain.{plain_answer};
-ghost use Rattle.cacache_calls.specs.Common.{go_on, refuse};
-ghost use Rattle.cacache_calls.specs.Runs.{plain_item, plain_reply, EndsAs};
-ghost use Rattle.cacache_calls.specs.State.{State, Item, Walk as TableWalk, over};
-ghost use Rattle.cacache_calls.specs.Walking.{walk as walk_from, give as give_of, walk_on as walk_on_of, walk_ends, too_many as too_many_of, miss as miss_of, unread_bucket, listed as listed_of, after_visit};
-ghost use Rattle.cacache_walks.specs.Standing.{Counts, WalksAt, WalkLeads, WalkGives, visit_of, pending, walk_of};
+ghost use Rattle.cacache_store.specs.Plain.{plain_answer};
+ghost use Rattle.cacache_table.specs.Common.{go_on, refuse};
+ghost use Rattle.cacache_table.specs.Runs.{plain_item, plain_reply, EndsAs};
+ghost use Rattle.cacache_table.specs.State.{State, Item, Walk as TableWalk, over};
+ghost use Rattle.cacache_table.specs.Walking.{walk as walk_from, give as give_of, walk_on as walk_on_of, walk_ends, too_many as too_many_of, miss as miss_of, unread_bucket, listed as listed_of, after_visit};
+ghost use Rattle.cacache_walks.specs.WalkStates.{Counts, WalksAt, WalkLeads, WalkGives, visit_of, pending, walk_of};
 
 use crate::visit::{Task, Visit};
 use crate::{bucket, messages};
-use cacache_base::store::{Answer, FileHandle, TempHandle};
-use cacache_calls::answers::{bytes_of, done_of, names_of};
-use cacache_calls::{Found, Items, Refusal, Reply};
 use cacache_core::bytes::Bytes;
 use cacache_core::errors::{self, Error, Fault};
 use cacache_core::text::Text;
+use cacache_store::store::{Answer, FileHandle, TempHandle};
+use cacache_table::answers::{bytes_of, done_of, names_of};
+use cacache_table::{Found, Items, Refusal, Reply};
 use std::alloc::{AllocError, Global};
 
 /// A walk through all folders below one.
@@ -267,7 +267,12 @@ impl Walk {
             (plain_answer F.seen T.seen answer)) }
     {
         match visit {
-            Visit::Enter(folder, level) => self.named(alloc, folder, level, names_of(answer)),
+            Visit::Enter(folder, level) => self.after_listing(
+                alloc,
+                folder,
+                level,
+                names_of(answer),
+            ),
             Visit::ReadBucket(bucket) => self.read(alloc, bucket, bytes_of(answer)),
             Visit::RemoveFile(_path) => self.removed(alloc, done_of(answer)),
             Visit::RemoveFolder(_path) => self.removed(alloc, done_of(answer)),

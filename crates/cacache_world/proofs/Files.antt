@@ -7,11 +7,11 @@ use Rattle.cacache_core.specs.declared.errors.Fault.{Fault}
 use Rattle.cacache_core.specs.PathNames.{Names}
 use Rattle.cacache_disk.specs.Tree.{Tree, bare}
 use Rattle.cacache_disk.specs.Apply.{planted}
-use Rattle.cacache_disk.specs.Found.{and_then}
-use Rattle.cacache_disk.proofs.Finding.{and_then_ok}
-use Rattle.cacache_laws.specs.Kinds.{Elsewhere, IsFor}
-use Rattle.cacache_laws.specs.Opening.{with_files, LieApart}
-use Rattle.cacache_world.specs.Kept.{LiesApart, AreApart}
+use Rattle.cacache_disk.specs.LedTo.{and_then}
+use Rattle.cacache_disk.proofs.FoundNodes.{and_then_ok}
+use Rattle.cacache_value.specs.Kinds.{Elsewhere, IsFor}
+use Rattle.cacache_value.specs.OpeningTrees.{with_files, LieApart}
+use Rattle.cacache_world.specs.WorldKept.{LiesApart, FilesAreApart}
 use Rattle.cacache_world.specs.declared.event.WorldFault.{WorldFault}
 use Rattle.cacache_world.specs.declared.event.WorldFault.TheVariants as faults
 use Rattle.cacache_world.specs.Faults.{CantPlace, CantOpen}
@@ -75,7 +75,7 @@ place_below [] n file at = let no : None ≡ Some file = at in absurd cc
 place_below (f ∷ files) zero file at = omega arith
 place_below (f ∷ files) (suc n) file at = let below = place_below files n file at in omega arith
 
-pub all_apart : (cache : List ℕ) (files : List (List ℕ × List ℕ)) (count : ℕ) → length files ≤ count → ApartUpTo cache files count → AreApart cache files
+pub all_apart : (cache : List ℕ) (files : List (List ℕ × List ℕ)) (count : ℕ) → length files ≤ count → ApartUpTo cache files count → FilesAreApart cache files
 all_apart cache files count all up n file at = let below = place_below files n file at in up n file (omega arith) at
 
 -- ---- a file that can't be put on the disk

@@ -1,6 +1,6 @@
 pub mod Turning
 pub mod Worlds
-pub mod Asking
+pub mod MayBegin
 pub mod Played
-pub mod Paths
+pub mod NamesOfPaths
 pub mod Files

@@ -1,12 +1,12 @@
 -- A move of a job is one of its call.
 use Rattle.std.proofs.Common.{◌≡◌, ◌⊎◌, inl, inr, None, Some, sym, ap, ◌∙◌}
 use Rattle.cacache_core.specs.declared.errors.Error.TheVariants.{OutOfMemory}
-use Rattle.cacache_base.specs.Plain.{PlainStep}
-use Rattle.cacache_calls.specs.declared.reply.Reply.{Reply}
-use Rattle.cacache_calls.specs.declared.reply.Reply.TheVariants.{Refused}
-use Rattle.cacache_calls.specs.State.{State, over}
-use Rattle.cacache_calls.specs.Table.{wants}
-use Rattle.cacache_calls.specs.Runs.{plain_reply}
+use Rattle.cacache_store.specs.Plain.{PlainStep}
+use Rattle.cacache_table.specs.declared.reply.Reply.{Reply}
+use Rattle.cacache_table.specs.declared.reply.Reply.TheVariants.{Refused}
+use Rattle.cacache_table.specs.State.{State, over}
+use Rattle.cacache_table.specs.Table.{wants}
+use Rattle.cacache_table.specs.Runs.{plain_reply}
 use Rattle.cacache_jobs.specs.Jobs.{OutAt, Tells}
 use Rattle.cacache_jobs.proofs.Running.{out_wants, turn_at}
 use Rattle.cacache_history.specs.History.{Ends}

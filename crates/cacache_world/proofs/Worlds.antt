@@ -4,22 +4,22 @@ use Rattle.std.proofs.lemmas.Bool.{eqb-true, eqb-false}
 use Rattle.cacache_disk.specs.declared.luck.Luck.{Luck}
 use Rattle.cacache_core.specs.PathNames.{home_of}
 use Rattle.cacache_disk.specs.Tree.{Tree, bare}
-use Rattle.cacache_laws.specs.Opening.{LieApart, with_files}
+use Rattle.cacache_value.specs.OpeningTrees.{LieApart, with_files}
 use Rattle.cacache_disk.specs.Apply.{apply}
-use Rattle.cacache_calls.specs.declared.command.Command.{Command}
-use Rattle.cacache_calls.specs.declared.reply.Reply.{Reply}
-use Rattle.cacache_calls.specs.State.{State}
-use Rattle.cacache_calls.specs.Table.{after, opening}
-use Rattle.cacache_calls.specs.Runs.{plain_reply}
+use Rattle.cacache_table.specs.declared.command.Command.{Command}
+use Rattle.cacache_table.specs.declared.reply.Reply.{Reply}
+use Rattle.cacache_table.specs.State.{State}
+use Rattle.cacache_table.specs.Table.{after, opening}
+use Rattle.cacache_table.specs.Runs.{plain_reply}
 use Rattle.cacache_jobs.specs.Jobs.{Tells, can_go_on}
 use Rattle.cacache_history.specs.declared.record.Record.{Record}
 use Rattle.cacache_history.specs.declared.record.Record.TheVariants.{Began, Moved, Stopped}
-use Rattle.cacache_history.specs.Setup.{Setup, site_of}
-use Rattle.cacache_history.specs.History.{Call, Now, History, Made, tree_in, first, moved, moved_call, unless_over, begins, next, replay, MayMove, MayCome, Legal, IsLegal}
+use Rattle.cacache_history.specs.Setup.{Setup, call_site}
+use Rattle.cacache_history.specs.History.{Call, Now, History, Made, tree_in, first, moved, moved_call, unless_over, begins, next, replayed, MayMove, MayCome, Legal, IsLegal}
 use Rattle.cacache_world.specs.declared.turn.After.{After}
 use Rattle.cacache_world.specs.declared.turn.After.TheVariants as ways
-use Rattle.cacache_world.specs.Turned.{DiskJob, StandsIn, StandsAfter, reply_of, said_of, job_of, IsMade}
-use Rattle.cacache_world.specs.Kept.{history_of, setup_of, adding, last, JobAt, Keeps, TellsOwn}
+use Rattle.cacache_world.specs.Turned.{DiskJob, StandsIn, StandsAfter, reply_after, said_of, job_of, IsMade}
+use Rattle.cacache_world.specs.WorldKept.{history_of, setup_of, adding, last, JobAt, Keeps, TellsOwn}
 use Rattle.cacache_world.specs.declared.event.Move.TheVariants as moves
 use Rattle.cacache_world.proofs.Turning.{over_wants_none}
 use Rattle.cacache_world.specs.Admitted.{MayAsk, IsTurnedAway}
@@ -27,11 +27,11 @@ use Rattle.cacache_world.specs.declared.event.WorldFault.{WorldFault}
 use Rattle.cacache_world.specs.declared.event.WorldFault.TheVariants as faults
 use Rattle.cacache_world.specs.Faults.{IsFreeAt, IsUnready, IsFree, HasCall, CantBegin}
 
-replay-push : (s : Setup) (w : Now) (records : List Record) (r : Record) → replay s w (records ++ r ∷ []) ≡ next s (replay s w records) r
+replay-push : (s : Setup) (w : Now) (records : List Record) (r : Record) → replayed s w (records ++ r ∷ []) ≡ next s (replayed s w records) r
 replay-push s w [] r = refl
 replay-push s w (x ∷ records) r = replay-push s (next s w x) records r
 
-legal-push : (s : Setup) (w : Now) (records : List Record) (r : Record) → Legal s w records → MayCome s (replay s w records) r → Legal s w (records ++ r ∷ [])
+legal-push : (s : Setup) (w : Now) (records : List Record) (r : Record) → Legal s w records → MayCome s (replayed s w records) r → Legal s w (records ++ r ∷ [])
 legal-push s w [] r legal may = (may, tt)
 legal-push s w (x ∷ records) r legal may = (legal.0, legal-push s (next s w x) records r legal.1 may)
 
@@ -122,12 +122,12 @@ stop_left h t b jobs jobs' caller job k here gone =
     }
 
 pub begin_left : (h : History) (t : Tree) (b : ℕ) (jobs jobs' : List (Option DiskJob)) (caller : ℕ) (command : Command) (job : DiskJob) → Keeps h t b jobs → slice_get jobs caller ≡ Some None
-    → caller < h.setup.callers → MayAsk h.setup b command → StandsIn job (opening (site_of h.setup b) command) → IsTrue (can_go_on job) → jobs' ≡ slice_set jobs caller (Some job)
+    → caller < h.setup.callers → MayAsk h.setup b command → StandsIn job (opening (call_site h.setup b) command) → IsTrue (can_go_on job) → jobs' ≡ slice_set jobs caller (Some job)
     → Left h (Began caller command) t (b + 1) jobs'
 begin_left h t b jobs jobs' caller command job k free within may stands ready set =
     let ask : MayAsk h.setup (last h).begun command = subst (λ n. MayAsk h.setup n command) (sym k.begun) may in
     let come : MayCome h.setup (last h) (Began caller command) = (within, no_call (slice_get jobs caller) _ free (k.calls caller), ask.0, ask.1) in
-    let there : StandsIn job (opening (site_of h.setup (last h).begun) command) = subst (λ n. StandsIn job (opening (site_of h.setup n) command)) (sym k.begun) stands in
+    let there : StandsIn job (opening (call_site h.setup (last h).begun) command) = subst (λ n. StandsIn job (opening (call_site h.setup n) command)) (sym k.begun) stands in
     record {
       may = come;
       keeps = keeps_more h (Began caller command) t t b (b + 1) jobs jobs' k come k.tree (ap (λ n. n + 1) k.begun)
@@ -154,33 +154,33 @@ pub tells_own : (h : History) (t : Tree) (b : ℕ) (jobs : List (Option DiskJob)
     → ((s : State) → StandsIn job s → Tells (Some reply) s) → TellsOwn h caller None (moves.Done reply)
 tells_own h t b jobs caller job reply k here ends = let c = has_call job (slice_get jobs caller) _ here (k.calls caller) in (c.0, c.1, ends c.0.state c.2)
 
-job_after : (a : After) (c : Call) → StandsAfter a c.state → JobAt (Some (job_of a)) (unless_over (reply_of a) (Some c))
+job_after : (a : After) (c : Call) → StandsAfter a c.state → JobAt (Some (job_of a)) (unless_over (reply_after a) (Some c))
 job_after (ways.On job) c h = h
 job_after (ways.Over said kept) c h = refl
 
 -- a call that made a step
 pub move_left : (h : History) (t t' : Tree) (b : ℕ) (jobs jobs' : List (Option DiskJob)) (caller : ℕ) (job : DiskJob) (luck : Luck) (made : Made) (a : After) → Keeps h t b jobs → slice_get jobs caller ≡ Some (Some job)
-    → IsMade job luck t made a t' → jobs' ≡ slice_set jobs caller (job_of a) → Left h (Moved caller luck (Some made) (reply_of a)) t' b jobs'
+    → IsMade job luck t made a t' → jobs' ≡ slice_set jobs caller (job_of a) → Left h (Moved caller luck (Some made) (reply_after a)) t' b jobs'
 move_left h t t' b jobs jobs' caller job luck made a k here is set =
     let c = has_call job (slice_get jobs caller) _ here (k.calls caller) in
     let m = is c.0.state c.2 in
-    let come : MayCome h.setup (last h) (Moved caller luck (Some made) (reply_of a)) = (c.0, c.1, subst (λ y. MayMove y c.0.state luck (Some made) (reply_of a)) (sym k.tree) m.0) in
+    let come : MayCome h.setup (last h) (Moved caller luck (Some made) (reply_after a)) = (c.0, c.1, subst (λ y. MayMove y c.0.state luck (Some made) (reply_after a)) (sym k.tree) m.0) in
     let call_is : moved_call (last h) caller luck (Some made) ≡ Some (moved (last h).tree luck (Some made) c.0) = ap (option_map (moved (last h).tree luck (Some made))) c.1 in
     record {
       may = come;
-      keeps = keeps_more h (Moved caller luck (Some made) (reply_of a)) t t' b b jobs jobs' k come (ap (λ y. (apply y made.0 luck).1) k.tree ∙ sym m.1) k.begun
-          (subst (λ xs. (n : ℕ) → JobAt (slice_get xs n) ((next h.setup (last h) (Moved caller luck (Some made) (reply_of a))).calls n)) (sym set)
+      keeps = keeps_more h (Moved caller luck (Some made) (reply_after a)) t t' b b jobs jobs' k come (ap (λ y. (apply y made.0 luck).1) k.tree ∙ sym m.1) k.begun
+          (subst (λ xs. (n : ℕ) → JobAt (slice_get xs n) ((next h.setup (last h) (Moved caller luck (Some made) (reply_after a))).calls n)) (sym set)
           (set_jobs jobs caller (Some job) (job_of a) (last h).calls _ here k.calls
-          (subst (λ y. JobAt (Some (job_of a)) (unless_over (reply_of a) y)) (sym call_is) (job_after a (moved (last h).tree luck (Some made) c.0) m.2))));
+          (subst (λ y. JobAt (Some (job_of a)) (unless_over (reply_after a) y)) (sym call_is) (job_after a (moved (last h).tree luck (Some made) c.0) m.2))));
     }
 
-said_is : (a : After) (s : State) → StandsAfter a s → said_of a ≡ reply_of a
+said_is : (a : After) (s : State) → StandsAfter a s → said_of a ≡ reply_after a
 said_is (ways.On job) s h = refl
 said_is (ways.Over said kept) s h = ap Some h
 
 -- the caller is told the reply that the history has
 pub told_is : (h : History) (t t' : Tree) (b : ℕ) (jobs : List (Option DiskJob)) (caller : ℕ) (job : DiskJob) (luck : Luck) (made : Made) (a : After) → Keeps h t b jobs → slice_get jobs caller ≡ Some (Some job)
-    → IsMade job luck t made a t' → said_of a ≡ reply_of a
+    → IsMade job luck t made a t' → said_of a ≡ reply_after a
 told_is h t t' b jobs caller job luck made a k here is =
     let c = has_call job (slice_get jobs caller) _ here (k.calls caller) in
     said_is a (after c.0.state made.1) (is c.0.state c.2).2

@@ -1,14 +1,14 @@
 -- Which commands a call may begin with, and which entries may be written.
 use Rattle.std.specs.Prelude.{◌≡◌, ◌<◌, ◌^◌, ℕ, Bool, true, false, List, Option, None}
 use Rattle.cacache_entry.specs.Entry.{Entry}
-use Rattle.cacache_entry.specs.Fits.{IsUtf8IfAny, IsEntry, cause_of}
-use Rattle.cacache_calls.specs.declared.command.Command.{Command}
-use Rattle.cacache_calls.specs.declared.command.Command.TheVariants as commands
-use Rattle.cacache_calls.specs.declared.command.Options.{Options}
-use Rattle.cacache_calls.specs.Inserting.{entry_of}
-use Rattle.cacache_calls.specs.Linking.{based}
-use Rattle.cacache_calls.specs.Sound.{MayBegin}
-use Rattle.cacache_history.specs.Setup.{Setup, site_of, may_export, is_outside}
+use Rattle.cacache_entry.specs.FittingEntries.{IsUtf8IfAny, IsEntry, cause_of}
+use Rattle.cacache_table.specs.declared.command.Command.{Command}
+use Rattle.cacache_table.specs.declared.command.Command.TheVariants as commands
+use Rattle.cacache_table.specs.declared.command.Options.{Options}
+use Rattle.cacache_table.specs.Inserting.{entry_of}
+use Rattle.cacache_table.specs.Linking.{based}
+use Rattle.cacache_table.specs.Sound.{MayBegin}
+use Rattle.cacache_history.specs.Setup.{Setup, call_site, may_export, is_outside}
 use Rattle.cacache_history.specs.History.{NamesIntegrity}
 use Rattle.cacache_world.specs.declared.event.WorldFault.{WorldFault}
 use Rattle.cacache_world.specs.declared.event.WorldFault.TheVariants as faults
@@ -16,7 +16,7 @@ use Rattle.cacache_world.specs.declared.event.WorldFault.TheVariants as faults
 -- a command that a call may begin with
 abbrev pub MayAsk : Setup → ℕ → Command → Type 0
 MayAsk s number command =
-    MayBegin (site_of s number) (may_export s) (is_outside s) command × NamesIntegrity command
+    MayBegin (call_site s number) (may_export s) (is_outside s) command × NamesIntegrity command
 
 -- no call begins with it: an export that doesn't go apart from the cache and from each outside
 -- file, or a link to no outside file

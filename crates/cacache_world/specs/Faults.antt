@@ -3,14 +3,14 @@ use Rattle.std.specs.Prelude.{◌≡◌, ◌⊎◌, ◌≤◌, ◌<◌, ℕ, Lis
 use Rattle.cacache_core.specs.declared.errors.Fault.{Fault}
 use Rattle.cacache_disk.specs.Tree.{Tree, bare}
 use Rattle.cacache_disk.specs.Apply.{planted}
-use Rattle.cacache_laws.specs.Opening.{with_files}
+use Rattle.cacache_value.specs.OpeningTrees.{with_files}
 use Rattle.cacache_history.specs.History.{History, Call}
-use Rattle.cacache_calls.specs.declared.command.Command.{Command}
+use Rattle.cacache_table.specs.declared.command.Command.{Command}
 use Rattle.cacache_history.specs.Setup.{Setup, may_export}
 use Rattle.cacache_world.specs.declared.event.WorldFault.{WorldFault}
 use Rattle.cacache_world.specs.declared.event.WorldFault.TheVariants as faults
 use Rattle.cacache_world.specs.Turned.{DiskJob}
-use Rattle.cacache_world.specs.Kept.{setup_of, last}
+use Rattle.cacache_world.specs.WorldKept.{setup_of, last}
 use Rattle.cacache_world.specs.Admitted.{IsBad}
 
 -- ---- what the list of jobs shows
@@ -48,6 +48,7 @@ IsUnready count jobs caller s command faults.OutOfMemory = IsFreeAt count jobs c
 abbrev pub IsFree : History → ℕ → Type 0
 IsFree h caller = (caller < h.setup.callers) × ((last h).calls caller ≡ None)
 
+-- a caller with a call
 abbrev pub HasCall : History → ℕ → Type 0
 HasCall h caller = (call : Call) × ((last h).calls caller ≡ Some call)
 

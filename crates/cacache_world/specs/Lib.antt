@@ -1,5 +1,5 @@
 pub mod Turned
-pub mod Kept
+pub mod WorldKept
 pub mod Admitted
 pub mod Faults
 pub mod Played

@@ -7,14 +7,14 @@ use Rattle.cacache_world.specs.declared.event.Event.TheVariants as events
 use Rattle.cacache_world.specs.declared.event.Move.{Move}
 use Rattle.cacache_world.specs.declared.event.WorldFault.{WorldFault}
 use Rattle.cacache_world.specs.declared.event.WorldFault.TheVariants as faults
-use Rattle.cacache_world.specs.Kept.{Adds, MovesOn}
+use Rattle.cacache_world.specs.WorldKept.{AddsRecord, MovesOn}
 use Rattle.cacache_world.specs.Faults.{CantBegin, CantMove}
 
 -- the second history is the first with this event's record
 abbrev pub Happens : Event → History → History → Type 0
-Happens (events.Begin caller command) h h' = Adds h (Began caller command) h'
+Happens (events.Begin caller command) h h' = AddsRecord h (Began caller command) h'
 Happens (events.Move caller luck) h h' = (move : Move) × MovesOn h caller luck move h'
-Happens (events.Stop caller) h h' = Adds h (Stopped caller) h'
+Happens (events.Stop caller) h h' = AddsRecord h (Stopped caller) h'
 
 -- the second history is the first with the records of these events, in their order
 abbrev pub HappenAll : List Event → History → History → Type 0

@@ -1,15 +1,15 @@
 -- One move of one call.
 use Rattle.std.specs.Prelude.{◌≡◌, ◌⊎◌, Option, Some, None, IsTrue}
 use Rattle.cacache_core.specs.declared.errors.Error.TheVariants.{OutOfMemory}
-use Rattle.cacache_base.specs.declared.store.plain.PlainFile.{PlainFile}
-use Rattle.cacache_base.specs.declared.store.plain.PlainTemp.{PlainTemp}
+use Rattle.cacache_store.specs.declared.store.plain.PlainFile.{PlainFile}
+use Rattle.cacache_store.specs.declared.store.plain.PlainTemp.{PlainTemp}
 use Rattle.cacache_disk.specs.declared.luck.Luck.{Luck}
 use Rattle.cacache_disk.specs.Tree.{Tree}
 use Rattle.cacache_disk.specs.Apply.{apply}
-use Rattle.cacache_calls.specs.declared.reply.Reply.{Reply}
-use Rattle.cacache_calls.specs.declared.reply.Reply.TheVariants.{Refused}
-use Rattle.cacache_calls.specs.State.{State}
-use Rattle.cacache_calls.specs.Table.{after}
+use Rattle.cacache_table.specs.declared.reply.Reply.{Reply}
+use Rattle.cacache_table.specs.declared.reply.Reply.TheVariants.{Refused}
+use Rattle.cacache_table.specs.State.{State}
+use Rattle.cacache_table.specs.Table.{after}
 use Rattle.cacache_jobs.specs.declared.job.Job.{Job}
 use Rattle.cacache_jobs.specs.Jobs.{Stands, GoesTo, Tells, can_go_on}
 use Rattle.cacache_history.specs.History.{Made, Ends, MayMove}
@@ -24,6 +24,7 @@ use Rattle.cacache_world.specs.declared.turn.Turn.TheVariants as turns
 abbrev pub DiskJob : Type 0
 DiskJob = Job PlainFile PlainTemp
 
+-- the job stands in this state, and no step is out
 abbrev pub StandsIn : DiskJob → State → Type 0
 StandsIn job s = Stands (λ file. file) (λ temp. temp) job s
 
@@ -43,15 +44,17 @@ AreOwn job (Some replies) =
 
 -- ---- after a step
 
-abbrev pub reply_of : After → Option Reply
-reply_of (ways.On job) = None
-reply_of (ways.Over said kept) = Some kept
+-- the reply that is kept for the history
+abbrev pub reply_after : After → Option Reply
+reply_after (ways.On job) = None
+reply_after (ways.Over said kept) = Some kept
 
 -- what the caller is told
 abbrev pub said_of : After → Option Reply
 said_of (ways.On job) = None
 said_of (ways.Over said kept) = Some said
 
+-- the job that goes on, if any
 abbrev pub job_of : After → Option DiskJob
 job_of (ways.On job) = Some job
 job_of (ways.Over said kept) = None
@@ -62,9 +65,9 @@ StandsAfter (ways.On job) s = StandsIn job s × IsTrue (can_go_on job)
 StandsAfter (ways.Over said kept) s = said ≡ kept
 
 -- in each state that the job went to it goes on, or is over
-abbrev pub GoesOn : DiskJob → After → Type 0
-GoesOn job after =
-    (s : State) → GoesInto job s → Ends s (reply_of after) × StandsAfter after s
+abbrev pub TurnGoesOn : DiskJob → After → Type 0
+TurnGoesOn job after =
+    (s : State) → GoesInto job s → Ends s (reply_after after) × StandsAfter after s
 
 -- the reply of a move
 abbrev pub told_by : Move → Option Reply
@@ -72,9 +75,9 @@ told_by moves.More = None
 told_by (moves.Done reply) = Some reply
 
 -- the parts of what stands after a step
-abbrev pub AreParts : After → Option DiskJob → Option Reply → Move → Type 0
-AreParts after job kept move =
-    (job ≡ job_of after) × (kept ≡ reply_of after) × (told_by move ≡ said_of after)
+abbrev pub AreTurnParts : After → Option DiskJob → Option Reply → Move → Type 0
+AreTurnParts after job kept move =
+    (job ≡ job_of after) × (kept ≡ reply_after after) × (told_by move ≡ said_of after)
 
 -- ---- a move
 
@@ -82,7 +85,7 @@ AreParts after job kept move =
 abbrev pub IsMade : DiskJob → Luck → Tree → Made → After → Tree → Type 0
 IsMade job luck old made next new =
     (s : State) → StandsIn job s
-    → MayMove old s luck (Some made) (reply_of next)
+    → MayMove old s luck (Some made) (reply_after next)
     × (new ≡ (apply old made.0 luck).1) × StandsAfter next (after s made.1)
 
 -- a step was made; or memory lacked, and the job is as it was; or it was over before any step, with

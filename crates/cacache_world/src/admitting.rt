@@ -1,22 +1,22 @@
 //! Which commands a call may begin with.
 ghost use Rattle.std.specs.Prelude.{◌≡◌, ◌<◌, ◌^◌, IfOk, IfErr, OnOk, ℕ, List, Some, codes, length};
-ghost use Rattle.cacache_calls.specs.Inserting.{given_size};
-ghost use Rattle.cacache_calls.specs.Linking.{based as based_of};
+ghost use Rattle.cacache_table.specs.Inserting.{given_size};
+ghost use Rattle.cacache_table.specs.Linking.{based as based_of};
 ghost use Rattle.cacache_core.specs.Integrity.{IsIntegrity};
-ghost use Rattle.cacache_calls.specs.declared.command.Command.TheVariants as commands;
+ghost use Rattle.cacache_table.specs.declared.command.Command.TheVariants as commands;
 ghost use Rattle.cacache_history.specs.History.{NamesSource};
 ghost use Rattle.cacache_history.specs.Setup.{Setup, is_outside as is_outside_of};
-ghost use Rattle.cacache_world.specs.Kept.{setup_of};
+ghost use Rattle.cacache_world.specs.WorldKept.{setup_of};
 ghost use Rattle.cacache_world.specs.Admitted.{MayAsk, Judges, IsTurnedAway, FormsEntries};
 
 use crate::entries::form;
 use crate::event::WorldFault;
 use crate::names::{is_outside, may_take};
-use cacache_calls::{Command, Delete, Export, Insert, Link, Options, Put, Source};
 use cacache_core::bytes::Bytes;
 use cacache_core::integrity::Integrity;
 use cacache_core::text::Text;
 use cacache_jobs::based;
+use cacache_table::{Command, Delete, Export, Insert, Link, Options, Put, Source};
 use std::alloc::{AllocError, Global};
 
 /// That an integrity is one, as each is.

@@ -1,10 +1,11 @@
 //! The callers' calls, and the list of what happened.
 ghost use Rattle.std.specs.Prelude.{◌≡◌, ◌<◌, ◌++◌, ◌∷◌, [], IfOk, replicate, vec_len, vec_capacity, slice_get, slice_set, option_copied, Some, None, OnOk, IfErr};
-ghost use Rattle.cacache_world.specs.Kept.{IsHeld, IsLifted};
+ghost use Rattle.cacache_world.specs.WorldKept.{IsHeld, IsLifted};
 ghost use Rattle.cacache_world.specs.Faults.{IsIdleFault, IsBusyFault};
 
 use crate::event::WorldFault;
 use crate::turn::Call;
+use cacache_core::keeping::let_go;
 use cacache_history::Record;
 use std::alloc::{AllocError, Global};
 
@@ -93,6 +94,3 @@ pub(crate) fn lift(calls: &mut Vec<Option<Call>>, caller: usize) -> Call
         None => unreachable!(),
     }
 }
-
-/// Lets a value go by a call, whose proof has nothing of the value's parts.
-pub(crate) fn let_go<T: Drop>(_value: T) {}

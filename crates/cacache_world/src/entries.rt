@@ -2,15 +2,15 @@
 ghost use Rattle.std.specs.Prelude.{◌≡◌, IfOk, OnOk, None, option_map};
 ghost use Rattle.std.specs.Bool.{OnTrue};
 ghost use Rattle.serde_json.specs.Data.{null};
-ghost use Rattle.cacache_calls.specs.Inserting.{entry_of};
+ghost use Rattle.cacache_table.specs.Inserting.{entry_of};
 ghost use Rattle.cacache_entry.specs.View.{entry_view};
 ghost use Rattle.cacache_world.specs.Admitted.{FormsEntries};
 
-use cacache_calls::Options;
 use cacache_core::bytes::Bytes;
 use cacache_core::errors::Error;
 use cacache_core::text::Text;
 use cacache_entry::{SerializableMetadata, line};
+use cacache_table::Options;
 use serde_json::Value;
 use std::alloc::{AllocError, Global};
 

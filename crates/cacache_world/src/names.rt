@@ -1,28 +1,15 @@
 //! Paths as names: which lie apart, and which are the same.
 ghost use Rattle.std.specs.Prelude.{◌≡◌, ℕ, List, Ok, IfOk, option_map};
 ghost use Rattle.std.specs.Result.{result_ok};
-ghost use Rattle.cacache_core.specs.PathNames.{home_of, is_above, is_name, names_of};
+ghost use Rattle.cacache_core.specs.PathNames.{home_of, names_of};
 ghost use Rattle.cacache_history.specs.Setup.{are_apart, apart_from_home, apart_from_text, apart_from_files, may_export, same_place, is_among, is_outside};
-ghost use Rattle.cacache_world.specs.Kept.{setup_of};
+ghost use Rattle.cacache_world.specs.WorldKept.{setup_of};
 
 use cacache_core::bytes::Bytes;
+use cacache_core::paths::{is_above, is_name};
 use cacache_core::text::Text;
 use std::alloc::{AllocError, Global};
 use std::cmp::Ordering;
-
-/// Whether it is `..`.
-fn is_above(piece: &str) -> bool
-    ensures { result ≡ is_above piece.now }
-{
-    piece == ".."
-}
-
-/// Whether it names something.
-fn is_name(piece: &str) -> bool
-    ensures { result ≡ is_name piece.now }
-{
-    !(piece.is_empty() || piece == ".")
-}
 
 /// The names of a folder's text, none where it can't name one; the empty text is the top folder.
 fn home_names(alloc: Global, text: &str) -> Result<Option<Vec<Text>>, AllocError>

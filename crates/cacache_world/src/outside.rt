@@ -3,10 +3,10 @@ ghost use Rattle.std.specs.Prelude.{◌≡◌, Ok, IfOk, IfErr, OnOk};
 ghost use Rattle.cacache_core.specs.PathNames.{home_of};
 ghost use Rattle.cacache_disk.specs.Apply.{planted as planted_tree};
 ghost use Rattle.cacache_disk.specs.Tree.{bare};
-ghost use Rattle.cacache_laws.specs.Kinds.{Elsewhere, IsFor};
-ghost use Rattle.cacache_laws.specs.Opening.{with_files, LieApart};
+ghost use Rattle.cacache_value.specs.Kinds.{Elsewhere, IsFor};
+ghost use Rattle.cacache_value.specs.OpeningTrees.{with_files, LieApart};
 ghost use Rattle.cacache_world.specs.Faults.{CantPlace, CantOpen};
-ghost use Rattle.cacache_world.specs.Kept.{LiesApart, AreApart};
+ghost use Rattle.cacache_world.specs.WorldKept.{LiesApart, FilesAreApart};
 
 use crate::event::WorldFault;
 use crate::names::may_take;
@@ -48,7 +48,7 @@ pub(crate) fn planted(
     outside: &[(Text, Bytes)],
 ) -> Result<Disk, WorldFault>
     ensures apart { OnOk result (LieApart (home_of cache.now) outside.now) }
-    ensures each { OnOk result (AreApart cache.now outside.now) }
+    ensures each { OnOk result (FilesAreApart cache.now outside.now) }
     ensures opens { IfOk result (λ disk. with_files bare outside.now ≡ Ok disk) }
     ensures why { IfErr result (λ fault. CantOpen cache.now outside.now fault) }
 {

@@ -1,10 +1,10 @@
 //! How a call begins.
 ghost use Rattle.std.specs.Prelude.{◌≡◌, ◌<◌, ◌+◌, ◌^◌, ℕ, IfOk, IfErr, OnOk, IsTrue, Some, None, codes, slice_get, vec_len, vec_capacity};
-ghost use Rattle.cacache_calls.specs.Table.{opening};
+ghost use Rattle.cacache_table.specs.Table.{opening};
 ghost use Rattle.cacache_jobs.specs.Jobs.{can_go_on};
-ghost use Rattle.cacache_jobs.specs.Opening.{site_of};
+ghost use Rattle.cacache_jobs.specs.Sites.{site_of};
 ghost use Rattle.cacache_world.specs.Turned.{StandsIn};
-ghost use Rattle.cacache_world.specs.Kept.{setup_of};
+ghost use Rattle.cacache_world.specs.WorldKept.{setup_of};
 ghost use Rattle.cacache_world.specs.Admitted.{MayAsk};
 ghost use Rattle.cacache_world.specs.Faults.{IsUnready};
 
@@ -12,11 +12,11 @@ use crate::admitting::admit;
 use crate::callers::{free, make_room};
 use crate::event::WorldFault;
 use crate::turn::Call;
-use cacache_calls::Command;
 use cacache_core::bytes::Bytes;
 use cacache_core::text::Text;
 use cacache_history::Record;
 use cacache_jobs::Job;
+use cacache_table::Command;
 use std::alloc::{AllocError, Global};
 
 /// The job of a command.

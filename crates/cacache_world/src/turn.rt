@@ -1,15 +1,15 @@
 //! One move of one call.
 ghost use Rattle.std.specs.Prelude.{IsTrue, IfOk};
 ghost use Rattle.cacache_jobs.specs.Jobs.{can_go_on};
-ghost use Rattle.cacache_world.specs.Turned.{GoesOn, IsTurn, IsSaid, AreOwn, AreParts};
+ghost use Rattle.cacache_world.specs.Turned.{TurnGoesOn, IsTurn, IsSaid, AreOwn, AreTurnParts};
 
-use crate::callers::let_go;
 use crate::event::Move;
-use cacache_base::store::{PlainAnswer, PlainFile, PlainStep, PlainTemp};
-use cacache_calls::Reply;
 use cacache_core::errors::Error;
+use cacache_core::keeping::let_go;
 use cacache_disk::{Disk, Luck};
 use cacache_jobs::{Job, Next};
+use cacache_store::store::{PlainAnswer, PlainFile, PlainStep, PlainTemp};
+use cacache_table::Reply;
 use std::alloc::{AllocError, Global};
 
 /// A call on a disk in memory.
@@ -71,7 +71,7 @@ fn own_reply(alloc: Global, job: &Call) -> Result<Option<(Reply, Reply)>, AllocE
 /// Whether a call goes on.
 fn looked(alloc: Global, mut job: Call) -> After
     requires { IsTrue (can_go_on job) }
-    ensures { GoesOn job result }
+    ensures { TurnGoesOn job result }
 {
     match job.next() {
         Next::Step(step) => {
@@ -116,7 +116,7 @@ pub(crate) fn advance(alloc: Global, disk: &mut Disk, mut job: Call, luck: Luck)
 
 /// The call that goes on, the reply for the history, and what the caller is told.
 pub(crate) fn parted(after: After) -> (Option<Call>, Option<Reply>, Move)
-    ensures { AreParts after result.0 result.1 result.2 }
+    ensures { AreTurnParts after result.0 result.1 result.2 }
 {
     match after {
         After::On(call) => (Some(call), None, Move::More),

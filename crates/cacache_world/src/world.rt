@@ -2,19 +2,20 @@
 ghost use Rattle.std.specs.Prelude.{◌≡◌, IfOk, IfErr, OnOk, OnErr, []};
 ghost use Rattle.cacache_history.specs.Headline.{Headline};
 ghost use Rattle.cacache_history.specs.declared.record.Record.TheVariants.{Began, Stopped};
-ghost use Rattle.cacache_world.specs.Kept.{setup_of, history_of, last, AreApart, Adds, MovesOn};
+ghost use Rattle.cacache_world.specs.WorldKept.{setup_of, history_of, last, FilesAreApart, AddsRecord, MovesOn};
 ghost use Rattle.cacache_world.specs.Faults.{CantMove, CantBegin, CantOpen};
 
-use crate::callers::{held, idle, let_go, lift, make_room, note, place};
+use crate::callers::{held, idle, lift, make_room, note, place};
 use crate::event::{Move, WorldFault};
 use crate::outside::planted;
 use crate::starting::prepared;
 use crate::turn::{Call, Turn, advance, parted};
-use cacache_calls::Command;
 use cacache_core::bytes::Bytes;
+use cacache_core::keeping::let_go;
 use cacache_core::text::Text;
 use cacache_disk::{Disk, Luck};
 use cacache_history::Record;
+use cacache_table::Command;
 use std::alloc::Global;
 use std::marker::Model;
 
@@ -33,8 +34,8 @@ pub struct World {
 
 impl Model for World {
     ghost use Rattle.cacache_history.specs.History.{History};
-    ghost use Rattle.cacache_world.specs.Kept.{told, IsKept};
-    ghost use Rattle.cacache_calls.specs.JsonCode.{data_code};
+    ghost use Rattle.cacache_world.specs.WorldKept.{told, WorldIsKept};
+    ghost use Rattle.cacache_table.specs.JsonCode.{data_code};
     ghost use Rattle.std.specs.Coded.{codes};
 
     ghost Value = { History };
@@ -43,7 +44,7 @@ impl Model for World {
 
     ghost view = { told };
 
-    ghost invariant = { IsKept };
+    ghost invariant = { WorldIsKept };
 }
 
 impl World {
@@ -62,7 +63,7 @@ impl World {
     ) -> Result<World, WorldFault>
         ensures world { IfOk result (λ world.
             world ≡ history_of (setup_of cache outside.items callers) []) }
-        ensures apart { OnOk result (AreApart cache outside.items) }
+        ensures apart { OnOk result (FilesAreApart cache outside.items) }
         ensures why { IfErr result (λ fault. CantOpen cache outside.items fault) }
     {
         let disk = match planted(alloc, cache.as_str(), outside.as_slice()) {
@@ -99,7 +100,7 @@ impl World {
     /// the cache and from each outside file, and for a link whose target is no outside file, and
     /// `OutOfMemory` where memory is refused.
     pub fn begin(&mut self, caller: usize, command: Command) -> Result<(), WorldFault>
-        ensures adds { OnOk result (Adds self.old (Began caller command) self.new) }
+        ensures adds { OnOk result (AddsRecord self.old (Began caller command) self.new) }
         ensures same { OnErr result (self.new ≡ self.old) }
         ensures why { IfErr result (λ fault. CantBegin self.old caller command fault) }
     {
@@ -132,7 +133,7 @@ impl World {
     /// Nothing changes then. `NoCaller` where there is no such caller, `Idle` where it has no call,
     /// `OutOfMemory` where memory is refused.
     pub fn stop(&mut self, caller: usize) -> Result<(), WorldFault>
-        ensures adds { OnOk result (Adds self.old (Stopped caller) self.new) }
+        ensures adds { OnOk result (AddsRecord self.old (Stopped caller) self.new) }
         ensures same { OnErr result (self.new ≡ self.old) }
         ensures why { IfErr result (λ fault. CantMove self.old caller fault) }
     {
@@ -184,6 +185,18 @@ impl World {
                 Ok(told)
             }
         }
+    }
+
+    /// How many callers there are.
+    pub fn callers(&self) -> usize
+        ensures { result ≡ self.now.setup.callers }
+    {
+        self.calls.len()
+    }
+
+    /// Where its memory is taken from.
+    pub fn allocator(&self) -> Global {
+        self.alloc
     }
 
     /// The disk as the last event left it.

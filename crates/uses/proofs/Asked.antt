@@ -6,20 +6,20 @@ use Rattle.cacache_core.specs.declared.errors.Error.{Error}
 use Rattle.cacache_core.specs.declared.errors.Fault.{Fault}
 use Rattle.cacache_core.specs.declared.integrity.digest.Hash.{Hash}
 use Rattle.cacache_core.specs.Integrity.{IsIntegrity}
-use Rattle.cacache_base.specs.declared.store.log.LogItem.{LogItem}
-use Rattle.cacache_base.specs.declared.store.log.LogItem.TheVariants.{Made}
+use Rattle.cacache_store.specs.declared.store.log.LogItem.{LogItem}
+use Rattle.cacache_store.specs.declared.store.log.LogItem.TheVariants.{Made}
 use Rattle.cacache_entry.specs.declared.metadata.Metadata.{Metadata}
 use Rattle.cacache_entry.specs.Latest.{Found}
 use Rattle.cacache_entry.specs.View.{found_view}
-use Rattle.cacache_calls.specs.declared.command.Command.TheVariants as commands
-use Rattle.cacache_calls.specs.declared.reply.Reply.TheVariants as replies
-use Rattle.cacache_calls.specs.Causes.{Faulted}
-use Rattle.cacache_calls.specs.Runs.{Moves, reply_of}
-use Rattle.cacache_put.specs.Replies.{looked_up}
-use Rattle.cacache_sequence.specs.Caches.{IsCache, HasKey, HasContent, LacksKey, AStepFailed, IsExcused, Called, Grows, ExcusesLast, lies_under, SaysThere, AsksContent}
-use Rattle.cacache_sequence.specs.Keeping.{found_under}
-use Rattle.cacache_sequence.specs.Inserts.{leads_to}
-use Rattle.cacache_sequence.specs.Looks.{GivesFound, FindsFound, SaysAbsent, AsksAbsent}
+use Rattle.cacache_table.specs.declared.command.Command.TheVariants as commands
+use Rattle.cacache_table.specs.declared.reply.Reply.TheVariants as replies
+use Rattle.cacache_table.specs.Causes.{Faulted}
+use Rattle.cacache_table.specs.Runs.{Moves, reply_of}
+use Rattle.cacache_table.specs.Replies.{looked_up}
+use Rattle.cacache_history.specs.Caches.{IsCache, HasKey, HasContent, LacksKey, AStepFailed, IsExcused, Called, Grows, ExcusesLast, lies_under, SaysThere, AsksWhetherHeld}
+use Rattle.cacache_history.specs.Keeping.{found_under}
+use Rattle.cacache_history.specs.Inserts.{leads_to}
+use Rattle.cacache_history.specs.Looks.{GivesFound, FindsFound, SaysAbsent, AsksAbsent}
 use Rattle.uses.specs.Asked.{IsEntryOf}
 use Rattle.uses.proofs.Told.{excused}
 
@@ -30,7 +30,7 @@ said Stays (Ok true) old new h = λ no. absurd cc
 said Stays (Ok false) old new h = λ no. h
 said Stays (Err e) old new h = tt
 
-pub there_told : AsksContent → (cache bytes : List ℕ) (i : List Hash) (r : Result Bool Error) (old new : List LogItem) → IsCache cache old → HasContent cache i bytes old
+pub there_told : AsksWhetherHeld → (cache bytes : List ℕ) (i : List Hash) (r : Result Bool Error) (old new : List LogItem) → IsCache cache old → HasContent cache i bytes old
     → Called cache (commands.Exists i) (reply_of (λ b. replies.Exists b) r) old new → IfOk r (λ there. there ≡ false → AStepFailed old new)
 there_told law cache bytes i r old new sound has c = said (HasContent cache i bytes new) r old new (law cache bytes i (reply_of (λ b. replies.Exists b) r) old new sound has c).1
 

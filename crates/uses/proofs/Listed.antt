@@ -7,20 +7,20 @@ use Rattle.cacache_core.specs.declared.errors.Error.TheVariants.{IoError, OutOfM
 use Rattle.cacache_core.specs.declared.errors.Fault.TheVariants.{TooDeep}
 use Rattle.cacache_core.specs.declared.integrity.digest.Hash.{Hash}
 use Rattle.cacache_core.specs.Integrity.{Meets}
-use Rattle.cacache_base.specs.declared.store.log.LogItem.{LogItem}
+use Rattle.cacache_store.specs.declared.store.log.LogItem.{LogItem}
 use Rattle.cacache_memory.specs.Replay.{IsLog}
 use Rattle.cacache_entry.specs.Latest.{Found}
-use Rattle.cacache_calls.specs.declared.command.Command.TheVariants as commands
-use Rattle.cacache_calls.specs.declared.reply.Reply.{Reply}
-use Rattle.cacache_calls.specs.declared.reply.Reply.TheVariants as replies
-use Rattle.cacache_calls.specs.Listing.{In}
-use Rattle.cacache_calls.specs.Runs.{Ran, plain_item, plain_reply, without_message}
-use Rattle.cacache_calls.specs.State.{Item}
-use Rattle.cacache_calls.specs.Table.{opening}
-use Rattle.cacache_jobs.specs.Opening.{site_of}
-use Rattle.cacache_sequence.specs.Caches.{HasKey, Grows, IsExcused, Called, ExcusesLast}
-use Rattle.cacache_sequence.specs.Keeping.{found_under}
-use Rattle.cacache_sequence.specs.ListedKeys.{IsShown, AreEntries, ListsKeys, GivesKeys}
+use Rattle.cacache_table.specs.declared.command.Command.TheVariants as commands
+use Rattle.cacache_table.specs.declared.reply.Reply.{Reply}
+use Rattle.cacache_table.specs.declared.reply.Reply.TheVariants as replies
+use Rattle.cacache_table.specs.ListReplies.{In}
+use Rattle.cacache_table.specs.Runs.{Ran, plain_item, plain_reply, without_message}
+use Rattle.cacache_table.specs.State.{Item}
+use Rattle.cacache_table.specs.Table.{opening}
+use Rattle.cacache_jobs.specs.Sites.{site_of}
+use Rattle.cacache_history.specs.Caches.{HasKey, Grows, IsExcused, Called, ExcusesLast}
+use Rattle.cacache_history.specs.Keeping.{found_under}
+use Rattle.cacache_history.specs.ListedKeys.{IsShown, AreEntries, ListsKeys, GivesKeys}
 use Rattle.uses.proofs.Told.{plain_error, memory_error}
 
 -- ---- a listing was made

@@ -7,7 +7,7 @@ ghost use Rattle.cacache_core.specs.Hashers.{finished_bytes, Holds, algorithm_of
 ghost use Rattle.cacache_core.specs.Integrity.{IsIntegrity, IsHash, Meets, ShareDigest, hash_of, strongest, address as address_of, actual, integrity_under};
 ghost use Rattle.cacache_core.specs.Refusals.{IsCheckFailure, IsReadFailure};
 ghost use Rattle.cacache_core.specs.Same.{same_hashes, same_hashes-equiv};
-ghost use Rattle.cacache_core.specs.Texts.{text_of, read_integrity};
+ghost use Rattle.cacache_core.specs.Texts.{integrity_text, read_integrity};
 
 use crate::errors::{Error, IntegrityFault, Result};
 use crate::integrity::algorithm::Algorithm;
@@ -203,7 +203,7 @@ impl Clone for Integrity {
 }
 
 impl fmt::Display for Integrity {
-    ghost output = { λ i. Some (text_of i) };
+    ghost output = { λ i. Some (integrity_text i) };
 
     fn fmt<W: fmt::Write>(&self, f: &mut fmt::Formatter<W>) -> fmt::Result {
         write!(f, "{}", self.hashes[0])?;
@@ -215,7 +215,7 @@ impl fmt::Display for Integrity {
 }
 
 impl fmt::Debug for Integrity {
-    ghost debug_output = { λ i. Some (text_of i) };
+    ghost debug_output = { λ i. Some (integrity_text i) };
 
     fn fmt<W: fmt::Write>(&self, f: &mut fmt::Formatter<W>) -> fmt::Result {
         write!(f, "{self}")

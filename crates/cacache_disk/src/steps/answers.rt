@@ -1,10 +1,10 @@
 //! Copies of answers.
 ghost use Rattle.std.specs.Prelude.{◌≡◌, ◌≤◌, false, IfOk, length};
-ghost use Rattle.cacache_base.specs.Fits.{is_no_memory};
+ghost use Rattle.cacache_store.specs.Fits.{is_no_memory};
 ghost use Rattle.cacache_disk.specs.Apply.{taken};
 
-use cacache_base::store::{Answer, PlainFile, PlainTemp};
 use cacache_core::bytes::Bytes;
+use cacache_store::store::{Answer, PlainFile, PlainTemp};
 use std::alloc::{AllocError, Global};
 
 /// How many of the bytes are taken, where at most so many may be.

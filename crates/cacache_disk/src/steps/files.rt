@@ -1,6 +1,6 @@
 //! Steps on files.
 ghost use Rattle.std.specs.Prelude.{◌≡◌, ℕ, Option, IfOk, IfErr};
-ghost use Rattle.cacache_base.specs.declared.store.step.Step.TheVariants.{Append, ReadAll, Open, Size, Exists, RemoveFile};
+ghost use Rattle.cacache_store.specs.declared.store.step.Step.TheVariants.{Append, ReadAll, Open, Size, Exists, RemoveFile};
 ghost use Rattle.cacache_disk.specs.Plans.{IsPlan, Refuses};
 
 use crate::change::{Change, Plan};
@@ -8,13 +8,13 @@ use crate::disk::Disk;
 use crate::find::Wanted;
 use crate::steps::answers::taken;
 use crate::stop::Stop;
-use cacache_base::store::{Answer, PlainFile};
 use cacache_core::bytes::Bytes;
 use cacache_core::errors::Fault;
 use cacache_core::text::Text;
+use cacache_store::store::{Answer, PlainFile};
 
 impl Disk {
-    #[tactic(auto, unfolding(crate::specs::Found::writable))]
+    #[tactic(auto, unfolding(crate::specs::LedTo::writable))]
     pub(crate) fn append(
         &self,
         path: &Text,
@@ -58,7 +58,7 @@ impl Disk {
         Ok(Plan::of(Answer::Length(count as u64), Change::Nothing))
     }
 
-    #[tactic(auto, unfolding(crate::specs::Found::found))]
+    #[tactic(auto, unfolding(crate::specs::LedTo::found))]
     pub(crate) fn exists(&self, path: &Text, most: Option<usize>) -> Result<Plan, Stop>
         ensures ok { IfOk result (IsPlan self.now (Exists path.now) most) }
         ensures err { IfErr result (Refuses self.now (Exists path.now) most) }
@@ -71,7 +71,7 @@ impl Disk {
         Ok(Plan::of(Answer::There(is), Change::Nothing))
     }
 
-    #[tactic(auto, unfolding(crate::specs::Found::removable))]
+    #[tactic(auto, unfolding(crate::specs::LedTo::removable))]
     pub(crate) fn remove_file(&self, path: &Text, most: Option<usize>) -> Result<Plan, Stop>
         ensures ok { IfOk result (IsPlan self.now (RemoveFile path.now) most) }
         ensures err { IfErr result (Refuses self.now (RemoveFile path.now) most) }

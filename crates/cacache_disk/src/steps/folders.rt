@@ -1,6 +1,6 @@
 //! Steps on folders.
 ghost use Rattle.std.specs.Prelude.{◌≡◌, ℕ, Option, IfOk, IfErr};
-ghost use Rattle.cacache_base.specs.declared.store.step.Step.TheVariants.{MakeDirs, ReadDir, RemoveDir};
+ghost use Rattle.cacache_store.specs.declared.store.step.Step.TheVariants.{MakeDirs, ReadDir, RemoveDir};
 ghost use Rattle.cacache_disk.specs.Apply.{making};
 ghost use Rattle.cacache_disk.specs.Plans.{IsPlan, Refuses};
 
@@ -9,8 +9,8 @@ use crate::disk::Disk;
 use crate::find::Wanted;
 use crate::path::Path;
 use crate::stop::Stop;
-use cacache_base::store::Answer;
 use cacache_core::text::Text;
+use cacache_store::store::Answer;
 
 /// How many folders may be made of those that a path names.
 fn making(most: Option<usize>, names: &Path) -> usize
@@ -23,7 +23,7 @@ fn making(most: Option<usize>, names: &Path) -> usize
 }
 
 impl Disk {
-    #[tactic(auto, unfolding(crate::specs::Found::dirs))]
+    #[tactic(auto, unfolding(crate::specs::LedTo::dirs))]
     pub(crate) fn make_dirs(&self, path: &Text, most: Option<usize>) -> Result<Plan, Stop>
         ensures ok { IfOk result (IsPlan self.now (MakeDirs path.now) most) }
         ensures err { IfErr result (Refuses self.now (MakeDirs path.now) most) }
@@ -34,7 +34,7 @@ impl Disk {
         Ok(Plan::of(Answer::Done, Change::MakeFolders(names, from, count, None)))
     }
 
-    #[tactic(auto, unfolding(crate::specs::Found::folder))]
+    #[tactic(auto, unfolding(crate::specs::LedTo::folder))]
     pub(crate) fn read_dir(&self, path: &Text, most: Option<usize>) -> Result<Plan, Stop>
         ensures ok { IfOk result (IsPlan self.now (ReadDir path.now) most) }
         ensures err { IfErr result (Refuses self.now (ReadDir path.now) most) }

@@ -1,6 +1,6 @@
 //! Steps on temporary files and open files.
 ghost use Rattle.std.specs.Prelude.{◌≡◌, ◌-◌, ◌++◌, ◌≤◌, ℕ, Option, Some, IfOk, IfErr, length, take, drop};
-ghost use Rattle.cacache_base.specs.declared.store.step.Step.TheVariants.{CreateTemp, Write, Persist, Read};
+ghost use Rattle.cacache_store.specs.declared.store.step.Step.TheVariants.{CreateTemp, Write, Persist, Read};
 ghost use Rattle.cacache_disk.specs.Apply.{readable};
 ghost use Rattle.cacache_disk.specs.Plans.{IsPlan, Refuses};
 
@@ -11,10 +11,10 @@ use crate::find::Wanted;
 use crate::node::Node;
 use crate::steps::answers::taken;
 use crate::stop::Stop;
-use cacache_base::store::{Answer, PlainFile, PlainTemp};
 use cacache_core::bytes::Bytes;
 use cacache_core::errors::Fault;
 use cacache_core::text::Text;
+use cacache_store::store::{Answer, PlainFile, PlainTemp};
 use std::alloc::{AllocError, Global};
 
 /// How many bytes a read may give.
@@ -65,7 +65,7 @@ fn rest_of(bytes: &Bytes, count: usize) -> Result<PlainFile, AllocError>
 }
 
 impl Disk {
-    #[tactic(auto, unfolding(crate::specs::Found::free))]
+    #[tactic(auto, unfolding(crate::specs::LedTo::free))]
     pub(crate) fn create_temp(&self, path: &Text, most: Option<usize>) -> Result<Plan, Stop>
         ensures ok { IfOk result (IsPlan self.now (CreateTemp path.now) most) }
         ensures err { IfErr result (Refuses self.now (CreateTemp path.now) most) }
@@ -94,7 +94,7 @@ impl Disk {
         Ok(Plan::of(Answer::Wrote(grown, count), Change::Nothing))
     }
 
-    #[tactic(auto, unfolding(crate::specs::Found::replaceable))]
+    #[tactic(auto, unfolding(crate::specs::LedTo::replaceable))]
     pub(crate) fn persist(
         &self,
         temp: &PlainTemp,

@@ -1,6 +1,6 @@
 //! Steps that give a file or its bytes a second path.
 ghost use Rattle.std.specs.Prelude.{◌≡◌, ℕ, Option, IfOk, IfErr};
-ghost use Rattle.cacache_base.specs.declared.store.step.Step.TheVariants.{Symlink, Copy, Reflink, HardLink};
+ghost use Rattle.cacache_store.specs.declared.store.step.Step.TheVariants.{Symlink, Copy, Reflink, HardLink};
 ghost use Rattle.cacache_disk.specs.Plans.{IsPlan, Refuses};
 
 use crate::change::{Change, Plan};
@@ -10,12 +10,12 @@ use crate::find::Wanted;
 use crate::node::Node;
 use crate::steps::answers::taken;
 use crate::stop::Stop;
-use cacache_base::store::Answer;
 use cacache_core::errors::Fault;
 use cacache_core::text::Text;
+use cacache_store::store::Answer;
 
 impl Disk {
-    #[tactic(auto, unfolding(crate::specs::Found::free))]
+    #[tactic(auto, unfolding(crate::specs::LedTo::free))]
     pub(crate) fn symlink(
         &self,
         target: &Text,
@@ -30,7 +30,7 @@ impl Disk {
         Ok(Plan::of(Answer::Done, Change::Put(names, Node::Link(target))))
     }
 
-    #[tactic(auto, unfolding(crate::specs::Found::writable))]
+    #[tactic(auto, unfolding(crate::specs::LedTo::writable))]
     pub(crate) fn copy(&self, from: &Text, to: &Text, most: Option<usize>) -> Result<Plan, Stop>
         ensures ok { IfOk result (IsPlan self.now (Copy from.now to.now) most) }
         ensures err { IfErr result (Refuses self.now (Copy from.now to.now) most) }
@@ -43,7 +43,7 @@ impl Disk {
         Ok(Plan::of(Answer::Took(all), Change::Put(names, Node::File(copied))))
     }
 
-    #[tactic(auto, unfolding(crate::specs::Found::free))]
+    #[tactic(auto, unfolding(crate::specs::LedTo::free))]
     pub(crate) fn reflink(&self, from: &Text, to: &Text, most: Option<usize>) -> Result<Plan, Stop>
         ensures ok { IfOk result (IsPlan self.now (Reflink from.now to.now) most) }
         ensures err { IfErr result (Refuses self.now (Reflink from.now to.now) most) }
@@ -53,7 +53,7 @@ impl Disk {
         Ok(Plan::of(Answer::Done, Change::Put(names, Node::File(contents))))
     }
 
-    #[tactic(auto, unfolding(crate::specs::Found::free))]
+    #[tactic(auto, unfolding(crate::specs::LedTo::free))]
     pub(crate) fn hard_link(
         &self,
         from: &Text,

@@ -1,15 +1,15 @@
 //! Answers to the steps that make, take or give a file.
-ghost use Rattle.cacache_base.specs.Plain.{plain_step, plain_answer};
-ghost use Rattle.cacache_base.specs.Fits.{Fits};
-ghost use Rattle.cacache_folder.specs.Handles.{seen_file, seen_temp};
-ghost use Rattle.cacache_folder.specs.Parts.{HandsBackWhole};
+ghost use Rattle.cacache_store.specs.Plain.{plain_step, plain_answer};
+ghost use Rattle.cacache_store.specs.Fits.{Fits};
+ghost use Rattle.cacache_folder.specs.FolderHandles.{seen_file, seen_temp};
+ghost use Rattle.cacache_folder.specs.PartialSteps.{HandsBackWhole};
 
 use crate::folder::faults::refused;
 use crate::folder::opened::FolderFile;
 use crate::folder::temp::FolderTemp;
-use cacache_base::store::{Answer, FileHandle, Step, TempFile, TempHandle};
 use cacache_core::bytes::Bytes;
 use cacache_core::text::Text;
+use cacache_store::store::{Answer, FileHandle, Step, TempFile, TempHandle};
 use std::alloc::Global;
 use std::io;
 use std::io::{Read, Write};

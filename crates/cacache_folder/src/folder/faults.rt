@@ -1,11 +1,12 @@
 //! Answers to steps that the system refused.
 ghost use Rattle.std.specs.Prelude.{◌≡◌};
-ghost use Rattle.cacache_base.specs.Plain.{plain_step, plain_answer};
-ghost use Rattle.cacache_base.specs.Fits.{Fits};
-ghost use Rattle.cacache_folder.specs.Parts.{may_do_a_part as does_a_part, HandsBackWhole};
+ghost use Rattle.cacache_store.specs.Plain.{plain_step, plain_answer};
+ghost use Rattle.cacache_store.specs.Fits.{Fits};
+ghost use Rattle.cacache_folder.specs.PartialSteps.{may_do_a_part as does_a_part, HandsBackWhole};
 
-use cacache_base::store::{Answer, FileHandle, Step, TempHandle};
 use cacache_core::errors::Fault;
+use cacache_core::keeping::let_go;
+use cacache_store::store::{Answer, FileHandle, Step, TempHandle};
 use std::io;
 use std::io::ErrorKind;
 
@@ -19,9 +20,6 @@ fn may_do_a_part<F: FileHandle, T: TempHandle>(step: &Step<F, T>) -> bool
         Step::MakeDirs(_) | Step::CreateTemp(_) | Step::Append(_, _) | Step::Copy(_, _)
     )
 }
-
-/// Drops a value. A call keeps the many ways to drop a step out of its callers' proofs.
-pub(crate) fn let_go<T: Drop>(_value: T) {}
 
 /// The answer to a step that failed with this error. Out of memory hands the step back only if nothing can have
 /// changed.

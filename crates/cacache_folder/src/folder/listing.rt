@@ -3,11 +3,11 @@ ghost use Rattle.std.specs.Prelude.{◌≡◌, ◌==◌, ◌↔◌, IfOk, IfErr,
 ghost use Rattle.std.specs.List.{list_any};
 ghost use Rattle.std.specs.IoError.{error_kind};
 ghost use Rattle.cacache_core.specs.PathNames.{ends_name, IsProperName};
-ghost use Rattle.cacache_base.specs.Fits.{AreProperNames};
+ghost use Rattle.cacache_store.specs.Fits.{AreProperNames};
 
 use crate::folder::FolderStore;
-use cacache_base::store::{Kind, Listing, Name};
 use cacache_core::text::Text;
+use cacache_store::store::{Kind, Listing, Name};
 use std::alloc::Global;
 use std::fs::{DirEntry, FileType};
 use std::io::ErrorKind;

@@ -2,11 +2,11 @@
 ghost use Rattle.std.specs.Prelude.{◌≡◌, ◌+◌, ◌-◌, ◌^◌, ◌≤◌, ◌<◌, None, IfOk, IsErr, OnErr, length};
 ghost use Rattle.std.specs.Io.{ReadsAtMost};
 ghost use Rattle.std.specs.Io.KnownBytes.{ReadConsumes};
-ghost use Rattle.cacache_base.specs.Handles.{LeftFalls};
+ghost use Rattle.cacache_store.specs.Handles.{LeftFalls};
 
 use crate::folder::again::read_again;
-use cacache_base::store::{FileHandle, OpenedFile};
 use cacache_core::bytes::Bytes;
+use cacache_store::store::{FileHandle, OpenedFile};
 use std::alloc::Global;
 use std::io;
 use std::io::{ErrorKind, Read};
@@ -58,7 +58,7 @@ impl<F: Read + Drop> Read for FolderFile<F> {
 }
 
 impl<F: Read + Drop> FileHandle for FolderFile<F> {
-    ghost use Rattle.cacache_folder.specs.Handles.{seen_file};
+    ghost use Rattle.cacache_folder.specs.FolderHandles.{seen_file};
 
     ghost seen = { seen_file };
 }

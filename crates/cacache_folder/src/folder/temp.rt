@@ -2,10 +2,12 @@
 ghost use Rattle.std.specs.Prelude.{◌≡◌};
 
 use crate::folder::again::write_again;
-use cacache_base::store::{TempFile, TempHandle};
+use cacache_core::keeping::let_go;
 use cacache_core::text::Text;
+use cacache_store::store::{TempFile, TempHandle};
 use std::io;
 use std::io::Write;
+use std::rt::Files;
 
 /// A temporary file of real folders. Dropping it closes the file and leaves it there.
 #[derive(Drop)]
@@ -28,6 +30,13 @@ impl<F: Write + Drop> FolderTemp<F> {
     {
         self.path.as_str()
     }
+
+    /// Closes the file and removes it. The error says why it wasn't removed.
+    pub fn remove<R: Files<File = F>>(self, rt: &R) -> io::Result<()> {
+        let FolderTemp { file, path } = self;
+        let_go(file);
+        rt.remove_file(path.as_str())
+    }
 }
 
 impl<F: Write + Drop> Write for FolderTemp<F> {
@@ -41,7 +50,7 @@ impl<F: Write + Drop> Write for FolderTemp<F> {
 }
 
 impl<F: Write + Drop> TempHandle for FolderTemp<F> {
-    ghost use Rattle.cacache_folder.specs.Handles.{seen_temp};
+    ghost use Rattle.cacache_folder.specs.FolderHandles.{seen_temp};
 
     ghost seen = { seen_temp };
 }

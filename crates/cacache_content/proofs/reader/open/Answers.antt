@@ -1,5 +1,5 @@
-use Rattle.cacache_base.specs.declared.store.step.Step.TheVariants as steps
-use Rattle.cacache_content.proofs.Stepping.{file_refused, refused_fails}
+use Rattle.cacache_store.specs.declared.store.step.Step.TheVariants as steps
+use Rattle.cacache_content.proofs.StepAnswers.{file_refused, refused_fails}
 use Rattle.cacache_content.proofs.reader.open.Goals as goal
 
 pub returns-in-Err-clause-opens : goal.returns-in-Err-clause-opens

@@ -1,5 +1,5 @@
-use Rattle.cacache_base.specs.declared.store.step.Step.TheVariants as steps
-use Rattle.cacache_content.proofs.Stepping.{removal_refused, refused_fails}
+use Rattle.cacache_store.specs.declared.store.step.Step.TheVariants as steps
+use Rattle.cacache_content.proofs.StepAnswers.{removal_refused, refused_fails}
 use Rattle.cacache_content.proofs.writer.abandon.Goals as goal
 
 pub returns : goal.returns

@@ -1,5 +1,5 @@
-use Rattle.cacache_base.specs.declared.store.step.Step.TheVariants as steps
-use Rattle.cacache_content.proofs.Stepping.{folder_refused, refused_fails}
+use Rattle.cacache_store.specs.declared.store.step.Step.TheVariants as steps
+use Rattle.cacache_content.proofs.StepAnswers.{folder_refused, refused_fails}
 use Rattle.cacache_content.proofs.writer.make_folder.Goals as goal
 
 pub returns-in-Err-clause-err : goal.returns-in-Err-clause-err

@@ -1,7 +1,7 @@
 use Rattle.std.proofs.Common.{◌≡◌, ◌∙◌, inr}
-use Rattle.cacache_base.specs.declared.store.step.Step.TheVariants as steps
-use Rattle.cacache_calls.specs.Places.{temp_path}
-use Rattle.cacache_content.proofs.Stepping.{temp_refused, refused_fails}
+use Rattle.cacache_store.specs.declared.store.step.Step.TheVariants as steps
+use Rattle.cacache_table.specs.StepPaths.{temp_path}
+use Rattle.cacache_content.proofs.StepAnswers.{temp_refused, refused_fails}
 use Rattle.cacache_content.proofs.writer.open.Goals as goal
 
 pub returns-in-Err : goal.returns-in-Err

@@ -1,4 +1,4 @@
-use Rattle.cacache_entry.proofs.Causes.{no_cause_is_fit, flat_entries_fit, bare_entries_fit}
+use Rattle.cacache_entry.proofs.EntryCauses.{no_cause_is_fit, flat_entries_fit, bare_entries_fit}
 use Rattle.cacache_entry.proofs.laws.entry_laws.Goals as goal
 
 pub returns-clause-no_cause : goal.returns-clause-no_cause

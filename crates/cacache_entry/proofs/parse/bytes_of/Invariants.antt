@@ -1,6 +1,6 @@
 use Rattle.std.proofs.Common.{◌≡◌, ◌++◌, drop, option_map}
 use Rattle.serde_json.specs.View.{items_view}
-use Rattle.cacache_entry.specs.Reading.{bytes_of}
+use Rattle.cacache_entry.specs.EntryTexts.{bytes_of}
 use Rattle.cacache_entry.proofs.parse.bytes_of.Given as goal
 
 abbrev pub invariant-loop-item : goal.invariant-loop-item

@@ -2,7 +2,7 @@ use Rattle.std.proofs.Common.{◌≡◌, ◌<◌, ◌^◌, ℕ, false, Result, O
 use Rattle.std.specs.Result.{OkIff, is_err}
 use Rattle.std.proofs.lemmas.Bool.{leb-true, not-true}
 use Rattle.cacache_entry.specs.View.{entry_view}
-use Rattle.cacache_entry.proofs.Causes.{cause_of-none}
+use Rattle.cacache_entry.proofs.EntryCauses.{cause_of-none}
 use Rattle.cacache_entry.proofs.write.cause_of.Goals as goal
 
 converted : {E : Type 0} (r : Result ℕ E) (t : ℕ) → OkIff r (t < 2 ^ 64) t → is_err r ≡ false → t < 2 ^ 64

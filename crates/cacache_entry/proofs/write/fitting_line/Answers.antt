@@ -4,10 +4,10 @@ use Rattle.std.specs.declared.alloc.Global.{Global}
 use Rattle.std.proofs.lemmas.Str.{IsUtf8-string_bytes}
 use Rattle.serde_json.specs.Data.{depth}
 use Rattle.serde_json.specs.View.{view}
-use Rattle.cacache_entry.specs.Fits.{IsUtf8IfAny, AreBytes, IsJson, IsEntry}
+use Rattle.cacache_entry.specs.FittingEntries.{IsUtf8IfAny, AreBytes, IsJson, IsEntry}
 use Rattle.cacache_entry.specs.View.{entry_view}
 use Rattle.cacache_entry.specs.declared.metadata.SerializableMetadata.{SerializableMetadata}
-use Rattle.cacache_entry.proofs.Causes.{is_early, has_no_float, flat_metadata, Fits-no_cause}
+use Rattle.cacache_entry.proofs.EntryCauses.{is_early, has_no_float, flat_metadata, Fits-no_cause}
 use Rattle.cacache_entry.proofs.write.fitting_line.Goals as goal
 
 utf8_if_any : (o : Option (String Global)) → IsUtf8IfAny (option_map string_bytes o)

@@ -4,7 +4,7 @@ use Rattle.json.specs.Token.{Token}
 use Rattle.serde_json.specs.View.{view}
 use Rattle.serde_json.specs.Written.{compact_text}
 use Rattle.cacache_entry.specs.View.{entry_view}
-use Rattle.cacache_entry.proofs.Parts.{text-written}
+use Rattle.cacache_entry.proofs.TextParts.{text-written}
 use Rattle.cacache_entry.proofs.write.with_text.Goals as goal
 
 pub returns-clause-text : goal.returns-clause-text

@@ -1,5 +1,5 @@
 use Rattle.std.proofs.Common.{◌≡◌, true, false}
-use Rattle.cacache_jobs.specs.Standing.{content_of}
+use Rattle.cacache_jobs.specs.JobStates.{content_of}
 use Rattle.cacache_jobs.proofs.Checking.{checked_met, checked_unmet}
 use Rattle.cacache_jobs.proofs.reading.checked.Goals as goal
 

@@ -1,6 +1,7 @@
-use Rattle.cacache_calls.specs.Storing.{link}
-use Rattle.cacache_calls.proofs.Promises.{runs_keep}
-use Rattle.cacache_jobs.specs.Standing.{commit_of}
+use Rattle.cacache_table.specs.Storing.{link}
+use Rattle.cacache_table.proofs.ReplyKinds.{stores_only}
+use Rattle.cacache_table.proofs.Promises.{runs_keep}
+use Rattle.cacache_jobs.specs.JobStates.{commit_of}
 use Rattle.cacache_jobs.proofs.Running.{memory_lost}
 use Rattle.cacache_jobs.proofs.resuming.link_from.Goals as goal
 
@@ -17,3 +18,6 @@ returns-clause-promised g c =
 
 pub returns-clause-lost : goal.returns-clause-lost
 returns-clause-lost g c = let run = returns-clause-ran g c in (run.0, memory_lost _ run.0 _ run.1, run.2)
+
+pub returns-clause-stored : goal.returns-clause-stored
+returns-clause-stored g c = stores_only _ _ _ (returns-clause-promised g c)

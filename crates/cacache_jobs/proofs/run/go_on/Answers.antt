@@ -1,9 +1,9 @@
 use Rattle.std.proofs.Common.{subst}
-use Rattle.cacache_base.specs.Plain.{PlainStep, PlainAnswer, plain_step, plain_answer}
-use Rattle.cacache_calls.specs.State.{State}
-use Rattle.cacache_calls.specs.Table.{after}
-use Rattle.cacache_calls.specs.Runs.{plain_reply}
-use Rattle.cacache_jobs.specs.Standing.{IsAt, PhaseAt}
+use Rattle.cacache_store.specs.Plain.{PlainStep, PlainAnswer, plain_step, plain_answer}
+use Rattle.cacache_table.specs.State.{State}
+use Rattle.cacache_table.specs.Table.{after}
+use Rattle.cacache_table.specs.Runs.{plain_reply}
+use Rattle.cacache_jobs.specs.JobStates.{IsAt, PhaseAt}
 use Rattle.cacache_jobs.proofs.Running.{phase_stands, phase_reached, phase_shrinks, ended, start}
 use Rattle.cacache_jobs.proofs.run.go_on.Goals as goal
 

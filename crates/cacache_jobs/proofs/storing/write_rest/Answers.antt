@@ -1,5 +1,5 @@
 use Rattle.std.proofs.Common.{◌≡◌, ◌==◌, true, false, length, rules}
-use Rattle.cacache_jobs.proofs.Writing.{nothing_left, some_left}
+use Rattle.cacache_jobs.proofs.WrittenCommits.{nothing_left, some_left}
 use Rattle.cacache_jobs.proofs.storing.write_rest.Goals as goal
 
 pub returns-then-is_empty : goal.returns-then-is_empty

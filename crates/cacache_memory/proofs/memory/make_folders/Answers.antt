@@ -1,4 +1,4 @@
-use Rattle.cacache_memory.proofs.Plain.{dirs-failed, dirs-done}
+use Rattle.cacache_memory.proofs.PlainLuck.{dirs-failed, dirs-done}
 use Rattle.cacache_memory.proofs.memory.make_folders.Goals as goal
 
 pub returns-clause-made : goal.returns-clause-made

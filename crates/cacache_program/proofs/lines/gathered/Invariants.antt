@@ -1,6 +1,6 @@
 -- The items so far are gathered.
 use Rattle.std.proofs.Common.{◌≡◌, is_some, filter_map}
-use Rattle.cacache_program.specs.Listing.{has_error, line_in}
+use Rattle.cacache_program.specs.WordLs.{has_error, line_in}
 use Rattle.cacache_program.specs.Lines.{lines_of}
 use Rattle.cacache_program.proofs.lines.gathered.Given as goal
 

@@ -2,9 +2,9 @@
 use Rattle.std.proofs.Common.{List, IsPermutation, map, subst, ap, ◌∙◌, is_lt}
 use Rattle.std.proofs.lemmas.List.Sorted.{IsPermutation-map}
 use Rattle.cacache_program.specs.declared.lines.Line.{Line as HeldLine}
-use Rattle.cacache_program.specs.Listing.{Line, line_cmp, text_of}
+use Rattle.cacache_program.specs.WordLs.{Line, line_cmp, listing_text}
 use Rattle.cacache_program.specs.Lines.{line_view}
-use Rattle.cacache_program.proofs.Listings.{IsSortedBy-map}
+use Rattle.cacache_program.proofs.PrintedLines.{IsSortedBy-map}
 use Rattle.cacache_program.proofs.lines.listing_of.Goals as goal
 
 pub returns : goal.returns
@@ -18,7 +18,7 @@ returns c =
           subst (λ (l : List Line). IsPermutation l (map line_view sorted)) c.in_ok-lines.ensures.lines moved,
           IsSortedBy-map line_view (λ a b. is_lt (line_cmp a b)) sorted c.sort_unstable.ensures.sorted,
         ),
-        c.in_ok-text.ensures ∙ ap (λ (l : List HeldLine). text_of (map line_view l)) c.deref.ensures.value,
+        c.in_ok-text.ensures ∙ ap (λ (l : List HeldLine). listing_text (map line_view l)) c.deref.ensures.value,
       );
       error = c.in_ok-lines.ensures.error;
     }

@@ -1,6 +1,6 @@
 -- One line more.
 use Rattle.std.proofs.Common.{sym}
-use Rattle.cacache_program.proofs.Listings.{text_more}
+use Rattle.cacache_program.proofs.PrintedLines.{text_more}
 use Rattle.cacache_program.proofs.lines.text_of.Goals as goal
 
 pub loop-line-preserved : goal.loop-line-preserved

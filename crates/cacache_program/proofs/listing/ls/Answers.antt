@@ -1,6 +1,6 @@
 -- What was listed was told.
-use Rattle.cacache_program.specs.Listing.{listed}
-use Rattle.cacache_program.proofs.Listings.{plain_listing, plain_puts}
+use Rattle.cacache_program.specs.WordLs.{listed}
+use Rattle.cacache_program.proofs.PrintedLines.{plain_listing, plain_puts}
 use Rattle.cacache_program.proofs.listing.ls.Goals as goal
 
 pub returns-in-Ok-listing_of-clause-does : goal.returns-in-Ok-listing_of-clause-does

@@ -1,4 +1,4 @@
-use Rattle.cacache_put.specs.Linkers.{asks_size, asks_file}
+use Rattle.cacache_put.specs.OpenLinkers.{asks_size, asks_file}
 use Rattle.cacache_put.proofs.Linkers.{opened_after, opened_sized}
 use Rattle.cacache_put.proofs.linker.open_sized.Goals as goal
 

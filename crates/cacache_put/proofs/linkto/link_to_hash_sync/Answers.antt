@@ -1,5 +1,5 @@
 use Rattle.std.proofs.Common.{None}
-use Rattle.cacache_put.proofs.Links.{links_hold}
+use Rattle.cacache_put.proofs.LinkCalls.{links_hold}
 use Rattle.cacache_put.proofs.linkto.link_to_hash_sync.Goals as goal
 
 pub returns-clause-whole : goal.returns-clause-whole

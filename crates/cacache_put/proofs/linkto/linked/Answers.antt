@@ -1,6 +1,7 @@
-use Rattle.cacache_put.proofs.Links.{linked_is}
+use Rattle.cacache_put.proofs.LinkCalls.{linked_ok}
 use Rattle.cacache_put.proofs.linkto.linked.Goals as goal
 
-pub returns-in-Stored-clause-linked : goal.returns-in-Stored-clause-linked
-returns-in-Stored-clause-linked g c =
-    linked_is _ _ _ _ _ _ _ _ _ _ c.in_ok-target.ensures c.blank-options.ensures c.in-Stored.ensures.read_first
+pub returns-clause-linked : goal.returns-clause-linked
+returns-clause-linked g c =
+    let read = rw (← c.stored.ensures) at c.call.ensures.read_first in
+    linked_ok _ _ _ _ _ _ _ c.stored.result _ _ c.in_ok-target.ensures c.blank-options.ensures read

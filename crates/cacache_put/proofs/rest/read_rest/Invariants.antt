@@ -1,7 +1,7 @@
 use Rattle.std.specs.Prelude.{◌≡◌, ℕ, List, length}
 use Rattle.cacache_core.specs.Hashers.{Holds}
-use Rattle.cacache_calls.specs.Runs.{Gone}
-use Rattle.cacache_calls.specs.State.{Target, hashing, to_link}
+use Rattle.cacache_table.specs.Runs.{Gone}
+use Rattle.cacache_table.specs.State.{Target, hashing, to_link}
 use Rattle.cacache_put.specs.Rest.{HoldsOn}
 use Rattle.cacache_put.proofs.rest.read_rest.Given as goal
 

@@ -1,6 +1,6 @@
 use Rattle.std.proofs.Common.{◌≡◌, ◌++◌, ◌≤◌, length, drop}
-use Rattle.cacache_calls.specs.Walking.{tasks_of}
-use Rattle.cacache_walks.specs.Standing.{pending}
+use Rattle.cacache_table.specs.Walking.{tasks_of}
+use Rattle.cacache_walks.specs.WalkStates.{pending}
 use Rattle.cacache_walks.proofs.entering.push_tasks.Given as goal
 
 abbrev pub invariant-loop-left : goal.invariant-loop-left

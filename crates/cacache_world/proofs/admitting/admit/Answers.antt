@@ -1,5 +1,5 @@
 use Rattle.std.proofs.Common.{subst}
-use Rattle.cacache_world.specs.Kept.{setup_of}
+use Rattle.cacache_world.specs.WorldKept.{setup_of}
 use Rattle.cacache_world.specs.Admitted.{Judges}
 use Rattle.cacache_world.proofs.admitting.admit.Goals as goal
 

@@ -1,4 +1,4 @@
-use Rattle.cacache_world.proofs.Asking.{may_delete}
+use Rattle.cacache_world.proofs.MayBegin.{may_delete}
 use Rattle.cacache_world.proofs.admitting.admit_delete.Goals as goal
 
 pub returns : goal.returns

@@ -1,4 +1,4 @@
-use Rattle.cacache_world.proofs.Asking.{may_insert}
+use Rattle.cacache_world.proofs.MayBegin.{may_insert}
 use Rattle.cacache_world.proofs.admitting.admit_insert.Goals as goal
 
 pub returns : goal.returns

@@ -1,4 +1,4 @@
-use Rattle.cacache_world.proofs.Asking.{may_put}
+use Rattle.cacache_world.proofs.MayBegin.{may_put}
 use Rattle.cacache_world.proofs.admitting.admit_put.Goals as goal
 
 pub returns : goal.returns

@@ -1,5 +1,5 @@
-use Rattle.cacache_world.specs.Kept.{setup_of}
-use Rattle.cacache_world.proofs.Asking.{judges_link}
+use Rattle.cacache_world.specs.WorldKept.{setup_of}
+use Rattle.cacache_world.proofs.MayBegin.{judges_link}
 use Rattle.cacache_world.proofs.admitting.may_begin_link.Goals as goal
 
 pub returns : goal.returns

@@ -1,4 +1,4 @@
-use Rattle.cacache_world.proofs.Asking.{bare_forms}
+use Rattle.cacache_world.proofs.MayBegin.{bare_forms}
 use Rattle.cacache_world.proofs.entries.form.Goals as goal
 
 pub returns-then-is_bare : goal.returns-then-is_bare

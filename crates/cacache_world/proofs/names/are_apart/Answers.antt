@@ -1,5 +1,5 @@
 use Rattle.std.proofs.Common.{ap, not, ◌∙◌}
-use Rattle.cacache_world.proofs.Paths.{apart_by_fronts}
+use Rattle.cacache_world.proofs.NamesOfPaths.{apart_by_fronts}
 use Rattle.cacache_world.proofs.names.are_apart.Goals as goal
 
 pub returns : goal.returns

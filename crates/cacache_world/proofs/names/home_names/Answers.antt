@@ -5,7 +5,7 @@ use Rattle.std.proofs.lemmas.Iterator.Consumers.{YieldsList-turn, YieldsList-end
 use Rattle.std.proofs.lemmas.Iterator.Splits.{YieldsList-from_str_split}
 use Rattle.cacache_core.specs.PathNames.{pieces, is_above, is_name}
 use Rattle.cacache_disk.proofs.NameLemmas.{filter_yes, filter_no, none_yet, one_passes}
-use Rattle.cacache_world.proofs.Paths.{home_nul, home_above, home_all}
+use Rattle.cacache_world.proofs.NamesOfPaths.{home_nul, home_above, home_all}
 use Rattle.cacache_world.proofs.names.home_names.Goals as goal
 
 pub returns-then-contains : goal.returns-then-contains

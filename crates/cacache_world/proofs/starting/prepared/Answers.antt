@@ -1,5 +1,5 @@
 use Rattle.std.proofs.Common.{subst}
-use Rattle.cacache_world.specs.Kept.{setup_of}
+use Rattle.cacache_world.specs.WorldKept.{setup_of}
 use Rattle.cacache_world.specs.Admitted.{MayAsk, IsTurnedAway}
 use Rattle.cacache_world.proofs.Worlds.{away_unready}
 use Rattle.cacache_world.proofs.starting.prepared.Goals as goal

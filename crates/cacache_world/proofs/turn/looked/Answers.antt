@@ -1,5 +1,5 @@
 use Rattle.std.proofs.Common.{sym}
-use Rattle.cacache_base.specs.Plain.{plain_step}
+use Rattle.cacache_store.specs.Plain.{plain_step}
 use Rattle.cacache_world.proofs.Turning.{wanted_out, goes_step, goes_over}
 use Rattle.cacache_world.proofs.turn.looked.Goals as goal
 

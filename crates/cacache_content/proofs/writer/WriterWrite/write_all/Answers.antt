@@ -1,6 +1,6 @@
 use Rattle.std.proofs.Common.{rules, drop, take, sym, inl, inr}
 use Rattle.std.proofs.lemmas.List.{take-append-drop}
-use Rattle.cacache_content.proofs.Writing.{went_further, went_no_further, part_taken, rest_left, tried_more, too_often}
+use Rattle.cacache_content.proofs.Writes.{went_further, went_no_further, part_taken, rest_left, tried_more, too_often}
 use Rattle.cacache_content.proofs.writer.WriterWrite.write_all.Goals as goal
 use Rattle.cacache_content.proofs.writer.WriterWrite.write_all.Goals.{in-Ok, in-Err}
 

@@ -1,7 +1,7 @@
 -- What was handed over so far is a beginning of the buffer, and each write took some of it or was interrupted.
 use Rattle.std.proofs.Common.{◌≤◌, ◌<◌, ◌^◌, ◌⊎◌, length, take}
-use Rattle.cacache_content.specs.Writing.{IsInterrupted}
-use Rattle.cacache_content.proofs.Writing.{Went}
+use Rattle.cacache_content.specs.OpenWrites.{IsInterrupted}
+use Rattle.cacache_content.proofs.Writes.{Went}
 use Rattle.cacache_content.proofs.writer.WriterWrite.write_all.Given as goal
 
 abbrev pub invariant-loop-tries : goal.invariant-loop-tries

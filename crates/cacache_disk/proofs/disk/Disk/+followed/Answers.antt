@@ -1,7 +1,7 @@
 use Rattle.std.proofs.Common.{◌∙◌, ap, sym, arith}
 use Rattle.std.specs.Prelude.{Some, option_copied}
 use Rattle.cacache_disk.specs.Tree.{look}
-use Rattle.cacache_disk.specs.Found.{standing}
+use Rattle.cacache_disk.specs.LedTo.{standing}
 use Rattle.cacache_disk.proofs.Follow.{followed_next, followed_ok}
 use Rattle.cacache_disk.proofs.disk.Disk.+followed.Goals as goal
 

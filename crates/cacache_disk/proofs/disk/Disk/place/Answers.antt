@@ -1,6 +1,6 @@
 use Rattle.std.proofs.Common.{◌≡◌, ◌∙◌, ◌-◌, length, sym, ap, subst, arith}
 use Rattle.std.specs.Prelude.{None, Some}
-use Rattle.cacache_disk.specs.Found.{or_fault}
+use Rattle.cacache_disk.specs.LedTo.{or_fault}
 use Rattle.cacache_disk.specs.Deepest.{IsDeepest, way_past}
 use Rattle.cacache_disk.proofs.Standing.{place_is, missing_whole}
 use Rattle.cacache_disk.proofs.disk.Disk.place.Goals as goal

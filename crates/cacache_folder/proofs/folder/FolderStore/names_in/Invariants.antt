@@ -1,4 +1,4 @@
-use Rattle.cacache_base.specs.Fits.{AreProperNames}
+use Rattle.cacache_store.specs.Fits.{AreProperNames}
 use Rattle.cacache_folder.proofs.folder.FolderStore.names_in.Given as goal
 
 abbrev pub invariant-loop-entry : goal.invariant-loop-entry

@@ -1,4 +1,4 @@
-use Rattle.cacache_folder.proofs.Listings.{proper_more}
+use Rattle.cacache_folder.proofs.FolderNames.{proper_more}
 use Rattle.cacache_folder.proofs.folder.listing.add.Goals.{in-Some+in_ok-push, in_default}
 use Rattle.cacache_folder.proofs.folder.listing.add.Goals as goal
 

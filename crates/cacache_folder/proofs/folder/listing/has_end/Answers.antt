@@ -1,6 +1,6 @@
 use Rattle.std.specs.Prelude.{Bool, ◌||◌}
 use Rattle.std.proofs.Common.{◌∙◌, ap₂}
-use Rattle.cacache_folder.proofs.Listings.{either_ends}
+use Rattle.cacache_folder.proofs.FolderNames.{either_ends}
 use Rattle.cacache_folder.proofs.folder.listing.has_end.Goals as goal
 
 pub returns : goal.returns

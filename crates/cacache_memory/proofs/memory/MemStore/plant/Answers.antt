@@ -1,9 +1,9 @@
 use Rattle.std.proofs.Common.{◌∙◌, ◌∷◌, ◌++◌, [], sym, ap}
 use Rattle.std.specs.Result.{result_err}
-use Rattle.cacache_base.specs.declared.store.log.LogItem.TheVariants.{Foreign}
+use Rattle.cacache_store.specs.declared.store.log.LogItem.TheVariants.{Foreign}
 use Rattle.cacache_disk.specs.Apply.{planted}
 use Rattle.cacache_memory.specs.Replay.{changed}
-use Rattle.cacache_memory.proofs.Keeping.{IsLog-push, tree_of-push}
+use Rattle.cacache_memory.proofs.LogSteps.{IsLog-push, tree_of-push}
 use Rattle.cacache_memory.proofs.memory.MemStore.plant.Goals as goal
 
 pub invariant_of-self-in-Ok : goal.invariant_of-self-in-Ok

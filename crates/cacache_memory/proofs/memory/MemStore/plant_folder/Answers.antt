@@ -1,6 +1,6 @@
 use Rattle.std.proofs.Common.{◌∙◌, ◌∷◌, ◌++◌, [], sym, ap}
-use Rattle.cacache_base.specs.declared.store.log.LogItem.TheVariants.{ForeignFolder}
-use Rattle.cacache_memory.proofs.Keeping.{IsLog-push, tree_of-push}
+use Rattle.cacache_store.specs.declared.store.log.LogItem.TheVariants.{ForeignFolder}
+use Rattle.cacache_memory.proofs.LogSteps.{IsLog-push, tree_of-push}
 use Rattle.cacache_memory.proofs.memory.MemStore.plant_folder.Goals as goal
 
 pub invariant_of-self-in-None : goal.invariant_of-self-in-None

@@ -1,7 +1,7 @@
 use Rattle.std.proofs.Common.{◌≡◌, map}
-use Rattle.cacache_calls.specs.Runs.{plain_item}
-use Rattle.cacache_calls.specs.Walking.{walk_on, items_in}
-use Rattle.cacache_walks.specs.Standing.{pending}
+use Rattle.cacache_table.specs.Runs.{plain_item}
+use Rattle.cacache_table.specs.Walking.{walk_on, items_in}
+use Rattle.cacache_walks.specs.WalkStates.{pending}
 use Rattle.cacache_walks.proofs.Giving.{gave_no}
 use Rattle.cacache_walks.proofs.walk.Walk.listed.Goals as goal
 

@@ -1,6 +1,6 @@
 use Rattle.std.proofs.Common.{◌≡◌}
-use Rattle.cacache_calls.specs.Walking.{walk_on}
-use Rattle.cacache_walks.specs.Standing.{pending}
+use Rattle.cacache_table.specs.Walking.{walk_on}
+use Rattle.cacache_walks.specs.WalkStates.{pending}
 use Rattle.cacache_walks.proofs.Giving.{gave_no}
 use Rattle.cacache_walks.proofs.walk.Walk.missed.Goals as goal
 

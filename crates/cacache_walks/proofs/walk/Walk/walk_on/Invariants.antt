@@ -1,7 +1,7 @@
 use Rattle.std.proofs.Common.{◌≡◌, List, length}
-use Rattle.cacache_calls.specs.State.{Item}
-use Rattle.cacache_calls.specs.Walking.{walk_on}
-use Rattle.cacache_walks.specs.Standing.{Counts, pending, walk_of}
+use Rattle.cacache_table.specs.State.{Item}
+use Rattle.cacache_table.specs.Walking.{walk_on}
+use Rattle.cacache_walks.specs.WalkStates.{Counts, pending, walk_of}
 use Rattle.cacache_walks.proofs.walk.Walk.walk_on.Given as goal
 
 abbrev pub invariant-loop-task : goal.invariant-loop-task

@@ -1,6 +1,6 @@
 use Rattle.std.proofs.Common.{◌∙◌, ◌∷◌, ◌++◌, [], ◌+◌, ap, vec_len, subst}
 use Rattle.cacache_history.specs.declared.record.Record.TheVariants.{Began}
-use Rattle.cacache_world.specs.Kept.{told, adding, history_of, setup_of, Adds}
+use Rattle.cacache_world.specs.WorldKept.{told, adding, history_of, setup_of, AddsRecord}
 use Rattle.cacache_world.specs.Admitted.{MayAsk}
 use Rattle.cacache_world.specs.Faults.{IsUnready, CantBegin}
 use Rattle.cacache_world.proofs.Worlds.{begin_left, same_parts, keeps_same, cant_begin}
@@ -19,7 +19,7 @@ invariant_of-self-2 c =
 pub returns-clause-adds : goal.returns-clause-adds
 returns-clause-adds c =
     let stands = c.in-Ok.ensures.opens in
-    subst (λ x. Adds x (Began c.args.caller c.args.command) (history_of (setup_of c.self.inside.cache c.self.inside.outside.items (vec_len c.place.new.calls)) c.note.new.records.items)) c.self.view_is
+    subst (λ x. AddsRecord x (Began c.args.caller c.args.command) (history_of (setup_of c.self.inside.cache c.self.inside.outside.items (vec_len c.place.new.calls)) c.note.new.records.items)) c.self.view_is
     (record {
       may = (begin_left (told c.self.inside) c.self.inside.disk c.self.inside.begun c.self.inside.calls.items c.place.new.calls.items c.args.caller c.args.command c.in-Ok.job c.self.invariant
           c.in-Ok.ensures.free c.in-Ok.ensures.within (subst (λ files. MayAsk (setup_of c.self.inside.cache files (vec_len c.self.inside.calls)) c.self.inside.begun c.args.command) c.as_slice.ensures.value (c.in-Ok.ensures.may (vec_len c.self.inside.calls) c.self.inside.begun)) stands c.in-Ok.ensures.ready c.place.ensures.items).may;

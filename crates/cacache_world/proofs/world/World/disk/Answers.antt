@@ -1,5 +1,5 @@
 use Rattle.std.proofs.Common.{◌≡◌, sym, subst}
-use Rattle.cacache_world.specs.Kept.{last}
+use Rattle.cacache_world.specs.WorldKept.{last}
 use Rattle.cacache_world.proofs.world.World.disk.Goals as goal
 
 pub returns : goal.returns

@@ -1,8 +1,8 @@
 use Rattle.std.proofs.Common.{◌∙◌, ◌∷◌, ◌++◌, [], None, Some, sym, ap, subst, vec_len, slice_set}
 use Rattle.cacache_history.specs.declared.record.Record.TheVariants.{Moved}
 use Rattle.cacache_history.specs.History.{Made}
-use Rattle.cacache_world.specs.Turned.{reply_of, told_by}
-use Rattle.cacache_world.specs.Kept.{told, adding, history_of, setup_of, Keeps, Adds, TellsOwn}
+use Rattle.cacache_world.specs.Turned.{reply_after, told_by}
+use Rattle.cacache_world.specs.WorldKept.{told, adding, history_of, setup_of, Keeps, AddsRecord, TellsOwn}
 use Rattle.cacache_world.specs.declared.event.Move.TheVariants as moves
 use Rattle.cacache_world.proofs.Worlds.{keeps_call, over_left, tells_own, back_keeps, move_left, told_is, same_parts, keeps_same, keeps_ready, set_again}
 use Rattle.cacache_world.specs.Faults.{HasCall}
@@ -27,8 +27,8 @@ returns-in-Over-clause-adds c =
     (c.note.ensures ∙ ap (λ xs. xs ++ Moved c.args.caller c.args.luck None (Some c.in-Over.copy) ∷ []) c.make_room.ensures.items) in
     let new = history_of (setup_of c.self.inside.cache c.self.inside.outside.items (vec_len c.lift-job.new.calls)) c.note.new.records.items in
     let adds =
-    subst (λ x. Adds x (Moved c.args.caller c.args.luck None (Some c.in-Over.reply)) new) c.self.view_is
-    (subst (λ r. Adds (told c.self.inside) (Moved c.args.caller c.args.luck None (Some r)) new) c.in-Over.ensures.1
+    subst (λ x. AddsRecord x (Moved c.args.caller c.args.luck None (Some c.in-Over.reply)) new) c.self.view_is
+    (subst (λ r. AddsRecord (told c.self.inside) (Moved c.args.caller c.args.luck None (Some r)) new) c.in-Over.ensures.1
     (record {
       may = (over_left (told c.self.inside) c.self.inside.disk c.self.inside.begun c.self.inside.calls.items c.lift-job.new.calls.items c.args.caller c.lift-job.result c.args.luck c.in-Over.copy c.self.invariant
           c.lift-job.ensures.lifted.here c.in-Over.ensures.2 c.lift-job.ensures.lifted.gone).may;
@@ -59,7 +59,7 @@ invariant_of-self-in-Made c =
     ∙ set_again c.self.inside.calls.items c.args.caller None c.parted-call.result.0 ∙ ap (slice_set c.self.inside.calls.items c.args.caller) c.parted-call.ensures.0 in
     let more = c.note-in-Made.ensures ∙ ap (λ xs. xs ++ Moved c.args.caller c.args.luck (Some made) c.parted-call.result.1 ∷ []) c.make_room.ensures.items
     ∙ ap (λ q. c.self.inside.records.items ++ Moved c.args.caller c.args.luck (Some made) q ∷ []) c.parted-call.ensures.1 in
-    keeps_same (adding (told c.self.inside) (Moved c.args.caller c.args.luck (Some made) (reply_of a))) _ c.advance.new.disk c.self.inside.begun c.place-in-Made.new.calls.items
+    keeps_same (adding (told c.self.inside) (Moved c.args.caller c.args.luck (Some made) (reply_after a))) _ c.advance.new.disk c.self.inside.begun c.place-in-Made.new.calls.items
     (same_parts c.self.inside.cache c.self.inside.outside.items (vec_len c.self.inside.calls) (vec_len c.place-in-Made.new.calls) _ c.note-in-Made.new.records.items
     (c.place-in-Made.ensures.len ∙ c.lift-job.ensures.len) more)
     (move_left (told c.self.inside) c.self.inside.disk c.advance.new.disk c.self.inside.begun c.self.inside.calls.items c.place-in-Made.new.calls.items c.args.caller c.lift-job.result c.args.luck made a c.self.invariant
@@ -77,8 +77,8 @@ returns-in-Made-clause-adds c =
     let same = c.parted-call.ensures.2 ∙ told_is (told c.self.inside) c.self.inside.disk c.advance.new.disk c.self.inside.begun c.self.inside.calls.items c.args.caller c.lift-job.result c.args.luck made a c.self.invariant
     c.lift-job.ensures.lifted.here c.in-Made.ensures in (
       Some made,
-      subst (λ x. Adds x (Moved c.args.caller c.args.luck (Some made) (told_by c.parted-call.result.2)) new) c.self.view_is
-          (subst (λ r. Adds (told c.self.inside) (Moved c.args.caller c.args.luck (Some made) r) new) (sym same)
+      subst (λ x. AddsRecord x (Moved c.args.caller c.args.luck (Some made) (told_by c.parted-call.result.2)) new) c.self.view_is
+          (subst (λ r. AddsRecord (told c.self.inside) (Moved c.args.caller c.args.luck (Some made) r) new) (sym same)
           (record {
             may = (move_left (told c.self.inside) c.self.inside.disk c.advance.new.disk c.self.inside.begun c.self.inside.calls.items c.place-in-Made.new.calls.items c.args.caller c.lift-job.result c.args.luck made a c.self.invariant
                 c.lift-job.ensures.lifted.here c.in-Made.ensures set).may;

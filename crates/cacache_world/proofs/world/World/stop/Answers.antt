@@ -1,6 +1,6 @@
 use Rattle.std.proofs.Common.{◌∙◌, ◌∷◌, ◌++◌, [], ap, vec_len, subst}
 use Rattle.cacache_history.specs.declared.record.Record.TheVariants.{Stopped}
-use Rattle.cacache_world.specs.Kept.{told, adding, history_of, setup_of, Adds}
+use Rattle.cacache_world.specs.WorldKept.{told, adding, history_of, setup_of, AddsRecord}
 use Rattle.cacache_world.proofs.Worlds.{keeps_call, stop_left, same_parts, keeps_same}
 use Rattle.cacache_world.specs.Faults.{HasCall}
 use Rattle.cacache_world.proofs.world.World.stop.Goals as goal
@@ -16,7 +16,7 @@ invariant_of-self-2 c =
 
 pub returns-clause-adds : goal.returns-clause-adds
 returns-clause-adds c =
-    subst (λ x. Adds x (Stopped c.args.caller) (history_of (setup_of c.self.inside.cache c.self.inside.outside.items (vec_len c.lift-job.new.calls)) c.note.new.records.items)) c.self.view_is
+    subst (λ x. AddsRecord x (Stopped c.args.caller) (history_of (setup_of c.self.inside.cache c.self.inside.outside.items (vec_len c.lift-job.new.calls)) c.note.new.records.items)) c.self.view_is
     (record {
       may = (stop_left (told c.self.inside) c.self.inside.disk c.self.inside.begun c.self.inside.calls.items c.lift-job.new.calls.items c.args.caller c.lift-job.result c.self.invariant
           c.lift-job.ensures.lifted.here c.lift-job.ensures.lifted.gone).may;

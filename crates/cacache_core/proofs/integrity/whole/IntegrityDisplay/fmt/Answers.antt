@@ -2,7 +2,7 @@ use Rattle.std.proofs.Common.{◌≡◌, ap, ◌∙◌, get_or, length, drop, �
 use Rattle.std.proofs.lemmas.Grind.{common_steps}
 use Rattle.std.proofs.Output.{has_written_append, has_written_of_eq}
 use Rattle.std.specs.Fmt.{HasWritten}
-use Rattle.cacache_core.specs.Texts.{hash_text, text_of}
+use Rattle.cacache_core.specs.Texts.{hash_text, integrity_text}
 use Rattle.cacache_core.proofs.Printing.{spaced_more, spaced_all}
 use Rattle.cacache_core.proofs.integrity.whole.IntegrityDisplay.fmt.Goals as goal
 
@@ -18,5 +18,5 @@ returns-clause-writes g c = λ plain _.
     let all =
     spaced_all c.deref.result.now c.loop-hash.hash-index c.index.result.now (omega (arith, ap length c.deref.ensures.value))
     (omega (arith, length-take (length c.deref.result.now - 1) (drop 1 c.deref.result.now), length-drop 1 c.deref.result.now)) is
-    ∙ ap text_of (c.deref.ensures.value ∙ c.self.view_is) in
+    ∙ ap integrity_text (c.deref.ensures.value ∙ c.self.view_is) in
     has_written_of_eq _ _ _ _ _ all (has_written_append _ _ _ _ _ _ first (c.loop-hash.invariant first.plain))

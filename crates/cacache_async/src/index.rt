@@ -1,0 +1,125 @@
+//! Futures of the calls on the index.
+ghost use Rattle.std.specs.Prelude.{◌≡◌, None, IfOk};
+ghost use Rattle.cacache_table.specs.declared.command.Command.TheVariants as commands;
+ghost use Rattle.cacache_table.specs.declared.reply.Reply.TheVariants.{Stored};
+ghost use Rattle.cacache_table.specs.Inserting.{given_or, no_integrity};
+ghost use Rattle.cacache_table.specs.Replies.{done, looked_up};
+ghost use Rattle.cacache_table.specs.Runs.{reply_of};
+ghost use Rattle.cacache_jobs.specs.Environment.{Calls, RunsTimed};
+ghost use Rattle.cacache_index.specs.Lookups.{LooksUp, delete_of};
+ghost use Rattle.cacache_put.specs.Puts.{insert_of};
+ghost use Rattle.cacache_futures.specs.Waiting.{Waits};
+
+use cacache_core::errors::Result;
+use cacache_core::integrity::Integrity;
+use cacache_entry::Metadata;
+use cacache_futures::{Call, CallFuture};
+use cacache_index::index::{delete, find};
+use cacache_put::index::insert;
+use cacache_put::opts::WriteOpts;
+use cacache_store::env::{Clock, Env, Names};
+use cacache_store::store::Store;
+
+/// What `find` is called with.
+#[derive(Clone, Copy)]
+pub struct FindAsyncCall<'a> {
+    cache: &'a str,
+    key: &'a str,
+}
+
+impl<'a, S: Store, C: Clock, N: Names> Call<S, C, N> for FindAsyncCall<'a> {
+    type Output = Option<Metadata>;
+
+    ghost makes = { λ c old r new. LooksUp c.cache.now c.key.now (S.log old.store) (S.log new.store) r
+        × Calls S.log old new c.cache.now
+        (commands.Find c.key.now) (reply_of looked_up r) };
+
+    fn make(self, env: &mut Env<S, C, N>) -> Result<Option<Metadata>> {
+        find(env, self.cache, self.key)
+    }
+}
+
+/// The future of `find_async`.
+pub type FindAsyncFuture<'a, S, C, N> = CallFuture<'a, S, C, N, FindAsyncCall<'a>>;
+
+/// `find` as a future.
+pub fn find_async<'a, S: Store, C: Clock, N: Names>(
+    env: &'a mut Env<S, C, N>,
+    cache: &'a str,
+    key: &'a str,
+) -> FindAsyncFuture<'a, S, C, N>
+    ensures waits { Waits result env.entry
+        (record { cache = cache.entry; key = key.entry }) }
+{
+    CallFuture::new(env, FindAsyncCall { cache, key })
+}
+
+/// What `insert` is called with.
+#[derive(Drop)]
+pub struct InsertAsyncCall<'a> {
+    cache: &'a str,
+    key: &'a str,
+    opts: WriteOpts,
+}
+
+impl<'a, S: Store, C: Clock, N: Names> Call<S, C, N> for InsertAsyncCall<'a> {
+    type Output = Integrity;
+
+    ghost makes = { λ c old r new. IfOk r (λ i. i ≡ given_or no_integrity c.opts.integrity)
+        × RunsTimed S.log C.given c.opts.time old new c.cache.now
+        (λ moment. commands.Insert (insert_of c.key.now c.opts moment)) (reply_of Stored r) };
+
+    fn make(self, env: &mut Env<S, C, N>) -> Result<Integrity> {
+        let InsertAsyncCall { cache, key, opts } = self;
+        insert(env, cache, key, opts)
+    }
+}
+
+/// The future of `insert_async`.
+pub type InsertAsyncFuture<'a, S, C, N> = CallFuture<'a, S, C, N, InsertAsyncCall<'a>>;
+
+/// `insert` as a future.
+pub fn insert_async<'a, S: Store, C: Clock, N: Names>(
+    env: &'a mut Env<S, C, N>,
+    cache: &'a str,
+    key: &'a str,
+    opts: WriteOpts,
+) -> InsertAsyncFuture<'a, S, C, N>
+    ensures waits { Waits result env.entry
+        (record { cache = cache.entry; key = key.entry; opts = opts }) }
+{
+    CallFuture::new(env, InsertAsyncCall { cache, key, opts })
+}
+
+/// What `delete` is called with.
+#[derive(Clone, Copy)]
+pub struct DeleteAsyncCall<'a> {
+    cache: &'a str,
+    key: &'a str,
+}
+
+impl<'a, S: Store, C: Clock, N: Names> Call<S, C, N> for DeleteAsyncCall<'a> {
+    type Output = ();
+
+    ghost makes = { λ c old r new. RunsTimed S.log C.given None old new c.cache.now
+        (λ moment. commands.Delete (delete_of c.key.now moment)) (reply_of done r) };
+
+    fn make(self, env: &mut Env<S, C, N>) -> Result<()> {
+        delete(env, self.cache, self.key)
+    }
+}
+
+/// The future of `delete_async`.
+pub type DeleteAsyncFuture<'a, S, C, N> = CallFuture<'a, S, C, N, DeleteAsyncCall<'a>>;
+
+/// `delete` as a future.
+pub fn delete_async<'a, S: Store, C: Clock, N: Names>(
+    env: &'a mut Env<S, C, N>,
+    cache: &'a str,
+    key: &'a str,
+) -> DeleteAsyncFuture<'a, S, C, N>
+    ensures waits { Waits result env.entry
+        (record { cache = cache.entry; key = key.entry }) }
+{
+    CallFuture::new(env, DeleteAsyncCall { cache, key })
+}

@@ -1,0 +1,156 @@
+//! Links whose target is read by polls before they are made.
+ghost use Rattle.std.specs.Prelude.{◌≡◌, ◌++◌, ℕ, List, IfOk, IfErr};
+ghost use Rattle.std.specs.Io.{ReadsAtMost};
+ghost use Rattle.std.specs.Io.KnownBytes.{ReadConsumes};
+ghost use Rattle.futures.specs.Poll.{IfReady, OnPending};
+ghost use Rattle.futures.specs.Task.{Keeps};
+ghost use Rattle.cacache_store.specs.Handles.{LeftFalls};
+ghost use Rattle.cacache_table.specs.declared.reply.Reply.TheVariants.{Stored};
+ghost use Rattle.cacache_table.specs.Runs.{reply_of};
+ghost use Rattle.cacache_content.specs.Passed.{passed};
+ghost use Rattle.cacache_put.specs.OpenLinkers.{CommitsLink, HasHashed, StoresWhole};
+ghost use Rattle.cacache_futures.specs.Waiting.{Waits};
+ghost use Rattle.cacache_async.specs.Polling.{IsIoOrMemory};
+
+use crate::linking::{
+    AsyncToLinkerNewCall, AsyncToLinkerNewFuture, ToLinkerOpenCall, ToLinkerOpenFuture,
+    ToLinkerOpenHashCall, ToLinkerOpenHashFuture,
+};
+use cacache_core::errors::{Fault, Result};
+use cacache_core::integrity::{Algorithm, Integrity};
+use cacache_futures::{Call, CallFuture, polling};
+use cacache_put::linker::SyncToLinker;
+use cacache_store::env::{Clock, Env, Names};
+use cacache_store::store::{OpenedFile, Store};
+use futures::task::{Context, Poll};
+use std::alloc::Global;
+use std::io;
+use std::io::Read;
+
+/// An open file that is to become a content by a link to it, and that is read by polls: a `SyncToLinker`, whose reads
+/// are answered at once.
+#[derive(Drop)]
+pub struct ToLinker<F> {
+    pub(crate) linker: SyncToLinker<F>,
+    pub(crate) alloc: Global,
+}
+
+/// What `ToLinker::commit` is called with.
+#[derive(Drop)]
+pub struct ToLinkerCommitCall<F> {
+    linker: SyncToLinker<F>,
+}
+
+impl<F: OpenedFile, S: Store<File = F>, C: Clock, N: Names> Call<S, C, N>
+    for ToLinkerCommitCall<F> {
+    type Output = Integrity;
+
+    ghost makes = { λ c old r new. ((bytes : List ℕ) → HasHashed c.linker bytes
+        → IfOk r (λ i. StoresWhole F.seen c.linker bytes i (S.log old.store) (S.log new.store)))
+        × ((bytes : List ℕ) → HasHashed c.linker bytes
+        → CommitsLink F.seen S.log C.given old new c.linker bytes (reply_of Stored r)) };
+
+    fn make(self, env: &mut Env<S, C, N>) -> Result<Integrity> {
+        let ToLinkerCommitCall { linker } = self;
+        linker.commit(env)
+    }
+}
+
+/// The future of `ToLinker::commit`.
+pub type ToLinkerCommitFuture<'a, S, C, N, F> = CallFuture<'a, S, C, N, ToLinkerCommitCall<F>>;
+
+impl<F: OpenedFile> ToLinker<F> {
+    /// `SyncToLinker::new` as a future.
+    pub fn new<'a, S: Store<File = F>, C: Clock, N: Names>(
+        env: &'a mut Env<S, C, N>,
+        cache: &'a str,
+        algo: Algorithm,
+        target: &'a str,
+    ) -> AsyncToLinkerNewFuture<'a, S, C, N>
+        ensures waits { Waits result env.entry
+            (record { cache = cache.entry; algo = algo; target = target.entry }) }
+    {
+        let call = AsyncToLinkerNewCall {
+            cache,
+            algo,
+            target,
+        };
+        CallFuture::new(env, call)
+    }
+
+    /// `SyncToLinker::open` as a future.
+    pub fn open<'a, S: Store<File = F>, C: Clock, N: Names>(
+        env: &'a mut Env<S, C, N>,
+        cache: &'a str,
+        key: &'a str,
+        target: &'a str,
+    ) -> ToLinkerOpenFuture<'a, S, C, N>
+        ensures waits { Waits result env.entry
+            (record { cache = cache.entry; key = key.entry; target = target.entry }) }
+    {
+        CallFuture::new(env, ToLinkerOpenCall { cache, key, target })
+    }
+
+    /// `SyncToLinker::open_hash` as a future.
+    pub fn open_hash<'a, S: Store<File = F>, C: Clock, N: Names>(
+        env: &'a mut Env<S, C, N>,
+        cache: &'a str,
+        target: &'a str,
+    ) -> ToLinkerOpenHashFuture<'a, S, C, N>
+        ensures waits { Waits result env.entry
+            (record { cache = cache.entry; target = target.entry }) }
+    {
+        CallFuture::new(env, ToLinkerOpenHashCall { cache, target })
+    }
+
+    /// Reads some bytes into the front of `buf`, and answers how many: none only at the end of the target, or if `buf` is
+    /// empty. It is always ready.
+    ///
+    /// `IoError` has the fault of the read; the linker stands where it stood. `OutOfMemory` may come to its message.
+    pub fn poll_read(&mut self, cx: &mut Context<'_>, buf: &mut [u8]) -> Poll<Result<usize>>
+        ensures ready { OnPending result ⊥ }
+        ensures kept { Keeps cx.old cx.new }
+        ensures failed { IfReady result (λ r. IfErr r IsIoOrMemory) }
+        ensures bytes { IfReady result (λ r. ReadConsumes (F.seen self.old.linker.file).bytes
+            (F.seen self.new.linker.file).bytes r buf.new) }
+        ensures so_far { IfReady result (λ r. (bytes : List ℕ) → HasHashed self.old.linker bytes
+            → HasHashed self.new.linker (bytes ++ passed r buf.new)) }
+        ensures linked { self.new.linker.linked ≡ self.old.linker.linked }
+    {
+        let _ = cx;
+        match self.linker.read(buf) {
+            Ok(count) => Poll::Ready(Ok(count)),
+            Err(error) => Poll::Ready(Err(polling(self.alloc, Fault::from(error.kind())))),
+        }
+    }
+
+    /// `SyncToLinker::commit` as a future.
+    pub fn commit<'a, S: Store<File = F>, C: Clock, N: Names>(
+        self,
+        env: &'a mut Env<S, C, N>,
+    ) -> ToLinkerCommitFuture<'a, S, C, N, F>
+        ensures waits { Waits result env.entry (record { linker = self.linker }) }
+    {
+        let ToLinker { linker, alloc: _ } = self;
+        CallFuture::new(env, ToLinkerCommitCall { linker })
+    }
+}
+
+impl<F: OpenedFile> Read for ToLinker<F> {
+    ghost remaining = { λ linker. (F.seen linker.linker.file).bytes };
+
+    /// Reads some bytes into the front of `buf` and returns how many: none only at the end of the target, or if `buf` is
+    /// empty. After an error the linker stands where it stood, and may go on.
+    fn read(&mut self, buf: &mut [u8]) -> io::Result<usize>
+        ensures bound { ReadsAtMost result buf.new }
+        ensures bytes { ReadConsumes (F.seen self.old.linker.file).bytes
+            (F.seen self.new.linker.file).bytes result buf.new }
+        ensures left { LeftFalls (F.seen self.old.linker.file).left
+            (F.seen self.new.linker.file).left result }
+        ensures so_far { (bytes : List ℕ) → HasHashed self.old.linker bytes
+            → HasHashed self.new.linker (bytes ++ passed result buf.new) }
+        ensures linked { self.new.linker.linked ≡ self.old.linker.linked }
+    {
+        self.linker.read(buf)
+    }
+}

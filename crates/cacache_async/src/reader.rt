@@ -1,0 +1,181 @@
+//! Open contents that are read by polls.
+ghost use Rattle.std.specs.Prelude.{◌≡◌, ◌++◌, ℕ, List, Some, IsOk, IfOk, IfErr};
+ghost use Rattle.std.specs.Io.{ReadsAtMost};
+ghost use Rattle.std.specs.Io.KnownBytes.{ReadConsumes};
+ghost use Rattle.futures.specs.Poll.{IfReady, OnPending};
+ghost use Rattle.futures.specs.Task.{Keeps};
+ghost use Rattle.cacache_core.specs.declared.integrity.digest.Hash.{Hash};
+ghost use Rattle.cacache_core.specs.Integrity.{Meets, strongest, actual};
+ghost use Rattle.cacache_core.specs.Refusals.{IsCheckFailure};
+ghost use Rattle.cacache_store.specs.Handles.{LeftFalls};
+ghost use Rattle.cacache_content.specs.OpenReads.{HasRead, OpensHash, OpensKey};
+ghost use Rattle.cacache_content.specs.Passed.{passed};
+ghost use Rattle.cacache_futures.specs.Waiting.{Waits};
+ghost use Rattle.cacache_async.specs.Polling.{IsIoOrMemory, reader_in};
+
+use cacache_content::reader::{SyncReader, open as open_sync};
+use cacache_core::errors::{Fault, Result};
+use cacache_core::integrity::{Algorithm, Integrity};
+use cacache_futures::{Call, CallFuture, polling};
+use cacache_store::env::{Clock, Env, Names};
+use cacache_store::store::{OpenedFile, Store};
+use futures::task::{Context, Poll};
+use std::alloc::Global;
+use std::io;
+use std::io::Read;
+
+/// An open content that is read by polls: a `SyncReader`, whose reads are answered at once.
+#[derive(Drop)]
+pub struct Reader<F> {
+    reader: SyncReader<F>,
+    alloc: Global,
+}
+
+/// What `Reader::open` is called with.
+#[derive(Clone, Copy)]
+pub struct ReaderOpenCall<'a> {
+    cache: &'a str,
+    key: &'a str,
+}
+
+impl<'a, S: Store, C: Clock, N: Names> Call<S, C, N> for ReaderOpenCall<'a> {
+    type Output = Reader<S::File>;
+
+    ghost makes = { λ c old r new. OpensKey S.File.seen c.cache.now old.base c.key.now (reader_in r)
+        (S.log old.store) (S.log new.store)
+        × (new.clock ≡ old.clock) × (new.names ≡ old.names) × (new.base ≡ old.base) };
+
+    fn make(self, env: &mut Env<S, C, N>) -> Result<Reader<S::File>> {
+        let alloc = env.alloc;
+        match SyncReader::open(env, self.cache, self.key) {
+            Ok(reader) => Ok(Reader { reader, alloc }),
+            Err(error) => Err(error),
+        }
+    }
+}
+
+/// The future of `Reader::open`.
+pub type ReaderOpenFuture<'a, S, C, N> = CallFuture<'a, S, C, N, ReaderOpenCall<'a>>;
+
+/// What `open_async` is called with.
+#[derive(Drop)]
+pub struct OpenAsyncCall<'a> {
+    cache: &'a str,
+    sri: Integrity,
+}
+
+impl<'a, S: Store, C: Clock, N: Names> Call<S, C, N> for OpenAsyncCall<'a> {
+    type Output = Reader<S::File>;
+
+    ghost makes = { λ c old r new. OpensHash S.File.seen c.cache.now c.sri (reader_in r)
+        (S.log old.store) (S.log new.store)
+        × (new.clock ≡ old.clock) × (new.names ≡ old.names) × (new.base ≡ old.base) };
+
+    fn make(self, env: &mut Env<S, C, N>) -> Result<Reader<S::File>> {
+        let OpenAsyncCall { cache, sri } = self;
+        let alloc = env.alloc;
+        match open_sync(env, cache, sri) {
+            Ok(reader) => Ok(Reader { reader, alloc }),
+            Err(error) => Err(error),
+        }
+    }
+}
+
+/// The future of `open_async`.
+pub type OpenAsyncFuture<'a, S, C, N> = CallFuture<'a, S, C, N, OpenAsyncCall<'a>>;
+
+/// The future of `Reader::open_hash`.
+pub type ReaderOpenHashFuture<'a, S, C, N> = OpenAsyncFuture<'a, S, C, N>;
+
+/// `open` of the contents' readers as a future.
+pub fn open_async<'a, S: Store, C: Clock, N: Names>(
+    env: &'a mut Env<S, C, N>,
+    cache: &'a str,
+    sri: Integrity,
+) -> OpenAsyncFuture<'a, S, C, N>
+    ensures waits { Waits result env.entry
+        (record { cache = cache.entry; sri = sri }) }
+{
+    CallFuture::new(env, OpenAsyncCall { cache, sri })
+}
+
+impl<F: OpenedFile> Reader<F> {
+    /// `SyncReader::open` as a future.
+    pub fn open<'a, S: Store<File = F>, C: Clock, N: Names>(
+        env: &'a mut Env<S, C, N>,
+        cache: &'a str,
+        key: &'a str,
+    ) -> ReaderOpenFuture<'a, S, C, N>
+        ensures waits { Waits result env.entry
+            (record { cache = cache.entry; key = key.entry }) }
+    {
+        CallFuture::new(env, ReaderOpenCall { cache, key })
+    }
+
+    /// `SyncReader::open_hash` as a future.
+    pub fn open_hash<'a, S: Store<File = F>, C: Clock, N: Names>(
+        env: &'a mut Env<S, C, N>,
+        cache: &'a str,
+        sri: Integrity,
+    ) -> ReaderOpenHashFuture<'a, S, C, N>
+        ensures waits { Waits result env.entry
+            (record { cache = cache.entry; sri = sri }) }
+    {
+        open_async(env, cache, sri)
+    }
+
+    /// Reads some bytes into the front of `buf`, and answers how many: none only at the end of the content, or if `buf` is
+    /// empty. It is always ready.
+    ///
+    /// `IoError` has the fault of the read; the reader stands where it stood. `OutOfMemory` may come to its message.
+    pub fn poll_read(&mut self, cx: &mut Context<'_>, buf: &mut [u8]) -> Poll<Result<usize>>
+        ensures ready { OnPending result ⊥ }
+        ensures kept { Keeps cx.old cx.new }
+        ensures failed { IfReady result (λ r. IfErr r IsIoOrMemory) }
+        ensures bytes { IfReady result (λ r. ReadConsumes (F.seen self.old.reader.file).bytes
+            (F.seen self.new.reader.file).bytes r buf.new) }
+        ensures so_far { IfReady result (λ r. (i : List Hash) (bytes : List ℕ)
+            → HasRead self.old.reader i bytes
+            → HasRead self.new.reader i (bytes ++ passed r buf.new)) }
+    {
+        let _ = cx;
+        match self.reader.read(buf) {
+            Ok(count) => Poll::Ready(Ok(count)),
+            Err(error) => Poll::Ready(Err(polling(self.alloc, Fault::from(error.kind())))),
+        }
+    }
+
+    /// Whether the bytes that were read so far meet the integrity that the reader was opened with: Ok of its strongest
+    /// algorithm. What wasn't read counts for nothing, so read to the end first. Only the error takes memory.
+    ///
+    /// `IntegrityError` has that integrity and the one of the bytes that were read.
+    pub fn check(self) -> Result<Algorithm>
+        ensures ok { (i : List Hash) (bytes : List ℕ) → HasRead self.reader i bytes
+            → IfOk result (λ a. Meets i bytes × (strongest i ≡ Some a)) }
+        ensures met { (i : List Hash) (bytes : List ℕ) → HasRead self.reader i bytes
+            → Meets i bytes → IsOk result }
+        ensures err { (i : List Hash) (bytes : List ℕ) → HasRead self.reader i bytes
+            → IfErr result (IsCheckFailure i (actual i bytes)) }
+    {
+        let Reader { reader, alloc: _ } = self;
+        reader.check()
+    }
+}
+
+impl<F: OpenedFile> Read for Reader<F> {
+    ghost remaining = { λ reader. (F.seen reader.reader.file).bytes };
+
+    /// Reads some bytes into the front of `buf` and returns how many: none only at the end of the content, or if `buf` is
+    /// empty. After an error the reader stands where it stood, and may go on.
+    fn read(&mut self, buf: &mut [u8]) -> io::Result<usize>
+        ensures bound { ReadsAtMost result buf.new }
+        ensures bytes { ReadConsumes (F.seen self.old.reader.file).bytes
+            (F.seen self.new.reader.file).bytes result buf.new }
+        ensures left { LeftFalls (F.seen self.old.reader.file).left
+            (F.seen self.new.reader.file).left result }
+        ensures so_far { (i : List Hash) (bytes : List ℕ) → HasRead self.old.reader i bytes
+            → HasRead self.new.reader i (bytes ++ passed result buf.new) }
+    {
+        self.reader.read(buf)
+    }
+}

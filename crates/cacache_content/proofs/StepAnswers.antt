@@ -1,0 +1,70 @@
+-- What the answer to a single step says of it.
+use Rattle.std.proofs.Common.{◌≡◌, inl, inr, ℕ, List, Option, Err}
+use Rattle.cacache_core.specs.declared.errors.Error.{Error}
+use Rattle.cacache_core.specs.declared.errors.Error.TheVariants.{IoError, OutOfMemory}
+use Rattle.cacache_core.specs.declared.errors.Fault.{Fault}
+use Rattle.cacache_store.specs.declared.store.answer.Answer.TheVariants as answers
+use Rattle.cacache_store.specs.declared.store.log.LogItem.{LogItem}
+use Rattle.cacache_store.specs.declared.store.step.Step.TheVariants as steps
+use Rattle.cacache_store.specs.Fits.{Fits, Logs}
+use Rattle.cacache_store.specs.Plain.{PlainStep, PlainAnswer}
+use Rattle.cacache_table.specs.declared.answers.Refusal.{Refusal}
+use Rattle.cacache_table.specs.declared.answers.Refusal.TheVariants as refusals
+use Rattle.cacache_table.specs.Answers.{done_in, temp_in, file_in}
+use Rattle.cacache_table.specs.Common.{ends_with, fails, refuse}
+use Rattle.cacache_table.specs.Runs.{EndsAs}
+use Rattle.cacache_table.specs.SingleSteps.{FailsAt}
+
+-- ---- an answer that refuses a step
+
+-- the step failed
+failed : (a : PlainStep) (fault : Fault) (e : Error) (old new : Option (List LogItem)) → Logs old new a (answers.Failed fault) → EndsAs e (fails fault) → FailsAt a e old new
+failed a fault (IoError g message) old new logs (inl is) = let same : g ≡ fault = cc in rw same logs
+failed a fault (IoError g message) old new logs (inr is) = absurd cc
+failed a fault OutOfMemory old new logs ends = inr (fault, logs)
+failed a fault e old new logs (inl is) = absurd cc
+failed a fault e old new logs (inr is) = absurd cc
+
+-- memory was refused for it
+lost : (a : PlainStep) (e : Error) (old new : Option (List LogItem)) → new ≡ old → EndsAs e (ends_with OutOfMemory) → FailsAt a e old new
+lost a OutOfMemory old new same ends = inl same
+lost a e old new same (inl is) = absurd cc
+lost a e old new same (inr is) = absurd cc
+
+-- the answer refuses its step so
+abbrev pub Refuses : PlainAnswer → Refusal → Type 0
+Refuses (answers.Failed fault) refusal = refusal ≡ refusals.Fault fault
+Refuses (answers.NoMemory b) refusal = refusal ≡ refusals.Memory
+Refuses t refusal = ⊥
+
+-- a step that was refused brought nothing
+pub refused_fails : (a : PlainStep) (t : PlainAnswer) (refusal : Refusal) (e : Error) (old new : Option (List LogItem)) → Refuses t refusal → Logs old new a t → EndsAs e (refuse refusal fails) → FailsAt a e old new
+refused_fails a (answers.Failed fault) refusal e old new is logs ends = failed a fault e old new logs (rw is at ends)
+refused_fails a (answers.NoMemory b) refusal e old new is logs ends = lost a e old new logs (rw is at ends)
+refused_fails a t refusal e old new is logs ends = absurd is
+
+-- ---- which answers do, by the kind of the step
+
+pub folder_refused : (path : List ℕ) (t : PlainAnswer) (refusal : Refusal) → Err refusal ≡ done_in t → Fits (steps.MakeDirs path) t → Refuses t refusal
+folder_refused path (answers.Failed fault) refusal is fits = cc
+folder_refused path (answers.NoMemory b) refusal is fits = cc
+folder_refused path answers.Done refusal is fits = absurd cc
+folder_refused path t refusal is fits = absurd fits
+
+pub removal_refused : (path : List ℕ) (t : PlainAnswer) (refusal : Refusal) → Err refusal ≡ done_in t → Fits (steps.RemoveFile path) t → Refuses t refusal
+removal_refused path (answers.Failed fault) refusal is fits = cc
+removal_refused path (answers.NoMemory b) refusal is fits = cc
+removal_refused path answers.Done refusal is fits = absurd cc
+removal_refused path t refusal is fits = absurd fits
+
+pub temp_refused : (path : List ℕ) (t : PlainAnswer) (refusal : Refusal) → Err refusal ≡ temp_in t → Fits (steps.CreateTemp path) t → Refuses t refusal
+temp_refused path (answers.Failed fault) refusal is fits = cc
+temp_refused path (answers.NoMemory b) refusal is fits = cc
+temp_refused path (answers.Temp f) refusal is fits = absurd cc
+temp_refused path t refusal is fits = absurd fits
+
+pub file_refused : (path : List ℕ) (t : PlainAnswer) (refusal : Refusal) → Err refusal ≡ file_in t → Fits (steps.Open path) t → Refuses t refusal
+file_refused path (answers.Failed fault) refusal is fits = cc
+file_refused path (answers.NoMemory b) refusal is fits = cc
+file_refused path (answers.File f) refusal is fits = absurd cc
+file_refused path t refusal is fits = absurd fits

@@ -1,0 +1,71 @@
+-- Contents that are opened and read in pieces.
+use Rattle.std.specs.Prelude.{◌≡◌, ◌⊎◌, ℕ, List, [], Option, None, Some, Result, Ok, Err}
+use Rattle.cacache_core.specs.declared.errors.Error.{Error}
+use Rattle.cacache_core.specs.declared.errors.Error.TheVariants.{EntryNotFound}
+use Rattle.cacache_core.specs.declared.integrity.digest.Hash.{Hash}
+use Rattle.cacache_core.specs.Pieces.{Compares}
+use Rattle.cacache_store.specs.declared.store.answer.Answer.TheVariants as answers
+use Rattle.cacache_store.specs.declared.store.log.LogItem.{LogItem}
+use Rattle.cacache_store.specs.declared.store.plain.PlainFile.{PlainFile}
+use Rattle.cacache_store.specs.declared.store.step.Step.TheVariants as steps
+use Rattle.cacache_table.specs.declared.command.Command.TheVariants as commands
+use Rattle.cacache_table.specs.declared.reply.Reply.{Reply}
+use Rattle.cacache_table.specs.declared.reply.Reply.TheVariants.{LookedUp, Refused}
+use Rattle.cacache_table.specs.StepPaths.{content_path}
+use Rattle.cacache_table.specs.Runs.{Ran, without_message}
+use Rattle.cacache_table.specs.Table.{opening}
+use Rattle.cacache_content.specs.declared.reader.SyncReader.{SyncReader}
+use Rattle.cacache_table.specs.SingleSteps.{Does, FailsAt}
+use Rattle.cacache_entry.specs.Latest.{Found}
+use Rattle.cacache_jobs.specs.Sites.{site_of}
+
+-- ---- bytes in pieces
+
+-- the reader gave these bytes so far, and checks them against this integrity
+abbrev pub HasRead : {F : Type 0} → SyncReader F → List Hash → List ℕ → Type 0
+HasRead r i bytes = Compares r.checker i bytes
+
+-- ---- the opening of a file: before and after
+
+-- the store opened the file at the path
+abbrev pub OpensFile :
+    List ℕ → PlainFile → Option (List LogItem) → Option (List LogItem) → Type 0
+OpensFile path file old new = Does (steps.Open path) (answers.File file) old new
+
+-- the store didn't
+abbrev pub FailsToOpen :
+    List ℕ → Error → Option (List LogItem) → Option (List LogItem) → Type 0
+FailsToOpen path e old new = FailsAt (steps.Open path) e old new
+
+-- ---- the opening of a content: before and after
+
+-- a lookup of the key gave this reply
+abbrev pub FindsKey :
+    List ℕ → List ℕ → List ℕ → Reply → Option (List LogItem) → Option (List LogItem) → Type 0
+FindsKey cache base key r old new = Ran (opening (site_of cache base 0) (commands.Find key)) r old new
+
+module _ {F : Type 0} (file : F → PlainFile) (cache : List ℕ) where
+  -- a reader of the integrity's content that gave nothing yet, or why there is none
+  abbrev pub OpensHash :
+      List Hash → Result (SyncReader F) Error → Option (List LogItem) → Option (List LogItem)
+      → Type 0
+  OpensHash i (Ok r) old new = HasRead r i [] × OpensFile (content_path cache i) (file r.file) old new
+  OpensHash i (Err e) old new = FailsToOpen (content_path cache i) e old new
+
+  module _ (base key : List ℕ) where
+    -- a lookup of the key found an integrity, and then its content was to be opened
+    abbrev pub OpensFound :
+        Result (SyncReader F) Error → Option (List LogItem) → Option (List LogItem) → Type 0
+    OpensFound r old new =
+        (found : Found) × (mid : Option (List LogItem))
+        × FindsKey cache base key (LookedUp (Some found)) old mid
+        × OpensHash found.integrity r mid new
+
+    -- the same for every outcome of the lookup; `EntryNotFound` says just that it found nothing
+    abbrev pub OpensKey :
+        Result (SyncReader F) Error → Option (List LogItem) → Option (List LogItem) → Type 0
+    OpensKey (Ok r) old new = OpensFound (Ok r) old new
+    OpensKey (Err (EntryNotFound c k)) old new =
+        (c ≡ cache) × (k ≡ key) × FindsKey cache base key (LookedUp None) old new
+    OpensKey (Err e) old new =
+        FindsKey cache base key (Refused (without_message e)) old new ⊎ OpensFound (Err e) old new

@@ -1,6 +1,0 @@
-//! Tests of `cacache_core` that aren't rows of `cacache_core_rows`. They stand in a crate of their own, so that it is proved
-//! only once.
-#![tactic(auto)]
-
-#[cfg(test)]
-mod bytes;

@@ -1,0 +1,207 @@
+-- Every step leaves each node in a folder.
+use Rattle.std.proofs.Common.{◌≡◌, ◌==◌, ◌+◌, ℕ, zero, suc, Bool, true, false, cond, List, [], ◌∷◌, ◌++◌, Option, None, Some, Ok, length, take, refl, sym, ap, subst, ◌∙◌, arith, eqb-true, length-append, append_assoc, append-nil}
+use Rattle.std.specs.Prelude.{Result, Err, IfOk, OnOk, OnErr, filter_map, slice_index_or}
+use Rattle.std.proofs.Math.Seq.{take-append_seam}
+use Rattle.std.proofs.lemmas.Bool.{eq-eqb}
+use Rattle.std.specs.List.{cons_option}
+use Rattle.std.specs.Ordering.{nat_cmp}
+use Rattle.std.specs.FinMap as map
+use Rattle.std.specs.Bool.{nat_eq}
+use Rattle.std.specs.Cmp.Lexicographic.{pointwise, slice_cmp, lists_ties, texts_ties}
+use Rattle.cacache_core.specs.declared.errors.Fault.{Fault}
+use Rattle.cacache_core.specs.declared.errors.Fault.TheVariants.{IsADirectory, InvalidInput}
+use Rattle.cacache_store.specs.declared.store.step.Step.TheVariants.{MakeDirs, CreateTemp, Write, Persist, Append, ReadAll, Open, Read, Size, Exists, Symlink, Copy, Reflink, HardLink, ReadDir, RemoveFile, RemoveDir}
+use Rattle.cacache_store.specs.Plain.{PlainStep, PlainAnswer}
+use Rattle.cacache_disk.specs.declared.luck.Luck.{Luck}
+use Rattle.cacache_disk.specs.declared.luck.Luck.TheVariants.{Plain, Fail, Take}
+use Rattle.cacache_disk.specs.declared.node.Node.{Node}
+use Rattle.cacache_disk.specs.declared.node.Node.TheVariants.{Folder, File, Link}
+use Rattle.cacache_core.specs.PathNames.{names_of}
+use Rattle.cacache_disk.specs.Tree.{Tree, Names, look, put, names_cmp, same_path, listing, child_of, is_child, kind_of}
+use Rattle.cacache_disk.specs.LedTo.{and_then, or_fault, through, way_fault, place, standing, followed, leads, on_link, where_no_folder, where_there, writable, free, known, kept, replaceable, file_at, linked, removable, emptied, folder, dirs, dirs_fault}
+use Rattle.cacache_disk.specs.Apply.{apply, plain, unless, making, is_taking, is_parted, fails, fault_told, left_by}
+use Rattle.cacache_disk.specs.Rooted.{is_folder, Rooted}
+use Rattle.cacache_disk.proofs.Maps.{same_path-true}
+use Rattle.cacache_disk.proofs.NameLemmas.{names_proper}
+use Rattle.cacache_disk.proofs.FoundNodes.{and_then_ok, or_fault_none, place_ok, no_folder_at, there_at, free_ok, kept_ok, replaceable_ok, removable_ok, emptied_ok}
+use Rattle.cacache_disk.proofs.Roots.{CanStand, put_rooted, cut_rooted, file_cut, persist_rooted, make_rooted, same_self, IsBare}
+
+-- ---- what holds of the tree before, and after as much of the step as you like, holds after it
+
+module _ (P : Tree → Type 0) where
+  cond_tree : (b : Bool) (x y : Tree) → P x → P y → P (cond b x y)
+  cond_tree true x y h k = h
+  cond_tree false x y h k = k
+
+  fails_tree : (own : Option Fault) (fault : Fault) (t left : Tree) → P t → P left → P (fails own fault t left).1
+  fails_tree None fault t left h k = k
+  fails_tree (Some own) fault t left h k = h
+
+  left_tree : (t : Tree) (step : PlainStep) (part : Option ℕ) → P t → ((most : Option ℕ) → P (plain t step most).1) → P (left_by t step part)
+  left_tree t step None h k = h
+  left_tree t step (Some part) h k = cond_tree (is_parted step) _ _ (k (Some part)) h
+
+  pub apply_tree : (t : Tree) (step : PlainStep) (luck : Luck) → P t → ((most : Option ℕ) → P (plain t step most).1) → P (apply t step luck).1
+  unfolding apply
+  apply_tree t step Plain h k = k None
+  apply_tree t step (Take most) h k = k (cond (is_taking step) (Some most) None)
+  apply_tree t step (Fail fault part) h k = fails_tree (fault_told (plain t step None).0) fault t (left_by t step part) h (left_tree t step part h k)
+
+  pub unless_tree : {A : Type 0} (r : Result A Fault) (t : Tree) (go : A → PlainAnswer × Tree) → P t → ((a : A) → r ≡ Ok a → P (go a).1)
+      → P (unless r t go).1
+  unless_tree (Ok a) t go h k = k a refl
+  unless_tree (Err fault) t go h k = h
+
+-- ---- the folder of a path
+
+through_none : (here : Option Node) (later : Option Fault) → through here later ≡ None → (here ≡ Some Folder) × (later ≡ None)
+through_none None later e = absurd cc
+through_none (Some Folder) later e = (refl, e)
+through_none (Some (File bytes)) later e = absurd cc
+through_none (Some (Link target)) later e = absurd cc
+
+way_folder : (t : Tree) (path more : Names) (name : List ℕ) → look t path ≡ Some Folder → way_fault t path (more ++ name ∷ []) ≡ None
+    → look t (path ++ more) ≡ Some Folder
+way_folder t path [] name here e = ap (look t) (append-nil path) ∙ here
+way_folder t path (n ∷ []) name here e = (through_none (look t (path ++ n ∷ [])) _ e).0
+way_folder t path (n ∷ m ∷ more) name here e =
+    let f = through_none (look t (path ++ n ∷ [])) (way_fault t (path ++ n ∷ []) (m ∷ more ++ name ∷ [])) e in
+    ap (look t) (sym (append_assoc path (n ∷ []) (m ∷ more))) ∙ way_folder t (path ++ n ∷ []) (m ∷ more) name f.0 f.1
+
+module _ (t : Tree) (rooted : Rooted t) where
+  place_folder : (path : List ℕ) (names : Names) → place t path ≡ Ok names → CanStand t names
+  unfolding place
+  place_folder path names e =
+      let f = and_then_ok (names_of path) (λ names. or_fault (way_fault t [] names) names) names e in
+      let g = or_fault_none (way_fault t [] f.0) f.0 names f.2 in
+      record {
+        parent = λ above name is. way_folder t [] above name rooted.top (subst (λ n. way_fault t [] n ≡ None) (g.1 ∙ is) g.0);
+        proper = names_proper path names (place_ok t path names e);
+      }
+
+  standing_folder : (path : List ℕ) (names : Names) → standing t path ≡ Ok names → CanStand t names
+  unfolding standing
+  standing_folder path names e =
+      let f = and_then_ok (place t path) (λ n. where_there (look t n) n) names e in
+      place_folder path names (f.1 ∙ ap Ok (there_at (look t f.0) f.0 names f.2))
+
+  link_folder : (here : Option Node) (names new : Names) (go : List ℕ → Result Names Fault) → CanStand t names
+      → ((target : List ℕ) → go target ≡ Ok new → CanStand t new) → on_link here names go ≡ Ok new → CanStand t new
+  link_folder None names new go h on e = let same : names ≡ new = cc in subst (CanStand t) same h
+  link_folder (Some Folder) names new go h on e = let same : names ≡ new = cc in subst (CanStand t) same h
+  link_folder (Some (File bytes)) names new go h on e = let same : names ≡ new = cc in subst (CanStand t) same h
+  link_folder (Some (Link target)) names new go h on e = on target e
+
+  followed_folder : (n : ℕ) (names new : Names) → CanStand t names → followed n t names ≡ Ok new → CanStand t new
+  unfolding followed
+  followed_folder zero names new h e = link_folder (look t names) names new _ h (λ target is. absurd cc) e
+  followed_folder (suc n) names new h e =
+      link_folder (look t names) names new (λ target. and_then (standing t target) (followed n t)) h
+      (λ target is.
+      let f = and_then_ok (standing t target) (followed n t) new is in
+      followed_folder n f.0 new (standing_folder target f.0 f.1) f.2)
+      e
+
+  writable_folder : (path : List ℕ) (names : Names) → writable t path ≡ Ok names → CanStand t names × (is_folder (look t names) ≡ false)
+  unfolding writable leads
+  writable_folder path names e =
+      let f = and_then_ok (leads t path) (λ names. where_no_folder (look t names) names) names e in
+      let g = and_then_ok (place t path) (followed 16 t) f.0 f.1 in
+      let h = no_folder_at (look t f.0) f.0 names f.2 in
+      (subst (CanStand t) h.1 (followed_folder 16 g.0 f.0 (place_folder path g.0 g.1) g.2), subst (λ n. is_folder (look t n) ≡ false) h.1 h.0)
+
+-- ---- a folder whose listing is empty
+
+is_child-snoc : (p : Names) (name : List ℕ) → is_child p (p ++ name ∷ []) ≡ true
+is_child-snoc p name =
+    let l : length (p ++ name ∷ []) ≡ length p + 1 = omega (arith, length-append p (name ∷ [])) in
+    let front : take (length p) (p ++ name ∷ []) ≡ p = take-append_seam p (name ∷ []) in
+    let same : pointwise (pointwise nat_eq) p p ≡ true = lists_ties (slice_cmp nat_cmp) texts_ties p p ∙ same_self p in
+    rw (eq-eqb (length (p ++ name ∷ [])) (length p + 1) l, front, same) refl
+
+some_items : {X : Type 0} (x : X) (xs : List X) → (length (x ∷ xs) == 0) ≡ true → ⊥
+some_items x xs e = let l : length (x ∷ xs) ≡ 0 = eqb-true (length (x ∷ xs)) 0 e in omega arith
+
+find_at : (p q : Names) (e : Names × Node) (es : List (Names × Node)) (b c : Bool) → same_path q e.0 ≡ b → is_child p e.0 ≡ c → is_child p q ≡ true
+    → (length (cons_option (cond c (Some (record { name = slice_index_or e.0 (length p) []; kind = kind_of e.1 })) None) (filter_map (child_of p) es)) == 0) ≡ true
+    → ((length (filter_map (child_of p) es) == 0) ≡ true → map.find names_cmp q es ≡ None) → cond b (Some e.1) (map.find names_cmp q es) ≡ None
+find_at p q e es b true same child is none more = absurd (some_items (record { name = slice_index_or e.0 (length p) []; kind = kind_of e.1 }) (filter_map (child_of p) es) none)
+find_at p q e es true false same child is none more = let differ : true ≡ false = sym is ∙ ap (is_child p) (same_path-true q e.0 same) ∙ child in absurd cc
+find_at p q e es false false same child is none more = more none
+
+find_none : (p q : Names) (es : List (Names × Node)) → is_child p q ≡ true → (length (filter_map (child_of p) es) == 0) ≡ true
+    → map.find names_cmp q es ≡ None
+find_none p q [] is none = refl
+find_none p q (e ∷ es) is none = find_at p q e es (same_path q e.0) (is_child p e.0) refl refl is none (find_none p q es is)
+
+empty_bare : (t : Tree) (p : Names) → (length (listing t p) == 0) ≡ true → IsBare t p
+unfolding listing
+empty_bare t p none name = map.get-entries t (p ++ name ∷ []) ∙ find_none p (p ++ name ∷ []) (map.entries t) (is_child-snoc p name) none
+
+not_top : (p : Names) → (length p == 0) ≡ false → p ≡ [] → ⊥
+not_top p e is = let differ : true ≡ false = ap (λ (n : Names). length n == 0) (sym is) ∙ e in cc
+
+-- ---- every step
+
+module _ (t : Tree) (rooted : Rooted t) where
+  asked : {A : Type 0} (r : Result A Fault) (answer : A → PlainAnswer) → Rooted (unless r t (λ a. (answer a, t))).1
+  asked r answer = unless_tree Rooted r t (λ a. (answer a, t)) rooted (λ a is. rooted)
+
+  put_free : (p : List ℕ) (names : Names) (node : Node) → free t p ≡ Ok names → Rooted (put t names node)
+  put_free p names node e = let f = free_ok t p names e in put_rooted t names node rooted (place_folder t rooted p names f.2) f.1
+
+  put_writable : (p : List ℕ) (names : Names) (node : Node) → writable t p ≡ Ok names → Rooted (put t names node)
+  put_writable p names node e = let f = writable_folder t rooted p names e in put_rooted t names node rooted f.0 f.1
+
+  plain_rooted : (step : PlainStep) (most : Option ℕ) → Rooted (plain t step most).1
+  unfolding dirs
+  plain_rooted (MakeDirs p) most =
+      unless_tree Rooted (dirs t p) t _ rooted (λ names found.
+      let f = and_then_ok (names_of p) (λ names. or_fault (dirs_fault t [] names) names) names found in
+      let g = or_fault_none (dirs_fault t [] f.0) f.0 names f.2 in
+      make_rooted t [] names (making most names) rooted (names_proper p names (f.1 ∙ ap Ok g.1)) rooted.top (subst (λ n. dirs_fault t [] n ≡ None) g.1 g.0))
+  plain_rooted (CreateTemp p) most = unless_tree Rooted (free t p) t _ rooted (λ names found. put_free p names (File []) found)
+  plain_rooted (Write f bytes) most = rooted
+  plain_rooted (Persist f p) most =
+      unless_tree Rooted (known f.bytes) t _ rooted (λ bytes has.
+      unless_tree Rooted (kept t f.path) t _ rooted (λ old there.
+      unless_tree Rooted (replaceable t p) t _ rooted (λ new found.
+      let g = kept_ok t f.path old there in
+      let h = replaceable_ok t p new found in
+      persist_rooted t old new bytes rooted g.1 (place_folder t rooted p new h.2) h.1)))
+  plain_rooted (Append p bytes) most = unless_tree Rooted (writable t p) t _ rooted (λ names found. put_writable p names _ found)
+  plain_rooted (ReadAll p) most = asked (file_at t p IsADirectory) _
+  plain_rooted (Open p) most = asked (file_at t p IsADirectory) _
+  plain_rooted (Read f size) most = rooted
+  plain_rooted (Size p) most = asked (file_at t p IsADirectory) _
+  plain_rooted (Exists p) most = rooted
+  plain_rooted (Symlink target p) most = unless_tree Rooted (free t p) t _ rooted (λ names found. put_free p names (Link target) found)
+  plain_rooted (Copy p q) most = unless_tree Rooted (file_at t p InvalidInput) t _ rooted (λ bytes read. unless_tree Rooted (writable t q) t _ rooted (λ names found. put_writable q names _ found))
+  plain_rooted (Reflink p q) most = unless_tree Rooted (free t q) t _ rooted (λ names found. unless_tree Rooted (file_at t p IsADirectory) t _ rooted (λ bytes read. put_free q names (File bytes) found))
+  plain_rooted (HardLink p q) most = unless_tree Rooted (free t q) t _ rooted (λ names found. unless_tree Rooted (linked t p) t _ rooted (λ node there. put_free q names node found))
+  plain_rooted (ReadDir p) most = asked (folder t p) _
+  plain_rooted (RemoveFile p) most = unless_tree Rooted (removable t p) t _ rooted (λ names found. file_cut t names rooted (removable_ok t p names found).1)
+  plain_rooted (RemoveDir p) most =
+      unless_tree Rooted (emptied t p) t _ rooted (λ names found.
+      let f = emptied_ok t p names found in
+      cut_rooted t names rooted (not_top names f.2) (empty_bare t names f.3))
+
+pub steps_keep_rooted : (t : Tree) (step : PlainStep) (luck : Luck) → Rooted t → Rooted (apply t step luck).1
+steps_keep_rooted t step luck rooted = apply_tree Rooted t step luck rooted (plain_rooted t rooted step)
+
+-- a change that is made or not
+pub made_or_not : {X E : Type 0} (t new made : Tree) (r : Result X E) → Rooted t → Rooted made → OnOk r (new ≡ made) → OnErr r (new ≡ t) → Rooted new
+made_or_not t new made (Ok x) rooted whole ok err = subst Rooted (sym ok) whole
+made_or_not t new made (Err e) rooted whole ok err = subst Rooted (sym err) rooted
+
+-- the tree of a step's outcome
+pub outcome_rooted : (t made : Tree) (step : PlainStep) (luck : Luck) (answer : PlainAnswer) → Rooted t → apply t step luck ≡ (answer, made) → Rooted made
+outcome_rooted t made step luck answer rooted is = subst Rooted (ap (λ (r : PlainAnswer × Tree). r.1) is) (steps_keep_rooted t step luck rooted)
+
+pub on_ok : {X E : Type 0} {A : Type 0} (r : Result X E) → A → OnOk r A
+on_ok (Ok x) a = a
+on_ok (Err e) a = tt
+
+pub if_on_ok : {X E F : Type 0} {A : Type 0} (r : Result (Result X E) F) → A → IfOk r (λ s. OnOk s A)
+if_on_ok (Ok s) a = on_ok s a
+if_on_ok (Err e) a = tt

@@ -1,0 +1,98 @@
+-- An entry has no cause against it exactly where it fits.
+use Rattle.std.proofs.Common.{◌≡◌, ℕ, ◌^◌, ◌<◌, ◌≤◌, List, [], ◌∷◌, Bool, true, false, not, Option, Some, None, refl, sym, ap, ◌∙◌, arith}
+use Rattle.std.specs.Prelude.{nat_lt, nat_le, if◌then◌else◌}
+use Rattle.std.proofs.lemmas.Bool.{leb-true, leb-false, ltb-false, le-ltb, lt-ltb, lt-leb, le-leb}
+use Rattle.serde_json.specs.Data.{depth, items_depth, object}
+use Rattle.serde_json.specs.Read.{max_depth}
+use Rattle.serde_json.specs.Written.{has_float}
+use Rattle.cacache_core.specs.declared.errors.SerdeCause.{SerdeCause}
+use Rattle.cacache_core.specs.declared.errors.SerdeCause.TheVariants.{TimeTooLarge, NotWhole, TooDeep}
+use Rattle.cacache_entry.specs.Entry.{Entry, text_or_null, byte_items, bytes_or_null, members_of}
+use Rattle.cacache_entry.specs.FittingEntries.{IsEntry, IsWritable, cause_of}
+use Rattle.cacache_entry.specs.EntryLaws.{NoCauseIsFit, FlatEntriesFit, bare_entry, BareEntriesFit}
+use Rattle.cacache_entry.proofs.ReadsBack.{has_float-IsWhole}
+use Rattle.cacache_entry.proofs.WellRead.{IsJson-null}
+
+-- the first of three causes
+abbrev first_cause : Bool → Bool → Bool → Option SerdeCause
+first_cause late float deep = if late then Some TimeTooLarge else if float then Some NotWhole else if deep then Some TooDeep else None
+
+record NoCause (late float deep : Bool) : Type 0 where
+  early : late ≡ false
+  whole : float ≡ false
+  flat : deep ≡ false
+
+no_cause : (late float deep : Bool) → first_cause late float deep ≡ None → NoCause late float deep
+no_cause true float deep e = absurd cc
+no_cause false true deep e = absurd cc
+no_cause false false true e = absurd cc
+no_cause false false false e = record { early = refl; whole = refl; flat = refl }
+
+-- an entry that has no cause against it has an early time
+pub is_early : (e : Entry) → cause_of e ≡ None → e.time < 2 ^ 64
+is_early e h = leb-false _ _ (no_cause _ _ _ h).early
+
+-- and no number that isn't whole
+pub has_no_float : (e : Entry) → cause_of e ≡ None → has_float e.metadata ≡ false
+has_no_float e h = (no_cause (nat_le (2 ^ 64) e.time) (has_float e.metadata) (nat_lt max_depth (depth (object (members_of e)))) h).whole
+
+-- and nests no deeper than its limit
+pub nests : (e : Entry) → cause_of e ≡ None → depth (object (members_of e)) ≤ max_depth
+nests e h = ltb-false _ _ (no_cause (nat_le (2 ^ 64) e.time) (has_float e.metadata) (nat_lt max_depth (depth (object (members_of e)))) h).flat
+
+-- a well-formed entry that has no cause against it fits
+pub Fits-no_cause : (e : Entry) → IsEntry e → cause_of e ≡ None → IsWritable e
+Fits-no_cause e h none = record { time = is_early e none; size = h.size; whole = h.metadata.in_range (has_no_float e none); nests = nests e none }
+
+-- ---- how deep an entry nests
+
+depth-text_or_null : (o : Option (List ℕ)) → depth (text_or_null o) ≤ 0
+depth-text_or_null None = omega arith
+depth-text_or_null (Some s) = omega arith
+
+depth-byte_items : (bs : List ℕ) → items_depth (byte_items bs) ≤ 0
+depth-byte_items [] = omega arith
+depth-byte_items (b ∷ bs) = omega (arith, depth-byte_items bs)
+
+depth-bytes_or_null : (o : Option (List ℕ)) → depth (bytes_or_null o) ≤ 1
+depth-bytes_or_null None = omega arith
+depth-bytes_or_null (Some bs) = omega (arith, depth-byte_items bs)
+
+-- the text nests too deep exactly where the metadata nests deeper than 126 levels
+pub is_deep : (e : Entry) → nat_lt max_depth (depth (object (members_of e))) ≡ not (nat_le (depth e.metadata) 126)
+is_deep e = by (nat_le (depth e.metadata) 126) refl
+  where
+    by : (b : Bool) → nat_le (depth e.metadata) 126 ≡ b → nat_lt max_depth (depth (object (members_of e))) ≡ not b
+    by true h = le-ltb _ _ (omega (arith, leb-true _ _ h, depth-text_or_null e.integrity, depth-bytes_or_null e.raw_metadata))
+    by false h = lt-ltb _ _ (omega (arith, leb-false _ _ h))
+
+-- an early entry with no number that isn't whole, which nests flat enough, has no cause against it
+pub cause_of-none : (e : Entry) → e.time < 2 ^ 64 → has_float e.metadata ≡ false → depth e.metadata ≤ 126 → None ≡ cause_of e
+cause_of-none e early whole flat = by (nat_le (2 ^ 64) e.time) (has_float e.metadata) (nat_lt max_depth (depth (object (members_of e)))) (lt-leb _ _ early) whole (is_deep e ∙ ap not (le-leb _ _ flat))
+  where
+    by : (late float deep : Bool) → late ≡ false → float ≡ false → deep ≡ false → None ≡ first_cause late float deep
+    by true float deep h i j = absurd cc
+    by false true deep h i j = absurd cc
+    by false false true h i j = absurd cc
+    by false false false h i j = refl
+
+-- metadata of an entry that nests no deeper than its limit
+pub flat_metadata : (e : Entry) → cause_of e ≡ None → depth e.metadata ≤ 126
+flat_metadata e h = omega (arith, nests e h)
+
+-- ---- the laws
+
+no_cause-Fits : (e : Entry) → IsWritable e → cause_of e ≡ None
+no_cause-Fits e f = sym (cause_of-none e f.time (has_float-IsWhole e.metadata f.whole) (omega (arith, f.nests)))
+
+pub no_cause_is_fit : NoCauseIsFit
+no_cause_is_fit e h = (λ none. Fits-no_cause e h none, λ f. no_cause-Fits e f)
+
+pub flat_entries_fit : FlatEntriesFit
+flat_entries_fit e h early whole flat = Fits-no_cause e h (sym (cause_of-none e early whole flat))
+
+pub bare_entries_fit : BareEntriesFit
+bare_entries_fit key integrity time size k i early small =
+    let e = bare_entry key integrity time size in
+    let is : IsEntry e = record { key = k; integrity = i; size = small; metadata = IsJson-null; raw_metadata = tt } in
+    (is, flat_entries_fit e is early refl (omega arith))

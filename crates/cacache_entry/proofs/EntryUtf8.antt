@@ -1,0 +1,56 @@
+-- An entry's text is UTF-8, since each of its parts is.
+use Rattle.std.proofs.Common.{◌≡◌, ℕ, ◌<◌, ◌^◌, List, [], ◌∷◌, ◌++◌, Bool, true, false, Option, Some, None, codes, decimal, refl, subst, arith}
+use Rattle.std.specs.Prelude.{IsUtf8}
+use Rattle.std.proofs.lemmas.Fmt.{IsAscii-decimal}
+use Rattle.std.proofs.lemmas.Str.{IsUtf8-append, IsUtf8-from_ascii, IsUtf8-nil}
+use Rattle.json.specs.Print.{quoted}
+use Rattle.json.proofs.Printed.Utf8.{are_ascii, IsUtf8-are_ascii, IsUtf8-quoted}
+use Rattle.serde_json.specs.Written.{comma_if, compact_text, items_text}
+use Rattle.cacache_entry.specs.Entry.{Entry, text_or_null, byte_items, bytes_or_null, text_of}
+use Rattle.cacache_entry.specs.FittingEntries.{EachIsByte, AreBytes, IsUtf8IfAny, IsEntry}
+use Rattle.cacache_entry.proofs.TextParts.{put, front, text-parts}
+
+IsUtf8-decimal : (n : ℕ) → n < 2 ^ 64 → IsUtf8 (decimal n)
+IsUtf8-decimal n h = IsUtf8-from_ascii (decimal n) (IsAscii-decimal n h)
+
+IsUtf8-comma_if : (later : Bool) → IsUtf8 (comma_if later)
+IsUtf8-comma_if true = IsUtf8-are_ascii (44 ∷ []) refl
+IsUtf8-comma_if false = IsUtf8-nil
+
+IsUtf8-text_or_null : (o : Option (List ℕ)) → IsUtf8IfAny o → IsUtf8 (compact_text (text_or_null o))
+IsUtf8-text_or_null None h = IsUtf8-are_ascii _ refl
+IsUtf8-text_or_null (Some text) h = IsUtf8-quoted text h
+
+IsUtf8-byte_items : (later : Bool) (bs : List ℕ) → EachIsByte bs → IsUtf8 (items_text later (byte_items bs))
+IsUtf8-byte_items later [] h = IsUtf8-are_ascii (93 ∷ []) refl
+IsUtf8-byte_items later (b ∷ bs) h =
+    IsUtf8-append (comma_if later) _ (IsUtf8-comma_if later)
+    (IsUtf8-append (decimal b) _ (IsUtf8-decimal b (omega (arith, h.0))) (IsUtf8-byte_items true bs h.1))
+
+IsUtf8-bytes_or_null : (o : Option (List ℕ)) → AreBytes o → IsUtf8 (compact_text (bytes_or_null o))
+IsUtf8-bytes_or_null None h = IsUtf8-are_ascii _ refl
+IsUtf8-bytes_or_null (Some bs) h = IsUtf8-append (91 ∷ []) _ (IsUtf8-are_ascii (91 ∷ []) refl) (IsUtf8-byte_items false bs h)
+
+-- an ASCII name and a UTF-8 value behind UTF-8 are UTF-8
+IsUtf8-put : (old name value : List ℕ) → are_ascii name ≡ true → IsUtf8 value → IsUtf8 old → IsUtf8 (put old name value)
+IsUtf8-put old name value plain h before = IsUtf8-append old (name ++ value) before (IsUtf8-append name value (IsUtf8-are_ascii name plain) h)
+
+IsUtf8-front : (e : Entry) → IsEntry e → e.time < 2 ^ 64 → IsUtf8 (front e)
+IsUtf8-front e h early =
+    let integrity = compact_text (text_or_null e.integrity) in
+    IsUtf8-append _ (codes ",\"metadata\":")
+    (IsUtf8-put _ (codes ",\"size\":") (decimal e.size) refl (IsUtf8-decimal e.size h.size)
+    (IsUtf8-put _ (codes ",\"time\":") (decimal e.time) refl (IsUtf8-decimal e.time early)
+    (IsUtf8-put _ (codes ",\"integrity\":") integrity refl (IsUtf8-text_or_null e.integrity h.integrity)
+    (IsUtf8-put [] (codes "{\"key\":") (quoted e.key) refl (IsUtf8-quoted e.key h.key) IsUtf8-nil))))
+    (IsUtf8-are_ascii (codes ",\"metadata\":") refl)
+
+-- the text of a well-formed entry with an early time is UTF-8
+pub IsUtf8-text_of : (e : Entry) → IsEntry e → e.time < 2 ^ 64 → IsUtf8 (text_of e)
+IsUtf8-text_of e h early =
+    let raw = compact_text (bytes_or_null e.raw_metadata) in
+    subst IsUtf8 (text-parts e)
+    (IsUtf8-append _ (125 ∷ [])
+    (IsUtf8-append _ (codes ",\"raw_metadata\":" ++ raw) (IsUtf8-append (front e) (compact_text e.metadata) (IsUtf8-front e h early) h.metadata.utf8)
+    (IsUtf8-append (codes ",\"raw_metadata\":") raw (IsUtf8-are_ascii (codes ",\"raw_metadata\":") refl) (IsUtf8-bytes_or_null e.raw_metadata h.raw_metadata)))
+    (IsUtf8-are_ascii (125 ∷ []) refl))

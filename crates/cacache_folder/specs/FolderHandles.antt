@@ -1,0 +1,14 @@
+-- What contracts see of the files of real folders. Their bytes are not known.
+use Rattle.std.specs.Prelude.{None}
+use Rattle.cacache_store.specs.declared.store.plain.PlainFile.{PlainFile}
+use Rattle.cacache_store.specs.declared.store.plain.PlainTemp.{PlainTemp}
+use Rattle.cacache_folder.specs.declared.folder.opened.FolderFile.{FolderFile}
+use Rattle.cacache_folder.specs.declared.folder.temp.FolderTemp.{FolderTemp}
+
+-- an open file
+abbrev pub seen_file : {F : Type 0} → FolderFile F → PlainFile
+seen_file f = record { left = f.left; bytes = None }
+
+-- a temporary file
+abbrev pub seen_temp : {F : Type 0} → FolderTemp F → PlainTemp
+seen_temp t = record { path = t.path; bytes = None }

@@ -1,0 +1,38 @@
+-- Which commands read bytes, and what a reading call answers.
+use Rattle.std.specs.Prelude.{◌≡◌, ◌⊎◌, ℕ, Bool, true, false, List, Vec, Option, None, Some, Result, Ok, Err}
+use Rattle.cacache_core.specs.declared.errors.Error.{Error}
+use Rattle.cacache_core.specs.declared.errors.Fault.{Fault}
+use Rattle.cacache_core.specs.declared.integrity.digest.Hash.{Hash}
+use Rattle.cacache_store.specs.declared.store.answer.Answer.TheVariants as answers
+use Rattle.cacache_store.specs.declared.store.log.LogItem.{LogItem}
+use Rattle.cacache_store.specs.declared.store.step.Step.TheVariants as steps
+use Rattle.cacache_table.specs.declared.command.Command.{Command}
+use Rattle.cacache_table.specs.declared.reply.Reply.{Reply}
+use Rattle.cacache_table.specs.declared.reply.Reply.TheVariants.{Read, Exists}
+use Rattle.cacache_table.specs.StepPaths.{content_path}
+use Rattle.cacache_table.specs.State.{Site}
+use Rattle.cacache_table.specs.Promises.{Answers, OnlyReads}
+use Rattle.cacache_table.specs.SingleSteps.{Does}
+
+-- wherever the command is called, it answers bytes
+abbrev pub ReadsBytes : Command → Type 0
+ReadsBytes command = (site : Site) (r : Reply) → Answers site command r → OnlyReads r
+
+-- bytes, as their answer
+abbrev pub bytes_read : {A : Type 0} → Vec ℕ A → Reply
+bytes_read bytes = Read bytes.items
+
+-- The log gained one question whether the content is there, and this is the store's answer; a failed
+-- step is a no. Out of memory asked nothing.
+abbrev pub AsksContent :
+    List ℕ → List Hash → Option (List LogItem) → Option (List LogItem) → Result Bool Error → Type 0
+AsksContent cache i old new (Ok there) =
+    Does (steps.Exists (content_path cache i)) (answers.There there) old new
+    ⊎ ((fault : Fault) × Does (steps.Exists (content_path cache i)) (answers.Failed fault) old new
+    × (there ≡ false))
+AsksContent cache i old new (Err e) = new ≡ old
+
+-- an integrity whose content is there, or none, as its answer
+abbrev pub has : Option (List Hash) → Reply
+has None = Exists false
+has (Some i) = Exists true

@@ -1,0 +1,147 @@
+//! Exports of the content of an integrity.
+ghost use Rattle.std.specs.Prelude.{◌≡◌, IfOk};
+ghost use Rattle.cacache_table.specs.declared.command.How.TheVariants.{Copy, Reflink, HardLink};
+ghost use Rattle.cacache_table.specs.declared.command.Source.TheVariants.{Hash};
+ghost use Rattle.cacache_table.specs.declared.reply.Reply.TheVariants.{Copied, Done};
+ghost use Rattle.cacache_table.specs.Runs.{reply_of};
+ghost use Rattle.cacache_core.specs.Integrity.{IsIntegrity};
+ghost use Rattle.cacache_get.specs.Exports.{checked, unchecked};
+ghost use Rattle.cacache_jobs.specs.ReadFirst.{Verified};
+ghost use Rattle.cacache_table.specs.Replies.{done};
+ghost use Rattle.cacache_jobs.specs.Environment.{Calls};
+
+use crate::exporting::{copied, linked};
+use cacache_core::errors::Result;
+use cacache_core::integrity::Integrity;
+use cacache_store::env::{Clock, Env, Names};
+use cacache_store::store::Store;
+use cacache_table::{How, Source};
+use std::alloc::AllocError;
+
+/// The integrity as what is exported.
+fn of_hash(sri: &Integrity) -> std::result::Result<Source, AllocError>
+    ensures source { IfOk result (λ source. source ≡ Hash sri.now) }
+    ensures formed { IsIntegrity sri.now }
+{
+    let _address = sri.address();
+    Ok(Source::Hash(sri.clone()?))
+}
+
+/// Copies the content of the integrity to this path, and answers how many bytes it has. A file there is overwritten.
+/// The content is read to its end first, and goes there only if it meets the integrity.
+///
+/// `IntegrityError` where the content doesn't meet the integrity, `IoError` says which step failed. The path is left
+/// alone until the content is verified; a copy that failed may leave a part of it there. `OutOfMemory` may come after
+/// the last step.
+pub fn copy_hash_sync<S: Store, C: Clock, N: Names>(
+    env: &mut Env<S, C, N>,
+    cache: &str,
+    sri: &Integrity,
+    to: &str,
+) -> Result<u64>
+    ensures formed { IsIntegrity sri.now }
+    ensures verified { IfOk result (λ count. Verified cache.now (Hash sri.now) (Copied count)
+        (S.log env.old.store) (S.log env.new.store)) }
+    ensures ran { Calls S.log env.old env.new cache.now
+        (checked Copy (Hash sri.now) to.now) (reply_of Copied result) }
+{
+    let source = of_hash(sri)?;
+    copied(env, cache, source, true, to)
+}
+
+/// Copies the content of the integrity to this path, and answers how many bytes it has. A file there is overwritten.
+/// Whether it meets the integrity isn't asked.
+///
+/// `IoError` says which step failed. A copy that failed may leave a part of it there. `OutOfMemory` may come after the
+/// last step.
+pub fn copy_hash_unchecked_sync<S: Store, C: Clock, N: Names>(
+    env: &mut Env<S, C, N>,
+    cache: &str,
+    sri: &Integrity,
+    to: &str,
+) -> Result<u64>
+    ensures formed { IsIntegrity sri.now }
+    ensures ran { Calls S.log env.old env.new cache.now
+        (unchecked Copy (Hash sri.now) to.now) (reply_of Copied result) }
+{
+    let source = of_hash(sri)?;
+    copied(env, cache, source, false, to)
+}
+
+/// Makes a file at this path that shares its storage with the content of the integrity. Nothing may stand there. The
+/// content is read to its end first, and goes there only if it meets the integrity.
+///
+/// `IntegrityError` where the content doesn't meet the integrity, `IoError` says which step failed. Then nothing
+/// changed. `OutOfMemory` may come after the last step.
+pub fn reflink_hash_sync<S: Store, C: Clock, N: Names>(
+    env: &mut Env<S, C, N>,
+    cache: &str,
+    sri: &Integrity,
+    to: &str,
+) -> Result<()>
+    ensures formed { IsIntegrity sri.now }
+    ensures verified { IfOk result (λ _. Verified cache.now (Hash sri.now) Done
+        (S.log env.old.store) (S.log env.new.store)) }
+    ensures ran { Calls S.log env.old env.new cache.now
+        (checked Reflink (Hash sri.now) to.now) (reply_of done result) }
+{
+    let source = of_hash(sri)?;
+    linked(env, cache, source, How::Reflink, true, to)
+}
+
+/// Makes a file at this path that shares its storage with the content of the integrity. Nothing may stand there.
+/// Whether it meets the integrity isn't asked.
+///
+/// `IoError` says which step failed. Then nothing changed. `OutOfMemory` may come after the last step.
+pub fn reflink_hash_unchecked_sync<S: Store, C: Clock, N: Names>(
+    env: &mut Env<S, C, N>,
+    cache: &str,
+    sri: &Integrity,
+    to: &str,
+) -> Result<()>
+    ensures formed { IsIntegrity sri.now }
+    ensures ran { Calls S.log env.old env.new cache.now
+        (unchecked Reflink (Hash sri.now) to.now) (reply_of done result) }
+{
+    let source = of_hash(sri)?;
+    linked(env, cache, source, How::Reflink, false, to)
+}
+
+/// Gives the content of the integrity one more name, which is this path. Nothing may stand there. The content is read
+/// to its end first, and goes there only if it meets the integrity.
+///
+/// `IntegrityError` where the content doesn't meet the integrity, `IoError` says which step failed. Then nothing
+/// changed. `OutOfMemory` may come after the last step.
+pub fn hard_link_hash_sync<S: Store, C: Clock, N: Names>(
+    env: &mut Env<S, C, N>,
+    cache: &str,
+    sri: &Integrity,
+    to: &str,
+) -> Result<()>
+    ensures formed { IsIntegrity sri.now }
+    ensures verified { IfOk result (λ _. Verified cache.now (Hash sri.now) Done
+        (S.log env.old.store) (S.log env.new.store)) }
+    ensures ran { Calls S.log env.old env.new cache.now
+        (checked HardLink (Hash sri.now) to.now) (reply_of done result) }
+{
+    let source = of_hash(sri)?;
+    linked(env, cache, source, How::HardLink, true, to)
+}
+
+/// Gives the content of the integrity one more name, which is this path. Nothing may stand there. Whether it meets the
+/// integrity isn't asked.
+///
+/// `IoError` says which step failed. Then nothing changed. `OutOfMemory` may come after the last step.
+pub fn hard_link_hash_unchecked_sync<S: Store, C: Clock, N: Names>(
+    env: &mut Env<S, C, N>,
+    cache: &str,
+    sri: &Integrity,
+    to: &str,
+) -> Result<()>
+    ensures formed { IsIntegrity sri.now }
+    ensures ran { Calls S.log env.old env.new cache.now
+        (unchecked HardLink (Hash sri.now) to.now) (reply_of done result) }
+{
+    let source = of_hash(sri)?;
+    linked(env, cache, source, How::HardLink, false, to)
+}

@@ -1,0 +1,109 @@
+-- A content that was opened and read to its end gave the bytes that the cache held when it was opened.
+use Rattle.std.proofs.Common.{◌≡◌, ◌==◌, ◌<◌, ℕ, zero, suc, Bool, true, false, cond, List, [], ◌∷◌, ◌++◌, Option, None, Some, length, take, drop, take-append-drop, refl, sym, ap, subst, ◌∙◌, arith}
+use Rattle.std.specs.Prelude.{max}
+use Rattle.cacache_core.specs.declared.errors.Fault.TheVariants as faults
+use Rattle.cacache_store.specs.declared.store.plain.PlainFile.{PlainFile}
+use Rattle.cacache_store.specs.declared.store.step.Step.TheVariants as steps
+use Rattle.cacache_store.specs.declared.store.answer.Answer.TheVariants as answers
+use Rattle.cacache_store.specs.Plain.{PlainStep, PlainAnswer}
+use Rattle.cacache_disk.specs.declared.luck.Luck.{Luck}
+use Rattle.cacache_disk.specs.Tree.{Tree}
+use Rattle.cacache_disk.specs.Apply.{apply, given, readable, rest_of}
+use Rattle.cacache_table.specs.State.{State, doing, creating, writing, persisting, linking, confirming, appending, looking, reading, asking, sizing, opening_file, hashing, copying, walking, over, Errand, make_folder, remove, reflink, hard_link, Visit, enter, read_bucket, remove_file, remove_folder}
+use Rattle.cacache_table.specs.Common.{errand_step}
+use Rattle.cacache_table.specs.Runs.{Moves, Runs}
+use Rattle.cacache_table.specs.Table.{piece, wants, after}
+use Rattle.cacache_table.specs.Verifying.{Gives}
+use Rattle.cacache_table.specs.Walking.{visit_step}
+use Rattle.cacache_value.proofs.Shows.{apply_answer}
+use Rattle.cacache_table.proofs.Sound.{some_is}
+
+-- ---- each read asks for a whole piece
+
+abbrev pub AsksPiece : PlainStep → Type 0
+AsksPiece (steps.Read file max) = max ≡ piece
+AsksPiece step = Unit {0}
+
+errand_asks : (errand : Errand) → AsksPiece (errand_step errand)
+errand_asks (make_folder path) = tt
+errand_asks (remove path) = tt
+errand_asks (reflink from to) = tt
+errand_asks (hard_link from to) = tt
+
+visit_asks : (v : Visit) → AsksPiece (visit_step v)
+visit_asks (enter p level) = tt
+visit_asks (read_bucket p) = tt
+visit_asks (remove_file p) = tt
+visit_asks (remove_folder p) = tt
+
+state_asks : (s : State) (step : PlainStep) → wants s ≡ Some step → AsksPiece step
+state_asks (doing errand s) step w = some_is AsksPiece _ step w (errand_asks errand)
+state_asks (creating number c rest) step w = some_is AsksPiece _ step w tt
+state_asks (writing c file rest) step w = some_is AsksPiece (steps.Write file rest) step w tt
+state_asks (persisting c file) step w = some_is AsksPiece _ step w tt
+state_asks (linking c target) step w = some_is AsksPiece _ step w tt
+state_asks (confirming c fault) step w = some_is AsksPiece _ step w tt
+state_asks (appending i) step w = some_is AsksPiece _ step w tt
+state_asks (looking l) step w = some_is AsksPiece _ step w tt
+state_asks (reading k) step w = some_is AsksPiece _ step w tt
+state_asks (asking k) step w = some_is AsksPiece _ step w tt
+state_asks (sizing t) step w = some_is AsksPiece (steps.Size t.path) step w tt
+state_asks (opening_file h) step w = some_is AsksPiece _ step w tt
+state_asks (hashing h file bytes) step w = some_is AsksPiece (steps.Read file piece) step w refl
+state_asks (copying from to verified) step w = some_is AsksPiece _ step w tt
+state_asks (walking v visit todo) step w = some_is AsksPiece _ step w (visit_asks visit)
+state_asks (over reply) step w = absurd cc
+
+abbrev pub EachAsks : Moves → Type 0
+EachAsks [] = Unit {0}
+EachAsks (m ∷ moves) = AsksPiece m.0 × EachAsks moves
+
+pub run_asks : (s : State) (moves : Moves) (r : _) → Runs s moves r → EachAsks moves
+run_asks s [] r run = tt
+run_asks s (m ∷ moves) r run = (state_asks s m.0 run.0, run_asks (after s m.1) moves r run.2)
+
+-- ---- one read
+
+-- the answer gives the first of these bytes and a file of the rest, some where there are any
+abbrev pub GivesNext : List ℕ → PlainAnswer → Type 0
+GivesNext all (answers.Got file bytes) = (rest : List ℕ) × (file.bytes ≡ Some rest) × (bytes ++ rest ≡ all) × (bytes ≡ [] → all ≡ [])
+GivesNext all a = Unit {0}
+
+no_first : (size : ℕ) (all : List ℕ) → 0 < size → take size all ≡ [] → all ≡ []
+no_first zero all lt e = absurd (omega (arith, lt))
+no_first (suc size) [] lt e = refl
+no_first (suc size) (b ∷ bs) lt e = absurd cc
+
+given_next : (file : PlainFile) (size : ℕ) (all : List ℕ) → 0 < size → GivesNext all (given file size (Some all))
+given_next file size all lt = by (file.left == length all)
+  where
+    by : (b : Bool) → GivesNext all (cond b (answers.Got (rest_of all size) (take size all)) (answers.Failed faults.Closed))
+    by true = (drop size all, refl, take-append-drop size all, no_first size all lt)
+    by false = tt
+
+some_readable : (most : Option ℕ) (size : ℕ) → 0 < size → 0 < readable most size
+some_readable None size lt = lt
+some_readable (Some most) size lt = omega (arith, lt)
+
+next_given : (t : Tree) (file : PlainFile) (size : ℕ) (luck : Luck) (all : List ℕ) → file.bytes ≡ Some all → 0 < size → GivesNext all (apply t (steps.Read file size) luck).0
+next_given t file size luck all e lt =
+    apply_answer (GivesNext all) (λ fault. tt) t (steps.Read file size) luck
+    (λ most. subst (λ known. GivesNext all (given file (readable most size) known)) (sym e) (given_next file (readable most size) all (some_readable most size lt)))
+
+-- ---- reads to the end
+
+-- moves with the answers that a disk gave
+abbrev pub OnDisks : Moves → Type 0
+OnDisks [] = Unit {0}
+OnDisks (m ∷ moves) = ((t : Tree) × (luck : Luck) × (m.1 ≡ (apply t m.0 luck).0)) × OnDisks moves
+
+pub gives_all : (file : PlainFile) (bytes all : List ℕ) (moves : Moves) → file.bytes ≡ Some all → OnDisks moves → EachAsks moves → Gives file bytes moves → bytes ≡ all
+gives_all file bytes all ((steps.Read f max, answers.Got g []) ∷ moves) e disks asks h =
+    let n : GivesNext all (answers.Got g [])
+    = subst (GivesNext all) (sym disks.0.2) (next_given disks.0.0 f max disks.0.1 all (ap (λ x. x.bytes) h.0 ∙ e) (subst (λ k. 0 < k) (sym asks.0) (omega arith))) in
+    h.1 ∙ sym (n.3 refl)
+gives_all file bytes all ((steps.Read f max, answers.Got g (b ∷ bs)) ∷ moves) e disks asks h =
+    let n : GivesNext all (answers.Got g (b ∷ bs))
+    = subst (GivesNext all) (sym disks.0.2) (next_given disks.0.0 f max disks.0.1 all (ap (λ x. x.bytes) h.0 ∙ e) (subst (λ k. 0 < k) (sym asks.0) (omega arith))) in
+    h.2 ∙ ap (λ l. (b ∷ bs) ++ l) (gives_all g h.1 n.0 moves n.1 disks.1 asks.1 h.3) ∙ n.2
+gives_all file bytes all moves e disks asks h = absurd h

@@ -1,0 +1,61 @@
+-- Calls that read: they change nothing in the cache, and give bytes that meet their integrity.
+use Rattle.std.specs.Prelude.{◌≡◌, ℕ, List, ◌∷◌, Option, Some, Ok}
+use Rattle.sha1.specs.Sha1.{sha1}
+use Rattle.cacache_core.specs.Integrity.{Meets}
+use Rattle.cacache_store.specs.declared.store.step.Step.TheVariants as steps
+use Rattle.cacache_entry.specs.Latest.{Found}
+use Rattle.cacache_table.specs.declared.command.Command.{Command}
+use Rattle.cacache_table.specs.declared.command.Command.TheVariants as commands
+use Rattle.cacache_table.specs.declared.reply.Reply.{Reply}
+use Rattle.cacache_table.specs.declared.reply.Reply.TheVariants.{Read}
+use Rattle.cacache_table.specs.StepPaths.{bucket_path}
+use Rattle.cacache_table.specs.Replies.{lookup}
+use Rattle.cacache_value.specs.Acts.{Nothing, act_of}
+use Rattle.cacache_history.specs.Setup.{Setup}
+use Rattle.cacache_history.specs.History.{History, Turn, Call, Reaches}
+use Rattle.cacache_history.specs.Turns.{EachTurn}
+use Rattle.cacache_history.specs.ShownTurns.{bucket_read}
+
+-- ---- they change nothing
+
+-- a lookup, a read, a question, a listing or an export
+abbrev pub IsReading : Command → Type 0
+IsReading (commands.Find key) = Unit {0}
+IsReading (commands.Get key) = Unit {0}
+IsReading (commands.GetHash i) = Unit {0}
+IsReading (commands.Exists i) = Unit {0}
+IsReading commands.Ls = Unit {0}
+IsReading (commands.Export source e) = Unit {0}
+IsReading command = ⊥
+
+-- the turn's step does nothing to contents, buckets or folders
+abbrev pub TurnDoesNothing : Turn → Type 0
+TurnDoesNothing turn = act_of turn.move.step turn.move.luck turn.move.answer ≡ Nothing
+
+-- so it is of each turn of a call that reads, whether it is over or was left on its way
+abbrev pub ReadersDoNothing : History → Type 0
+ReadersDoNothing h =
+    (call : Call) (reply : Option Reply) → Reaches h call reply → IsReading call.command
+    → EachTurn TurnDoesNothing call.turns
+
+-- ---- they give bytes that meet their integrity
+
+-- the first turn read the key's bucket, and the lookup in it found what the bytes meet
+abbrev pub MeetsLookup : Setup → List ℕ → List Turn → List ℕ → Type 0
+MeetsLookup s key turns bytes =
+    (turn : Turn) × (more : List Turn) × (turns ≡ turn ∷ more)
+    × (turn.move.step ≡ steps.ReadAll (bucket_path s.cache key))
+    × (found : Found) × (lookup key (bucket_read s (sha1 key) turn) ≡ Ok (Some found))
+    × Meets found.integrity bytes
+
+-- bytes that a read may give
+abbrev pub IsVerified : Setup → Command → List Turn → List ℕ → Type 0
+IsVerified s (commands.GetHash i) turns bytes = Meets i bytes
+IsVerified s (commands.Get key) turns bytes = MeetsLookup s key turns bytes
+IsVerified s command turns bytes = ⊥
+
+-- a reply with bytes is that of a read, and they meet its integrity
+abbrev pub ReadsAreVerified : History → Type 0
+ReadsAreVerified h =
+    (call : Call) (bytes : List ℕ) → Reaches h call (Some (Read bytes))
+    → IsVerified h.setup call.command call.turns bytes

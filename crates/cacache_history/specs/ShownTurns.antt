@@ -1,0 +1,78 @@
+-- What the turns of a call show of what the cache holds at their places.
+use Rattle.std.specs.Prelude.{ℕ, List, [], ◌∷◌, Option, None, Some, Result, Ok, Err, Bool}
+use Rattle.cacache_core.specs.declared.errors.Fault.{Fault}
+use Rattle.cacache_core.specs.declared.errors.Fault.TheVariants as faults
+use Rattle.cacache_core.specs.declared.integrity.digest.Hash.{Hash}
+use Rattle.cacache_core.specs.Integrity.{address}
+use Rattle.cacache_store.specs.declared.store.answer.Answer.TheVariants as answers
+use Rattle.cacache_store.specs.Plain.{PlainAnswer}
+use Rattle.cacache_entry.specs.Entry.{Entry}
+use Rattle.cacache_table.specs.declared.answers.Refusal.{Refusal}
+use Rattle.cacache_table.specs.declared.answers.Refusal.TheVariants as refusals
+use Rattle.cacache_table.specs.Answers.{there_in}
+use Rattle.cacache_table.specs.State.{Item}
+use Rattle.cacache_table.specs.Walking.{items_of, failed}
+use Rattle.cacache_value.specs.Value.{Value, Blob, value_of_tree}
+use Rattle.cacache_value.specs.Acts.{list_of}
+use Rattle.cacache_value.specs.Shows.{blob_bytes, blob_there}
+use Rattle.cacache_history.specs.Setup.{Setup, home}
+use Rattle.cacache_history.specs.History.{Turn}
+
+-- ---- what the cache holds at a turn's place
+
+-- what the cache holds at the turn's place
+abbrev pub held : Setup → Turn → Value
+held s turn = value_of_tree (home s) turn.place
+
+-- the entries of a bucket, none where it doesn't exist
+abbrev pub entries_at : Setup → List ℕ → Turn → List Entry
+entries_at s digest turn = list_of ((held s turn).buckets digest)
+
+-- the content at an address, if any
+abbrev pub blob_at : Value → Option Hash → Option Blob
+blob_at v None = None
+blob_at v (Some h) = v.contents h
+
+-- the content of an integrity lies at its address
+abbrev pub content_at : Setup → List Hash → Turn → Option Blob
+content_at s i turn = blob_at (held s turn) (address i)
+
+-- ---- what a turn shows, by how its step was answered
+
+-- this, unless the step failed
+abbrev pub unless_failed : {X : Type 0} → PlainAnswer → Result X Refusal → Result X Refusal
+unless_failed (answers.Failed fault) r = Err (refusals.Fault fault)
+unless_failed (answers.NoMemory step) r = Err refusals.Memory
+unless_failed answer r = r
+
+-- that a file is missing isn't a failure here: it shows what is so
+abbrev pub shown : {X : Type 0} → PlainAnswer → Result X Refusal → Result X Refusal
+shown (answers.Failed faults.NotFound) r = r
+shown answer r = unless_failed answer r
+
+-- a fault, as why a step was refused
+abbrev pub as_refusal : {X : Type 0} → Result X Fault → Result X Refusal
+as_refusal (Ok x) = Ok x
+as_refusal (Err fault) = Err (refusals.Fault fault)
+
+-- the entries of a bucket
+abbrev pub bucket_read : Setup → List ℕ → Turn → Result (List Entry) Refusal
+bucket_read s digest turn = shown turn.move.answer (Ok (entries_at s digest turn))
+
+-- the bytes of a content, or why there are none
+abbrev pub content_read : Setup → List Hash → Turn → Result (List ℕ) Refusal
+content_read s i turn =
+    shown turn.move.answer (as_refusal (blob_bytes turn.place (content_at s i turn)))
+
+-- whether a content is there
+abbrev pub there_read : Setup → List Hash → Turn → Result Bool Refusal
+there_read s i turn =
+    unless_failed turn.move.answer (there_in (blob_there turn.place (content_at s i turn)))
+
+-- ---- what a bucket lists
+
+-- each key whose lookup is Some, or why it couldn't be read
+abbrev pub by_entries : Result (List Entry) Refusal → List Item
+by_entries (Ok entries) = items_of entries
+by_entries (Err (refusals.Fault fault)) = failed fault ∷ []
+by_entries (Err refusals.Memory) = []

@@ -1,0 +1,38 @@
+-- What a lookup answers by the one step that it makes, a read of the key's bucket; and tombstones.
+use Rattle.std.specs.Prelude.{◌≡◌, ◌≢◌, ◌⊎◌, ℕ, List, Option, None, Result, Ok, Err, option_map}
+use Rattle.cacache_core.specs.declared.errors.Error.{Error}
+use Rattle.cacache_core.specs.declared.errors.Error.TheVariants.{IoError, OutOfMemory}
+use Rattle.cacache_core.specs.declared.errors.Fault.TheVariants.{NotFound}
+use Rattle.cacache_store.specs.declared.store.answer.Answer.TheVariants as answers
+use Rattle.cacache_store.specs.declared.store.log.LogItem.{LogItem}
+use Rattle.cacache_store.specs.declared.store.step.Step.TheVariants as steps
+use Rattle.cacache_store.specs.Plain.{PlainAnswer}
+use Rattle.cacache_entry.specs.declared.metadata.Metadata.{Metadata}
+use Rattle.cacache_entry.specs.Bucket.{entries_of}
+use Rattle.cacache_entry.specs.Latest.{Found, latest}
+use Rattle.cacache_entry.specs.View.{found_view}
+use Rattle.cacache_table.specs.declared.command.Delete.{Delete}
+use Rattle.cacache_table.specs.StepPaths.{bucket_path}
+use Rattle.cacache_table.specs.SingleSteps.{Does}
+
+-- a tombstone of the key
+abbrev pub delete_of : List ℕ → ℕ → Delete
+delete_of key moment = record { key = key; moment = moment }
+
+module _ (cache key : List ℕ) (old new : Option (List LogItem)) where
+  -- the log gained one read of the key's whole bucket, with this answer
+  abbrev pub ReadsBucket : PlainAnswer → Type 0
+  ReadsBucket answer = Does (steps.ReadAll (bucket_path cache key)) answer old new
+
+  -- this is the lookup of the key in the entries that were read; a bucket that isn't there has none
+  abbrev pub Finds : Option Found → Type 0
+  Finds found =
+      ((bytes : List ℕ) × ReadsBucket (answers.Bytes bytes) × (found ≡ latest key (entries_of bytes)))
+      ⊎ (ReadsBucket (answers.Failed NotFound) × (found ≡ None))
+
+  -- what was found, or why the bucket couldn't be read; out of memory may come before the read or after it
+  abbrev pub LooksUp : Result (Option Metadata) Error → Type 0
+  LooksUp (Ok found) = Finds (option_map found_view found)
+  LooksUp (Err (IoError fault message)) = ReadsBucket (answers.Failed fault) × (fault ≢ NotFound)
+  LooksUp (Err OutOfMemory) = (new ≡ old) ⊎ ((answer : PlainAnswer) × ReadsBucket answer)
+  LooksUp (Err e) = ⊥

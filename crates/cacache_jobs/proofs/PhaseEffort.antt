@@ -1,0 +1,55 @@
+-- A phase's bound on its steps is that of its state.
+use Rattle.std.proofs.Common.{◌≡◌, ℕ, ◌+◌, List, Some, ap, sym, ◌∙◌}
+use Rattle.cacache_store.specs.declared.store.plain.PlainFile.{PlainFile}
+use Rattle.cacache_store.specs.declared.store.plain.PlainTemp.{PlainTemp}
+use Rattle.cacache_store.specs.Plain.{PlainStep}
+use Rattle.cacache_store.specs.declared.store.step.Step.TheVariants as steps
+use Rattle.cacache_table.specs.State.{State, Hashing, hashing}
+use Rattle.cacache_table.specs.Runs.{effort}
+use Rattle.cacache_table.specs.Table.{wants, piece}
+use Rattle.cacache_jobs.specs.declared.stage.Then.{Then}
+use Rattle.cacache_jobs.specs.declared.stage.Then.TheVariants as thens
+use Rattle.cacache_jobs.specs.declared.stage.Stage.{Stage}
+use Rattle.cacache_jobs.specs.declared.stage.Stage.TheVariants as stages
+use Rattle.cacache_jobs.specs.declared.phase.Phase.{Phase}
+use Rattle.cacache_jobs.specs.declared.phase.Phase.TheVariants as phases
+use Rattle.cacache_jobs.specs.JobStates.{ThenAt, StageAt, PhaseAt}
+use Rattle.cacache_jobs.specs.Effort.{then_effort, left_to_read, stage_effort, phase_effort}
+
+module _ {T : Type 0} (temp : T → PlainTemp) where
+  then_effort_is : (then : Then T) (s : State) → ThenAt temp then s → effort s ≡ then_effort then
+  then_effort_is (thens.Create c rest path) s e = ap effort e.2
+  then_effort_is (thens.Persist c file path) s e = ap effort e.1
+  then_effort_is (thens.Append i line path) s e = ap effort e.4
+  then_effort_is (thens.RemoveBucket content bucket) s e = ap effort e.3
+  then_effort_is (thens.Symlink c target path) s e = ap effort e.1
+  then_effort_is (thens.Finish removal) s e = ap effort e
+
+  -- a read's step tells how many bytes are left
+  read_effort : (h : Hashing) (file : PlainFile) (bytes : List ℕ) (step : PlainStep) (s : State) → s ≡ hashing h file bytes → wants s ≡ Some step → effort s ≡ left_to_read step + 6
+  read_effort h file bytes step s e w =
+      let same : Some (steps.Read file piece) ≡ Some step = ap wants (sym e) ∙ w in
+      let is : steps.Read file piece ≡ step = cc in
+      ap effort e ∙ ap (λ (x : PlainStep). left_to_read x + 6) is
+
+  stage_effort_is : (stage : Stage T) (step : PlainStep) (s : State) → StageAt temp stage s → wants s ≡ Some step → effort s ≡ stage_effort stage step
+  stage_effort_is (stages.Doing then) step s e w = rw e.3 (ap (λ n. n + 1) (then_effort_is then e.1 e.2))
+  stage_effort_is (stages.Creating c rest) step s e w = ap effort e.1
+  stage_effort_is (stages.Writing c rest) step s e w = ap effort e.1
+  stage_effort_is (stages.Persisting c) step s e w = ap effort e.1
+  stage_effort_is (stages.Confirming c target fault) step s e w = ap effort e
+  stage_effort_is (stages.Appending i size) step s e w = ap effort e.3
+  stage_effort_is (stages.Looking l) step s e w = ap effort e
+  stage_effort_is (stages.Reading k) step s e w = ap effort e
+  stage_effort_is (stages.Asking k) step s e w = ap effort e
+  stage_effort_is (stages.Sizing target) step s e w = ap effort e
+  stage_effort_is (stages.Opening h) step s e w = ap effort e.2
+  stage_effort_is (stages.Hashing h size) step s e w = read_effort e.0 e.4 e.1 step s e.5 w
+  stage_effort_is (stages.Copying from to verified) step s e w = ap effort e
+  stage_effort_is (stages.Linking c target) step s e w = ap effort e
+  stage_effort_is (stages.Walking walk v) step s e w = ap effort e.1
+
+-- a phase has the bound of its state
+pub phase_effort_is : {F T : Type 0} (file : F → PlainFile) (temp : T → PlainTemp) (p : Phase F T) (s : State) → PhaseAt file temp p s → phase_effort file temp p ≡ effort s
+phase_effort_is file temp (phases.Wanting stage step) s e = sym (stage_effort_is temp stage _ s e.state e.wanted)
+phase_effort_is file temp (phases.Over reply) s e = sym (ap effort e)

@@ -1,0 +1,17 @@
+-- Where a write leaves a commit.
+use Rattle.std.proofs.Common.{◌≡◌, ◌==◌, ℕ, List, [], ◌∷◌, true, false, length, refl, arith}
+use Rattle.std.proofs.lemmas.Bool.{eqb-true}
+use Rattle.cacache_store.specs.declared.store.plain.PlainTemp.{PlainTemp}
+use Rattle.cacache_table.specs.State.{Commit, writing}
+use Rattle.cacache_table.specs.Storing.{write_rest, persist}
+
+-- no bytes are left to write
+pub nothing_left : (c : Commit) (file : PlainTemp) (rest : List ℕ) → (length rest == 0) ≡ true → write_rest c file rest ≡ persist c file
+nothing_left c file [] e = refl
+nothing_left c file (b ∷ bs) e =
+    let none : length (b ∷ bs) ≡ 0 = eqb-true (length (b ∷ bs)) 0 e in absurd (omega arith)
+
+-- these bytes are left
+pub some_left : (c : Commit) (file : PlainTemp) (rest : List ℕ) → (length rest == 0) ≡ false → write_rest c file rest ≡ writing c file rest
+some_left c file [] e = absurd cc
+some_left c file (b ∷ bs) e = refl

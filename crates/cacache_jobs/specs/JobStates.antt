@@ -1,0 +1,154 @@
+-- Which state of the table a job stands in.
+use Rattle.std.specs.Prelude.{◌≡◌, ℕ, List, Option, Some, None, Result, Ok, Err, length, string_bytes, []}
+use Rattle.cacache_core.specs.declared.errors.Error.{Error}
+use Rattle.cacache_core.specs.declared.integrity.digest.Hash.{Hash}
+use Rattle.cacache_core.specs.Hashers.{Holds, algorithm_of}
+use Rattle.cacache_core.specs.Pieces.{Compares}
+use Rattle.cacache_store.specs.declared.store.plain.PlainFile.{PlainFile}
+use Rattle.cacache_store.specs.declared.store.plain.PlainTemp.{PlainTemp}
+use Rattle.cacache_store.specs.Plain.{PlainStep, plain_step}
+use Rattle.cacache_table.specs.StepPaths.{content_path, bucket_path, temp_path}
+use Rattle.cacache_table.specs.State as states
+use Rattle.cacache_table.specs.State.{State, doing, creating, writing, persisting, confirming, appending, looking, reading, asking, sizing, opening_file, hashing, copying, linking, over, Errand, to_report, to_read, to_export, to_remove, to_verify, to_link}
+use Rattle.cacache_table.specs.Inserting.{bucket_line}
+use Rattle.cacache_table.specs.Removing.{remove_bucket}
+use Rattle.cacache_table.specs.Runs.{plain_reply, EndsAs}
+use Rattle.cacache_table.specs.declared.reply.Reply.{Reply}
+use Rattle.cacache_table.specs.declared.reply.Reply.TheVariants.{Stored, Done}
+use Rattle.cacache_table.specs.Table.{wants}
+use Rattle.cacache_walks.specs.WalkStates.{WalksAt}
+use Rattle.cacache_jobs.specs.declared.storing.Commit.{Commit}
+use Rattle.cacache_jobs.specs.declared.inserting.Insertion.{Insertion}
+use Rattle.cacache_jobs.specs.declared.looking.Aim.{Aim}
+use Rattle.cacache_jobs.specs.declared.looking.Aim.TheVariants as aims
+use Rattle.cacache_jobs.specs.declared.looking.Lookup.{Lookup}
+use Rattle.cacache_jobs.specs.declared.reading.Content.{Content}
+use Rattle.cacache_jobs.specs.declared.linking.Target.{Target}
+use Rattle.cacache_jobs.specs.declared.hashing.Hashing.{Hashing}
+use Rattle.cacache_jobs.specs.declared.hashing.Hashing.TheVariants as hashings
+use Rattle.cacache_jobs.specs.declared.stage.Then.{Then}
+use Rattle.cacache_jobs.specs.declared.stage.Then.TheVariants as thens
+use Rattle.cacache_jobs.specs.declared.stage.Stage.{Stage}
+use Rattle.cacache_jobs.specs.declared.stage.Stage.TheVariants as stages
+use Rattle.cacache_jobs.specs.declared.phase.Phase.{Phase}
+use Rattle.cacache_jobs.specs.declared.phase.Phase.TheVariants as phases
+
+-- ---- what a stage carries, as the table has it
+
+-- a commit, as the table has it
+abbrev pub commit_of : Commit → states.Commit
+commit_of c = record {
+  cache = c.cache;
+  key = c.key;
+  computed = c.computed;
+  count = c.count;
+  moment = c.moment;
+  options = c.options;
+}
+
+-- what a key is looked up for, as the table has it
+abbrev pub aim_of : Aim → states.Aim
+aim_of aims.Report = to_report
+aim_of aims.Read = to_read
+aim_of (aims.Export export) = to_export export
+aim_of aims.Remove = to_remove
+
+-- a lookup, as the table has it
+abbrev pub lookup_of : Lookup → states.Lookup
+lookup_of l = record { cache = l.cache; key = l.key; aim = aim_of l.aim }
+
+-- a content, as the table has it
+abbrev pub content_of : Content → states.Content
+content_of k = record { cache = k.cache; integrity = k.integrity }
+
+-- what an insertion answers: this integrity, or a deletion nothing
+abbrev pub told : Option (List Hash) → Reply
+told (Some i) = Stored i
+told None = Done
+
+-- this entry is on its way, and so is this reply
+abbrev pub IsInsertion : Insertion → states.Insertion → Type 0
+IsInsertion i j =
+    (j.cache ≡ i.cache) × (j.entry.key ≡ string_bytes i.key) × (j.reply ≡ told i.integrity)
+
+-- a link's target, as the table has it
+abbrev pub target_of : Target → states.Target
+target_of t = record {
+  cache = t.cache;
+  key = t.key;
+  path = t.path;
+  moment = t.moment;
+  options = t.options;
+}
+
+-- a file is read for this, and these bytes of it were hashed
+abbrev pub HashesFor : Hashing → states.Hashing → List ℕ → Type 0
+HashesFor (hashings.Verify checker from export) h bytes =
+    (k : states.Content) × (h ≡ to_verify k export) × Compares checker k.integrity bytes
+    × (from ≡ content_path k.cache k.integrity)
+HashesFor (hashings.Link hasher target) h bytes =
+    (h ≡ to_link (target_of target)) × Holds hasher bytes
+    × (algorithm_of hasher ≡ target.options.algorithm)
+
+-- ---- of a stage
+
+-- what follows an errand; the path of the next step is kept
+abbrev pub ThenAt : {T : Type 0} → (T → PlainTemp) → Then T → State → Type 0
+ThenAt temp (thens.Create c rest path) s =
+    (number : ℕ) × (path ≡ temp_path c.value.cache number)
+    × (s ≡ creating number (commit_of c.value) rest)
+ThenAt temp (thens.Persist c file path) s =
+    (path ≡ content_path c.value.cache c.value.computed)
+    × (s ≡ persisting (commit_of c.value) (temp file))
+ThenAt temp (thens.Append i line path) s =
+    (j : states.Insertion) × IsInsertion i j × (line ≡ bucket_line j)
+    × (path ≡ bucket_path j.cache j.entry.key) × (s ≡ appending j)
+ThenAt temp (thens.RemoveBucket content bucket) s =
+    (cache : List ℕ) × (key : List ℕ) × (bucket ≡ bucket_path cache key)
+    × (s ≡ remove_bucket cache key)
+ThenAt temp (thens.Symlink c target path) s =
+    (path ≡ content_path c.value.cache c.value.computed)
+    × (s ≡ linking (commit_of c.value) target)
+ThenAt temp (thens.Finish last) s = s ≡ over Done
+
+-- the call is in this state while the stage's step is out
+abbrev pub StageAt : {T : Type 0} → (T → PlainTemp) → Stage T → State → Type 0
+StageAt temp (stages.Doing then) s =
+    (errand : Errand) × (next : State) × ThenAt temp then next × (s ≡ doing errand next)
+StageAt temp (stages.Creating c rest) s = (number : ℕ) × (s ≡ creating number (commit_of c.value) rest)
+StageAt temp (stages.Writing c rest) s = (file : PlainTemp) × (s ≡ writing (commit_of c.value) file rest)
+StageAt temp (stages.Persisting c) s = (file : PlainTemp) × (s ≡ persisting (commit_of c.value) file)
+StageAt temp (stages.Confirming c target fault) s = s ≡ confirming (commit_of c.value) fault
+StageAt temp (stages.Appending i size) s =
+    (j : states.Insertion) × IsInsertion i j × (size ≡ length (bucket_line j)) × (s ≡ appending j)
+StageAt temp (stages.Looking l) s = s ≡ looking (lookup_of l)
+StageAt temp (stages.Reading k) s = s ≡ reading (content_of k)
+StageAt temp (stages.Asking k) s = s ≡ asking (content_of k)
+StageAt temp (stages.Sizing t) s = s ≡ sizing (target_of t.value)
+StageAt temp (stages.Opening h) s =
+    (purpose : states.Hashing) × HashesFor h.value purpose [] × (s ≡ opening_file purpose)
+StageAt temp (stages.Hashing h size) s =
+    (purpose : states.Hashing) × (bytes : List ℕ) × HashesFor h.value purpose bytes
+    × (size ≡ length bytes) × (file : PlainFile) × (s ≡ hashing purpose file bytes)
+StageAt temp (stages.Copying from to verified) s = s ≡ copying from to verified
+StageAt temp (stages.Linking c target) s = s ≡ linking (commit_of c.value) target
+StageAt temp (stages.Walking w v) s = WalksAt [] w (Some v) s
+
+-- ---- of a phase
+
+-- the call is at this stage, and wants this step
+pub record IsAt {T : Type 0} (temp : T → PlainTemp) (stage : Stage T) (step : PlainStep)
+    (s : State) : Type 0 where
+  pub state : StageAt temp stage s
+  pub wanted : wants s ≡ Some step
+
+-- the call is in this state
+abbrev pub PhaseAt : {F T : Type 0} → (F → PlainFile) → (T → PlainTemp) → Phase F T → State → Type 0
+PhaseAt file temp (phases.Wanting stage step) s = IsAt temp stage (plain_step file temp step) s
+PhaseAt file temp (phases.Over reply) s = s ≡ over (plain_reply reply)
+
+-- the call goes on to this state, or out of memory ended it
+abbrev pub Leads :
+    {F T : Type 0} → (F → PlainFile) → (T → PlainTemp) → Result (Phase F T) Error → State → Type 0
+Leads file temp (Ok phase) s = PhaseAt file temp phase s
+Leads file temp (Err e) s = EndsAs e s

@@ -1,5 +1,0 @@
-use Rattle.cacache_laws.proofs.SingleCases.{folder_cases}
-use Rattle.cacache_laws.proofs.cases.folder_cases.Goals as goal
-
-pub returns : goal.returns
-returns c = folder_cases

@@ -1,5 +1,0 @@
-use Rattle.cacache_laws.proofs.SingleCases.{link_cases}
-use Rattle.cacache_laws.proofs.cases.link_cases.Goals as goal
-
-pub returns : goal.returns
-returns c = link_cases

@@ -1,5 +1,0 @@
-use Rattle.cacache_laws.proofs.SingleCases.{tree_cases}
-use Rattle.cacache_laws.proofs.cases.tree_cases.Goals as goal
-
-pub returns : goal.returns
-returns c = tree_cases

@@ -1,0 +1,2 @@
+mod VisitAnswers
+mod Filling

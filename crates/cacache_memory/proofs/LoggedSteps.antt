@@ -1,0 +1,13 @@
+-- What a log gains where the disk did the step.
+use Rattle.std.proofs.Common.{◌≡◌, false, List, [], ◌∷◌, ◌++◌, refl}
+use Rattle.std.specs.Prelude.{Some}
+use Rattle.cacache_store.specs.declared.store.log.LogItem.{LogItem}
+use Rattle.cacache_store.specs.declared.store.log.LogItem.TheVariants.{Made}
+use Rattle.cacache_store.specs.Plain.{PlainStep, PlainAnswer}
+use Rattle.cacache_store.specs.Fits.{Logs, is_no_memory}
+
+-- the log gains the step with the answer, of which it has a copy
+pub Logs-made : (log grown : List LogItem) (step : PlainStep) (answer copy : PlainAnswer)
+    → is_no_memory answer ≡ false → copy ≡ answer → grown ≡ log ++ Made step copy ∷ []
+    → Logs (Some log) (Some grown) step answer
+Logs-made log grown step answer copy done copied gained = rw (done, gained, copied) refl

@@ -1,0 +1,18 @@
+-- When nothing is planted.
+use Rattle.std.specs.Prelude.{◌≡◌, Option, None, Some, Result, Ok, Err}
+use Rattle.cacache_core.specs.declared.errors.Error.{Error}
+use Rattle.cacache_core.specs.declared.errors.Error.TheVariants.{IoError, OutOfMemory}
+use Rattle.cacache_core.specs.declared.errors.Fault.{Fault}
+use Rattle.cacache_store.specs.declared.store.answer.Answer.TheVariants.{Failed}
+use Rattle.cacache_store.specs.Plain.{PlainAnswer}
+
+-- an error that is the fault's, or comes from memory
+abbrev pub IsDueTo : Option Fault → Error → Type 0
+IsDueTo found (IoError fault message) = found ≡ Some fault
+IsDueTo found OutOfMemory = Unit {0}
+IsDueTo found _ = ⊥
+
+-- a call goes well only where there is no fault, and fails for the fault or for memory
+abbrev pub IsEarned : Option Fault → Result (Unit {0}) Error → Type 0
+IsEarned found (Ok done) = found ≡ None
+IsEarned found (Err error) = IsDueTo found error

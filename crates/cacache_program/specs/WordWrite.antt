@@ -1,0 +1,41 @@
+-- The word `write`.
+use Rattle.std.specs.Prelude.{◌≡◌, ◌⊎◌, ℕ, List, [], ◌∷◌, ◌++◌, Option, IfSome}
+use Rattle.cacache.specs.Integrities.{Sha256, integrity_under, integrity_text}
+use Rattle.cacache.specs.Stores.{LogItem}
+use Rattle.cacache.specs.Calls.{Env, Error, Reply, Stored, Refused, RunsPut, keyed_put}
+use Rattle.cacache_program.specs.Output.{PutsOut}
+
+-- the text of the integrity, and a line feed
+abbrev pub integrity_line : List ℕ → List ℕ
+integrity_line bytes = integrity_text (integrity_under Sha256 bytes) ++ 10 ∷ []
+
+-- the bytes are all that the input had to give, where that is known
+abbrev pub AreAllOf : Option (List ℕ) → List ℕ → Type 0
+AreAllOf input bytes = IfSome input (λ given. bytes ≡ given)
+
+-- what a put of these bytes puts out: the line of their integrity, or nothing if it was refused
+abbrev pub TellsPut : List ℕ → Reply → Option (List ℕ) → Option (List ℕ) → ℕ → Type 0
+TellsPut bytes reply before after status =
+    ((reply ≡ Stored (integrity_under Sha256 bytes))
+    × PutsOut (integrity_line bytes) before after status)
+    ⊎ ((error : Error) × (reply ≡ Refused error) × (status ≡ 1) × (after ≡ before))
+
+-- the log, the moments and the numbers are those of the environment, before and after
+module _ {S C N : Type 0} (log : S → Option (List LogItem))
+    (moments : C → Option (List ℕ)) (numbers : N → Option (List ℕ)) where
+  -- all of the input was put under the key, and the reply was told
+  abbrev pub Puts :
+      List ℕ → List ℕ → Option (List ℕ) → Env S C N → Env S C N
+      → Option (List ℕ) → Option (List ℕ) → ℕ → Type 0
+  Puts cache key input old new before after status =
+      (bytes : List ℕ) × (reply : Reply) × AreAllOf input bytes
+      × RunsPut log moments numbers old new cache (keyed_put Sha256 key bytes) reply
+      × TellsPut bytes reply before after status
+
+  -- so it was, or nothing was done, since the input failed
+  abbrev pub Writes :
+      List ℕ → List ℕ → Option (List ℕ) → Env S C N → Env S C N
+      → Option (List ℕ) → Option (List ℕ) → ℕ → Type 0
+  Writes cache key input old new before after status =
+      ((status ≡ 1) × (new ≡ old) × (after ≡ before))
+      ⊎ Puts cache key input old new before after status

@@ -1,0 +1,94 @@
+//! The word `storm`.
+ghost use Rattle.std.specs.Prelude.{◌≡◌, ◌≢◌, IfOk, IfSome, string_bytes, true};
+ghost use Rattle.std.specs.Str.{all_ascii_digits};
+ghost use Rattle.std.specs.Str.Parse.{digits_value};
+ghost use Rattle.cacache.specs.Shared.{Count};
+ghost use Rattle.cacache_program.specs.WordStorm.{Storms, TellsStorm, storm_text};
+
+use crate::output::{call_failed, misused, put_out, stream_failed};
+use cacache::errors::Error;
+use cacache::jobs::Open;
+use cacache::world::{Storm, StormFault};
+use std::alloc::{AllocError, Global};
+use std::io::Write;
+use std::sync::Wait;
+use std::thread::Threads;
+use std::time::Clock;
+
+/// Whether these bytes are decimal digits alone.
+fn are_digits(bytes: &[u8]) -> bool
+    ensures { result ≡ all_ascii_digits bytes.now }
+{
+    for byte in bytes {
+        if !byte.is_ascii_digit() {
+            return false;
+        }
+    }
+    true
+}
+
+/// The number that decimal digits alone give, if it has 64 bits.
+fn number_of(word: &str) -> Option<u64>
+    ensures digits { IfSome result (λ n. all_ascii_digits word.now ≡ true) }
+    ensures value { IfSome result (λ n. n ≡ digits_value 10 word.now) }
+{
+    if !are_digits(word.as_bytes()) {
+        return None;
+    }
+    word.parse::<u64>().ok()
+}
+
+/// What is printed of a storm: how many moves there were, and how many entries there are.
+fn text_of(alloc: Global, moves: u64, live: u64) -> Result<String, AllocError>
+    ensures { IfOk result (λ text. string_bytes text ≡ storm_text moves live) }
+{
+    format!(in alloc; "moves {moves}\nlive {live}\n")
+}
+
+/// Prints why a storm failed, and returns the status: that of wrong words for numbers out of range.
+fn storm_failed<E: Write>(errors: &mut E, fault: StormFault) -> u8
+    ensures count { fault ≡ Count → result ≡ 2 }
+    ensures other { fault ≢ Count → result ≡ 1 }
+{
+    match fault {
+        StormFault::Count => misused(errors),
+        StormFault::Mismatch => stream_failed(errors, b"storm: mismatch\n"),
+        StormFault::Quit => stream_failed(errors, b"storm: quit\n"),
+        StormFault::Failed(error) => call_failed(errors, &error),
+        StormFault::World(_) => stream_failed(errors, b"storm: world\n"),
+    }
+}
+
+/// Prints what a storm came to, and returns the status.
+fn tell<W: Write, E: Write>(alloc: Global, storm: Storm, output: &mut W, errors: &mut E) -> u8
+    ensures tells { TellsStorm (W.contents output.old) (W.contents output.new) result }
+    ensures quiet { result ≡ 0 → errors.new ≡ errors.old }
+{
+    match text_of(alloc, storm.moves, storm.live) {
+        Ok(text) => put_out(output, text.as_bytes(), errors),
+        Err(_) => call_failed(errors, &Error::OutOfMemory),
+    }
+}
+
+/// Runs a storm of so many threads with so many keys each, and prints what it came to. It waits until
+/// all threads are done.
+pub(crate) fn storm<T: Threads + Wait + Clock + AllocGlobal + Sync, W: Write, E: Write>(
+    rt: &T,
+    threads: &str,
+    keys: &str,
+    output: &mut W,
+    errors: &mut E,
+) -> u8
+    ensures does { Storms threads.now keys.now
+        (W.contents output.old) (W.contents output.new) result }
+    ensures same { result ≡ 2 → output.new ≡ output.old }
+    ensures quiet { result ≡ 0 → errors.new ≡ errors.old }
+{
+    let (Some(threads), Some(keys)) = (number_of(threads), number_of(keys)) else {
+        return misused(errors);
+    };
+    match cacache::world::storm(rt, threads, keys, &Open) {
+        Ok(storm) => tell(rt.alloc(), storm, output, errors),
+        Err(fault) => storm_failed(errors, fault),
+    }
+}

@@ -1,0 +1,27 @@
+-- What a link is asked to do, and what its integrity is that of.
+use Rattle.std.specs.Prelude.{◌≡◌, ℕ, List, ◌∷◌, Option}
+use Rattle.cacache_core.specs.declared.integrity.algorithm.Algorithm.TheVariants.{Sha256}
+use Rattle.cacache_core.specs.declared.integrity.digest.Hash.{Hash}
+use Rattle.cacache_core.specs.Integrity.{integrity_under}
+use Rattle.cacache_store.specs.declared.store.step.Step.TheVariants as steps
+use Rattle.cacache_store.specs.declared.store.answer.Answer.TheVariants as answers
+use Rattle.cacache_store.specs.declared.store.log.LogItem.{LogItem}
+use Rattle.cacache_table.specs.declared.command.Link.{Link}
+use Rattle.cacache_table.specs.Runs.{Moves, Gains}
+use Rattle.cacache_table.specs.Verifying.{ReadsWhole}
+use Rattle.cacache_table.specs.Blank.{blank}
+
+-- a link to a file; without a key the moment has no effect
+abbrev pub link_to : Option (List ℕ) → List ℕ → ℕ → Link
+link_to key target moment =
+    record { key = key; target = target; moment = moment; options = blank Sha256 }
+
+-- the size of the file was asked, and then it was read whole: the integrity is that of its bytes
+abbrev pub IsOfWhole : List ℕ → List Hash → Moves → Type 0
+IsOfWhole path i moves =
+    (n : ℕ) × (more : Moves) × (moves ≡ (steps.Size path, answers.Length n) ∷ more)
+    × ReadsWhole path (λ bytes. i ≡ integrity_under Sha256 bytes) more
+
+-- a log that is kept gained such moves
+abbrev pub HoldsTarget : List ℕ → List Hash → Option (List LogItem) → Option (List LogItem) → Type 0
+HoldsTarget path i old new = (moves : Moves) × Gains old new moves × IsOfWhole path i moves

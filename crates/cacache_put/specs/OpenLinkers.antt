@@ -1,0 +1,170 @@
+-- Links whose target is read in pieces before they are made.
+use Rattle.std.specs.Prelude.{◌≡◌, ◌⊎◌, ◌-◌, ◌^◌, ◌++◌, ℕ, List, [], Option, None, Some, Result, Ok, Err, length, min}
+use Rattle.cacache_core.specs.declared.errors.Error.{Error}
+use Rattle.cacache_core.specs.declared.integrity.digest.Hash.{Hash}
+use Rattle.cacache_core.specs.Hashers.{Holds, algorithm_of}
+use Rattle.cacache_store.specs.declared.env.Env.{Env}
+use Rattle.cacache_store.specs.declared.store.answer.Answer.TheVariants as answers
+use Rattle.cacache_store.specs.declared.store.log.LogItem.{LogItem}
+use Rattle.cacache_store.specs.declared.store.plain.PlainFile.{PlainFile}
+use Rattle.cacache_store.specs.declared.store.step.Step.TheVariants as steps
+use Rattle.cacache_table.specs.declared.command.Options.{Options}
+use Rattle.cacache_table.specs.declared.reply.Reply.{Reply}
+use Rattle.cacache_table.specs.declared.reply.Reply.TheVariants.{Stored, Refused}
+use Rattle.cacache_table.specs.Linking.{based, commit_for}
+use Rattle.cacache_table.specs.Promises.{Stores}
+use Rattle.cacache_table.specs.Runs.{Moves, Gains, Gone, Ran, without_message}
+use Rattle.cacache_table.specs.State.{State, sizing, opening_file, hashing, to_link, Target}
+use Rattle.cacache_table.specs.Verifying.{Gives}
+use Rattle.cacache_put.specs.declared.link_target.Linked.{Linked}
+use Rattle.cacache_put.specs.declared.linker.SyncToLinker.{SyncToLinker}
+use Rattle.cacache_content.specs.OpenReads.{OpensFile, FailsToOpen}
+use Rattle.cacache_table.specs.SingleSteps.{Does, FailsAt}
+use Rattle.cacache_put.specs.Options.{Said, options_of}
+use Rattle.cacache_jobs.specs.Environment.{HasMoment, KeepsRest}
+
+-- what is to be linked; without a key the time has no effect
+abbrev pub linked_to :
+    List ℕ → List ℕ → Option (List ℕ) → List ℕ → Option ℕ → Options → Linked
+linked_to base cache key target time options = record {
+  cache = cache;
+  key = key;
+  path = based base target;
+  time = time;
+  options = options;
+}
+
+-- the same by what was said of the link
+abbrev pub linked_by : List ℕ → List ℕ → Option (List ℕ) → List ℕ → Said → Linked
+linked_by base cache None target s = linked_to base cache None target (Some 0) (options_of s)
+linked_by base cache (Some key) target s =
+    linked_to base cache (Some key) target s.time (options_of s)
+
+-- the same with the size that the link is to have
+abbrev pub sized_link : Linked → ℕ → Linked
+sized_link l size = record l { options = record l.options { size = Some size } }
+
+-- the same as the target of a call at this moment
+abbrev pub target_at : Linked → ℕ → Target
+target_at l moment = record {
+  cache = l.cache;
+  key = l.key;
+  path = l.path;
+  moment = moment;
+  options = l.options;
+}
+
+-- ---- where a call with it begins
+
+-- the target's size is asked first
+abbrev pub asks_size : Linked → ℕ → State
+asks_size l moment = sizing (target_at l moment)
+
+-- it isn't
+abbrev pub asks_file : Linked → ℕ → State
+asks_file l moment = opening_file (to_link (target_at l moment))
+
+-- it was asked, and is the one that the link is to have; or why it wasn't told
+abbrev pub Sizes :
+    Linked → Result Linked Error → Option (List LogItem) → Option (List LogItem) → Type 0
+Sizes l (Ok sized) old new =
+    (sized.time ≡ l.time)
+    × ((moment : ℕ) → Gone (asks_size l moment) (asks_file sized moment) old new)
+Sizes l (Err e) old new = (moment : ℕ) → Ran (asks_size l moment) (Refused (without_message e)) old new
+
+-- ---- how far a linker is
+
+-- the linker took these bytes of its target so far
+abbrev pub HasHashed : {F : Type 0} → SyncToLinker F → List ℕ → Type 0
+HasHashed l bytes =
+    Holds l.hasher bytes × (algorithm_of l.hasher ≡ l.linked.options.algorithm)
+    × (l.count ≡ min (length bytes) (2 ^ 64 - 1))
+
+-- the linker took nothing yet, and is to make this link
+pub record IsNewLinker {F : Type 0} (linked : Linked) (l : SyncToLinker F) : Type 0 where
+  pub linked_is : l.linked ≡ linked
+  pub empty : HasHashed l []
+
+-- ---- the opening: before and after
+
+-- the target's size was asked, and is this
+abbrev pub HasSize : List ℕ → ℕ → Option (List LogItem) → Option (List LogItem) → Type 0
+HasSize path size old new = Does (steps.Size path) (answers.Length size) old new
+
+-- it wasn't told
+abbrev pub FailsToSize : List ℕ → Error → Option (List LogItem) → Option (List LogItem) → Type 0
+FailsToSize path e old new = FailsAt (steps.Size path) e old new
+
+-- what is to be linked, with the size that was asked; or why it has none
+abbrev pub AsksSize :
+    Linked → Result Linked Error → Option (List LogItem) → Option (List LogItem) → Type 0
+AsksSize l (Ok next) old new =
+    (size : ℕ) × (next ≡ sized_link l size) × HasSize l.path size old new
+AsksSize l (Err e) old new = FailsToSize l.path e old new
+
+module _ {F : Type 0} (file : F → PlainFile) where
+  -- the target was opened, of which the linker took nothing yet; or why it wasn't
+  abbrev pub OpensTarget :
+      Linked → Result (SyncToLinker F) Error → Option (List LogItem) → Option (List LogItem) → Type 0
+  OpensTarget linked (Ok l) old new =
+      IsNewLinker linked l × OpensFile linked.path (file l.file) old new
+  OpensTarget linked (Err e) old new = FailsToOpen linked.path e old new
+
+  -- its size was asked first, and is the one that the link is to have
+  abbrev pub OpensSized :
+      Linked → Result (SyncToLinker F) Error → Option (List LogItem) → Option (List LogItem) → Type 0
+  OpensSized linked (Ok l) old new =
+      (size : ℕ) × (mid : Option (List LogItem)) × HasSize linked.path size old mid
+      × OpensTarget (sized_link linked size) (Ok l) mid new
+  OpensSized linked (Err e) old new =
+      FailsToSize linked.path e old new
+      ⊎ ((size : ℕ) × (mid : Option (List LogItem)) × HasSize linked.path size old mid
+      × FailsToOpen linked.path e mid new)
+
+  module _ {S C N : Type 0} (log : S → Option (List LogItem)) where
+    -- the target was opened, and the environment stayed but for the store
+    abbrev pub OpensLink :
+        Env S C N → Env S C N → Linked → Result (SyncToLinker F) Error → Type 0
+    OpensLink old new linked r =
+        OpensTarget linked r (log old.store) (log new.store) × KeepsRest old new
+
+    -- the same after its size was asked
+    abbrev pub OpensWithSize :
+        Env S C N → Env S C N → Linked → Result (SyncToLinker F) Error → Type 0
+    OpensWithSize old new linked r =
+        OpensSized linked r (log old.store) (log new.store) × KeepsRest old new
+
+  -- ---- the opening as moves of a run
+
+  -- where the linker's call stands
+  abbrev pub stands_at : SyncToLinker F → List ℕ → ℕ → State
+  stands_at l bytes moment = hashing (to_link (target_at l.linked moment)) (file l.file) bytes
+
+  -- a linker that took nothing yet, with this time; or why there is none
+  abbrev pub OpensLinker :
+      Option ℕ → (ℕ → State) → Result (SyncToLinker F) Error
+      → Option (List LogItem) → Option (List LogItem) → Type 0
+  OpensLinker time start (Ok l) old new =
+      HasHashed l [] × (l.linked.time ≡ time)
+      × ((moment : ℕ) → Gone (start moment) (stands_at l [] moment) old new)
+  OpensLinker time start (Err e) old new =
+      (moment : ℕ) → Ran (start moment) (Refused (without_message e)) old new
+
+  -- what a commit does to the environment: it runs the rest of the call, of a moment that was set or
+  -- asked for once
+  abbrev pub CommitsLink :
+      {S C N : Type 0} → (S → Option (List LogItem)) → (C → Option (List ℕ))
+      → Env S C N → Env S C N → SyncToLinker F → List ℕ → Reply → Type 0
+  CommitsLink log moments old new l bytes reply =
+      (moment : ℕ) × HasMoment moments l.linked.time old.clock new.clock moment
+      × Ran (stands_at l bytes moment) reply (log old.store) (log new.store)
+      × (new.names ≡ old.names) × (new.base ≡ old.base)
+
+  -- a log that is kept gained moves that begin with reads of the target's rest, to its end: a commit of
+  -- all its bytes, those that were taken and the rest, stores this integrity
+  abbrev pub StoresWhole :
+      SyncToLinker F → List ℕ → List Hash → Option (List LogItem) → Option (List LogItem) → Type 0
+  StoresWhole l bytes i old new =
+      (moves : Moves) × Gains old new moves
+      × (rest : List ℕ) × Gives (file l.file) rest moves
+      × (moment : ℕ) × Stores (commit_for (target_at l.linked moment) (bytes ++ rest)) (Stored i)

@@ -1,0 +1,60 @@
+//! Links that are opened with options.
+ghost use Rattle.std.specs.Prelude.{None, Some};
+ghost use Rattle.cacache_put.specs.OpenLinkers.{OpensLink, OpensLinker, asks_file, linked_by, linked_to};
+ghost use Rattle.cacache_put.specs.Options.{options_of};
+
+use crate::link_target::Linked;
+use crate::linker::{SyncToLinker, open_target};
+use crate::opts::WriteOpts;
+use cacache_core::errors::Result;
+use cacache_core::keeping::beside;
+use cacache_core::text::Text;
+use cacache_store::env::{Clock, Env, Names};
+use cacache_store::store::Store;
+
+impl WriteOpts {
+    /// Opens the target of a link under the key, with these options. A target without a `/` in front starts at the base
+    /// folder of `env`. The link is made by the linker's `commit`.
+    ///
+    /// `IoError` says that the target couldn't be opened. Nothing changes.
+    pub fn link_to_sync<S: Store, C: Clock, N: Names>(
+        self,
+        env: &mut Env<S, C, N>,
+        cache: &str,
+        key: &str,
+        target: &str,
+    ) -> Result<SyncToLinker<S::File>>
+        ensures opens { OpensLink S.File.seen S.log env.old env.new (linked_by env.old.base cache.now
+            (Some key.now) target.now self) result }
+        ensures begins { OpensLinker S.File.seen self.time (asks_file (linked_to env.old.base
+            cache.now (Some key.now) target.now self.time (options_of self))) result
+            (S.log env.old.store) (S.log env.new.store) }
+    {
+        let alloc = env.alloc;
+        let time = self.set_time();
+        let (key, opts) = beside(Text::from_str(alloc, key), self)?;
+        let (options, key) = beside(opts.into_options(alloc), Some(key))?;
+        let linked = Linked::new(alloc, env.base.as_str(), cache, key, target, time, options)?;
+        open_target(alloc, &mut env.store, linked)
+    }
+
+    /// What `link_to_sync` does, without a key.
+    pub fn link_to_hash_sync<S: Store, C: Clock, N: Names>(
+        self,
+        env: &mut Env<S, C, N>,
+        cache: &str,
+        target: &str,
+    ) -> Result<SyncToLinker<S::File>>
+        ensures opens { OpensLink S.File.seen S.log env.old env.new (linked_by env.old.base cache.now
+            None target.now self) result }
+        ensures begins { OpensLinker S.File.seen (Some 0) (asks_file (linked_to env.old.base
+            cache.now None target.now (Some 0) (options_of self))) result
+            (S.log env.old.store) (S.log env.new.store) }
+    {
+        let alloc = env.alloc;
+        let options = self.into_options(alloc)?;
+        let base = env.base.as_str();
+        let linked = Linked::new(alloc, base, cache, None, target, Some(0), options)?;
+        open_target(alloc, &mut env.store, linked)
+    }
+}

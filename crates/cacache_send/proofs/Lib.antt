@@ -1,0 +1,9 @@
+pub mod Core
+pub mod Steps
+pub mod Disk
+pub mod Json
+pub mod Entry
+pub mod Commands
+pub mod Walks
+pub mod History
+pub mod Jobs

@@ -1,0 +1,80 @@
+-- Seats as contracts see them.
+use Rattle.std.specs.Prelude.{◌≡◌, ℕ, zero, suc, ◌+◌, List, [], ◌∷◌, ◌++◌, drop, map}
+use Rattle.cacache_disk.specs.declared.luck.Luck.{Luck}
+use Rattle.cacache_table.specs.declared.command.Command.{Command}
+use Rattle.cacache_table.specs.declared.reply.Reply.{Reply}
+use Rattle.cacache_history.specs.declared.record.Record.{Record}
+use Rattle.cacache_history.specs.declared.record.Record.TheVariants.{Began}
+use Rattle.cacache_history.specs.History.{History}
+use Rattle.cacache_world.specs.declared.event.Move.{Move}
+use Rattle.cacache_world.specs.declared.event.Move.TheVariants as told
+use Rattle.cacache_world.specs.WorldKept.{AddsRecord, MovesOn}
+use Rattle.cacache_agree.specs.Said.{said_command, said_reply}
+use Rattle.cacache_shared.specs.declared.seat.Went.{Went}
+use Rattle.cacache_shared.specs.declared.seat.Went.TheVariants.{More, Done}
+use Rattle.cacache_shared.specs.Lines.{moves_of, commands_of, replies_of}
+
+-- a caller, how many moves it made, what it began and what it was answered
+pub record Taken : Type 0 where
+  pub caller : ℕ
+  pub count : ℕ
+  pub commands : List Command
+  pub replies : List Reply
+
+-- a caller that began nothing yet since its seat was made
+abbrev pub fresh_seat : List Record → ℕ → Taken
+fresh_seat records n =
+    record { caller = n; count = moves_of n records; commands = []; replies = [] }
+
+-- one for each of the first callers
+abbrev pub fresh_seats : List Record → ℕ → List Taken
+fresh_seats records zero = []
+fresh_seats records (suc n) = fresh_seats records n ++ fresh_seat records n ∷ []
+
+-- ---- events
+
+-- with one command more
+abbrev pub with_command : Command → Taken → Taken
+with_command command seat = record seat { commands = seat.commands ++ command ∷ [] }
+
+-- with the reply of a move, where the call is over
+abbrev pub replies_after : Move → List Reply → List Reply
+replies_after told.More replies = replies
+replies_after (told.Done reply) replies = replies ++ reply ∷ []
+
+-- with one move more
+abbrev pub after_move : Move → Taken → Taken
+after_move move seat =
+    record seat { count = seat.count + 1; replies = replies_after move seat.replies }
+
+-- what is said of a move
+abbrev pub went_of : Move → Went
+went_of told.More = More
+went_of (told.Done reply) = Done
+
+-- the seat's caller begins the command in the world, and the seat notes it
+pub record SeatBegins (command : Command) (h h' : History) (old new : Taken) : Type 0 where
+  pub adds : AddsRecord h (Began old.caller command) h'
+  pub noted : new ≡ with_command command old
+
+-- the seat's caller makes a move with this luck in the world, and the seat counts it
+pub record SeatMoves (luck : Luck) (went : Went) (h h' : History) (old new : Taken) : Type 0 where
+  pub move : Move
+  pub moves : MovesOn h old.caller luck move h'
+  pub told : went ≡ went_of move
+  pub noted : new ≡ after_move move old
+
+-- one move more, and with Done one reply more
+abbrev pub SeatGoes : Went → Taken → Taken → Type 0
+SeatGoes More old new = new ≡ after_move told.More old
+SeatGoes Done old new = (reply : Reply) × (new ≡ after_move (told.Done reply) old)
+
+-- ---- at the close
+
+-- a seat counts its caller's moves, and agrees with the caller's records from this place on
+pub record SeatAgrees (from : ℕ) (records : List Record) (seat : Taken) : Type 0 where
+  pub count : seat.count ≡ moves_of seat.caller records
+  pub commands : map said_command seat.commands
+      ≡ map said_command (commands_of seat.caller (drop from records))
+  pub replies : map said_reply seat.replies
+      ≡ map said_reply (replies_of seat.caller (drop from records))

@@ -1,0 +1,77 @@
+//! What lies under the lock: each method is one hold of it.
+ghost use Rattle.std.specs.Prelude.{◌≡◌, ◌+◌, ◌<◌, ◌^◌, IfOk, OnOk, OnErr};
+ghost use Rattle.cacache_shared.specs.Lines.{moves};
+ghost use Rattle.cacache_shared.specs.Seats.{SeatBegins, SeatMoves};
+
+use crate::seat::{Seat, Went, note, note_reply, room_for};
+use cacache_core::keeping::let_go;
+use cacache_disk::Luck;
+use cacache_table::Command;
+use cacache_world::{World, WorldFault};
+use std::sync::ledger::{Book, Ledger};
+
+/// The world, and a book that counts its moves.
+#[derive(Drop)]
+pub(crate) struct Inside<L: Ledger> {
+    pub(crate) world: World,
+    pub(crate) book: Book<L>,
+    ghost counted: { moves world.records ≡ book.total },
+}
+
+impl<L: Ledger> Inside<L> {
+    /// A world, and a book that counts its moves.
+    pub(crate) fn new(world: World, book: Book<L>) -> Inside<L>
+        requires { moves world.records ≡ book.total }
+        ensures world { result.world ≡ world }
+        ensures book { result.book ≡ book }
+    {
+        Inside { world, book }
+    }
+
+    /// The seat's caller begins a call, which the seat notes.
+    #[tactic(auto, using(crate::proofs::Moves::began_counts))]
+    pub(crate) fn begin(&mut self, seat: &mut Seat<L>, command: Command) -> Result<(), WorldFault>
+        ensures begins { OnOk result
+            (SeatBegins command self.old.world self.new.world seat.old seat.new) }
+        ensures world { OnErr result (self.new.world ≡ self.old.world) }
+        ensures seat { OnErr result (seat.new ≡ seat.old) }
+    {
+        let kept = match room_for(&mut seat.commands, &command) {
+            Ok(kept) => kept,
+            Err(_) => {
+                let_go(command);
+                return Err(WorldFault::OutOfMemory);
+            }
+        };
+        match self.world.begin(seat.caller, command) {
+            Ok(()) => {
+                note(&mut seat.commands, kept);
+                Ok(())
+            }
+            Err(fault) => {
+                let_go(kept);
+                Err(fault)
+            }
+        }
+    }
+
+    /// The seat's caller makes one move, which the seat counts, with its reply where the call is over.
+    #[tactic(auto, using(crate::proofs::Moves::moved_counts, crate::proofs::Moves::moves_bound))]
+    pub(crate) fn go(&mut self, seat: &mut Seat<L>, luck: Luck) -> Result<Went, WorldFault>
+        ensures moves { IfOk result (λ went.
+            SeatMoves luck went self.old.world self.new.world seat.old seat.new) }
+        ensures world { OnErr result (self.new.world ≡ self.old.world) }
+        ensures seat { OnErr result (seat.new ≡ seat.old) }
+    {
+        if seat.replies.reserve(1).is_err() {
+            return Err(WorldFault::OutOfMemory);
+        }
+        let moved = self.world.move_one(seat.caller, luck)?;
+        // A list has fewer than 2^64 items, so that the count fits.
+        let _records = self.world.history().len();
+        self.book.add(&mut seat.share, 1);
+        self.book.audit(&mut seat.share);
+        seat.count += 1;
+        Ok(note_reply(&mut seat.replies, moved))
+    }
+}

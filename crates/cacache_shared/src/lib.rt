@@ -1,0 +1,21 @@
+//! A world that threads share: one lock, and a seat for each caller. And a storm of threads at one.
+#![tactic(auto)]
+
+mod agreeing;
+mod blank;
+mod closing;
+mod inside;
+mod lines;
+mod listing;
+mod outcome;
+mod running;
+mod seat;
+mod shared;
+mod storming;
+mod turns;
+
+pub use blank::Blank;
+pub use outcome::{Storm, StormFault};
+pub use seat::{Seat, Went};
+pub use shared::SharedWorld;
+pub use storming::storm;

@@ -1,0 +1,13 @@
+//! The time.
+ghost use Rattle.std.specs.Prelude.{ℕ, List, Option, None};
+ghost use Rattle.cacache_store.specs.Given.{AddsAnswer};
+
+/// Tells the time.
+pub trait Clock {
+    /// The answers so far, oldest first, if the clock keeps them.
+    ghost given: { Self → Option (List ℕ) } = { λ _. None };
+
+    /// The time in milliseconds since the start of 1970 (UTC).
+    fn now(&mut self) -> u64
+        ensures given { AddsAnswer (given self.old) (given self.new) result };
+}

@@ -1,0 +1,19 @@
+-- What holds wherever an answer leads.
+use Rattle.std.proofs.Common.{◌≡◌, Bool, true, false, cond, Result, Ok, Err, refl}
+use Rattle.cacache_core.specs.declared.errors.Fault.{Fault}
+use Rattle.cacache_core.specs.declared.errors.Error.TheVariants.{OutOfMemory}
+use Rattle.cacache_table.specs.declared.answers.Refusal.{Refusal}
+use Rattle.cacache_table.specs.declared.answers.Refusal.TheVariants as refusals
+use Rattle.cacache_table.specs.State.{State}
+use Rattle.cacache_table.specs.Common.{ends_with, go_on}
+use Rattle.cacache_table.specs.Walking.{failed}
+
+module _ (P : State → Type 0) where
+  pub cond_leads : (b : Bool) (s t : State) → (b ≡ true → P s) → (b ≡ false → P t) → P (cond b s t)
+  cond_leads true s t k l = k refl
+  cond_leads false s t k l = l refl
+
+  pub go_on_leads : {X : Type 0} (a : Result X Refusal) (failed : Fault → State) (next : X → State) → P (ends_with OutOfMemory) → ((fault : Fault) → P (failed fault)) → ((x : X) → a ≡ Ok x → P (next x)) → P (go_on a failed next)
+  go_on_leads (Ok x) failed next m f k = k x refl
+  go_on_leads (Err (refusals.Fault fault)) failed next m f k = f fault
+  go_on_leads (Err refusals.Memory) failed next m f k = m

@@ -1,0 +1,14 @@
+pub mod Branches
+pub mod Effort
+pub mod Memory
+pub mod Promises
+pub mod Replies
+pub mod Effects
+pub mod ListReplies
+pub mod Keys
+pub mod EarnedErrors
+pub mod Rows
+pub mod Sound
+pub mod Verifying
+pub mod Going
+pub mod ReplyKinds

@@ -1,0 +1,32 @@
+-- Out of memory ends every call, and nothing else leaves a call without a step.
+use Rattle.std.proofs.Common.{◌≡◌, Some, None, refl}
+use Rattle.cacache_core.specs.declared.errors.Error.{Error}
+use Rattle.cacache_core.specs.declared.errors.Error.TheVariants.{EntryNotFound, SizeMismatch, IoError, SerdeError, IntegrityError, OutOfMemory}
+use Rattle.cacache_store.specs.declared.store.answer.Answer.TheVariants as answers
+use Rattle.cacache_store.specs.Plain.{PlainStep}
+use Rattle.cacache_table.specs.declared.reply.Reply.{Reply}
+use Rattle.cacache_table.specs.declared.reply.Reply.TheVariants.{Refused}
+use Rattle.cacache_table.specs.Runs.{without_message}
+use Rattle.cacache_table.specs.State.{State, walking, over, enter, read_bucket, remove_file, remove_folder}
+use Rattle.cacache_table.specs.Table.{wants, after}
+
+pub no_memory_after : (s : State) (a b : PlainStep) → wants s ≡ Some a → after s (answers.NoMemory b) ≡ over (Refused OutOfMemory)
+no_memory_after (walking w (enter p level) todo) a b e = refl
+no_memory_after (walking w (read_bucket p) todo) a b e = refl
+no_memory_after (walking w (remove_file p) todo) a b e = refl
+no_memory_after (walking w (remove_folder p) todo) a b e = refl
+no_memory_after (over reply) a b e = absurd cc
+no_memory_after s a b e = refl
+
+pub wants_until_over : (s : State) → wants s ≡ None → (reply : Reply) × (s ≡ over reply)
+wants_until_over (over reply) e = (reply, refl)
+wants_until_over s e = absurd cc
+
+-- an error without its message says out of memory only where the error does
+pub memory_said : (e : Error) → Refused (without_message e) ≡ Refused OutOfMemory → e ≡ OutOfMemory
+memory_said (EntryNotFound cache key) said = absurd cc
+memory_said (SizeMismatch wanted actual) said = absurd cc
+memory_said (IoError fault message) said = absurd cc
+memory_said (SerdeError cause message) said = absurd cc
+memory_said (IntegrityError fault) said = absurd cc
+memory_said OutOfMemory said = refl

@@ -1,0 +1,21 @@
+use Rattle.cacache_table.proofs.Effects.{puts_commit}
+use Rattle.cacache_table.proofs.Effects.{links_commit}
+use Rattle.cacache_table.proofs.Effects.{inserts_send}
+use Rattle.cacache_table.proofs.Effects.{deletes_send}
+use Rattle.cacache_table.proofs.Effects.{errands_only_change}
+use Rattle.cacache_table.proofs.laws.effect_laws.Goals as goal
+
+pub returns-clause-puts : goal.returns-clause-puts
+returns-clause-puts c = puts_commit
+
+pub returns-clause-links : goal.returns-clause-links
+returns-clause-links c = links_commit
+
+pub returns-clause-inserts : goal.returns-clause-inserts
+returns-clause-inserts c = inserts_send
+
+pub returns-clause-deletes : goal.returns-clause-deletes
+returns-clause-deletes c = deletes_send
+
+pub returns-clause-errands : goal.returns-clause-errands
+returns-clause-errands c = errands_only_change

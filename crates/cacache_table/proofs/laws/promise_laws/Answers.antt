@@ -1,0 +1,15 @@
+use Rattle.cacache_table.proofs.Promises.{runs_keep, calls_answer}
+use Rattle.cacache_table.proofs.Verifying.{exports_verify, links_read_whole}
+use Rattle.cacache_table.proofs.laws.promise_laws.Goals as goal
+
+pub returns-clause-states : goal.returns-clause-states
+returns-clause-states c = runs_keep
+
+pub returns-clause-calls : goal.returns-clause-calls
+returns-clause-calls c = calls_answer
+
+pub returns-clause-exports : goal.returns-clause-exports
+returns-clause-exports c = exports_verify
+
+pub returns-clause-links : goal.returns-clause-links
+returns-clause-links c = links_read_whole

@@ -1,0 +1,15 @@
+-- Options of which nothing was said.
+use Rattle.std.specs.Prelude.{None}
+use Rattle.serde_json.specs.Data.{null}
+use Rattle.cacache_core.specs.declared.integrity.algorithm.Algorithm.{Algorithm}
+use Rattle.cacache_table.specs.declared.command.Options.{Options}
+
+-- nothing but the algorithm
+abbrev pub blank : Algorithm → Options
+blank a = record {
+  algorithm = a;
+  size = None;
+  integrity = None;
+  metadata = null;
+  raw_metadata = None;
+}

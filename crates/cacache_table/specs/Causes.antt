@@ -1,0 +1,50 @@
+-- A call's `IoError` has a cause: one of its own steps failed so, was short or took nothing, or a
+-- walk stumbled.
+use Rattle.std.specs.Prelude.{◌≡◌, ◌⊎◌, ◌<◌, [], ◌∷◌, length}
+use Rattle.cacache_core.specs.declared.errors.Fault.{Fault}
+use Rattle.cacache_core.specs.declared.errors.Fault.TheVariants as faults
+use Rattle.cacache_core.specs.declared.errors.Error.TheVariants.{IoError}
+use Rattle.cacache_store.specs.declared.store.answer.Answer.TheVariants as answers
+use Rattle.cacache_store.specs.declared.store.step.Step.TheVariants as steps
+use Rattle.cacache_store.specs.Plain.{PlainStep, PlainAnswer}
+use Rattle.cacache_table.specs.declared.command.Command.{Command}
+use Rattle.cacache_table.specs.declared.command.Command.TheVariants as commands
+use Rattle.cacache_table.specs.declared.reply.Reply.{Reply}
+use Rattle.cacache_table.specs.declared.reply.Reply.TheVariants.{Refused}
+use Rattle.cacache_table.specs.State.{Site}
+use Rattle.cacache_table.specs.Table.{opening}
+use Rattle.cacache_table.specs.Runs.{Moves, Runs}
+
+-- the answer to the step says this fault
+abbrev pub Faults : PlainStep → PlainAnswer → Fault → Type 0
+Faults a (answers.Failed f) fault = fault ≡ f
+Faults (steps.Append path line) (answers.Took n) fault =
+    (fault ≡ faults.ShortAppend) × (n < length line)
+Faults (steps.Write file bytes) (answers.Wrote g n) fault = (fault ≡ faults.WriteZero) × (n ≡ 0)
+Faults a t fault = ⊥
+
+-- one of the moves says it
+abbrev pub Faulted : Moves → Fault → Type 0
+Faulted [] fault = ⊥
+Faulted (m ∷ moves) fault = Faults m.0 m.1 fault ⊎ Faulted moves fault
+
+-- an `IoError` has a fault of the call's own, or one of its steps'
+abbrev pub HasCause : (Fault → Type 0) → Moves → Reply → Type 0
+HasCause own moves (Refused (IoError fault message)) = own fault ⊎ Faulted moves fault
+HasCause own moves r = Unit {0}
+
+-- a walk's own faults
+abbrev pub OfWalk : Fault → Type 0
+OfWalk fault = (fault ≡ faults.TooDeep) ⊎ (fault ≡ faults.NotADirectory)
+
+-- the faults that a command has beside those of its steps
+abbrev pub own_of : Command → Fault → Type 0
+own_of commands.Clear fault = OfWalk fault
+own_of commands.Ls fault = OfWalk fault
+own_of command fault = ⊥
+
+-- each `IoError` that a call answers has a cause
+abbrev pub IoErrorsHaveCauses : Type 0
+IoErrorsHaveCauses =
+    (site : Site) (command : Command) (moves : Moves) (r : Reply)
+    → Runs (opening site command) moves r → HasCause (own_of command) moves r

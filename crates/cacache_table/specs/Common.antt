@@ -1,0 +1,36 @@
+-- Where an answer takes a call, in the words that all calls share. An error's message is left out.
+use Rattle.std.specs.Prelude.{[], Result, Ok, Err}
+use Rattle.cacache_core.specs.declared.errors.Fault.{Fault}
+use Rattle.cacache_core.specs.declared.errors.Error.{Error}
+use Rattle.cacache_core.specs.declared.errors.Error.TheVariants.{IoError, OutOfMemory}
+use Rattle.cacache_store.specs.declared.store.step.Step.TheVariants as steps
+use Rattle.cacache_store.specs.Plain.{PlainStep}
+use Rattle.cacache_table.specs.declared.answers.Refusal.{Refusal}
+use Rattle.cacache_table.specs.declared.answers.Refusal.TheVariants as refusals
+use Rattle.cacache_table.specs.declared.reply.Reply.TheVariants.{Refused}
+use Rattle.cacache_table.specs.State.{State, over, Errand, make_folder, remove, reflink, hard_link}
+
+-- the call is over with this error
+abbrev pub ends_with : Error → State
+ends_with e = over (Refused e)
+
+-- a step of the call failed
+abbrev pub fails : Fault → State
+fails fault = ends_with (IoError fault [])
+
+-- a fault goes to `failed`; out of memory ends every call
+abbrev pub refuse : Refusal → (Fault → State) → State
+refuse (refusals.Fault fault) failed = failed fault
+refuse refusals.Memory failed = ends_with OutOfMemory
+
+-- what was answered goes to `next`
+abbrev pub go_on : {X : Type 0} → Result X Refusal → (Fault → State) → (X → State) → State
+go_on (Ok x) failed next = next x
+go_on (Err refusal) failed next = refuse refusal failed
+
+-- the step of an errand
+abbrev pub errand_step : Errand → PlainStep
+errand_step (make_folder path) = steps.MakeDirs path
+errand_step (remove path) = steps.RemoveFile path
+errand_step (reflink from to) = steps.Reflink from to
+errand_step (hard_link from to) = steps.HardLink from to

@@ -1,0 +1,24 @@
+-- Reads of contents, and the question whether one is there.
+use Rattle.std.specs.Prelude.{ℕ, List, Bool, false, if◌then◌else◌}
+use Rattle.cacache_core.specs.declared.errors.Fault.{Fault}
+use Rattle.cacache_core.specs.declared.errors.IntegrityFault.TheVariants.{Check}
+use Rattle.cacache_core.specs.declared.errors.Error.TheVariants.{IntegrityError}
+use Rattle.cacache_core.specs.Integrity.{actual}
+use Rattle.cacache_table.specs.declared.reply.Reply.TheVariants.{Read, Exists}
+use Rattle.cacache_core.specs.Meeting.{meets}
+use Rattle.cacache_table.specs.State.{State, over, Content}
+use Rattle.cacache_table.specs.Common.{ends_with}
+
+-- only bytes that meet the integrity are answered
+abbrev pub checked : Content → List ℕ → State
+checked k bytes =
+    if meets k.integrity bytes then over (Read bytes)
+    else ends_with (IntegrityError (Check k.integrity (actual k.integrity bytes)))
+
+-- whether the content is there, as the store says
+abbrev pub is_there : Bool → State
+is_there there = over (Exists there)
+
+-- after a failed question nothing is there
+abbrev pub is_absent : Fault → State
+is_absent fault = over (Exists false)

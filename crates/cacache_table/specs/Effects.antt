@@ -1,0 +1,149 @@
+-- What the steps of a call do to contents and buckets, and the cases of a commit: nothing; its
+-- content; or its content and then its entry.
+use Rattle.std.specs.Prelude.{◌≡◌, ◌⊎◌, ◌≤◌, ◌<◌, ◌^◌, ℕ, List, [], ◌∷◌, Option, None, Some, Result, Ok, Err, Bool, true, false, length}
+use Rattle.cacache_store.specs.declared.store.answer.Answer.TheVariants as answers
+use Rattle.cacache_store.specs.declared.store.step.Step.TheVariants as steps
+use Rattle.cacache_store.specs.Plain.{PlainStep, PlainAnswer}
+use Rattle.cacache_table.specs.declared.answers.Refusal.{Refusal}
+use Rattle.cacache_table.specs.declared.command.Command.TheVariants as commands
+use Rattle.cacache_table.specs.declared.command.Put.{Put}
+use Rattle.cacache_table.specs.declared.command.Link.{Link}
+use Rattle.cacache_table.specs.declared.command.Insert.{Insert}
+use Rattle.cacache_table.specs.declared.command.Delete.{Delete}
+use Rattle.cacache_table.specs.declared.reply.Reply.{Reply}
+use Rattle.cacache_table.specs.declared.reply.Reply.TheVariants.{Refused}
+use Rattle.cacache_table.specs.Answers.{done_in, there_in}
+use Rattle.cacache_table.specs.StepPaths.{content_path, bucket_path}
+use Rattle.cacache_table.specs.State.{Site, Commit, Insertion, Target, Errand}
+use Rattle.cacache_table.specs.Common.{errand_step}
+use Rattle.cacache_table.specs.Inserting.{bucket_line, refused_cause, insertion, deletion}
+use Rattle.cacache_table.specs.Storing.{insertion_of, put_commit}
+use Rattle.cacache_table.specs.Linking.{commit_for, link_target}
+use Rattle.cacache_table.specs.Table.{opening}
+use Rattle.cacache_table.specs.Runs.{Moves, Runs}
+
+-- ---- what steps do
+
+-- what a step of a call did
+pub data Effect : Type 0 where
+  -- a content was put at this path, or found there
+  stored : List ℕ → Effect
+  -- a line was sent to the bucket at this path, with this answer
+  sent : List ℕ → List ℕ → PlainAnswer → Effect
+  -- something was removed, or written elsewhere
+  changed : PlainStep → Effect
+
+-- the effect of a step that is done, before those of later steps
+abbrev pub if_done : Result (Unit {0}) Refusal → Effect → List Effect → List Effect
+if_done (Ok done) effect effects = effect ∷ effects
+if_done (Err refusal) effect effects = effects
+
+-- the effect of a question that was answered yes, before those of later steps
+abbrev pub if_there : Result Bool Refusal → Effect → List Effect → List Effect
+if_there (Ok true) effect effects = effect ∷ effects
+if_there (Ok false) effect effects = effects
+if_there (Err refusal) effect effects = effects
+
+-- the effect of a step, before those of later steps; folders, temporary files and reads have none
+abbrev pub effect : PlainStep → PlainAnswer → List Effect → List Effect
+effect (steps.Persist file path) t later = if_done (done_in t) (stored path) later
+effect (steps.Symlink target path) t later = if_done (done_in t) (stored path) later
+effect (steps.Exists path) t later = if_there (there_in t) (stored path) later
+effect (steps.Append path line) t later = sent path line t ∷ later
+effect (steps.Copy from to) t later = changed (steps.Copy from to) ∷ later
+effect (steps.Reflink from to) t later = changed (steps.Reflink from to) ∷ later
+effect (steps.HardLink from to) t later = changed (steps.HardLink from to) ∷ later
+effect (steps.RemoveFile path) t later = changed (steps.RemoveFile path) ∷ later
+effect (steps.RemoveDir path) t later = changed (steps.RemoveDir path) ∷ later
+effect step t later = later
+
+-- the effects of all steps, in order
+abbrev pub effects_of : Moves → List Effect
+effects_of [] = []
+effects_of (m ∷ moves) = effect m.0 m.1 (effects_of moves)
+
+-- ---- the cases
+
+-- the call was refused
+abbrev pub IsRefused : Reply → Type 0
+IsRefused (Refused e) = Unit {0}
+IsRefused r = ⊥
+
+-- no effect, and a refusal
+abbrev pub DoesNothing : List Effect → Reply → Type 0
+DoesNothing effects r = (effects ≡ []) × IsRefused r
+
+-- the answer says that the whole line was taken
+abbrev pub TookAll : List ℕ → PlainAnswer → Type 0
+TookAll line (answers.Took n) = length line ≤ n
+TookAll line t = ⊥
+
+-- an append that isn't known to have taken the whole line is refused
+abbrev pub Sends : List ℕ → List ℕ → List Effect → Reply → Type 0
+Sends path line effects r =
+    (t : PlainAnswer) × (effects ≡ sent path line t ∷ []) × (IsRefused r ⊎ TookAll line t)
+
+-- an insertion whose entry can be written sends its line, or is refused before
+abbrev pub Inserts : Insertion → List Effect → Reply → Type 0
+Inserts i effects r =
+    DoesNothing effects r
+    ⊎ ((refused_cause i ≡ None) × Sends (bucket_path i.cache i.entry.key) (bucket_line i) effects r)
+
+-- once the content is there: with a key the entry follows; where it doesn't, the commit is refused
+abbrev pub Indexes : Commit → Option (List ℕ) → List Effect → Reply → Type 0
+Indexes c None effects r = effects ≡ []
+Indexes c (Some key) effects r = Inserts (insertion_of c key) effects r
+
+-- nothing, and the commit is refused; or the content, and what follows it
+abbrev pub Commits : Commit → List Effect → Reply → Type 0
+Commits c effects r =
+    DoesNothing effects r
+    ⊎ ((more : List Effect)
+    × (effects ≡ stored (content_path c.cache c.computed) ∷ more) × Indexes c c.key more r)
+
+-- a link's commit is that of the bytes that were read
+abbrev pub Links : Target → List Effect → Reply → Type 0
+Links t effects r =
+    DoesNothing effects r
+    ⊎ ((bytes : List ℕ) × (length bytes < 2 ^ 64) × Commits (commit_for t bytes) effects r)
+
+-- ---- laws
+
+-- each put does one of the cases of its commit
+abbrev pub PutsCommit : Type 0
+PutsCommit =
+    (site : Site) (p : Put) (moves : Moves) (r : Reply)
+    → Runs (opening site (commands.Put p)) moves r
+    → Commits (put_commit site.cache p) (effects_of moves) r
+
+-- each link does one of the cases of a link's commit
+abbrev pub LinksCommit : Type 0
+LinksCommit =
+    (site : Site) (l : Link) (moves : Moves) (r : Reply)
+    → Runs (opening site (commands.Link l)) moves r
+    → Links (link_target site l) (effects_of moves) r
+
+-- each insertion sends its line once, or is refused and does nothing
+abbrev pub InsertsSend : Type 0
+InsertsSend =
+    (site : Site) (i : Insert) (moves : Moves) (r : Reply)
+    → Runs (opening site (commands.Insert i)) moves r
+    → Inserts (insertion site.cache i) (effects_of moves) r
+
+-- so does each deletion, and its line is a tombstone
+abbrev pub DeletesSend : Type 0
+DeletesSend =
+    (site : Site) (d : Delete) (moves : Moves) (r : Reply)
+    → Runs (opening site (commands.Delete d)) moves r
+    → Inserts (deletion site.cache d) (effects_of moves) r
+
+-- it stores no content and sends no line
+abbrev pub OnlyChanges : List Effect → Type 0
+OnlyChanges [] = Unit {0}
+OnlyChanges (stored path ∷ effects) = ⊥
+OnlyChanges (sent path line t ∷ effects) = ⊥
+OnlyChanges (changed step ∷ effects) = OnlyChanges effects
+
+-- errands store no content and send no line
+abbrev pub ErrandsOnlyChange : Type 0
+ErrandsOnlyChange = (e : Errand) (t : PlainAnswer) → OnlyChanges (effect (errand_step e) t [])

@@ -1,0 +1,38 @@
+-- Exports: an unchecked one is one step; a checked one reads the content to its end first.
+use Rattle.std.specs.Prelude.{ℕ, List, Option, None, Some, if◌then◌else◌, length}
+use Rattle.cacache_core.specs.declared.errors.IntegrityFault.TheVariants.{Check}
+use Rattle.cacache_core.specs.declared.errors.Error.TheVariants.{IntegrityError}
+use Rattle.cacache_core.specs.Integrity.{actual}
+use Rattle.cacache_table.specs.declared.command.How.{How}
+use Rattle.cacache_table.specs.declared.command.How.TheVariants.{Copy, Reflink, HardLink}
+use Rattle.cacache_table.specs.declared.command.Export.{Export}
+use Rattle.cacache_table.specs.declared.reply.Reply.TheVariants.{Done}
+use Rattle.cacache_core.specs.Meeting.{meets}
+use Rattle.cacache_table.specs.StepPaths.{content_path}
+use Rattle.cacache_table.specs.State.{State, doing, opening_file, copying, over, Content, to_verify, reflink, hard_link}
+use Rattle.cacache_table.specs.Common.{ends_with}
+
+-- an export of the file at a path, with the count that was verified, if any
+abbrev pub export_from : How → List ℕ → List ℕ → Option ℕ → State
+export_from Copy from to verified = copying from to verified
+export_from Reflink from to verified = doing (reflink from to) (over Done)
+export_from HardLink from to verified = doing (hard_link from to) (over Done)
+
+-- an export of a content
+abbrev pub export_content : Content → Export → Option ℕ → State
+export_content k e verified = export_from e.how (content_path k.cache k.integrity) e.to verified
+
+-- a checked export reads the content first
+abbrev pub export : Content → Export → State
+export k e = if e.checked then opening_file (to_verify k e) else export_content k e None
+
+-- only bytes that meet the integrity are exported
+abbrev pub verified : Content → Export → List ℕ → State
+verified k e bytes =
+    if meets k.integrity bytes then export_content k e (Some (length bytes))
+    else ends_with (IntegrityError (Check k.integrity (actual k.integrity bytes)))
+
+-- a copy answers the count that was verified, and else its own
+abbrev pub counted : Option ℕ → ℕ → ℕ
+counted None n = n
+counted (Some verified) n = verified

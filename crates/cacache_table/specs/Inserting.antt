@@ -1,0 +1,98 @@
+-- Insertions: the test of the entry, the bucket's folder, one append.
+use Rattle.std.specs.Prelude.{ℕ, List, [], ◌∷◌, Option, None, Some, if◌then◌else◌, nat_le, length}
+use Rattle.serde_json.specs.Data.{null}
+use Rattle.cacache_core.specs.declared.errors.Fault.TheVariants as faults
+use Rattle.cacache_core.specs.declared.errors.SerdeCause.{SerdeCause}
+use Rattle.cacache_core.specs.declared.errors.Error.TheVariants.{SerdeError}
+use Rattle.cacache_core.specs.declared.integrity.digest.Hash.{Hash}
+use Rattle.cacache_core.specs.declared.integrity.algorithm.Algorithm.TheVariants.{Sha1}
+use Rattle.cacache_core.specs.Integrity.{hash_of}
+use Rattle.cacache_core.specs.Texts.{integrity_text}
+use Rattle.cacache_entry.specs.Entry.{Entry, line_of}
+use Rattle.cacache_entry.specs.FittingEntries.{cause_of}
+use Rattle.cacache_table.specs.declared.command.Options.{Options}
+use Rattle.cacache_table.specs.declared.command.Insert.{Insert}
+use Rattle.cacache_table.specs.declared.command.Delete.{Delete}
+use Rattle.cacache_table.specs.declared.reply.Reply.TheVariants.{Stored, Done}
+use Rattle.cacache_table.specs.StepPaths.{bucket_folder}
+use Rattle.cacache_table.specs.State.{State, doing, appending, over, Insertion, make_folder}
+use Rattle.cacache_table.specs.Common.{ends_with, fails}
+
+-- the line that is appended, and why it can't be written, if so
+unfoldable pub bucket_line : Insertion → List ℕ
+bucket_line i = line_of i.entry
+
+-- why the entry can't be written, if so
+unfoldable pub refused_cause : Insertion → Option SerdeCause
+refused_cause i = cause_of i.entry
+
+-- an entry that can't be written is refused before any step
+abbrev pub unless_refused : Insertion → Option SerdeCause → State
+unless_refused i None = doing (make_folder (bucket_folder i.cache i.entry.key)) (appending i)
+unless_refused i (Some cause) = ends_with (SerdeError cause [])
+
+-- where an insertion begins
+abbrev pub insert : Insertion → State
+insert i = unless_refused i (refused_cause i)
+
+-- an append that took less than the line isn't continued
+abbrev pub after_append : Insertion → ℕ → State
+after_append i n =
+    if nat_le (length (bucket_line i)) n then over i.reply else fails faults.ShortAppend
+
+-- ---- where the calls begin
+
+-- the entry that these options describe
+abbrev pub entry_of : List ℕ → Option (List ℕ) → ℕ → ℕ → Options → Entry
+entry_of key integrity size moment o = record {
+  key = key;
+  integrity = integrity;
+  time = moment;
+  size = size;
+  metadata = o.metadata;
+  raw_metadata = o.raw_metadata;
+}
+
+-- the integrity that an insertion without one answers: `sha1-deadbeef`
+abbrev pub no_integrity : List Hash
+no_integrity = hash_of Sha1 (117 ∷ 230 ∷ 157 ∷ 109 ∷ 231 ∷ 159 ∷ []) ∷ []
+
+-- an integrity, unless another one was given
+abbrev pub given_or : List Hash → Option (List Hash) → List Hash
+given_or i None = i
+given_or i (Some j) = j
+
+-- the text of an integrity that was given
+abbrev pub given_text : Option (List Hash) → Option (List ℕ)
+given_text None = None
+given_text (Some i) = Some (integrity_text i)
+
+-- the size that was given, and else 0
+abbrev pub given_size : Option ℕ → ℕ
+given_size None = 0
+given_size (Some n) = n
+
+-- an insertion by its options; without an integrity it is a tombstone
+abbrev pub insertion : List ℕ → Insert → Insertion
+insertion cache i =
+    let o = i.options in
+    record {
+      cache = cache;
+      entry = entry_of i.key (given_text o.integrity) (given_size o.size) i.moment o;
+      reply = Stored (given_or no_integrity o.integrity);
+    }
+
+-- a tombstone
+abbrev pub deletion : List ℕ → Delete → Insertion
+deletion cache d = record {
+  cache = cache;
+  entry = record {
+    key = d.key;
+    integrity = None;
+    time = d.moment;
+    size = 0;
+    metadata = null;
+    raw_metadata = None;
+  };
+  reply = Done;
+}

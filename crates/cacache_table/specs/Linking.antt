@@ -1,0 +1,61 @@
+-- Links: the target is read to its end, and a link to it becomes the content.
+use Rattle.std.specs.Prelude.{ℕ, ◌==◌, List, [], ◌∷◌, ◌++◌, Some, if◌then◌else◌, length}
+use Rattle.cacache_core.specs.Integrity.{integrity_under}
+use Rattle.cacache_core.specs.Paths.{join}
+use Rattle.cacache_store.specs.declared.store.plain.PlainFile.{PlainFile}
+use Rattle.cacache_table.specs.declared.command.Link.{Link}
+use Rattle.cacache_table.specs.StepPaths.{content_path}
+use Rattle.cacache_table.specs.State.{State, opening_file, hashing, Site, Commit, Target, Hashing, to_verify, to_link}
+use Rattle.cacache_table.specs.Storing.{link}
+use Rattle.cacache_table.specs.Exporting.{verified}
+
+-- a target that doesn't begin with `/` starts at the base folder
+abbrev pub based : List ℕ → List ℕ → List ℕ
+based base [] = join base []
+based base (c ∷ cs) = if c == 47 then c ∷ cs else join base (c ∷ cs)
+
+-- the target of a link at this site
+abbrev pub link_target : Site → Link → Target
+link_target site l = record {
+  cache = site.cache;
+  key = l.key;
+  path = based site.base l.target;
+  moment = l.moment;
+  options = l.options;
+}
+
+-- the size that a target has is the one that its link is to have
+abbrev pub with_size : Target → ℕ → Target
+with_size t n = record t { options = record t.options { size = Some n } }
+
+-- once its size is known, the target is opened
+abbrev pub after_size : Target → ℕ → State
+after_size t n = opening_file (to_link (with_size t n))
+
+-- the content is what was read from the target
+abbrev pub commit_for : Target → List ℕ → Commit
+commit_for t bytes = record {
+  cache = t.cache;
+  key = t.key;
+  computed = integrity_under t.options.algorithm bytes;
+  count = length bytes;
+  moment = t.moment;
+  options = t.options;
+}
+
+-- ---- a file that is read to its end, to be verified or to be linked to
+
+-- the path of the file that is read
+abbrev pub hashed_path : Hashing → List ℕ
+hashed_path (to_verify k e) = content_path k.cache k.integrity
+hashed_path (to_link t) = t.path
+
+-- all bytes were read
+abbrev pub hashed : Hashing → List ℕ → State
+hashed (to_verify k e) bytes = verified k e bytes
+hashed (to_link t) bytes = link (commit_for t bytes) t.path
+
+-- no bytes stand for the end
+abbrev pub after_read : Hashing → List ℕ → PlainFile × List ℕ → State
+after_read h bytes (file, []) = hashed h bytes
+after_read h bytes (file, b ∷ bs) = hashing h file (bytes ++ b ∷ bs)

@@ -1,0 +1,92 @@
+-- What a listing answers, by what its own steps were shown.
+use Rattle.std.specs.Prelude.{◌≡◌, ◌⊎◌, ◌↔◌, ◌<◌, ℕ, List, [], ◌∷◌, ◌++◌, Result, Ok, Err, length, map}
+use Rattle.cacache_core.specs.declared.errors.Fault.TheVariants as faults
+use Rattle.cacache_core.specs.declared.errors.Error.TheVariants.{OutOfMemory}
+use Rattle.cacache_store.specs.declared.store.answer.Name.{Name}
+use Rattle.cacache_store.specs.declared.store.step.Step.TheVariants as steps
+use Rattle.cacache_store.specs.Plain.{PlainStep, PlainAnswer}
+use Rattle.cacache_entry.specs.Entry.{Entry}
+use Rattle.cacache_table.specs.declared.answers.Refusal.{Refusal}
+use Rattle.cacache_table.specs.declared.answers.Refusal.TheVariants as refusals
+use Rattle.cacache_table.specs.declared.command.Command.TheVariants as commands
+use Rattle.cacache_table.specs.declared.reply.Reply.{Reply}
+use Rattle.cacache_table.specs.declared.reply.Reply.TheVariants.{Listed, Refused}
+use Rattle.cacache_table.specs.Answers.{bytes_in, names_in}
+use Rattle.cacache_table.specs.State.{Site, Item}
+use Rattle.cacache_table.specs.Walking.{most, once, items_in, failed}
+use Rattle.cacache_table.specs.Table.{opening}
+use Rattle.cacache_table.specs.Runs.{Moves, Runs}
+
+-- ---- what the steps gave
+
+-- a bucket gives its lookups, and none where it isn't there
+abbrev pub by_bucket : Result (List ℕ) Refusal → List Item
+by_bucket (Ok bytes) = items_in bytes
+by_bucket (Err (refusals.Fault faults.NotFound)) = []
+by_bucket (Err (refusals.Fault fault)) = failed fault ∷ []
+by_bucket (Err refusals.Memory) = []
+
+-- a folder that can't be read gives why
+abbrev pub by_folder : Result (List Name) Refusal → List Item
+by_folder (Ok names) = []
+by_folder (Err (refusals.Fault fault)) = failed fault ∷ []
+by_folder (Err refusals.Memory) = []
+
+-- the items that one step gives
+abbrev pub given_by : PlainStep → PlainAnswer → List Item
+given_by (steps.ReadAll path) t = by_bucket (bytes_in t)
+given_by (steps.ReadDir path) t = by_folder (names_in t)
+given_by step t = []
+
+-- the items that all steps give, in order
+abbrev pub given : Moves → List Item
+given [] = []
+given (m ∷ moves) = given_by m.0 m.1 ++ given moves
+
+-- ---- what is listed
+
+-- a folder that lies too deep, or too many names
+abbrev pub too_deep : Item
+too_deep = failed faults.TooDeep
+
+-- the first list is the second, with errors of what lies too deep among its items
+abbrev pub AddsTooDeep : List Item → List Item → Type 0
+AddsTooDeep [] ys = ys ≡ []
+AddsTooDeep (x ∷ xs) ys =
+    ((x ≡ too_deep) × AddsTooDeep xs ys)
+    ⊎ ((rest : List Item) × (ys ≡ x ∷ rest) × AddsTooDeep xs rest)
+
+-- a listing that isn't past the most items answers what its steps gave; out of memory alone refuses it
+abbrev pub ListsGiven : List Item → Reply → Type 0
+ListsGiven items (Listed list) = (most < length list) ⊎ AddsTooDeep list items
+ListsGiven items (Refused e) = e ≡ OutOfMemory
+ListsGiven items r = ⊥
+
+-- so it is of every listing, by its own steps
+abbrev pub ListsShown : Type 0
+ListsShown =
+    (site : Site) (moves : Moves) (r : Reply)
+    → Runs (opening site commands.Ls) moves r → ListsGiven (given moves) r
+
+-- ---- each key once
+
+-- an element of a list
+abbrev pub In : {X : Type 0} → X → List X → Type 0
+In x [] = ⊥
+In x (y ∷ ys) = (x ≡ y) ⊎ In x ys
+
+-- no element twice
+abbrev pub Distinct : {X : Type 0} → List X → Type 0
+Distinct [] = Unit {0}
+Distinct (x ∷ xs) = (In x xs → ⊥) × Distinct xs
+
+-- the key of each entry
+abbrev pub keys_of : List Entry → List (List ℕ)
+keys_of es = map (λ e. e.key) es
+
+-- each key of a bucket is looked up, and none twice
+abbrev pub EachKeyOnce : Type 0
+EachKeyOnce =
+    (es : List Entry)
+    → Distinct (once (keys_of es))
+    × ((key : List ℕ) → In key (once (keys_of es)) ↔ In key (keys_of es))

@@ -1,0 +1,168 @@
+-- What lookups, reads and questions answer, by what their own steps were shown.
+use Rattle.std.specs.Prelude.{◌≡◌, ◌⊎◌, ℕ, List, [], ◌∷◌, Option, None, Some, option_map, Result, Ok, Err, Bool, false, if◌then◌else◌}
+use Rattle.cacache_core.specs.declared.errors.Fault.TheVariants as faults
+use Rattle.cacache_core.specs.declared.errors.IntegrityFault.TheVariants.{Check}
+use Rattle.cacache_core.specs.declared.errors.Error.TheVariants.{EntryNotFound, IoError, IntegrityError, OutOfMemory}
+use Rattle.cacache_core.specs.declared.integrity.digest.Hash.{Hash}
+use Rattle.cacache_core.specs.Integrity.{Meets, actual}
+use Rattle.cacache_store.specs.declared.store.step.Step.TheVariants as steps
+use Rattle.cacache_store.specs.Fits.{Fits}
+use Rattle.cacache_store.specs.Plain.{PlainStep, PlainAnswer}
+use Rattle.cacache_entry.specs.Entry.{Entry}
+use Rattle.cacache_entry.specs.Bucket.{entries_of}
+use Rattle.cacache_entry.specs.Latest.{Found, latest}
+use Rattle.cacache_entry.specs.View.{found_view}
+use Rattle.cacache_entry.specs.declared.metadata.Metadata.{Metadata}
+use Rattle.cacache_table.specs.declared.answers.Refusal.{Refusal}
+use Rattle.cacache_table.specs.declared.answers.Refusal.TheVariants as refusals
+use Rattle.cacache_table.specs.declared.command.Command.TheVariants as commands
+use Rattle.cacache_table.specs.declared.reply.Reply.{Reply}
+use Rattle.cacache_table.specs.declared.reply.Reply.TheVariants.{Read, LookedUp, Exists, Done, Refused}
+use Rattle.cacache_table.specs.Answers.{bytes_in, there_in}
+use Rattle.cacache_core.specs.Meeting.{meets}
+use Rattle.cacache_table.specs.StepPaths.{content_path, bucket_path}
+use Rattle.cacache_table.specs.State.{Site}
+use Rattle.cacache_table.specs.Table.{opening}
+use Rattle.cacache_table.specs.Runs.{Moves, Runs}
+
+-- ---- what a step shows at its place
+
+-- a bucket that isn't there is an empty one
+abbrev pub entries_shown : Result (List ℕ) Refusal → Result (List Entry) Refusal
+entries_shown (Ok bytes) = Ok (entries_of bytes)
+entries_shown (Err (refusals.Fault faults.NotFound)) = Ok []
+entries_shown (Err refusal) = Err refusal
+
+-- the entries that an answer shows of a bucket
+abbrev pub bucket_shown : PlainAnswer → Result (List Entry) Refusal
+bucket_shown t = entries_shown (bytes_in t)
+
+-- ---- what is answered by it
+
+-- the reply to a refused step
+abbrev pub refusal_reply : Refusal → Reply
+refusal_reply (refusals.Fault fault) = Refused (IoError fault [])
+refusal_reply refusals.Memory = Refused OutOfMemory
+
+-- what a lookup of the key answers, by the key's bucket
+abbrev pub find_reply : List ℕ → Result (List Entry) Refusal → Reply
+find_reply key (Ok entries) = LookedUp (latest key entries)
+find_reply key (Err refusal) = refusal_reply refusal
+
+-- bytes are answered where they meet the integrity
+abbrev pub content_reply : List Hash → Result (List ℕ) Refusal → Reply
+content_reply i (Ok bytes) =
+    if meets i bytes then Read bytes else Refused (IntegrityError (Check i (actual i bytes)))
+content_reply i (Err refusal) = refusal_reply refusal
+
+-- after a failed step too, nothing is there
+abbrev pub there_reply : Result Bool Refusal → Reply
+there_reply (Ok there) = Exists there
+there_reply (Err (refusals.Fault fault)) = Exists false
+there_reply (Err refusals.Memory) = Refused OutOfMemory
+
+-- ---- values, as the replies that they are answered as
+
+-- nothing
+abbrev pub done : Unit {0} → Reply
+done u = Done
+
+-- what a lookup found
+abbrev pub looked_up : Option Metadata → Reply
+looked_up found = LookedUp (option_map found_view found)
+
+-- ---- of runs
+
+-- the one step, with an answer that gives the reply
+abbrev pub OneStep : PlainStep → (PlainAnswer → Reply) → Moves → Reply → Type 0
+OneStep step reply moves r = (t : PlainAnswer) × (moves ≡ (step, t) ∷ []) × (r ≡ reply t)
+
+-- the one step was made, and its answer or a refusal for memory gives the reply; or memory was refused before it
+abbrev pub OneRun : PlainStep → (PlainAnswer → Reply) → Moves → Reply → Type 0
+OneRun step reply moves r =
+    ((moves ≡ []) × (r ≡ Refused OutOfMemory))
+    ⊎ ((t : PlainAnswer) × (moves ≡ (step, t) ∷ []) × Fits step t
+    × ((r ≡ reply t) ⊎ (r ≡ Refused OutOfMemory)))
+
+-- the bucket of a key is read, and its entries decide
+abbrev pub ReadsBucketOnce : List ℕ → List ℕ → Moves → Reply → Type 0
+ReadsBucketOnce cache key =
+    OneStep (steps.ReadAll (bucket_path cache key)) (λ t. find_reply key (bucket_shown t))
+
+-- the content of an integrity is read, and its bytes decide
+abbrev pub ReadsContentOnce : List ℕ → List Hash → Moves → Reply → Type 0
+ReadsContentOnce cache i =
+    OneStep (steps.ReadAll (content_path cache i)) (λ t. content_reply i (bytes_in t))
+
+-- the store is asked whether the content is there
+abbrev pub AsksContentOnce : List ℕ → List Hash → Moves → Reply → Type 0
+AsksContentOnce cache i =
+    OneStep (steps.Exists (content_path cache i)) (λ t. there_reply (there_in t))
+
+-- what follows a lookup: the content that it found, or nothing
+abbrev pub ReadsOn : List ℕ → List ℕ → Result (Option Found) Refusal → Moves → Reply → Type 0
+ReadsOn cache key (Ok (Some f)) moves r = ReadsContentOnce cache f.integrity moves r
+ReadsOn cache key (Ok None) moves r = (moves ≡ []) × (r ≡ Refused (EntryNotFound cache key))
+ReadsOn cache key (Err refusal) moves r = (moves ≡ []) × (r ≡ refusal_reply refusal)
+
+-- what a lookup of the key finds, or why its bucket couldn't be read
+abbrev pub lookup : List ℕ → Result (List Entry) Refusal → Result (Option Found) Refusal
+lookup key (Ok entries) = Ok (latest key entries)
+lookup key (Err refusal) = Err refusal
+
+-- the first step reads the bucket of the key
+abbrev pub BeginsWithBucket : List ℕ → List ℕ → PlainAnswer → Moves → Moves → Type 0
+BeginsWithBucket cache key t more moves = moves ≡ (steps.ReadAll (bucket_path cache key), t) ∷ more
+
+-- a read by key: the lookup, and what follows it
+abbrev pub ReadsByKey : List ℕ → List ℕ → Moves → Reply → Type 0
+ReadsByKey cache key moves r =
+    (t : PlainAnswer) × (more : Moves)
+    × BeginsWithBucket cache key t more moves × ReadsOn cache key (lookup key (bucket_shown t)) more r
+
+-- unless memory was refused
+abbrev pub OrMemory : Type 0 → Reply → Type 0
+OrMemory X r = (r ≡ Refused OutOfMemory) ⊎ X
+
+-- ---- laws
+
+-- unless memory was refused, a lookup answers by its read of the key's bucket
+abbrev pub FindsShown : Type 0
+FindsShown =
+    (site : Site) (key : List ℕ) (moves : Moves) (r : Reply)
+    → Runs (opening site (commands.Find key)) moves r
+    → OrMemory (ReadsBucketOnce site.cache key moves r) r
+
+-- so does a read by key, by its lookup and its read of the content
+abbrev pub GetsShown : Type 0
+GetsShown =
+    (site : Site) (key : List ℕ) (moves : Moves) (r : Reply)
+    → Runs (opening site (commands.Get key)) moves r
+    → OrMemory (ReadsByKey site.cache key moves r) r
+
+-- so does a read by integrity, by its read of the content
+abbrev pub ReadsShown : Type 0
+ReadsShown =
+    (site : Site) (i : List Hash) (moves : Moves) (r : Reply)
+    → Runs (opening site (commands.GetHash i)) moves r
+    → OrMemory (ReadsContentOnce site.cache i moves r) r
+
+-- so does a question, by what the store says of the content
+abbrev pub ExistsShown : Type 0
+ExistsShown =
+    (site : Site) (i : List Hash) (moves : Moves) (r : Reply)
+    → Runs (opening site (commands.Exists i)) moves r
+    → OrMemory (AsksContentOnce site.cache i moves r) r
+
+-- the lookup in what was read of the bucket gives an integrity that the bytes meet
+abbrev pub MeetsFound : List ℕ → PlainAnswer → List ℕ → Type 0
+MeetsFound key t bytes =
+    (found : Found) × (lookup key (bucket_shown t) ≡ Ok (Some found)) × Meets found.integrity bytes
+
+-- a read by key answers bytes that meet the integrity which its own read of the bucket gives
+abbrev pub GetsMeet : Type 0
+GetsMeet =
+    (site : Site) (key : List ℕ) (moves : Moves) (bytes : List ℕ)
+    → Runs (opening site (commands.Get key)) moves (Read bytes)
+    → (t : PlainAnswer) × (more : Moves)
+    × BeginsWithBucket site.cache key t more moves × MeetsFound key t bytes

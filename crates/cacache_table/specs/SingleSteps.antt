@@ -1,0 +1,20 @@
+-- A single step of a call, and why it brought nothing.
+use Rattle.std.specs.Prelude.{◌≡◌, ◌⊎◌, List, [], ◌∷◌, Option}
+use Rattle.cacache_core.specs.declared.errors.Error.{Error}
+use Rattle.cacache_core.specs.declared.errors.Error.TheVariants.{IoError, OutOfMemory}
+use Rattle.cacache_core.specs.declared.errors.Fault.{Fault}
+use Rattle.cacache_store.specs.declared.store.answer.Answer.TheVariants as answers
+use Rattle.cacache_store.specs.declared.store.log.LogItem.{LogItem}
+use Rattle.cacache_store.specs.Plain.{PlainStep, PlainAnswer}
+use Rattle.cacache_table.specs.Runs.{Gains}
+
+-- the log gained this step with this answer
+abbrev pub Does : PlainStep → PlainAnswer → Option (List LogItem) → Option (List LogItem) → Type 0
+Does step answer old new = Gains old new ((step, answer) ∷ [])
+
+-- the step failed so, or memory was refused before it or after
+abbrev pub FailsAt : PlainStep → Error → Option (List LogItem) → Option (List LogItem) → Type 0
+FailsAt step (IoError fault message) old new = Does step (answers.Failed fault) old new
+FailsAt step OutOfMemory old new =
+    (new ≡ old) ⊎ ((fault : Fault) × Does step (answers.Failed fault) old new)
+FailsAt step e old new = ⊥

@@ -1,0 +1,179 @@
+-- Which states the calls at a site stand in, and which steps they may make there.
+use Rattle.std.specs.Prelude.{All, ◌≡◌, ◌⊎◌, ◌<◌, ◌+◌, ◌^◌, ℕ, List, [], ◌∷◌, None, Some, Bool, true, length}
+use Rattle.cacache_core.specs.declared.integrity.algorithm.Algorithm.{Algorithm}
+use Rattle.cacache_core.specs.declared.integrity.digest.Hash.{Hash}
+use Rattle.cacache_core.specs.Integrity.{integrity_under}
+use Rattle.cacache_core.specs.Paths.{joined}
+use Rattle.cacache_core.specs.PathNames.{Names, IsProperName}
+use Rattle.cacache_store.specs.declared.store.plain.PlainTemp.{PlainTemp}
+use Rattle.cacache_store.specs.declared.store.step.Step.TheVariants as steps
+use Rattle.cacache_store.specs.Plain.{PlainStep, PlainAnswer}
+use Rattle.cacache_store.specs.Fits.{Fits}
+use Rattle.cacache_entry.specs.Entry.{Entry, line_of}
+use Rattle.cacache_entry.specs.FittingEntries.{IsEntry, cause_of}
+use Rattle.cacache_table.specs.declared.command.Command.{Command}
+use Rattle.cacache_table.specs.declared.command.Command.TheVariants as commands
+use Rattle.cacache_table.specs.StepPaths.{temp_path, temp_folder, content_path, content_folder, bucket_path, bucket_folder}
+use Rattle.cacache_table.specs.State.{State, doing, creating, writing, persisting, linking, confirming, appending, looking, reading, asking, sizing, opening_file, hashing, copying, walking, over, Site, Commit, Insertion, Aim, to_export, Target, Hashing, to_verify, to_link, Visit, enter, read_bucket, remove_file, remove_folder, Task, visit, stumble}
+use Rattle.cacache_table.specs.Common.{errand_step}
+use Rattle.cacache_table.specs.Inserting.{insertion, deletion, refused_cause}
+use Rattle.cacache_table.specs.Storing.{insertion_of, put_commit}
+use Rattle.cacache_table.specs.Linking.{commit_for, link_target}
+use Rattle.cacache_table.specs.Table.{wants, after, opening}
+
+-- ---- what a state carries
+
+-- the entry is well-formed, unless it is refused because it can't be written
+abbrev pub FormedIfWritten : Insertion → Type 0
+FormedIfWritten i = refused_cause i ≡ None → IsEntry i.entry
+
+-- a commit at this site, of some bytes
+pub record SoundCommit (site : Site) (c : Commit) : Type 0 where
+  pub here : c.cache ≡ site.cache
+  pub bytes : List ℕ
+  pub computed_of : c.computed ≡ integrity_under c.options.algorithm bytes
+  pub formed : (key : List ℕ) → c.key ≡ Some key → FormedIfWritten (insertion_of c key)
+
+-- an entry that goes into a bucket at this site
+pub record SoundInsertion (site : Site) (i : Insertion) : Type 0 where
+  pub here : i.cache ≡ site.cache
+  pub formed : FormedIfWritten i
+
+-- a target, whatever is read from it
+pub record SoundTarget (site : Site) (t : Target) : Type 0 where
+  pub here : t.cache ≡ site.cache
+  pub formed :
+      (bytes : List ℕ) → length bytes < 2 ^ 64 → (key : List ℕ) → t.key ≡ Some key
+      → FormedIfWritten (insertion_of (commit_for t bytes) key)
+
+-- the call's own temporary file
+abbrev pub IsTemp : Site → PlainTemp → Type 0
+IsTemp site file = file.path ≡ temp_path site.cache site.number
+
+-- the cache folder, or a path of proper names below it
+abbrev pub IsBelow : Site → List ℕ → Type 0
+IsBelow site p = (names : Names) × All IsProperName names × (p ≡ joined site.cache names)
+
+-- the place of a content, or its folder
+abbrev pub IsContent : Site → List ℕ → Type 0
+IsContent site p =
+    (a : Algorithm) × (bytes : List ℕ) × (p ≡ content_path site.cache (integrity_under a bytes))
+
+-- the folder that a content lies in
+abbrev pub IsContentFolder : Site → List ℕ → Type 0
+IsContentFolder site p =
+    (a : Algorithm) × (bytes : List ℕ) × (p ≡ content_folder site.cache (integrity_under a bytes))
+
+-- the folder that the bucket of a key lies in
+abbrev pub IsBucketFolder : Site → List ℕ → Type 0
+IsBucketFolder site p = (key : List ℕ) × (p ≡ bucket_folder site.cache key)
+
+-- a folder that the cache needs
+abbrev pub IsFolder : Site → List ℕ → Type 0
+IsFolder site p = (p ≡ temp_folder site.cache) ⊎ (IsContentFolder site p ⊎ IsBucketFolder site p)
+
+-- the line of a well-formed entry that can be written, and its bucket
+abbrev pub IsLine : Site → List ℕ → List ℕ → Type 0
+IsLine site p line =
+    (e : Entry) × IsEntry e × (cause_of e ≡ None)
+    × (p ≡ bucket_path site.cache e.key) × (line ≡ line_of e)
+
+-- a content, a bucket or anything below the cache folder
+abbrev pub IsRemovable : Site → List ℕ → Type 0
+IsRemovable site p =
+    ((i : List Hash) × (p ≡ content_path site.cache i))
+    ⊎ (((key : List ℕ) × (p ≡ bucket_path site.cache key)) ⊎ IsBelow site p)
+
+-- a visit to the cache folder, or to something below it
+abbrev pub SoundVisit : Site → Visit → Type 0
+SoundVisit site (enter p level) = IsBelow site p
+SoundVisit site (read_bucket p) = IsBelow site p
+SoundVisit site (remove_file p) = IsBelow site p
+SoundVisit site (remove_folder p) = IsBelow site p
+
+-- each visit among the tasks is such a visit
+abbrev pub SoundTasks : Site → List Task → Type 0
+SoundTasks site [] = Unit {0}
+SoundTasks site (visit v ∷ todo) = SoundVisit site v × SoundTasks site todo
+SoundTasks site (stumble fault ∷ todo) = SoundTasks site todo
+
+-- exports go only where `apart` says so, and links only lead where `outside` does
+module _ (site : Site) (apart outside : List ℕ → Bool) where
+  -- a step that a call at this site may make
+  abbrev pub Allowed : PlainStep → Type 0
+  Allowed (steps.MakeDirs p) = IsFolder site p
+  Allowed (steps.CreateTemp p) = p ≡ temp_path site.cache site.number
+  Allowed (steps.Write file bytes) = IsTemp site file
+  Allowed (steps.Persist file p) = IsTemp site file × IsContent site p
+  Allowed (steps.Append p line) = IsLine site p line
+  Allowed (steps.Symlink target p) = (outside target ≡ true) × IsContent site p
+  Allowed (steps.Copy p q) = apart q ≡ true
+  Allowed (steps.Reflink p q) = apart q ≡ true
+  Allowed (steps.HardLink p q) = apart q ≡ true
+  Allowed (steps.RemoveFile p) = IsRemovable site p
+  Allowed (steps.RemoveDir p) = IsBelow site p
+  Allowed step = Unit {0}
+
+  -- an export that a lookup is for goes apart
+  abbrev pub SoundAim : Aim → Type 0
+  SoundAim (to_export e) = apart e.to ≡ true
+  SoundAim aim = Unit {0}
+
+  -- a file is read for an export that goes apart, or for a link that leads outside
+  abbrev pub SoundHashing : Hashing → Type 0
+  SoundHashing (to_verify k e) = apart e.to ≡ true
+  SoundHashing (to_link t) = SoundTarget site t × (outside t.path ≡ true)
+
+  -- the state's step is allowed, and so are all that come after it
+  abbrev pub Sound : State → Type 0
+  Sound (doing errand s) = Allowed (errand_step errand) × Sound s
+  Sound (creating number c rest) = (number ≡ site.number) × SoundCommit site c
+  Sound (writing c file rest) = SoundCommit site c × IsTemp site file
+  Sound (persisting c file) = SoundCommit site c × IsTemp site file
+  Sound (linking c target) = SoundCommit site c × (outside target ≡ true)
+  Sound (confirming c fault) = SoundCommit site c
+  Sound (appending i) = SoundInsertion site i × (refused_cause i ≡ None)
+  Sound (looking l) = (l.cache ≡ site.cache) × SoundAim l.aim
+  Sound (reading k) = k.cache ≡ site.cache
+  Sound (asking k) = k.cache ≡ site.cache
+  Sound (sizing t) = SoundTarget site t × (outside t.path ≡ true)
+  Sound (opening_file h) = SoundHashing h
+  Sound (hashing h file bytes) = SoundHashing h × (file.left + length bytes < 2 ^ 64)
+  Sound (copying from to verified) = apart to ≡ true
+  Sound (walking w v todo) = SoundVisit site v × SoundTasks site todo
+  Sound (over reply) = Unit {0}
+
+  -- a command whose entry is well-formed or refused, whose export goes apart, whose link leads
+  -- outside
+  abbrev pub MayBegin : Command → Type 0
+  MayBegin (commands.Put p) =
+      (key : List ℕ) → p.key ≡ Some key
+      → FormedIfWritten (insertion_of (put_commit site.cache p) key)
+  MayBegin (commands.Link l) =
+      SoundTarget site (link_target site l) × (outside (link_target site l).path ≡ true)
+  MayBegin (commands.Insert i) = FormedIfWritten (insertion site.cache i)
+  MayBegin (commands.Delete d) = FormedIfWritten (deletion site.cache d)
+  MayBegin (commands.Export source e) = apart e.to ≡ true
+  MayBegin command = Unit {0}
+
+-- ---- laws
+
+-- a call that may begin begins in a sound state
+abbrev pub BeginsSound : Type 0
+BeginsSound =
+    (site : Site) (apart outside : List ℕ → Bool) (command : Command)
+    → MayBegin site apart outside command → Sound site apart outside (opening site command)
+
+-- the step of a sound state is allowed
+abbrev pub StepsAllowed : Type 0
+StepsAllowed =
+    (site : Site) (apart outside : List ℕ → Bool) (s : State) (step : PlainStep)
+    → Sound site apart outside s → wants s ≡ Some step → Allowed site apart outside step
+
+-- a sound state stays sound under any fitting answer
+abbrev pub StaysSound : Type 0
+StaysSound =
+    (site : Site) (apart outside : List ℕ → Bool)
+    (s : State) (step : PlainStep) (answer : PlainAnswer)
+    → Sound site apart outside s → wants s ≡ Some step → Fits step answer
+    → Sound site apart outside (after s answer)

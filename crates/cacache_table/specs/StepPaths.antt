@@ -1,0 +1,34 @@
+-- The paths that a call's steps name, as texts.
+use Rattle.std.specs.Prelude.{ℕ, List, [], Option, None, Some}
+use Rattle.cacache_core.specs.declared.integrity.digest.Hash.{Hash}
+use Rattle.cacache_core.specs.Integrity.{address}
+use Rattle.cacache_core.specs.Paths.{joined, content_names, bucket_names, temp_names, folder_names}
+
+-- where a temporary file lies, and its folder
+unfoldable pub temp_path : List ℕ → ℕ → List ℕ
+temp_path cache number = joined cache (temp_names number)
+
+-- the folder of temporary files
+unfoldable pub temp_folder : List ℕ → List ℕ
+temp_folder cache = joined cache (folder_names (temp_names 0))
+
+-- the path of names that an address gives
+abbrev pub addressed : (Hash → List ℕ) → Option Hash → List ℕ
+addressed path None = []
+addressed path (Some h) = path h
+
+-- where the content of an integrity lies, by its address, and its folder
+unfoldable pub content_path : List ℕ → List Hash → List ℕ
+content_path cache i = addressed (λ h. joined cache (content_names h)) (address i)
+
+-- the folder that the content of an integrity lies in
+unfoldable pub content_folder : List ℕ → List Hash → List ℕ
+content_folder cache i = addressed (λ h. joined cache (folder_names (content_names h))) (address i)
+
+-- where the bucket of a key lies, and its folder
+unfoldable pub bucket_path : List ℕ → List ℕ → List ℕ
+bucket_path cache key = joined cache (bucket_names key)
+
+-- the folder that the bucket of a key lies in
+unfoldable pub bucket_folder : List ℕ → List ℕ → List ℕ
+bucket_folder cache key = joined cache (folder_names (bucket_names key))

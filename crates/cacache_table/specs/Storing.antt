@@ -1,0 +1,100 @@
+-- Commits: bytes, or a link, become a content, and with a key its entry follows.
+use Rattle.std.specs.Prelude.{ℕ, ◌==◌, List, [], ◌∷◌, Option, None, Some, Bool, is_some, if◌then◌else◌, length, drop}
+use Rattle.cacache_core.specs.declared.errors.Fault.{Fault}
+use Rattle.cacache_core.specs.declared.errors.Fault.TheVariants as faults
+use Rattle.cacache_core.specs.declared.errors.IntegrityFault.TheVariants.{Check}
+use Rattle.cacache_core.specs.declared.errors.Error.TheVariants.{SizeMismatch, IntegrityError}
+use Rattle.cacache_core.specs.declared.integrity.digest.Hash.{Hash}
+use Rattle.cacache_core.specs.Integrity.{integrity_under}
+use Rattle.cacache_core.specs.Texts.{integrity_text}
+use Rattle.cacache_store.specs.declared.store.plain.PlainTemp.{PlainTemp}
+use Rattle.cacache_table.specs.declared.command.Put.{Put}
+use Rattle.cacache_table.specs.declared.reply.Reply.TheVariants.{Stored}
+use Rattle.cacache_core.specs.Meeting.{matching}
+use Rattle.cacache_table.specs.StepPaths.{temp_folder, content_folder}
+use Rattle.cacache_table.specs.State.{State, doing, creating, writing, persisting, linking, over, Site, Commit, Insertion, make_folder}
+use Rattle.cacache_table.specs.Common.{ends_with, fails}
+use Rattle.cacache_table.specs.Inserting.{insert, entry_of, given_or}
+
+-- ---- once the content is there: the integrity, then the size, then the entry
+
+-- the entry has the expected integrity, where there is one, and the count of the bytes
+abbrev pub insertion_of : Commit → List ℕ → Insertion
+insertion_of c key =
+    let i = given_or c.computed c.options.integrity in
+    record {
+      cache = c.cache;
+      entry = entry_of key (Some (integrity_text i)) c.count c.moment c.options;
+      reply = Stored i;
+    }
+
+-- a commit with a key inserts its entry, one without is over
+abbrev pub indexed : Commit → Option (List ℕ) → State
+indexed c None = over (Stored c.computed)
+indexed c (Some key) = insert (insertion_of c key)
+
+-- the count is to be the expected size
+abbrev pub sized : Commit → Option ℕ → State
+sized c None = indexed c c.key
+sized c (Some wanted) =
+    if wanted == c.count then indexed c c.key else ends_with (SizeMismatch wanted c.count)
+
+-- the expected integrity lists the computed hash
+abbrev pub matches : List Hash → List Hash → Bool
+matches expected computed = is_some (matching expected computed)
+
+-- the expected integrity is to match the computed one
+abbrev pub compared : Commit → Option (List Hash) → State
+compared c None = sized c c.options.size
+compared c (Some expected) =
+    if matches expected c.computed then sized c c.options.size
+    else ends_with (IntegrityError (Check expected c.computed))
+
+-- the content is at its place
+abbrev pub placed : Commit → State
+placed c = compared c c.options.integrity
+
+-- ---- before
+
+-- the content's folder is made first
+abbrev pub into_folder : Commit → State → State
+into_folder c s = doing (make_folder (content_folder c.cache c.computed)) s
+
+-- a temporary file becomes the content
+abbrev pub persist : Commit → PlainTemp → State
+persist c file = into_folder c (persisting c file)
+
+-- a link to the target becomes the content
+abbrev pub link : Commit → List ℕ → State
+link c target = into_folder c (linking c target)
+
+-- what is left of the bytes is written next, if there is any
+abbrev pub write_rest : Commit → PlainTemp → List ℕ → State
+write_rest c file [] = persist c file
+write_rest c file (b ∷ bs) = writing c file (b ∷ bs)
+
+-- a write that took none of the bytes ends the call
+abbrev pub after_write : Commit → List ℕ → PlainTemp × ℕ → State
+after_write c rest (file, n) =
+    if n == 0 then fails faults.WriteZero else write_rest c file (drop n rest)
+
+-- without a yes, the first fault is answered
+abbrev pub after_confirm : Commit → Fault → Bool → State
+after_confirm c fault there = if there then placed c else fails fault
+
+-- the integrity of a put's bytes is known before its first step
+abbrev pub put_commit : List ℕ → Put → Commit
+put_commit cache p = record {
+  cache = cache;
+  key = p.key;
+  computed = integrity_under p.options.algorithm p.data;
+  count = length p.data;
+  moment = p.moment;
+  options = p.options;
+}
+
+-- a put begins with the folder of temporary files
+abbrev pub store : Site → Put → State
+store site p =
+    doing (make_folder (temp_folder site.cache))
+    (creating site.number (put_commit site.cache p) p.data)

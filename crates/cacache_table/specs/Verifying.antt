@@ -1,0 +1,85 @@
+-- What checked exports and links read before they made anything.
+use Rattle.std.specs.Prelude.{◌≡◌, ℕ, List, [], ◌∷◌, ◌++◌, Ok, Some, true, length}
+use Rattle.cacache_core.specs.declared.integrity.digest.Hash.{Hash}
+use Rattle.cacache_core.specs.Integrity.{Meets}
+use Rattle.cacache_store.specs.declared.store.plain.PlainFile.{PlainFile}
+use Rattle.cacache_store.specs.declared.store.step.Step.TheVariants as steps
+use Rattle.cacache_store.specs.declared.store.answer.Answer.TheVariants as answers
+use Rattle.cacache_store.specs.Plain.{PlainAnswer}
+use Rattle.cacache_entry.specs.Latest.{Found}
+use Rattle.cacache_table.specs.declared.command.Command.TheVariants as commands
+use Rattle.cacache_table.specs.declared.command.Source.{Source}
+use Rattle.cacache_table.specs.declared.command.Source.TheVariants as sources
+use Rattle.cacache_table.specs.declared.command.Export.{Export}
+use Rattle.cacache_table.specs.declared.command.Link.{Link}
+use Rattle.cacache_table.specs.declared.reply.Reply.{Reply}
+use Rattle.cacache_table.specs.declared.reply.Reply.TheVariants.{Copied, Refused}
+use Rattle.cacache_table.specs.Linking.{link_target, with_size, commit_for}
+use Rattle.cacache_table.specs.StepPaths.{content_path}
+use Rattle.cacache_table.specs.Promises.{Stores}
+use Rattle.cacache_table.specs.Replies.{BeginsWithBucket, bucket_shown, lookup}
+use Rattle.cacache_table.specs.Runs.{Moves, Runs}
+use Rattle.cacache_table.specs.State.{Site, Target}
+use Rattle.cacache_table.specs.Table.{opening}
+
+-- the moves begin with reads of the file to its end, which gave these bytes
+abbrev pub Gives : PlainFile → List ℕ → Moves → Type 0
+Gives file bytes ((steps.Read f max, answers.Got g []) ∷ moves) = (f ≡ file) × (bytes ≡ [])
+Gives file bytes ((steps.Read f max, answers.Got g (b ∷ bs)) ∷ moves) =
+    (f ≡ file) × (more : List ℕ) × (bytes ≡ (b ∷ bs) ++ more) × Gives g more moves
+Gives file bytes moves = ⊥
+
+-- the moves begin with the opening of the file, and reads of it to its end; this is so of its bytes
+abbrev pub ReadsWhole : List ℕ → (List ℕ → Type 0) → Moves → Type 0
+ReadsWhole path P moves =
+    (file : PlainFile) × (bytes : List ℕ) × (more : Moves)
+    × (moves ≡ (steps.Open path, answers.File file) ∷ more) × Gives file bytes more × P bytes
+
+-- ---- checked exports
+
+-- a copy answers how many bytes there are
+abbrev pub CountsAs : List ℕ → Reply → Type 0
+CountsAs bytes (Copied n) = n ≡ length bytes
+CountsAs bytes r = Unit {0}
+
+-- the content was read whole, and its bytes meet the integrity
+abbrev pub VerifiesContent : List ℕ → List Hash → Moves → Reply → Type 0
+VerifiesContent cache i moves r =
+    ReadsWhole (content_path cache i) (λ bytes. Meets i bytes × CountsAs bytes r) moves
+
+-- by key, the moves begin with the lookup that names the content
+abbrev pub Verifies : List ℕ → Source → Moves → Reply → Type 0
+Verifies cache (sources.Hash i) moves r = VerifiesContent cache i moves r
+Verifies cache (sources.Key key) moves r =
+    (t : PlainAnswer) × (more : Moves) × BeginsWithBucket cache key t more moves
+    × (found : Found) × (lookup key (bucket_shown t) ≡ Ok (Some found))
+    × VerifiesContent cache found.integrity more r
+
+-- of a call that wasn't refused
+abbrev pub UnlessRefused : Type 0 → Reply → Type 0
+UnlessRefused P (Refused e) = Unit {0}
+UnlessRefused P r = P
+
+-- ---- links
+
+-- the target's size was asked, then it was read whole: the link stores what it gave, of that size
+abbrev pub LinksWhole : Target → Moves → Reply → Type 0
+LinksWhole t moves r =
+    (n : ℕ) × (more : Moves) × (moves ≡ (steps.Size t.path, answers.Length n) ∷ more)
+    × ReadsWhole t.path (λ bytes. Stores (commit_for (with_size t n) bytes) r) more
+
+-- ---- laws
+
+-- a checked export that isn't refused verified what it opened
+abbrev pub ExportsVerify : Type 0
+ExportsVerify =
+    (site : Site) (source : Source) (e : Export) (moves : Moves) (r : Reply)
+    → e.checked ≡ true → Runs (opening site (commands.Export source e)) moves r
+    → UnlessRefused (Verifies site.cache source moves r) r
+
+-- a link that isn't refused read its whole target
+abbrev pub LinksReadWhole : Type 0
+LinksReadWhole =
+    (site : Site) (l : Link) (moves : Moves) (r : Reply)
+    → Runs (opening site (commands.Link l)) moves r
+    → UnlessRefused (LinksWhole (link_target site l) moves r) r

@@ -1,0 +1,142 @@
+-- Walks through folders: a listing reads each bucket, a clearing removes all.
+use Rattle.std.specs.Prelude.{ℕ, ◌+◌, ◌-◌, ◌^◌, ◌==◌, List, [], ◌∷◌, ◌++◌, Ok, Err, Bool, true, false, if◌then◌else◌, nat_le, nat_lt, length, take, map, filter_map, option_map, bytes_eq}
+use Rattle.std.specs.List.{list_any}
+use Rattle.cacache_core.specs.declared.errors.Fault.{Fault}
+use Rattle.cacache_core.specs.declared.errors.Fault.TheVariants as faults
+use Rattle.cacache_core.specs.declared.errors.Error.TheVariants.{IoError}
+use Rattle.cacache_core.specs.Paths.{join}
+use Rattle.cacache_store.specs.declared.store.answer.Kind.{Kind}
+use Rattle.cacache_store.specs.declared.store.answer.Kind.TheVariants as kinds
+use Rattle.cacache_store.specs.declared.store.answer.Name.{Name}
+use Rattle.cacache_store.specs.declared.store.step.Step.TheVariants as steps
+use Rattle.cacache_store.specs.Plain.{PlainStep, PlainAnswer}
+use Rattle.cacache_entry.specs.Entry.{Entry}
+use Rattle.cacache_entry.specs.Bucket.{entries_of}
+use Rattle.cacache_entry.specs.Latest.{latest}
+use Rattle.cacache_table.specs.declared.reply.Reply.TheVariants.{Listed, Done}
+use Rattle.cacache_table.specs.Answers.{done_in, bytes_in, names_in}
+use Rattle.cacache_table.specs.State.{State, walking, over, Item, Visit, enter, read_bucket, remove_file, remove_folder, Task, visit, stumble, Walk}
+use Rattle.cacache_table.specs.Common.{fails, go_on}
+
+-- a walk takes at most so many names, and gives at most so many items
+abbrev pub most : ℕ
+most = 2 ^ 63
+
+-- ---- what a bucket lists
+
+-- each key once: where it comes last
+abbrev pub once : List (List ℕ) → List (List ℕ)
+once [] = []
+once (k ∷ ks) = if list_any (bytes_eq k) ks then once ks else k ∷ once ks
+
+-- each key whose lookup is Some
+abbrev pub items_of : List Entry → List Item
+items_of es = filter_map (λ key. option_map Ok (latest key es)) (once (map (λ e. e.key) es))
+
+-- each key in a bucket's bytes whose lookup is Some
+unfoldable pub items_in : List ℕ → List Item
+items_in bytes = items_of (entries_of bytes)
+
+-- ---- how a walk ends
+
+-- a step of the walk failed
+abbrev pub failed : Fault → Item
+failed fault = Err (IoError fault [])
+
+-- a clearing ends as done, a listing with its items
+abbrev pub walk_ends : Walk → State
+walk_ends w = if w.clears then over Done else over (Listed w.items)
+
+-- past the most a walk ends; the last item of a listing says so
+abbrev pub too_many : Walk → State
+too_many w =
+    if w.clears then fails faults.TooDeep else over (Listed (w.items ++ failed faults.TooDeep ∷ []))
+
+-- ---- how a walk goes on
+
+-- the step of a visit
+abbrev pub visit_step : Visit → PlainStep
+visit_step (enter p level) = steps.ReadDir p
+visit_step (read_bucket p) = steps.ReadAll p
+visit_step (remove_file p) = steps.RemoveFile p
+visit_step (remove_folder p) = steps.RemoveDir p
+
+-- the walk goes on with more items, unless that are too many
+abbrev pub give : Walk → List Item → (Walk → State) → State
+give w items next =
+    if nat_le (length w.items + length items) most
+    then next (record w { items = w.items ++ items })
+    else too_many (record w { items = take most (w.items ++ items) })
+
+-- a fault ends a clearing; a listing gives it as an item and goes on
+abbrev pub miss : Walk → (Walk → State) → Fault → State
+miss w next fault = if w.clears then fails fault else give w (failed fault ∷ []) next
+
+-- the next task that wants a step
+abbrev pub walk_on : List Task → Walk → State
+walk_on [] w = walk_ends w
+walk_on (stumble fault ∷ todo) w = miss w (walk_on todo) fault
+walk_on (visit v ∷ todo) w = walking w v todo
+
+-- ---- the tasks that a folder brings
+
+-- the top folder is at level 0, and folders past level 16 aren't entered
+abbrev pub go_deeper : List ℕ → ℕ → Task
+go_deeper p level =
+    if nat_lt level 16 then visit (enter p (level + 1)) else stumble faults.TooDeep
+
+-- a clearing stumbles over a file in the top folder
+abbrev pub task_of : Bool → ℕ → List ℕ → Kind → Task
+task_of clears level p kinds.Folder = go_deeper p level
+task_of false level p kinds.File = visit (read_bucket p)
+task_of false level p kinds.Link = visit (read_bucket p)
+task_of true level p kinds.File =
+    if level == 0 then stumble faults.NotADirectory else visit (remove_file p)
+task_of true level p kinds.Link = visit (remove_file p)
+
+-- the tasks that a folder's names bring, one for each
+abbrev pub tasks_of : Bool → ℕ → List ℕ → List Name → List Task
+tasks_of clears level p [] = []
+tasks_of clears level p (n ∷ ns) =
+    task_of clears level (join p n.name) n.kind ∷ tasks_of clears level p ns
+
+-- a clearing removes each folder but the top one, once it is empty
+abbrev pub leaving : Bool → ℕ → List ℕ → List Task
+leaving clears level p =
+    if clears then (if level == 0 then [] else visit (remove_folder p) ∷ []) else []
+
+-- ---- after a step
+
+-- the tasks of a folder come before those that were to do
+abbrev pub entered : Walk → List ℕ → ℕ → List Task → List Name → State
+entered w p level todo names =
+    let tasks = tasks_of w.clears level p names ++ leaving w.clears level p ++ todo in
+    if nat_le (length names) w.left
+    then walk_on tasks (record w { left = w.left - length names })
+    else too_many w
+
+-- a bucket that isn't there is an empty one
+abbrev pub unread_bucket : Walk → List Task → Fault → State
+unread_bucket w todo faults.NotFound = walk_on todo w
+unread_bucket w todo fault = miss w (walk_on todo) fault
+
+-- a bucket gives what it lists, and the walk goes on
+abbrev pub listed : Walk → List Task → List ℕ → State
+listed w todo bytes = give w (items_in bytes) (walk_on todo)
+
+-- where the answer to a visit takes the walk
+abbrev pub after_visit : Walk → Visit → List Task → PlainAnswer → State
+after_visit w (enter p level) todo t =
+    go_on (names_in t) (miss w (walk_on todo)) (entered w p level todo)
+after_visit w (read_bucket p) todo t =
+    go_on (bytes_in t) (unread_bucket w todo) (listed w todo)
+after_visit w (remove_file p) todo t =
+    go_on (done_in t) (miss w (walk_on todo)) (λ _. walk_on todo w)
+after_visit w (remove_folder p) todo t =
+    go_on (done_in t) (miss w (walk_on todo)) (λ _. walk_on todo w)
+
+-- ---- where the calls begin
+
+-- a walk begins at its top folder
+abbrev pub walk : Bool → List ℕ → State
+walk clears top = walking (record { clears = clears; items = []; left = most }) (enter top 0) []

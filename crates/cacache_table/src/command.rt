@@ -1,0 +1,297 @@
+//! One call on a cache as plain data.
+ghost use Rattle.std.specs.Prelude.{◌≡◌, IfOk, Some};
+ghost use Rattle.cacache_table.specs.Blank.{blank};
+
+use crate::json::Json;
+use cacache_core::bytes::Bytes;
+use cacache_core::integrity::{Algorithm, Integrity};
+use cacache_core::text::Text;
+use serde_json::Value;
+use std::alloc::AllocError;
+
+/// What a writer may say of a content and of its entry.
+#[derive(Debug, Drop)]
+pub struct Options {
+    /// The algorithm of the content's digest.
+    pub algorithm: Algorithm,
+    /// How many bytes the content is to have.
+    pub size: Option<usize>,
+    /// The integrity that the content is to meet.
+    pub integrity: Option<Integrity>,
+    /// Any data beside the content.
+    pub metadata: Json,
+    /// Any bytes beside the content.
+    pub raw_metadata: Option<Bytes>,
+}
+
+/// Stores bytes as a content; with a key, its entry follows.
+#[derive(Debug, Drop)]
+pub struct Put {
+    pub key: Option<Text>,
+    pub data: Bytes,
+    /// The entry's time, in milliseconds since 1970; without a key it has no effect.
+    pub moment: u128,
+    pub options: Options,
+}
+
+/// Makes a content of a link to a file; with a key, its entry follows.
+#[derive(Debug, Drop)]
+pub struct Link {
+    pub key: Option<Text>,
+    /// The file's path; one without a `/` in front starts at the base folder.
+    pub target: Text,
+    /// The entry's time, in milliseconds since 1970; without a key it has no effect.
+    pub moment: u128,
+    pub options: Options,
+}
+
+/// Adds an entry to the index.
+#[derive(Debug, Drop)]
+pub struct Insert {
+    pub key: Text,
+    /// The entry's time, in milliseconds since 1970.
+    pub moment: u128,
+    /// The size and the integrity are the entry's own; the algorithm has no effect.
+    pub options: Options,
+}
+
+/// Adds a tombstone to the index.
+#[derive(Debug, Drop)]
+pub struct Delete {
+    pub key: Text,
+    /// The tombstone's time, in milliseconds since 1970.
+    pub moment: u128,
+}
+
+/// How a content is exported.
+#[derive(Clone, Copy, Debug, PartialEq, Eq)]
+pub enum How {
+    Copy,
+    Reflink,
+    HardLink,
+}
+
+/// What names the content of an export.
+#[derive(Debug, Drop)]
+pub enum Source {
+    Key(Text),
+    Hash(Integrity),
+}
+
+/// Gives a content a second place, outside the cache.
+#[derive(Debug, Drop)]
+pub struct Export {
+    pub how: How,
+    /// Whether the content is read and verified first.
+    pub checked: bool,
+    /// Where it goes.
+    pub to: Text,
+}
+
+/// A call on a cache.
+#[derive(Debug, Drop)]
+pub enum Command {
+    Put(Put),
+    Link(Link),
+    Insert(Insert),
+    Delete(Delete),
+    /// The entry that a lookup of the key finds.
+    Find(Text),
+    /// The bytes that a key was last put with.
+    Get(Text),
+    /// The bytes of an integrity.
+    GetHash(Integrity),
+    /// Whether the content of an integrity is there.
+    Exists(Integrity),
+    /// The entries of all keys.
+    Ls,
+    Export(Source, Export),
+    /// Removes the content of an integrity.
+    RemoveHash(Integrity),
+    /// Removes the content that a key's lookup finds, and the key's bucket.
+    RemoveFully(Text),
+    /// Removes everything in the cache folder.
+    Clear,
+}
+
+/// A copy of a text that may be absent.
+fn copy_text(text: &Option<Text>) -> Result<Option<Text>, AllocError>
+    ensures { IfOk result (λ t. t ≡ text.now) }
+{
+    match text {
+        Some(text) => Ok(Some(text.clone()?)),
+        None => Ok(None),
+    }
+}
+
+/// A copy of an integrity that may be absent.
+fn copy_integrity(integrity: &Option<Integrity>) -> Result<Option<Integrity>, AllocError>
+    ensures { IfOk result (λ i. i ≡ integrity.now) }
+{
+    match integrity {
+        Some(integrity) => Ok(Some(integrity.clone()?)),
+        None => Ok(None),
+    }
+}
+
+/// One more owner of bytes that may be absent.
+fn share_bytes(bytes: &Option<Bytes>) -> Result<Option<Bytes>, AllocError>
+    ensures { IfOk result (λ b. b ≡ bytes.now) }
+{
+    match bytes {
+        Some(bytes) => Ok(Some(bytes.share()?)),
+        None => Ok(None),
+    }
+}
+
+impl Options {
+    /// Options that say nothing but the algorithm.
+    pub fn blank(algorithm: Algorithm) -> Options
+        ensures { result ≡ blank algorithm }
+    {
+        Options {
+            algorithm,
+            size: None,
+            integrity: None,
+            metadata: Json::new(Value::Null),
+            raw_metadata: None,
+        }
+    }
+
+    /// A copy, which shares its bytes.
+    pub fn copy(&self) -> Result<Options, AllocError>
+        ensures { IfOk result (λ options. options ≡ self.now) }
+    {
+        Ok(Options {
+            algorithm: self.algorithm,
+            size: self.size,
+            integrity: copy_integrity(&self.integrity)?,
+            metadata: self.metadata.clone()?,
+            raw_metadata: share_bytes(&self.raw_metadata)?,
+        })
+    }
+
+    /// The same with this size, in bytes.
+    pub fn with_size(self, size: usize) -> Options
+        ensures { result ≡ record self { size = Some size } }
+    {
+        let Options {
+            algorithm,
+            size: _,
+            integrity,
+            metadata,
+            raw_metadata,
+        } = self;
+        Options {
+            algorithm,
+            size: Some(size),
+            integrity,
+            metadata,
+            raw_metadata,
+        }
+    }
+}
+
+impl Put {
+    /// A copy, which shares its bytes.
+    pub fn copy(&self) -> Result<Put, AllocError>
+        ensures { IfOk result (λ put. put ≡ self.now) }
+    {
+        Ok(Put {
+            key: copy_text(&self.key)?,
+            data: self.data.share()?,
+            moment: self.moment,
+            options: self.options.copy()?,
+        })
+    }
+}
+
+impl Link {
+    /// A copy, which shares its bytes.
+    pub fn copy(&self) -> Result<Link, AllocError>
+        ensures { IfOk result (λ link. link ≡ self.now) }
+    {
+        Ok(Link {
+            key: copy_text(&self.key)?,
+            target: self.target.clone()?,
+            moment: self.moment,
+            options: self.options.copy()?,
+        })
+    }
+}
+
+impl Insert {
+    /// A copy, which shares its bytes.
+    pub fn copy(&self) -> Result<Insert, AllocError>
+        ensures { IfOk result (λ insert. insert ≡ self.now) }
+    {
+        Ok(Insert {
+            key: self.key.clone()?,
+            moment: self.moment,
+            options: self.options.copy()?,
+        })
+    }
+}
+
+impl Delete {
+    /// A copy.
+    pub fn copy(&self) -> Result<Delete, AllocError>
+        ensures { IfOk result (λ delete. delete ≡ self.now) }
+    {
+        Ok(Delete {
+            key: self.key.clone()?,
+            moment: self.moment,
+        })
+    }
+}
+
+impl Source {
+    /// A copy.
+    pub fn copy(&self) -> Result<Source, AllocError>
+        ensures { IfOk result (λ source. source ≡ self.now) }
+    {
+        match self {
+            Source::Key(key) => Ok(Source::Key(key.clone()?)),
+            Source::Hash(integrity) => Ok(Source::Hash(integrity.clone()?)),
+        }
+    }
+}
+
+impl Export {
+    /// A copy.
+    pub fn copy(&self) -> Result<Export, AllocError>
+        ensures { IfOk result (λ export. export ≡ self.now) }
+    {
+        Ok(Export {
+            how: self.how,
+            checked: self.checked,
+            to: self.to.clone()?,
+        })
+    }
+}
+
+impl Command {
+    /// A copy, which shares its bytes.
+    pub fn copy(&self) -> Result<Command, AllocError>
+        ensures { IfOk result (λ command. command ≡ self.now) }
+    {
+        match self {
+            Command::Put(put) => Ok(Command::Put(put.copy()?)),
+            Command::Link(link) => Ok(Command::Link(link.copy()?)),
+            Command::Insert(insert) => Ok(Command::Insert(insert.copy()?)),
+            Command::Delete(delete) => Ok(Command::Delete(delete.copy()?)),
+            Command::Find(key) => Ok(Command::Find(key.clone()?)),
+            Command::Get(key) => Ok(Command::Get(key.clone()?)),
+            Command::GetHash(integrity) => Ok(Command::GetHash(integrity.clone()?)),
+            Command::Exists(integrity) => Ok(Command::Exists(integrity.clone()?)),
+            Command::Ls => Ok(Command::Ls),
+            Command::Export(source, export) => {
+                let source = source.copy()?;
+                Ok(Command::Export(source, export.copy()?))
+            }
+            Command::RemoveHash(integrity) => Ok(Command::RemoveHash(integrity.clone()?)),
+            Command::RemoveFully(key) => Ok(Command::RemoveFully(key.clone()?)),
+            Command::Clear => Ok(Command::Clear),
+        }
+    }
+}

@@ -1,0 +1,15 @@
+//! All calls on a cache as one table of states: the step that each state wants, and where an answer takes it.
+#![tactic(auto)]
+
+pub mod answers;
+mod command;
+mod json;
+mod kinds;
+mod laws;
+mod reply;
+
+pub use answers::Refusal;
+pub use command::{Command, Delete, Export, How, Insert, Link, Options, Put, Source};
+pub use json::Json;
+pub use laws::{effect_laws, promise_laws, reply_laws, row_laws, run_laws, sound_laws};
+pub use reply::{Found, Items, Reply};

@@ -1,0 +1,66 @@
+-- What an append leaves of a bucket.
+use Rattle.std.proofs.Common.{◌≡◌, ◌≤◌, ◌<◌, length, ℕ, zero, suc, List, [], ◌∷◌, ◌++◌, Option, None, Some, Ok, Err, take, refl, sym, ap, ◌∙◌, append-nil}
+use Rattle.std.proofs.lemmas.List.{take_all}
+use Rattle.std.specs.Prelude.{Result}
+use Rattle.cacache_core.specs.declared.errors.Fault.{Fault}
+use Rattle.cacache_core.specs.PathNames.{Names, names_of}
+use Rattle.cacache_store.specs.declared.store.step.Step.TheVariants.{Append}
+use Rattle.cacache_store.specs.Plain.{PlainAnswer}
+use Rattle.cacache_disk.specs.declared.luck.Luck.{Luck}
+use Rattle.cacache_disk.specs.declared.node.Node.{Node}
+use Rattle.cacache_disk.specs.declared.node.Node.TheVariants.{Folder, File, Link}
+use Rattle.cacache_disk.specs.Tree.{bytes_of}
+use Rattle.cacache_entry.specs.Entry.{Entry, line_of}
+use Rattle.cacache_entry.specs.FittingEntries.{IsEntry, IsWritable}
+use Rattle.cacache_entry.specs.Bucket.{entries_of}
+use Rattle.cacache_entry.proofs.Pieces.{entries_split}
+use Rattle.cacache_entry.proofs.Lines.{lines_append, empty_holds_nothing, torn_lines_add_nothing}
+use Rattle.cacache_value.specs.Value.{bucket_in}
+use Rattle.cacache_value.specs.Acts.{Act, Nothing, AddEntries, act_at, act_with, amount_left, act_of, list_of}
+use Rattle.cacache_value.specs.ValueLaws.{WholeLinesAdd, TornLinesAddNone, NothingLeftIsNothing}
+
+-- bytes that begin with a line feed add the entries of as many of them as are left
+entries_left : (x y : List ℕ) (n : ℕ) → entries_of (x ++ take n (10 ∷ y)) ≡ entries_of x ++ entries_of (take n (10 ∷ y))
+entries_left x y zero = ap entries_of (append-nil x) ∙ sym (append-nil (entries_of x)) ∙ ap (λ es. entries_of x ++ es) (sym empty_holds_nothing)
+entries_left x y (suc n) = entries_split x (take n y) ∙ ap (λ es. entries_of x ++ es) (sym (entries_split [] (take n y) ∙ ap (λ es. es ++ entries_of (take n y)) empty_holds_nothing))
+
+-- behind a bucket's bytes too
+pub bucket_left : (here : Option Node) (y : List ℕ) (n : ℕ)
+    → entries_of (bytes_of here ++ take n (10 ∷ y)) ≡ list_of (bucket_in here) ++ entries_of (take n (10 ∷ y))
+bucket_left None y n = refl
+bucket_left (Some Folder) y n = refl
+bucket_left (Some (File x)) y n = entries_left x y n
+bucket_left (Some (Link target)) y n = refl
+
+-- what is left of a line holds its entry where all of it is there
+pub whole_line : (e : Entry) (n : ℕ) → IsEntry e → IsWritable e → length (line_of e) ≤ n → entries_of (take n (line_of e)) ≡ e ∷ []
+whole_line e n formed fits long =
+    ap entries_of (take_all n (line_of e) long) ∙ lines_append [] e formed fits ∙ ap (λ es. es ++ e ∷ []) empty_holds_nothing
+
+-- and no entry where less is
+pub torn_line : (e : Entry) (n : ℕ) → IsEntry e → IsWritable e → n < length (line_of e) → entries_of (take n (line_of e)) ≡ []
+torn_line e n formed fits short = torn_lines_add_nothing [] e n formed fits short ∙ empty_holds_nothing
+
+-- the act of an append that left so much
+pub append_act : (path : List ℕ) (names : Names) (bytes : List ℕ) (luck : Luck) (answer : PlainAnswer) (n : ℕ) → names_of path ≡ Ok names
+    → amount_left luck answer ≡ Some n → act_of (Append path bytes) luck answer ≡ AddEntries names (entries_of (take n bytes))
+append_act path names bytes luck answer n is left =
+    ap (λ r. act_at r (λ names. act_with (amount_left luck answer) (λ count. AddEntries names (entries_of (take count bytes))))) is
+    ∙ ap (λ o. act_with o (λ count. AddEntries names (entries_of (take count bytes)))) left
+
+pub whole_lines_add : WholeLinesAdd
+whole_lines_add e n formed fits long path names luck answer is left =
+    append_act path names (line_of e) luck answer n is left ∙ ap (AddEntries names) (whole_line e n formed fits long)
+
+pub torn_lines_add_none : TornLinesAddNone
+torn_lines_add_none e n formed fits short path names luck answer is left =
+    append_act path names (line_of e) luck answer n is left ∙ ap (AddEntries names) (torn_line e n formed fits short)
+
+nothing_at : (r : Result Names Fault) (names : Names → ℕ → Act) → act_at r (λ n. act_with None (names n)) ≡ Nothing
+nothing_at (Ok n) names = refl
+nothing_at (Err fault) names = refl
+
+pub nothing_left_is_nothing : NothingLeftIsNothing
+nothing_left_is_nothing path bytes luck answer left =
+    ap (λ o. act_at (names_of path) (λ names. act_with o (λ count. AddEntries names (entries_of (take count bytes))))) left
+    ∙ nothing_at (names_of path) (λ names count. AddEntries names (entries_of (take count bytes)))

@@ -1,0 +1,68 @@
+-- What every step has in common, whatever its luck.
+use Rattle.std.proofs.Common.{◌≡◌, ℕ, Bool, true, false, cond, Option, None, Some, Ok, Err, refl, sym, ap, subst, ◌∙◌}
+use Rattle.std.specs.Prelude.{Result}
+use Rattle.cacache_core.specs.declared.errors.Fault.{Fault}
+use Rattle.cacache_core.specs.declared.errors.Fault.TheVariants.{NotFound}
+use Rattle.cacache_store.specs.declared.store.answer.Answer.TheVariants.{Failed}
+use Rattle.cacache_store.specs.Plain.{PlainStep, PlainAnswer}
+use Rattle.cacache_disk.specs.declared.luck.Luck.{Luck}
+use Rattle.cacache_disk.specs.declared.luck.Luck.TheVariants.{Plain, Fail, Take}
+use Rattle.cacache_disk.specs.Tree.{Tree, Names}
+use Rattle.cacache_disk.specs.Apply.{apply, plain, unless, is_taking, is_parted, fails, fault_told, left_by, made_up}
+use Rattle.cacache_value.specs.Value.{wide_value}
+use Rattle.cacache_value.specs.Acts.{Nothing, amount_left, act_of, change}
+
+-- ---- the act of a step that is done whole or not at all
+
+-- the value after is the act of the step on the value before
+abbrev pub Acted : Option Names → Tree → PlainStep → Luck → PlainAnswer × Tree → Type 0
+Acted home t step luck outcome = wide_value home outcome.1 ≡ change home (act_of step luck outcome.0) (wide_value home t)
+
+module _ (home : Option Names) (t : Tree) (step : PlainStep) (nothing : (luck : Luck) (fault : Fault) → act_of step luck (Failed fault) ≡ Nothing) where
+  -- a failed step that changes nothing
+  failed : (luck : Luck) (fault : Fault) (new : Tree) → new ≡ t → Acted home t step luck (Failed fault, new)
+  failed luck fault new same = ap (wide_value home) same ∙ sym (ap (λ act. change home act (wide_value home t)) (nothing luck fault))
+
+  pub unless_acted : (luck : Luck) {A : Type 0} (r : Result A Fault) (go : A → PlainAnswer × Tree) → ((a : A) → r ≡ Ok a → Acted home t step luck (go a))
+      → Acted home t step luck (unless r t go)
+  unless_acted luck (Ok a) go h = h a refl
+  unless_acted luck (Err fault) go h = failed luck fault t refl
+
+  fails_acted : (luck : Luck) (own : Option Fault) (fault : Fault) (left : Tree) → left ≡ t → Acted home t step luck (fails own fault t left)
+  fails_acted luck None fault left same = failed luck (made_up fault) left same
+  fails_acted luck (Some own) fault left same = failed luck own t refl
+
+  left_same : (part : Option ℕ) → is_parted step ≡ false → left_by t step part ≡ t
+  left_same None unparted = refl
+  left_same (Some part) unparted = ap (λ b. cond b (plain t step (Some part)).1 t) unparted
+
+  pub apply_acted : (luck : Luck) → is_parted step ≡ false → ((most : Option ℕ) → Acted home t step luck (plain t step most))
+      → Acted home t step luck (apply t step luck)
+  unfolding apply
+  apply_acted Plain unparted h = h None
+  apply_acted (Take most) unparted h = h (cond (is_taking step) (Some most) None)
+  apply_acted (Fail fault part) unparted h = fails_acted (Fail fault part) (fault_told (plain t step None).0) fault (left_by t step part) (left_same part unparted)
+
+-- ---- a step that is refused at its place
+
+fails_refused : (outcome : PlainAnswer × Tree) (own fault : Fault) (t left : Tree) → outcome ≡ (Failed own, t)
+    → fails (fault_told outcome.0) fault t left ≡ (Failed own, t)
+fails_refused outcome own fault t left is = ap (λ (o : PlainAnswer × Tree). fails (fault_told o.0) fault t left) is
+
+pub apply_refused : (t : Tree) (step : PlainStep) (luck : Luck) (own : Fault) → ((most : Option ℕ) → plain t step most ≡ (Failed own, t))
+    → apply t step luck ≡ (Failed own, t)
+unfolding apply
+apply_refused t step Plain own h = h None
+apply_refused t step (Take most) own h = h (cond (is_taking step) (Some most) None)
+apply_refused t step (Fail fault part) own h = fails_refused (plain t step None) own fault t (left_by t step part) (h None)
+
+pub refused : (home : Option Names) (t : Tree) (step : PlainStep) (luck : Luck) (own : Fault) → ((most : Option ℕ) → plain t step most ≡ (Failed own, t))
+    → act_of step luck (Failed own) ≡ Nothing
+    → Acted home t step luck (apply t step luck)
+refused home t step luck own h nothing =
+    subst (Acted home t step luck) (sym (apply_refused t step luck own h)) (sym (ap (λ act. change home act (wide_value home t)) nothing))
+
+-- a made-up fault tells how much was left
+pub amount_left-made_up : (fault : Fault) (part : Option ℕ) → amount_left (Fail fault part) (Failed (made_up fault)) ≡ part
+amount_left-made_up NotFound part = refl
+amount_left-made_up other part = refl

@@ -1,0 +1,91 @@
+-- Paths of two kinds are apart, and above a path of the cache there are ways alone.
+use Rattle.std.proofs.Common.{◌≡◌, ℕ, zero, suc, Bool, true, false, cond, List, [], ◌∷◌, ◌++◌, Option, None, Some, codes, bytes_eq, refl, sym, ap, ◌∙◌, eq-eqb, append_assoc}
+use Rattle.cacache_disk.specs.Tree.{Names, same_path}
+use Rattle.cacache_disk.proofs.Maps.{same_path-true}
+use Rattle.cacache_value.specs.Kinds.{PathKind, Content, Bucket, Temporary, Way, Stray, Elsewhere, kind_in_area, kind_below, kind_beside, path_kind, is_used, is_path_of}
+
+bytes_eq_same : (xs : List ℕ) → bytes_eq xs xs ≡ true
+bytes_eq_same [] = refl
+bytes_eq_same (x ∷ xs) = rw (eq-eqb x x refl) (bytes_eq_same xs)
+
+-- a path below the cache's folder is of the kind that its inner names tell
+pub kind-below : (home path : Names) → kind_beside home (home ++ path) ≡ kind_below path
+kind-below [] path = refl
+kind-below (name ∷ home) path = rw (bytes_eq_same name) (kind-below home path)
+
+pub not_true : (b : Bool) → (b ≡ true → ⊥) → b ≡ false
+not_true true h = absurd (h refl)
+not_true false h = refl
+
+-- a path of another kind is another path
+pub unseen : (home : Option Names) (names p : Names) → (kind_below names ≡ path_kind home p → ⊥) → is_path_of home names p ≡ false
+unseen None names p apart = refl
+unseen (Some home) names p apart =
+    not_true (same_path (home ++ names) p) (λ e. apart (sym (kind-below home names) ∙ ap (kind_beside home) (same_path-true (home ++ names) p e)))
+
+-- ---- above a path
+
+kind_in_above : (file : PathKind) (n : ℕ) (path rest : Names) (name : List ℕ) → is_used (kind_in_area file n (path ++ name ∷ rest)) ≡ true
+    → kind_in_area file n path ≡ Way
+kind_in_above file zero [] rest name used = absurd cc
+kind_in_above file zero (first ∷ path) rest name used = absurd cc
+kind_in_above file (suc n) [] rest name used = refl
+kind_in_above file (suc n) (first ∷ path) rest name used = kind_in_above file n path rest name used
+
+area_above : (b c d : Bool) (path rest : Names) (name : List ℕ)
+    → is_used (cond b (kind_in_area Content 4 (path ++ name ∷ rest)) (cond c (kind_in_area Bucket 3 (path ++ name ∷ rest)) (cond d (kind_in_area Temporary 1 (path ++ name ∷ rest)) Stray))) ≡ true
+    → cond b (kind_in_area Content 4 path) (cond c (kind_in_area Bucket 3 path) (cond d (kind_in_area Temporary 1 path) Stray)) ≡ Way
+area_above true c d path rest name used = kind_in_above Content 4 path rest name used
+area_above false true d path rest name used = kind_in_above Bucket 3 path rest name used
+area_above false false true path rest name used = kind_in_above Temporary 1 path rest name used
+area_above false false false path rest name used = absurd cc
+
+inner_above : (path rest : Names) (name : List ℕ) → is_used (kind_below (path ++ name ∷ rest)) ≡ true → kind_below path ≡ Way
+inner_above [] rest name used = refl
+inner_above (area ∷ path) rest name used =
+    area_above (bytes_eq area (codes "content-v2")) (bytes_eq area (codes "index-v5")) (bytes_eq area (codes "tmp")) path rest name used
+
+through : (b : Bool) (old new : PathKind) → (is_used old ≡ true → new ≡ Way) → is_used (cond b old Elsewhere) ≡ true → cond b new Elsewhere ≡ Way
+through true old new h used = h used
+through false old new h used = absurd cc
+
+outer_above : (home path rest : Names) (name : List ℕ) → is_used (kind_beside home (path ++ name ∷ rest)) ≡ true → kind_beside home path ≡ Way
+outer_above [] path rest name used = inner_above path rest name used
+outer_above (n ∷ home) [] rest name used = refl
+outer_above (n ∷ home) (first ∷ path) rest name used =
+    through (bytes_eq n first) (kind_beside home (path ++ name ∷ rest)) (kind_beside home path) (outer_above home path rest name) used
+
+-- above a path that the cache uses are ways
+pub above : (home : Option Names) (path rest : Names) (name : List ℕ) → is_used (path_kind home (path ++ name ∷ rest)) ≡ true → path_kind home path ≡ Way
+above None path rest name used = absurd cc
+above (Some home) path rest name used = outer_above home path rest name used
+
+-- one name more
+pub further : (home : Option Names) (k : PathKind) (path rest : Names) (name : List ℕ) → path_kind home (path ++ name ∷ rest) ≡ k
+    → path_kind home ((path ++ name ∷ []) ++ rest) ≡ k
+further home k path rest name is = ap (path_kind home) (append_assoc path (name ∷ []) rest) ∙ is
+
+-- each folder of a way is one
+pub way_here : (home : Option Names) (path rest : Names) (name : List ℕ) → path_kind home (path ++ name ∷ rest) ≡ Way → path_kind home (path ++ name ∷ []) ≡ Way
+way_here home path [] name is = is
+way_here home path (next ∷ rest) name is = above home (path ++ name ∷ []) rest next (ap is_used (further home Way path (next ∷ rest) name is))
+
+-- ---- apart from the cache
+
+kind_in_used : (file : PathKind) (n : ℕ) (rest : Names) → (file ≡ Elsewhere → ⊥) → kind_in_area file n rest ≡ Elsewhere → ⊥
+kind_in_used file zero [] used e = used e
+kind_in_used file zero (name ∷ rest) used e = cc
+kind_in_used file (suc n) [] used e = cc
+kind_in_used file (suc n) (name ∷ rest) used e = kind_in_used file n rest used e
+
+area_used : (b c d : Bool) (rest : Names)
+    → cond b (kind_in_area Content 4 rest) (cond c (kind_in_area Bucket 3 rest) (cond d (kind_in_area Temporary 1 rest) Stray)) ≡ Elsewhere → ⊥
+area_used true c d rest e = kind_in_used Content 4 rest (λ f. cc) e
+area_used false true d rest e = kind_in_used Bucket 3 rest (λ f. cc) e
+area_used false false true rest e = kind_in_used Temporary 1 rest (λ f. cc) e
+area_used false false false rest e = cc
+
+-- no path below the cache's folder is apart from it
+pub inner_used : (names : Names) → kind_below names ≡ Elsewhere → ⊥
+inner_used [] e = cc
+inner_used (area ∷ rest) e = area_used (bytes_eq area (codes "content-v2")) (bytes_eq area (codes "index-v5")) (bytes_eq area (codes "tmp")) rest e

@@ -1,0 +1,12 @@
+pub mod KindsApart
+pub mod PutValues
+pub mod FoundPaths
+pub mod MadeFolders
+pub mod AppendedLines
+pub mod Applying
+pub mod Steps
+pub mod Shows
+pub mod Traces
+pub mod PathKinds
+pub mod OpeningTrees
+pub mod SingleCases

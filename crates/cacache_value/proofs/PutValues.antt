@@ -1,0 +1,144 @@
+-- What a tree stands for after a node is put or cut.
+use Rattle.std.proofs.Common.{◌≡◌, ℕ, Bool, true, false, cond, List, ◌++◌, Option, None, Some, refl, sym, ap, subst, ◌∙◌}
+use Rattle.std.specs.FinMap as map
+use Rattle.cacache_core.specs.declared.integrity.digest.Hash.{Hash}
+use Rattle.cacache_core.specs.Paths.{content_names, bucket_names_of}
+use Rattle.cacache_disk.specs.declared.node.Node.{Node}
+use Rattle.cacache_disk.specs.declared.node.Node.TheVariants.{Folder, File}
+use Rattle.cacache_disk.specs.Tree.{Tree, Names, look, put, cut, same_path}
+use Rattle.cacache_disk.specs.Rooted.{is_folder}
+use Rattle.cacache_disk.proofs.Maps.{same_path-true}
+use Rattle.cacache_disk.proofs.PutNodes.{look-put, look-cut, folders-put, folders-cut}
+use Rattle.cacache_entry.specs.Entry.{Entry}
+use Rattle.cacache_entry.specs.Bucket.{entries_of}
+use Rattle.cacache_value.specs.Kinds.{PathKind, Content, Bucket, Way, kind_below, path_kind, node_below, is_path_of}
+use Rattle.cacache_value.specs.Value.{Value, blob_in, bucket_in, wide_value}
+use Rattle.cacache_value.specs.Acts.{put_blob, list_of, add_entries, drop_file, set_folder, with_folders}
+use Rattle.cacache_value.specs.Placed.{MayStand, Placed}
+use Rattle.cacache_value.proofs.KindsApart.{unseen}
+
+-- values that answer alike are the same
+pub same_value : (v w : Value) → ((a : Hash) → v.contents a ≡ w.contents a) → ((h : List ℕ) → v.buckets h ≡ w.buckets h)
+    → ((q : Names) → v.folders q ≡ w.folders q) → v ≡ w
+same_value v w c b f = λ i. record { contents = λ a. c a i; buckets = λ h. b h i; folders = λ q. f q i }
+
+pub node_below-put : (home : Option Names) (t : Tree) (p : Names) (node : Node) (names : Names)
+    → node_below home (put t p node) names ≡ cond (is_path_of home names p) (Some node) (node_below home t names)
+node_below-put None t p node names = refl
+node_below-put (Some home) t p node names = look-put t p node (home ++ names)
+
+node_below-cut : (home : Option Names) (t : Tree) (p names : Names) → node_below home (cut t p) names ≡ cond (is_path_of home names p) None (node_below home t names)
+node_below-cut None t p names = refl
+node_below-cut (Some home) t p names = look-cut t p (home ++ names)
+
+-- what stands at a path that is this one
+pub node_below-here : (home : Option Names) (t : Tree) (p names : Names) → is_path_of home names p ≡ true → node_below home t names ≡ look t p
+node_below-here None t p names e = absurd cc
+node_below-here (Some home) t p names e = ap (look t) (same_path-true (home ++ names) p e)
+
+each : {A B : Type 0} (f : A → B) (b : Bool) (x y : A) → f (cond b x y) ≡ cond b (f x) (f y)
+each f true x y = refl
+each f false x y = refl
+
+-- a change at a path of another kind isn't seen
+pub put_unseen : (home : Option Names) (t : Tree) (p : Names) (node : Node) (names : Names) → (kind_below names ≡ path_kind home p → ⊥)
+    → node_below home (put t p node) names ≡ node_below home t names
+put_unseen home t p node names apart = node_below-put home t p node names ∙ ap (λ b. cond b (Some node) (node_below home t names)) (unseen home names p apart)
+
+pub cut_unseen : (home : Option Names) (t : Tree) (p names : Names) → (kind_below names ≡ path_kind home p → ⊥)
+    → node_below home (cut t p) names ≡ node_below home t names
+cut_unseen home t p names apart = node_below-cut home t p names ∙ ap (λ b. cond b None (node_below home t names)) (unseen home names p apart)
+
+-- ---- what may stand at each path
+
+suits_none : (home : Option Names) (k : PathKind) → MayStand home None k
+suits_none home k = tt
+
+placed_at : (home : Option Names) (p q : Names) (new old : Option Node) (b : Bool) → same_path q p ≡ b → MayStand home new (path_kind home p)
+    → MayStand home old (path_kind home q) → MayStand home (cond b new old) (path_kind home q)
+placed_at home p q new old true e s h = subst (λ r. MayStand home new (path_kind home r)) (sym (same_path-true q p e)) s
+placed_at home p q new old false e s h = h
+
+pub placed_put : (home : Option Names) (t : Tree) (p : Names) (node : Node) → MayStand home (Some node) (path_kind home p) → Placed home t
+    → Placed home (put t p node)
+placed_put home t p node s placed = λ q. rw (look-put t p node q) (placed_at home p q (Some node) (look t q) (same_path q p) refl s (placed q))
+
+pub placed_cut : (home : Option Names) (t : Tree) (p : Names) → Placed home t → Placed home (cut t p)
+placed_cut home t p placed = λ q. rw (look-cut t p q) (placed_at home p q None (look t q) (same_path q p) refl tt (placed q))
+
+-- ---- the value
+
+module _ (home : Option Names) (t : Tree) (p : Names) where
+  -- a file or link put where the cache keeps nothing
+  pub put_hidden : (node : Node) → (Content ≡ path_kind home p → ⊥) → (Bucket ≡ path_kind home p → ⊥) → is_folder (Some node) ≡ false
+      → is_folder (look t p) ≡ false → wide_value home (put t p node) ≡ wide_value home t
+  put_hidden node c b fresh old =
+      same_value _ _
+      (λ a. ap blob_in (put_unseen home t p node (content_names a) c))
+      (λ h. ap bucket_in (put_unseen home t p node (bucket_names_of h) b))
+      (λ q. folders-put t p node q fresh old)
+
+  -- a file cut where the cache keeps nothing
+  pub cut_hidden : (Content ≡ path_kind home p → ⊥) → (Bucket ≡ path_kind home p → ⊥) → is_folder (look t p) ≡ false
+      → wide_value home (cut t p) ≡ wide_value home t
+  cut_hidden c b old =
+      same_value _ _
+      (λ a. ap blob_in (cut_unseen home t p (content_names a) c))
+      (λ h. ap bucket_in (cut_unseen home t p (bucket_names_of h) b))
+      (λ q. folders-cut t p q old)
+
+  -- a file or link put at a content's path
+  pub put_content : (node : Node) → path_kind home p ≡ Content → is_folder (Some node) ≡ false → is_folder (look t p) ≡ false
+      → wide_value home (put t p node) ≡ put_blob home p (blob_in (Some node)) (wide_value home t)
+  put_content node k fresh old =
+      same_value _ _
+      (λ a. ap blob_in (node_below-put home t p node (content_names a)) ∙ each blob_in (is_path_of home (content_names a) p) (Some node) (node_below home t (content_names a)))
+      (λ h. ap bucket_in (put_unseen home t p node (bucket_names_of h) (λ e. let no : Bucket ≡ Content = e ∙ k in cc)))
+      (λ q. folders-put t p node q fresh old)
+
+  bucket_at : (x : List ℕ) (new : List Entry) (names : Names) (b : Bool) → is_path_of home names p ≡ b
+      → entries_of x ≡ list_of (bucket_in (look t p)) ++ new
+      → bucket_in (cond b (Some (File x)) (node_below home t names)) ≡ cond b (Some (list_of (bucket_in (node_below home t names)) ++ new)) (bucket_in (node_below home t names))
+  bucket_at x new names true e is = ap Some (is ∙ ap (λ o. list_of (bucket_in o) ++ new) (sym (node_below-here home t p names e)))
+  bucket_at x new names false e is = refl
+
+  -- a file with more entries put at a bucket's path
+  pub put_bucket : (x : List ℕ) (new : List Entry) → path_kind home p ≡ Bucket → is_folder (look t p) ≡ false
+      → entries_of x ≡ list_of (bucket_in (look t p)) ++ new
+      → wide_value home (put t p (File x)) ≡ add_entries home p new (wide_value home t)
+  put_bucket x new k old is =
+      same_value _ _
+      (λ a. ap blob_in (put_unseen home t p (File x) (content_names a) (λ e. let no : Content ≡ Bucket = e ∙ k in cc)))
+      (λ h. ap bucket_in (node_below-put home t p (File x) (bucket_names_of h)) ∙ bucket_at x new (bucket_names_of h) (is_path_of home (bucket_names_of h) p) refl is)
+      (λ q. folders-put t p (File x) q refl old)
+
+  -- a file or link cut anywhere
+  pub cut_file : is_folder (look t p) ≡ false → wide_value home (cut t p) ≡ drop_file home p (wide_value home t)
+  cut_file old =
+      same_value _ _
+      (λ a. ap blob_in (node_below-cut home t p (content_names a)) ∙ each blob_in (is_path_of home (content_names a) p) None (node_below home t (content_names a)))
+      (λ h. ap bucket_in (node_below-cut home t p (bucket_names_of h)) ∙ each bucket_in (is_path_of home (bucket_names_of h) p) None (node_below home t (bucket_names_of h)))
+      (λ q. folders-cut t p q old)
+
+  -- a folder cut: it is no content and no bucket
+  no_file : {A : Type 0} (f : Option Node → Option A) (names : Names) (b : Bool) → is_path_of home names p ≡ b → f None ≡ f (Some Folder)
+      → look t p ≡ Some Folder → f (cond b None (node_below home t names)) ≡ f (node_below home t names)
+  no_file f names true e same is = same ∙ ap f (sym (node_below-here home t p names e ∙ is))
+  no_file f names false e same is = refl
+
+  pub cut_folder : look t p ≡ Some Folder
+      → wide_value home (cut t p) ≡ with_folders (set_folder false p (wide_value home t).folders) (wide_value home t)
+  cut_folder is =
+      same_value _ _
+      (λ a. ap blob_in (node_below-cut home t p (content_names a)) ∙ no_file blob_in (content_names a) (is_path_of home (content_names a) p) refl refl is)
+      (λ h. ap bucket_in (node_below-cut home t p (bucket_names_of h)) ∙ no_file bucket_in (bucket_names_of h) (is_path_of home (bucket_names_of h) p) refl refl is)
+      (λ q. ap is_folder (look-cut t p q) ∙ each is_folder (same_path q p) None (look t q))
+
+  -- a folder made on the way
+  pub put_folder : path_kind home p ≡ Way
+      → wide_value home (put t p Folder) ≡ with_folders (set_folder true p (wide_value home t).folders) (wide_value home t)
+  put_folder k =
+      same_value _ _
+      (λ a. ap blob_in (put_unseen home t p Folder (content_names a) (λ e. let no : Content ≡ Way = e ∙ k in cc)))
+      (λ h. ap bucket_in (put_unseen home t p Folder (bucket_names_of h) (λ e. let no : Bucket ≡ Way = e ∙ k in cc)))
+      (λ q. ap is_folder (look-put t p Folder q) ∙ each is_folder (same_path q p) (Some Folder) (look t q))

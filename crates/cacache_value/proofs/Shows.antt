@@ -1,0 +1,211 @@
+-- Reading steps show what the value holds.
+use Rattle.std.proofs.Common.{◌≡◌, ℕ, true, false, cond, List, [], ◌∷◌, ◌++◌, Option, None, Some, Ok, Err, refl, sym, ap, subst, ◌∙◌, append_assoc, length}
+use Rattle.std.specs.Prelude.{Result}
+use Rattle.cacache_core.specs.declared.errors.Fault.{Fault}
+use Rattle.cacache_core.specs.declared.errors.Fault.TheVariants.{NotFound, IsADirectory, InvalidInput}
+use Rattle.cacache_core.specs.declared.integrity.digest.Hash.{Hash}
+use Rattle.cacache_core.specs.Paths.{content_names, bucket_names_of}
+use Rattle.cacache_store.specs.declared.store.step.Step.TheVariants.{ReadAll, Open, Size, Exists}
+use Rattle.cacache_store.specs.declared.store.answer.Answer.TheVariants.{Done, Temp, Wrote, Took, Bytes, File as Opened, Got, There, Length, Names as Listed, Failed, NoMemory}
+use Rattle.cacache_store.specs.Plain.{PlainStep, PlainAnswer}
+use Rattle.cacache_disk.specs.declared.luck.Luck.{Luck}
+use Rattle.cacache_disk.specs.declared.luck.Luck.TheVariants.{Plain, Fail, Take}
+use Rattle.cacache_disk.specs.declared.node.Node.{Node}
+use Rattle.cacache_disk.specs.declared.node.Node.TheVariants.{Folder, File, Link}
+use Rattle.cacache_core.specs.PathNames.{names_of, names_below}
+use Rattle.cacache_disk.specs.Tree.{Tree, Names, look}
+use Rattle.cacache_disk.specs.LedTo.{way_fault, place, followed, leads, found, file_at, bytes_there}
+use Rattle.cacache_disk.specs.Apply.{apply, plain, unless, is_there, is_taking, fails, fault_told, left_by, made_up}
+use Rattle.cacache_entry.specs.Entry.{Entry}
+use Rattle.cacache_value.specs.Kinds.{Content, Bucket, path_kind, is_used}
+use Rattle.cacache_value.specs.Value.{blob_in, bucket_in, wide_value}
+use Rattle.cacache_value.specs.Placed.{MayStand, Placed}
+use Rattle.cacache_disk.specs.Rooted.{Rooted}
+use Rattle.cacache_disk.proofs.Standing.{way_clear}
+use Rattle.cacache_value.specs.Shows.{link_end, blob_bytes, blob_there, ShowsBucket, ShowsContent, ShowsThere}
+use Rattle.cacache_value.specs.ValueLaws.{TreesShow}
+use Rattle.cacache_value.proofs.KindsApart.{kind-below}
+use Rattle.cacache_value.proofs.FoundPaths.{OnlyMissing, way_missing, suits}
+
+-- ---- an answer under any luck
+
+failed_is : (a : PlainAnswer) (own : Fault) → fault_told a ≡ Some own → a ≡ Failed own
+failed_is Done own e = absurd cc
+failed_is (Temp x) own e = absurd cc
+failed_is (Wrote x n) own e = absurd cc
+failed_is (Took n) own e = absurd cc
+failed_is (Bytes b) own e = absurd cc
+failed_is (Opened f) own e = absurd cc
+failed_is (Got f b) own e = absurd cc
+failed_is (There b) own e = absurd cc
+failed_is (Length n) own e = absurd cc
+failed_is (Listed l) own e = absurd cc
+failed_is (Failed f) own e = cc
+failed_is (NoMemory s) own e = absurd cc
+
+module _ (Q : PlainAnswer → Type 0) (made_up_too : (fault : Fault) → Q (Failed (made_up fault))) where
+  fails_answer : (t left : Tree) (a : PlainAnswer) (own : Option Fault) (fault : Fault) → fault_told a ≡ own → Q a → Q (fails own fault t left).0
+  fails_answer t left a None fault e h = made_up_too fault
+  fails_answer t left a (Some own) fault e h = subst Q (failed_is a own e) h
+
+  pub apply_answer : (t : Tree) (step : PlainStep) (luck : Luck) → ((most : Option ℕ) → Q (plain t step most).0) → Q (apply t step luck).0
+  unfolding apply
+  apply_answer t step Plain h = h None
+  apply_answer t step (Take most) h = h (cond (is_taking step) (Some most) None)
+  apply_answer t step (Fail fault part) h = fails_answer t (left_by t step part) (plain t step None).0 (fault_told (plain t step None).0) fault refl (h None)
+
+-- ---- where a path of the cache leads
+
+-- something stands there, or nothing, or a folder on the way is missing too
+data Leads (t : Tree) (path : List ℕ) (names : Names) : Type 0 where
+  there : (node : Node) → look t names ≡ Some node → place t path ≡ Ok names → Leads t path names
+  free : look t names ≡ None → place t path ≡ Ok names → Leads t path names
+  missing : look t names ≡ None → place t path ≡ Err NotFound → Leads t path names
+
+missing_at : (t : Tree) (path : List ℕ) (names : Names) (fault : Option Fault) → way_fault t [] names ≡ fault → OnlyMissing fault
+    → names_of path ≡ Ok names → look t names ≡ None → Leads t path names
+unfolding place
+missing_at t path names None e h is none = free none (rw (is, e) refl)
+missing_at t path names (Some NotFound) e h is none = missing none (rw (is, e) refl)
+missing_at t path names (Some other) e h is none = absurd h
+
+leads_at : (home : Option Names) (t : Tree) (path : List ℕ) (names : Names) (here : Option Node) → look t names ≡ here → Placed home t → Rooted t
+    → is_used (path_kind home names) ≡ true → names_of path ≡ Ok names → Leads t path names
+unfolding place
+leads_at home t path names None e placed rooted inside is = missing_at t path names (way_fault t [] names) refl (way_missing home t [] names inside placed) is e
+leads_at home t path names (Some node) e placed rooted inside is = there node e (rw (is, way_clear t [] names node rooted e) refl)
+
+module _ (t : Tree) (path : List ℕ) (names : Names) where
+  content_read : (home : Option Names) (here : Option Node) → look t names ≡ here → MayStand home here Content → Leads t path names
+      → file_at t path IsADirectory ≡ blob_bytes t (blob_in here)
+  unfolding file_at leads followed link_end
+  content_read home None e s (there node h w) = let differ : None ≡ Some node = sym e ∙ h in absurd cc
+  content_read home None e s (free h w) = rw (w, h, h) refl
+  content_read home None e s (missing h w) = rw w refl
+  content_read home (Some Folder) e s l = absurd s
+  content_read home (Some (File bytes)) e s (there node h w) = rw (w, e, e) refl
+  content_read home (Some (File bytes)) e s (free h w) = let differ : Some (File bytes) ≡ None = sym e ∙ h in absurd cc
+  content_read home (Some (File bytes)) e s (missing h w) = let differ : Some (File bytes) ≡ None = sym e ∙ h in absurd cc
+  content_read home (Some (Link target)) e s (there node h w) = rw (w, e) refl
+  content_read home (Some (Link target)) e s (free h w) = let differ : Some (Link target) ≡ None = sym e ∙ h in absurd cc
+  content_read home (Some (Link target)) e s (missing h w) = let differ : Some (Link target) ≡ None = sym e ∙ h in absurd cc
+
+  content_there : (home : Option Names) (here : Option Node) → look t names ≡ here → MayStand home here Content → Leads t path names
+      → is_there (found t path) ≡ blob_there t (blob_in here)
+  unfolding found leads followed link_end
+  content_there home None e s (there node h w) = let differ : None ≡ Some node = sym e ∙ h in absurd cc
+  content_there home None e s (free h w) = rw (w, h, h) refl
+  content_there home None e s (missing h w) = rw w refl
+  content_there home (Some Folder) e s l = absurd s
+  content_there home (Some (File bytes)) e s (there node h w) = rw (w, e, e) refl
+  content_there home (Some (File bytes)) e s (free h w) = let differ : Some (File bytes) ≡ None = sym e ∙ h in absurd cc
+  content_there home (Some (File bytes)) e s (missing h w) = let differ : Some (File bytes) ≡ None = sym e ∙ h in absurd cc
+  content_there home (Some (Link target)) e s (there node h w) = rw (w, e) refl
+  content_there home (Some (Link target)) e s (free h w) = let differ : Some (Link target) ≡ None = sym e ∙ h in absurd cc
+  content_there home (Some (Link target)) e s (missing h w) = let differ : Some (Link target) ≡ None = sym e ∙ h in absurd cc
+
+  bucket_read : (home : Option Names) (here : Option Node) → look t names ≡ here → MayStand home here Bucket → Leads t path names
+      → file_at t path IsADirectory ≡ bytes_there IsADirectory here
+  unfolding file_at leads followed
+  bucket_read home None e s (there node h w) = let differ : None ≡ Some node = sym e ∙ h in absurd cc
+  bucket_read home None e s (free h w) = rw (w, h, h) refl
+  bucket_read home None e s (missing h w) = rw w refl
+  bucket_read home (Some Folder) e s l = absurd s
+  bucket_read home (Some (File bytes)) e s (there node h w) = rw (w, e, e) refl
+  bucket_read home (Some (File bytes)) e s (free h w) = let differ : Some (File bytes) ≡ None = sym e ∙ h in absurd cc
+  bucket_read home (Some (File bytes)) e s (missing h w) = let differ : Some (File bytes) ≡ None = sym e ∙ h in absurd cc
+  bucket_read home (Some (Link target)) e s l = absurd s
+
+-- ---- what the answers show
+
+made_up_bucket : (listed : Option (List Entry)) (fault : Fault) → ShowsBucket listed (Failed (made_up fault))
+made_up_bucket listed NotFound = tt
+made_up_bucket listed other = tt
+
+made_up_content : (held : Result (List ℕ) Fault) (fault : Fault) → ShowsContent held (Failed (made_up fault))
+made_up_content held NotFound = tt
+made_up_content held other = tt
+
+bucket_shown : (home : Option Names) (t : Tree) (here : Option Node) (r : Result (List ℕ) Fault) → MayStand home here Bucket
+    → r ≡ bytes_there IsADirectory here → ShowsBucket (bucket_in here) (unless r t (λ bytes. (Bytes bytes, t))).0
+bucket_shown home t None r s e = rw e refl
+bucket_shown home t (Some Folder) r s e = absurd s
+bucket_shown home t (Some (File x)) r s e = rw e refl
+bucket_shown home t (Some (Link target)) r s e = absurd s
+
+-- what answers a read of a content's bytes
+abbrev IsAnswerOf : (List ℕ → PlainAnswer) → Type 0
+IsAnswerOf answer = (bytes : List ℕ) → ShowsContent (Ok bytes) (answer bytes)
+
+content_shown : (t : Tree) (answer : List ℕ → PlainAnswer) (r : Result (List ℕ) Fault) → IsAnswerOf answer
+    → ShowsContent r (unless r t (λ bytes. (answer bytes, t))).0
+content_shown t answer (Ok bytes) shows = shows bytes
+content_shown t answer (Err NotFound) shows = refl
+content_shown t answer (Err other) shows = tt
+
+there_shown : (a : PlainAnswer) → ShowsThere a a
+there_shown (There b) = refl
+there_shown other = tt
+
+unnamed : (t : Tree) (path : List ℕ) → names_of path ≡ Err InvalidInput → leads t path ≡ Err InvalidInput
+unfolding leads place
+unnamed t path is = rw is refl
+
+unread : (t : Tree) (path : List ℕ) → names_of path ≡ Err InvalidInput → file_at t path IsADirectory ≡ Err InvalidInput
+unfolding file_at
+unread t path is = rw (unnamed t path is) refl
+
+unfound : (t : Tree) (path : List ℕ) → names_of path ≡ Err InvalidInput → found t path ≡ Err InvalidInput
+unfolding found
+unfound t path is = rw (unnamed t path is) refl
+
+module _ (t : Tree) (path : List ℕ) (luck : Luck) where
+  shows_bucket : (home : Option Names) (hash : List ℕ) → Placed home t → Rooted t → names_of path ≡ names_below home (bucket_names_of hash)
+      → ShowsBucket ((wide_value home t).buckets hash) (apply t (ReadAll path) luck).0
+  shows_bucket None hash placed rooted is = apply_answer (ShowsBucket None) (made_up_bucket None) t (ReadAll path) luck (λ most. rw (unread t path is) tt)
+  shows_bucket (Some home) hash placed rooted is =
+      let names = home ++ bucket_names_of hash in
+      let k = kind-below home (bucket_names_of hash) in
+      let s = suits (Some home) t (home ++ bucket_names_of hash) Bucket k placed in
+      let l = leads_at (Some home) t path (home ++ bucket_names_of hash) (look t (home ++ bucket_names_of hash)) refl placed rooted (ap is_used k) is in
+      apply_answer (ShowsBucket (bucket_in (look t (home ++ bucket_names_of hash)))) (made_up_bucket _) t (ReadAll path) luck
+      (λ most. bucket_shown (Some home) t (look t (home ++ bucket_names_of hash)) (file_at t path IsADirectory) s (bucket_read t path (home ++ bucket_names_of hash) (Some home) (look t (home ++ bucket_names_of hash)) refl s l))
+
+  module _ (step : PlainStep) (answer : List ℕ → PlainAnswer) (answers : IsAnswerOf answer)
+      (is_step : (most : Option ℕ) → plain t step most ≡ unless (file_at t path IsADirectory) t (λ bytes. (answer bytes, t))) where
+    read_shown : (content : Result (List ℕ) Fault) → file_at t path IsADirectory ≡ content → ShowsContent content (apply t step luck).0
+    read_shown content read =
+        apply_answer (ShowsContent content) (made_up_content content) t step luck
+        (λ most. rw is_step (subst (λ r. ShowsContent r (unless (file_at t path IsADirectory) t (λ bytes. (answer bytes, t))).0) read (content_shown t answer (file_at t path IsADirectory) answers)))
+
+    shows_content : (home : Option Names) (address : Hash) → Placed home t → Rooted t → names_of path ≡ names_below home (content_names address)
+        → ShowsContent (blob_bytes t ((wide_value home t).contents address)) (apply t step luck).0
+    shows_content None address placed rooted is =
+        apply_answer (ShowsContent (Err NotFound)) (made_up_content (Err NotFound)) t step luck (λ most. rw (is_step, unread t path is) tt)
+    shows_content (Some home) address placed rooted is =
+        let k = kind-below home (content_names address) in
+        let s = suits (Some home) t (home ++ content_names address) Content k placed in
+        let l = leads_at (Some home) t path (home ++ content_names address) (look t (home ++ content_names address)) refl placed rooted (ap is_used k) is in
+        read_shown (blob_bytes t (blob_in (look t (home ++ content_names address)))) (content_read t path (home ++ content_names address) (Some home) (look t (home ++ content_names address)) refl s l)
+
+  shows_there : (home : Option Names) (address : Hash) → Placed home t → Rooted t → names_of path ≡ names_below home (content_names address)
+      → ShowsThere (blob_there t ((wide_value home t).contents address)) (apply t (Exists path) luck).0
+  shows_there None address placed rooted is = apply_answer (ShowsThere (There false)) (λ fault. tt) t (Exists path) luck (λ most. rw (unfound t path is) tt)
+  shows_there (Some home) address placed rooted is =
+      let k = kind-below home (content_names address) in
+      let s = suits (Some home) t (home ++ content_names address) Content k placed in
+      let l = leads_at (Some home) t path (home ++ content_names address) (look t (home ++ content_names address)) refl placed rooted (ap is_used k) is in
+      let read = content_there t path (home ++ content_names address) (Some home) (look t (home ++ content_names address)) refl s l in
+      apply_answer (ShowsThere (blob_there t (blob_in (look t (home ++ content_names address))))) (λ fault. tt) t (Exists path) luck
+      (λ most. subst (λ r. ShowsThere r (is_there (found t path))) read (there_shown (is_there (found t path))))
+
+pub trees_show : TreesShow
+trees_show home t placed rooted = record {
+  bucket = λ digest path luck is. shows_bucket t path luck home digest placed rooted is;
+  content = λ address path luck is. shows_content t path luck (ReadAll path) Bytes (λ bytes. refl) (λ most. refl) home address placed rooted is;
+  opened = λ address path luck is.
+      shows_content t path luck (Open path) (λ bytes. Opened (record { left = length bytes; bytes = Some bytes })) (λ bytes. (bytes, refl, refl)) (λ most. refl) home address placed rooted is;
+  size = λ address path luck is.
+      shows_content t path luck (Size path) (λ bytes. Length (length bytes)) (λ bytes. (bytes, refl, refl)) (λ most. refl) home address placed rooted is;
+  there = λ address path luck is. shows_there t path luck home address placed rooted is;
+}

@@ -1,0 +1,47 @@
+-- Which trees a cache's steps lead to, and which steps its calls make.
+use Rattle.std.specs.Prelude.{◌≡◌, ℕ, List, Option, None, Some}
+use Rattle.cacache_store.specs.declared.store.step.Step.TheVariants.{MakeDirs, CreateTemp, Persist, Append, Symlink, Copy, Reflink, HardLink}
+use Rattle.cacache_store.specs.Plain.{PlainStep}
+use Rattle.cacache_core.specs.PathNames.{Names}
+use Rattle.cacache_disk.specs.declared.node.Node.{Node}
+use Rattle.cacache_disk.specs.declared.node.Node.TheVariants.{Folder, File, Link}
+use Rattle.cacache_disk.specs.Tree.{Tree, look}
+use Rattle.cacache_entry.specs.Entry.{Entry, line_of}
+use Rattle.cacache_entry.specs.FittingEntries.{IsEntry, IsWritable}
+use Rattle.cacache_value.specs.Kinds.{PathKind, Content, Bucket, Temporary, Way, Stray, Elsewhere, path_kind, IsFor}
+
+-- what may stand at a path of a kind: each link leads to a path apart from the cache
+abbrev pub MayStand : Option Names → Option Node → PathKind → Type 0
+MayStand home None k = Unit {0}
+MayStand home (Some Folder) Way = Unit {0}
+MayStand home (Some Folder) Elsewhere = Unit {0}
+MayStand home (Some Folder) other = ⊥
+MayStand home (Some (File bytes)) Way = ⊥
+MayStand home (Some (File bytes)) Stray = ⊥
+MayStand home (Some (File bytes)) other = Unit {0}
+MayStand home (Some (Link target)) Content = IsFor home Elsewhere target
+MayStand home (Some (Link target)) Elsewhere = IsFor home Elsewhere target
+MayStand home (Some (Link target)) other = ⊥
+
+-- at each path stands nothing, or what may stand there
+abbrev pub Placed : Option Names → Tree → Type 0
+Placed home t = (names : Names) → MayStand home (look t names) (path_kind home names)
+
+-- the line of an entry that can be written
+pub record IsEntryLine (bytes : List ℕ) : Type 0 where
+  pub entry : Entry
+  pub formed : IsEntry entry
+  pub fits : IsWritable entry
+  pub same : bytes ≡ line_of entry
+
+-- a step that a call of the cache may make: it puts things where they belong, and exports elsewhere
+abbrev pub Proper : Option Names → PlainStep → Type 0
+Proper home (MakeDirs p) = IsFor home Way p
+Proper home (CreateTemp p) = IsFor home Temporary p
+Proper home (Persist f p) = IsFor home Temporary f.path × IsFor home Content p
+Proper home (Append p bytes) = IsFor home Bucket p × IsEntryLine bytes
+Proper home (Symlink target p) = IsFor home Content p × IsFor home Elsewhere target
+Proper home (Copy p q) = IsFor home Elsewhere q
+Proper home (Reflink p q) = IsFor home Elsewhere q
+Proper home (HardLink p q) = IsFor home Elsewhere q
+Proper home step = Unit {0}

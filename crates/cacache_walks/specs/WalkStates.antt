@@ -1,0 +1,62 @@
+-- Where a walk stands in the table of calls.
+use Rattle.std.specs.Prelude.{◌≡◌, ◌+◌, ◌≤◌, List, ◌++◌, Option, Some, None, Bool, true, false, Result, Ok, Err, length, map, reverse}
+use Rattle.cacache_core.specs.declared.errors.Error.{Error}
+use Rattle.cacache_table.specs.State as states
+use Rattle.cacache_table.specs.State.{State, Item, walking, enter, read_bucket, remove_file, remove_folder, visit, stumble}
+use Rattle.cacache_table.specs.Walking.{most, walk_ends}
+use Rattle.cacache_table.specs.Runs.{plain_item, EndsAs}
+use Rattle.cacache_walks.specs.declared.visit.Visit.{Visit}
+use Rattle.cacache_walks.specs.declared.visit.Visit.TheVariants as visits
+use Rattle.cacache_walks.specs.declared.visit.Task.{Task}
+use Rattle.cacache_walks.specs.declared.visit.Task.TheVariants as tasks
+use Rattle.cacache_walks.specs.declared.walk.Walk.{Walk}
+
+-- ---- what a walk carries, as the table has it
+
+-- a visit, as the table has it
+abbrev pub visit_of : Visit → states.Visit
+visit_of (visits.Enter path level) = enter path level
+visit_of (visits.ReadBucket path) = read_bucket path
+visit_of (visits.RemoveFile path) = remove_file path
+visit_of (visits.RemoveFolder path) = remove_folder path
+
+-- a task, as the table has it
+abbrev pub task_of : Task → states.Task
+task_of (tasks.Visit v) = visit (visit_of v)
+task_of (tasks.Stumble fault) = stumble fault
+
+-- the tasks of a stack: the table has the next one first, and the stack has it last
+abbrev pub pending : List Task → List states.Task
+pending stack = reverse (map task_of stack)
+
+-- a walk of which these items were taken before
+abbrev pub walk_of : List Item → Walk → states.Walk
+walk_of taken w =
+    record { clears = w.clears; items = taken ++ map plain_item w.items.items; left = w.left }
+
+-- ---- where it stands
+
+-- it knows how many items may still come
+abbrev pub Counts : List Item → Walk → Type 0
+Counts taken w = length taken + length w.items.items + w.room ≡ most
+
+-- it gave at most so many items, and one more that says so
+abbrev pub Bounds : List Item → Walk → Type 0
+Bounds taken w = length taken + length w.items.items ≤ most + 1
+
+-- it wants the step of this visit, or is over
+abbrev pub WalksAt : List Item → Walk → Option Visit → State → Type 0
+WalksAt taken w (Some v) s =
+    Counts taken w × (s ≡ walking (walk_of taken w) (visit_of v) (pending w.todo.items))
+WalksAt taken w None s = Bounds taken w × (s ≡ walk_ends (walk_of taken w))
+
+-- it goes on to this state, or an error ends it
+abbrev pub WalkLeads : List Item → Result (Option Visit) Error → Walk → State → Type 0
+WalkLeads taken (Ok next) w s = WalksAt taken w next s
+WalkLeads taken (Err e) w s = EndsAs e s
+
+-- it goes on so with more items; it ends where that are too many, or by an error
+abbrev pub WalkGives : List Item → Result Bool Error → Walk → (states.Walk → State) → State → Type 0
+WalkGives taken (Ok true) w next s = Counts taken w × (s ≡ next (walk_of taken w))
+WalkGives taken (Ok false) w next s = Bounds taken w × (s ≡ walk_ends (walk_of taken w))
+WalkGives taken (Err e) w next s = EndsAs e s

@@ -1,0 +1,118 @@
+//! A temporary file whose writes are polled.
+ghost use Rattle.std.specs.Prelude.{◌≡◌, IfErr};
+ghost use Rattle.cacache_core.specs.declared.errors.Error.TheVariants.{OutOfMemory};
+ghost use Rattle.futures.specs.Poll.{OnPending};
+ghost use Rattle.futures.specs.Task.{IsArmed, Keeps};
+
+use crate::shared::{Kept, Shared};
+use crate::worker::Worker;
+use cacache_core::errors::Result;
+use cacache_core::integrity::Algorithm;
+use cacache_polled::{Poll as Asked, WriterCore};
+use futures::task::{Context, Poll, Source};
+use std::alloc::Global;
+use std::sync::atomic::{AtomicBool, Ordering};
+use std::sync::{Arc, Mutex, Wait};
+
+/// A temporary file whose writes a worker does. The polls hand the work out and answer what came of it; one that is
+/// pending wakes its task when the work is done. Dropping it ends its workers.
+pub struct PolledFile<T> {
+    pub shared: Arc<Shared<T>, Global>,
+    alloc: Global,
+}
+
+impl<T: Drop> Drop for PolledFile<T> {
+    fn drop(self) {
+        let PolledFile { shared, alloc: _ } = self;
+        shared.is_left.store(true, Ordering::SeqCst);
+    }
+}
+
+impl<T: Drop> PolledFile<T> {
+    /// A file that nothing was written to yet. `OutOfMemory` is the only error.
+    pub fn new(alloc: Global, algorithm: Algorithm, temp: T) -> Result<PolledFile<T>>
+        ensures { IfErr result (λ e. e ≡ OutOfMemory) }
+    {
+        let kept = Mutex::new(Kept {
+            core: WriterCore::new(algorithm),
+            temp: Some(temp),
+            work: None,
+            waker: None,
+        });
+        let shared = Shared {
+            source: Source::new(),
+            is_left: AtomicBool::new(false),
+            kept,
+        };
+        let shared = Arc::new(alloc, shared)?;
+        Ok(PolledFile { shared, alloc })
+    }
+
+    /// A worker for this file. `OutOfMemory` is the only error.
+    pub fn worker(&self) -> Result<Worker<T>> {
+        Ok(Worker::new(Arc::try_clone(&self.shared)?))
+    }
+
+    /// Asks the core, and waits where it waits.
+    fn poll<R: Wait>(&self, rt: &R, cx: &mut Context<'_>, asked: Asked<'_>) -> Poll<Result<usize>>
+        ensures armed { OnPending result (IsArmed cx.new) }
+        ensures kept { Keeps cx.old cx.new }
+    {
+        let shared: &Shared<T> = &self.shared;
+        let mut guard = shared.kept.lock(rt);
+        let kept = &mut *guard;
+        match kept.poll(self.alloc, asked) {
+            Ok(Some(count)) => Poll::Ready(Ok(count)),
+            Ok(None) => cx.register(&shared.source, &mut kept.waker),
+            Err(error) => Poll::Ready(Err(error)),
+        }
+    }
+
+    /// Hands these bytes to a worker, and is pending; polled again with the same bytes, it answers how many the worker
+    /// took. No bytes are answered at once.
+    ///
+    /// `IoError` with `OtherBytes` where an earlier write isn't answered yet, with `Closed` after a close or a commit,
+    /// and else with the worker's fault. `OutOfMemory` changes nothing, or came to a message.
+    pub fn poll_write<R: Wait>(
+        &mut self,
+        rt: &R,
+        cx: &mut Context<'_>,
+        data: &[u8],
+    ) -> Poll<Result<usize>>
+        ensures armed { OnPending result (IsArmed cx.new) }
+        ensures kept { Keeps cx.old cx.new }
+    {
+        self.poll(rt, cx, Asked::Write(data))
+    }
+
+    /// Has a worker hand on what is buffered. A write that isn't answered yet stays.
+    ///
+    /// `IoError` has the worker's fault.
+    pub fn poll_flush<R: Wait>(&mut self, rt: &R, cx: &mut Context<'_>) -> Poll<Result<()>>
+        ensures armed { OnPending result (IsArmed cx.new) }
+        ensures kept { Keeps cx.old cx.new }
+    {
+        without_count(self.poll(rt, cx, Asked::Flush))
+    }
+
+    /// Has a worker remove the file; then no more work is taken.
+    ///
+    /// `IoError` says that it wasn't removed, and is answered once.
+    pub fn poll_close<R: Wait>(&mut self, rt: &R, cx: &mut Context<'_>) -> Poll<Result<()>>
+        ensures armed { OnPending result (IsArmed cx.new) }
+        ensures kept { Keeps cx.old cx.new }
+    {
+        without_count(self.poll(rt, cx, Asked::Close))
+    }
+}
+
+/// The answer without the count.
+fn without_count(polled: Poll<Result<usize>>) -> Poll<Result<()>>
+    ensures { OnPending result (polled ≡ Poll.Pending) }
+{
+    match polled {
+        Poll::Ready(Ok(_)) => Poll::Ready(Ok(())),
+        Poll::Ready(Err(error)) => Poll::Ready(Err(error)),
+        Poll::Pending => Poll::Pending,
+    }
+}

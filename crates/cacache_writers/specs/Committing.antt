@@ -1,0 +1,62 @@
+-- The commit of a polled writer: what it answers, and what it does.
+use Rattle.std.specs.Prelude.{◌≡◌, ◌⊎◌, ℕ, List, Option, Some, Result, Ok, Err}
+use Rattle.cacache_core.specs.declared.errors.Error.{Error}
+use Rattle.cacache_core.specs.declared.errors.Error.TheVariants.{OutOfMemory}
+use Rattle.cacache_core.specs.declared.errors.Fault.{Fault}
+use Rattle.cacache_core.specs.declared.errors.Fault.TheVariants as fault
+use Rattle.cacache_core.specs.declared.integrity.digest.Hash.{Hash}
+use Rattle.cacache_store.specs.declared.env.Env.{Env}
+use Rattle.cacache_store.specs.declared.store.log.LogItem.{LogItem}
+use Rattle.cacache_store.specs.declared.store.plain.PlainTemp.{PlainTemp}
+use Rattle.cacache_table.specs.declared.reply.Reply.{Reply}
+use Rattle.cacache_table.specs.declared.reply.Reply.TheVariants.{Stored}
+use Rattle.cacache_table.specs.State.{Commit}
+use Rattle.cacache_table.specs.Runs.{Ran, reply_of}
+use Rattle.cacache_table.specs.Storing.{persist}
+use Rattle.cacache_jobs.specs.Environment.{MomentOf}
+use Rattle.cacache_polled.specs.declared.writer_core.WriterCore.{WriterCore}
+use Rattle.cacache_polled.specs.declared.kinds.Finish.{Finish}
+use Rattle.cacache_polled.specs.declared.kinds.Finish.TheVariants.{Busy, Closed, Cancelled, Failed, Held}
+use Rattle.cacache_polled.specs.Events.{Finds}
+use Rattle.cacache_futures.specs.Waiting.{TellsFault}
+use Rattle.cacache_writers.specs.declared.about.About.{About}
+
+-- the answer is this fault, or that there was no memory to tell it
+abbrev pub Fails : {A : Type 0} → Fault → Result A Error → Type 0
+Fails fault (Ok x) = ⊥
+Fails fault (Err e) = TellsFault fault e
+
+-- the commit of so many held bytes with this integrity
+abbrev pub commit_about : About → List Hash → ℕ → ℕ → Commit
+commit_about a computed count moment = record {
+  cache = a.cache;
+  key = a.key;
+  computed = computed;
+  count = count;
+  moment = moment;
+  options = a.options;
+}
+
+module _ {T S C N : Type 0} (temp : T → PlainTemp) (log : S → Option (List LogItem))
+    (moments : C → Option (List ℕ)) (old new : Env S C N) where
+  -- the file became the content, with a moment that was asked for where there is a key and none was set
+  abbrev pub EndsHeld : About → List Hash → ℕ → T → Reply → Type 0
+  EndsHeld a computed count file reply =
+      (moment : ℕ) × MomentOf moments a.key a.time old.clock new.clock moment
+      × Ran (persist (commit_about a computed count moment) (temp file)) reply (log old.store) (log new.store)
+
+  -- what is answered by what is found; a file that a worker lost is closed
+  abbrev pub GivesFor : Finish → Option T → Option About → Result (List Hash) Error → Type 0
+  GivesFor Busy file a r = ⊥
+  GivesFor Closed file a r = Fails fault.Closed r × (new ≡ old)
+  GivesFor Cancelled file a r = Fails fault.Cancelled r × (new ≡ old)
+  GivesFor (Failed f) file a r = Fails f r × (new ≡ old)
+  GivesFor (Held computed count) (Some file) (Some a) r =
+      EndsHeld a computed count file (reply_of Stored r)
+  GivesFor (Held computed count) file a r = Fails fault.Closed r × (new ≡ old)
+
+  -- so it is for what the core finds, or there was no memory and no step
+  abbrev pub Gives : WriterCore → List ℕ → Option T → Option About → Result (List Hash) Error → Type 0
+  Gives core bytes file a r =
+      ((r ≡ Err OutOfMemory) × (new ≡ old))
+      ⊎ ((f : Finish) × Finds core bytes f × GivesFor f file a r)

@@ -1,0 +1,2 @@
+pub mod Committing
+pub mod Opening

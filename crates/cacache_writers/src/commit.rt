@@ -1,0 +1,79 @@
+//! What the commit of a polled writer does with the core and the temporary file, which are lent to it.
+ghost use Rattle.std.specs.Prelude.{◌≡◌, ℕ, List, None, IfSome};
+ghost use Rattle.cacache_table.specs.declared.reply.Reply.TheVariants.{Stored};
+ghost use Rattle.cacache_table.specs.Runs.{reply_of};
+ghost use Rattle.cacache_polled.specs.Table.{closed};
+ghost use Rattle.cacache_polled.specs.Events.{HasHeld, busy};
+ghost use Rattle.cacache_futures.specs.Waiting.{TellsFault};
+ghost use Rattle.cacache_writers.specs.Committing.{EndsHeld, Gives};
+
+use crate::about::About;
+use cacache_core::errors::{Error, Fault, Result};
+use cacache_core::integrity::Integrity;
+use cacache_core::text::Text;
+use cacache_jobs::{commit_from, moment_of};
+use cacache_polled::{Finish, WriterCore};
+use cacache_store::env::{Clock, Env};
+use cacache_store::store::Store;
+use std::alloc::{AllocError, Global};
+
+/// Why a commit made no step.
+fn closing(alloc: Global, fault: Fault) -> Error
+    ensures { TellsFault fault result }
+{
+    match message(alloc) {
+        Ok(text) => Error::IoError(fault, text),
+        Err(_) => Error::OutOfMemory,
+    }
+}
+
+fn message(alloc: Global) -> std::result::Result<Text, AllocError> {
+    Text::from_str(alloc, "Error while closing cache contents")
+}
+
+/// Makes the file the content of the held bytes.
+fn commit<S: Store, C: Clock, N>(
+    env: &mut Env<S, C, N>,
+    about: About,
+    computed: Integrity,
+    count: u64,
+    file: S::Temp,
+) -> Result<Integrity>
+    ensures ends { EndsHeld S.Temp.seen S.log C.given env.old env.new about computed count file
+        (reply_of Stored result) }
+    ensures names { env.new.names ≡ env.old.names }
+    ensures base { env.new.base ≡ env.old.base }
+{
+    let moment = moment_of(&mut env.clock, &about.key, about.time);
+    let commit = about.into_commit(computed, count as usize, moment);
+    commit_from(env, commit, file).stored()
+}
+
+/// The commit of a polled writer. None while work is out: then nothing changed. Else the core is closed, and the answer
+/// is that of a commit of the held bytes, or the fault that stands before it.
+pub fn commit_held<S: Store, C: Clock, N>(
+    env: &mut Env<S, C, N>,
+    core: &mut WriterCore,
+    temp: &mut Option<S::Temp>,
+    about: &mut Option<About>,
+) -> Option<Result<Integrity>>
+    ensures busy { busy core.old.desk → (result ≡ None) × (core.new ≡ core.old)
+        × (temp.new ≡ temp.old) × (about.new ≡ about.old) × (env.new ≡ env.old) }
+    ensures closed { core.new.desk ≡ closed core.old.desk }
+    ensures gives { IfSome result (λ r. (bytes : List ℕ) → HasHeld core.old bytes
+        → Gives S.Temp.seen S.log C.given env.old env.new core.old bytes temp.old about.old r) }
+    ensures names { env.new.names ≡ env.old.names }
+    ensures base { env.new.base ≡ env.old.base }
+{
+    match core.finish(env.alloc) {
+        Ok(Finish::Busy) => None,
+        Ok(Finish::Closed) => Some(Err(closing(env.alloc, Fault::Closed))),
+        Ok(Finish::Cancelled) => Some(Err(closing(env.alloc, Fault::Cancelled))),
+        Ok(Finish::Failed(fault)) => Some(Err(closing(env.alloc, fault))),
+        Ok(Finish::Held(computed, count)) => match (temp.take(), about.take()) {
+            (Some(file), Some(about)) => Some(commit(env, about, computed, count, file)),
+            _ => Some(Err(closing(env.alloc, Fault::Closed))),
+        },
+        Err(error) => Some(Err(error)),
+    }
+}

@@ -1,0 +1,69 @@
+//! The commit of a polled writer as a future.
+ghost use Rattle.std.specs.Prelude.{◌≡◌};
+ghost use Rattle.std.specs.Arc.{arc_value};
+
+use crate::about::About;
+use crate::commit::commit_held;
+use cacache_core::errors::Result;
+use cacache_core::integrity::Integrity;
+use cacache_store::env::{Clock, Env, Names};
+use cacache_store::store::Store;
+use cacache_worker::{PolledFile, Shared};
+use futures::Future;
+use futures::task::{Context, Poll};
+use std::sync::Wait;
+
+/// The future of `Writer::commit`: pending while work is out, and then it commits. A later poll answers `IoError` with
+/// `Closed`.
+#[derive(Drop)]
+pub struct WriterCommitFuture<'a, R: Wait, S, C, N, T> {
+    rt: &'a R,
+    env: &'a mut Env<S, C, N>,
+    file: PolledFile<T>,
+    about: Option<About>,
+}
+
+/// The future of `AsyncWriter::close`.
+pub type AsyncWriterCloseFuture<'a, R, S, C, N, T> = WriterCommitFuture<'a, R, S, C, N, T>;
+
+impl<'a, R: Wait, S: Store<Temp = T>, C: Clock, N: Names, T: Drop> WriterCommitFuture<
+    'a,
+    R,
+    S,
+    C,
+    N,
+    T,
+> {
+    pub(crate) fn new(
+        rt: &'a R,
+        env: &'a mut Env<S, C, N>,
+        file: PolledFile<T>,
+        about: About,
+    ) -> WriterCommitFuture<'a, R, S, C, N, T> {
+        let about = Some(about);
+        WriterCommitFuture {
+            rt,
+            env,
+            file,
+            about,
+        }
+    }
+}
+
+impl<'a, R: Wait, S: Store<Temp = T>, C: Clock, N: Names, T: Drop> Future
+    for WriterCommitFuture<'a, R, S, C, N, T> {
+    type Output = Result<Integrity>;
+
+    ghost needs = { λ f s. s ≡ (arc_value f.file.shared).source.id };
+
+    fn poll(&mut self, cx: &mut Context<'_>) -> Poll<Result<Integrity>> {
+        let rt = self.rt;
+        let shared: &Shared<T> = &self.file.shared;
+        let mut guard = shared.kept.lock(rt);
+        let kept = &mut *guard;
+        match commit_held(self.env, &mut kept.core, &mut kept.temp, &mut self.about) {
+            None => cx.register(&shared.source, &mut kept.waker),
+            Some(answer) => Poll::Ready(answer),
+        }
+    }
+}

@@ -1,0 +1,131 @@
+//! Contents that are written by polls.
+ghost use Rattle.futures.specs.Poll.{OnPending};
+ghost use Rattle.futures.specs.Task.{IsArmed, Keeps};
+ghost use Rattle.cacache_futures.specs.Waiting.{Waits};
+
+use crate::about::About;
+use crate::committing::{AsyncWriterCloseFuture, WriterCommitFuture};
+use crate::creating::{
+    AsyncWriterNewCall, AsyncWriterNewFuture, WriterCreateCall, WriterCreateFuture,
+    WriterCreateWithAlgoCall, WriterCreateWithAlgoFuture,
+};
+use cacache_core::errors::Result;
+use cacache_core::integrity::Algorithm;
+use cacache_futures::CallFuture;
+use cacache_store::env::{Clock, Env, Names};
+use cacache_store::store::Store;
+use cacache_worker::{PolledFile, Worker};
+use futures::task::{Context, Poll};
+use std::sync::Wait;
+
+/// A content that is written by polls: a worker writes its temporary file. A writer that is dropped ends its workers, and
+/// leaves its file for `clear`.
+#[derive(Drop)]
+pub struct Writer<T> {
+    pub(crate) file: PolledFile<T>,
+    pub(crate) about: About,
+}
+
+impl<T: Drop> Writer<T> {
+    /// Opens a writer of a content without a key, as a future. `size` has no effect.
+    pub fn new<'a, S: Store<Temp = T>, C: Clock, N: Names>(
+        env: &'a mut Env<S, C, N>,
+        cache: &'a str,
+        algo: Algorithm,
+        size: Option<usize>,
+    ) -> AsyncWriterNewFuture<'a, S, C, N>
+        ensures waits { Waits result env.entry (record { cache = cache.entry; algo = algo }) }
+    {
+        let _size = size;
+        CallFuture::new(env, AsyncWriterNewCall { cache, algo })
+    }
+
+    /// Opens a writer that commits under the key, with the SHA-256 integrity, as a future.
+    pub fn create<'a, S: Store<Temp = T>, C: Clock, N: Names>(
+        env: &'a mut Env<S, C, N>,
+        cache: &'a str,
+        key: &'a str,
+    ) -> WriterCreateFuture<'a, S, C, N>
+        ensures waits { Waits result env.entry
+            (record { cache = cache.entry; key = key.entry }) }
+    {
+        CallFuture::new(env, WriterCreateCall { cache, key })
+    }
+
+    /// What `create` does, with an algorithm of the caller's for the integrity.
+    pub fn create_with_algo<'a, S: Store<Temp = T>, C: Clock, N: Names>(
+        env: &'a mut Env<S, C, N>,
+        algo: Algorithm,
+        cache: &'a str,
+        key: &'a str,
+    ) -> WriterCreateWithAlgoFuture<'a, S, C, N>
+        ensures waits { Waits result env.entry
+            (record { algo = algo; cache = cache.entry; key = key.entry }) }
+    {
+        CallFuture::new(env, WriterCreateWithAlgoCall { algo, cache, key })
+    }
+
+    /// A worker for this writer. `OutOfMemory` is the only error.
+    pub fn worker(&self) -> Result<Worker<T>> {
+        self.file.worker()
+    }
+
+    /// Hands these bytes to a worker, and is pending; polled again with the same bytes, it answers how many the worker
+    /// took. No bytes are answered at once.
+    ///
+    /// `IoError` with `OtherBytes` where an earlier write isn't answered yet, with `Closed` after a close, and else with
+    /// the worker's fault. `OutOfMemory` changes nothing, or came to a message.
+    pub fn poll_write<R: Wait>(
+        &mut self,
+        rt: &R,
+        cx: &mut Context<'_>,
+        data: &[u8],
+    ) -> Poll<Result<usize>>
+        ensures armed { OnPending result (IsArmed cx.new) }
+        ensures kept { Keeps cx.old cx.new }
+    {
+        self.file.poll_write(rt, cx, data)
+    }
+
+    /// Has a worker hand on what is buffered. A write that isn't answered yet stays.
+    ///
+    /// `IoError` has the worker's fault.
+    pub fn poll_flush<R: Wait>(&mut self, rt: &R, cx: &mut Context<'_>) -> Poll<Result<()>>
+        ensures armed { OnPending result (IsArmed cx.new) }
+        ensures kept { Keeps cx.old cx.new }
+    {
+        self.file.poll_flush(rt, cx)
+    }
+
+    /// Has a worker remove the temporary file; nothing is committed.
+    ///
+    /// `IoError` says that it wasn't removed, and is answered once.
+    pub fn poll_close<R: Wait>(&mut self, rt: &R, cx: &mut Context<'_>) -> Poll<Result<()>>
+        ensures armed { OnPending result (IsArmed cx.new) }
+        ensures kept { Keeps cx.old cx.new }
+    {
+        self.file.poll_close(rt, cx)
+    }
+
+    /// Commits what was written, once no work is out, as `SyncWriter::commit` does.
+    ///
+    /// `IoError` with `Closed` after a close, with `Cancelled` after a worker quit with work undone, and with the fault of
+    /// a failed write that no poll answered; else errors are those of `SyncWriter::commit`.
+    pub fn commit<'a, R: Wait, S: Store<Temp = T>, C: Clock, N: Names>(
+        self,
+        rt: &'a R,
+        env: &'a mut Env<S, C, N>,
+    ) -> WriterCommitFuture<'a, R, S, C, N, T> {
+        let Writer { file, about } = self;
+        WriterCommitFuture::new(rt, env, file, about)
+    }
+
+    /// What `commit` does.
+    pub fn close<'a, R: Wait, S: Store<Temp = T>, C: Clock, N: Names>(
+        self,
+        rt: &'a R,
+        env: &'a mut Env<S, C, N>,
+    ) -> AsyncWriterCloseFuture<'a, R, S, C, N, T> {
+        self.commit(rt, env)
+    }
+}

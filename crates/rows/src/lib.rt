@@ -1,0 +1,14 @@
+//! Rows of text that a program reads and tries, one to a line. A program of rows is a `Trial`, which says what a row wants
+//! and what came, and a `main` that calls `run`.
+#![tactic(auto)]
+
+mod flaw;
+mod names;
+mod report;
+mod tally;
+mod trial;
+pub mod words;
+
+pub use flaw::Flaw;
+pub use report::run;
+pub use trial::{Outcome, Trial};

@@ -1,0 +1,84 @@
+//! The acts of rows.
+use crate::words::text_of;
+use crate::{entries, errors, integrities, lines, lookups, parts, paths};
+use rows::words::{cut, string_of, written_out};
+use rows::{Flaw, Outcome, Trial};
+use std::alloc::Global;
+
+/// What tries rows.
+#[derive(Drop)]
+pub(crate) struct Acts {
+    pub(crate) alloc: Global,
+}
+
+/// What an act on entries gives.
+fn of_entries(alloc: Global, act: &str, given: &str) -> Result<String, Flaw> {
+    match act {
+        "line" => lines::line(alloc, given),
+        "entries" => entries::found(alloc, given),
+        "torn" => entries::torn(alloc, given),
+        "text" => entries::text(alloc, given),
+        "torn-text" => entries::torn_text(alloc, given),
+        "alike" => entries::alike(alloc, given),
+        "latest" => lookups::latest(alloc, given),
+        "again" => lookups::again(alloc, given),
+        _ => Err(Flaw::NotRead),
+    }
+}
+
+/// What an act on a path, an error, a small part or entries gives.
+fn of_others(alloc: Global, act: &str, given: &str) -> Result<String, Flaw> {
+    match act {
+        "content" => paths::content(alloc, given),
+        "bucket" => paths::bucket(alloc, given),
+        "temp" => paths::temp(alloc, given),
+        "join" => paths::joined(alloc, given),
+        "string" => parts::text(alloc, given),
+        "compare" => parts::compare(alloc, given),
+        "number" => parts::number(alloc, given),
+        "environment" => parts::environment(alloc, given),
+        "error" => errors::error(alloc, given),
+        "kind" => errors::kind(alloc, given),
+        "fault" => errors::fault(alloc, given),
+        "context" => errors::context(alloc, given),
+        _ => of_entries(alloc, act, given),
+    }
+}
+
+/// What an act gives.
+fn got(alloc: Global, act: &str, given: &str) -> Result<String, Flaw> {
+    match act {
+        "algorithm" => integrities::algorithm(alloc, given),
+        "order" => integrities::order(alloc, given),
+        "digest" => integrities::digest(alloc, given),
+        "computed" => integrities::computed(alloc, given),
+        "integrity" => integrities::integrity(alloc, given),
+        "length" => integrities::length(alloc, given),
+        "address" => integrities::address(alloc, given),
+        "check" => integrities::check(alloc, given),
+        "shares" => integrities::shares(alloc, given),
+        "build" => integrities::build(alloc, given),
+        "check-pieces" => integrities::check_pieces(alloc, given),
+        _ => of_others(alloc, act, given),
+    }
+}
+
+/// A text with its line feeds, tabs and NULs written out.
+fn visible(alloc: Global, text: Result<String, Flaw>) -> Result<String, Flaw> {
+    let text = text?;
+    Ok(written_out(alloc, text.as_str())?)
+}
+
+impl Trial for Acts {
+    fn outcome(&mut self, row: &str) -> Result<Outcome, Flaw> {
+        let alloc = self.alloc;
+        let row = string_of(alloc, row)?;
+        let Some((given, wanted)) = row.rsplit_once(" | ") else {
+            return Err(Flaw::NotRead);
+        };
+        let (act, given) = cut(given);
+        let wanted = visible(alloc, text_of(alloc, wanted))?;
+        let got = visible(alloc, got(alloc, act, given))?;
+        Ok(Outcome { wanted, got })
+    }
+}

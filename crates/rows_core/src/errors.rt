@@ -1,0 +1,92 @@
+//! What errors say, and errors with a context.
+use crate::words::{Debugged, column, given, printed};
+use cacache_core::errors::{Error, Fault, IntegrityFault, IoErrorExt, SerdeCause, io_error};
+use cacache_core::integrity::Integrity;
+use cacache_core::text::Text;
+use rows::Flaw;
+use rows::words::number_of;
+use std::alloc::{AllocError, Global};
+use std::io::{self, ErrorKind};
+
+/// What is said of two sizes that differ.
+fn sizes(alloc: Global, columns: &str) -> Result<String, Flaw> {
+    let (wanted, found) = column(columns);
+    let wanted = number_of(wanted)?;
+    let found = number_of(found)?;
+    printed(alloc, Error::SizeMismatch(wanted, found))
+}
+
+/// What is said of an entry that isn't found.
+fn missing(alloc: Global, columns: &str) -> Result<String, Flaw> {
+    let (cache, key) = column(columns);
+    let cache = Text::from_str(alloc, cache)?;
+    let key = Text::from_str(alloc, key)?;
+    printed(alloc, Error::EntryNotFound(cache, key))
+}
+
+/// What is said of a check that failed.
+fn unmet(alloc: Global, columns: &str) -> Result<String, Flaw> {
+    let (wanted, found) = column(columns);
+    let wanted = given(Integrity::parse(alloc, wanted))?;
+    let found = given(Integrity::parse(alloc, found))?;
+    printed(alloc, Error::from(IntegrityFault::Check(wanted, found)))
+}
+
+/// What is said of an entry that isn't whole, or of a device that failed.
+fn failed(alloc: Global, columns: &str, is_device: bool) -> Result<String, Flaw> {
+    let text = Text::from_str(alloc, columns)?;
+    if is_device {
+        return printed(alloc, Error::IoError(Fault::Device, text));
+    }
+    printed(alloc, Error::SerdeError(SerdeCause::NotWhole, text))
+}
+
+/// What an error says.
+pub(crate) fn error(alloc: Global, columns: &str) -> Result<String, Flaw> {
+    let (kind, more) = column(columns);
+    match kind {
+        "EntryNotFound" => missing(alloc, more),
+        "SizeMismatch" => sizes(alloc, more),
+        "Check" => unmet(alloc, more),
+        "NotWhole" => failed(alloc, more, false),
+        "Device" => failed(alloc, more, true),
+        "AllocError" => printed(alloc, Error::from(AllocError)),
+        _ => Err(Flaw::NotRead),
+    }
+}
+
+/// An io error: of the kind that a word names, or else with the word as its text.
+fn failure(word: &str) -> io::Error {
+    match word {
+        "NotFound" => io::Error::from(ErrorKind::NotFound),
+        "DirectoryNotEmpty" => io::Error::from(ErrorKind::DirectoryNotEmpty),
+        "FilesystemLoop" => io::Error::from(ErrorKind::FilesystemLoop),
+        "PermissionDenied" => io::Error::from(ErrorKind::PermissionDenied),
+        _ => io_error(word),
+    }
+}
+
+/// The kind of an io error.
+pub(crate) fn kind(alloc: Global, word: &str) -> Result<String, Flaw> {
+    printed(alloc, Debugged(failure(word).kind()))
+}
+
+/// The fault that an io error is.
+pub(crate) fn fault(alloc: Global, word: &str) -> Result<String, Flaw> {
+    printed(alloc, Debugged(Fault::from(failure(word).kind())))
+}
+
+/// What a result becomes that is given a context: 7 if it is `fine`, too deep an entry if it is `TooDeep`, and else an io error.
+pub(crate) fn context(alloc: Global, columns: &str) -> Result<String, Flaw> {
+    let (word, text) = column(columns);
+    let came = match word {
+        "fine" => Ok::<u8, io::Error>(7).with_context(|| Err(Error::OutOfMemory)),
+        "TooDeep" => Err::<u8, SerdeCause>(SerdeCause::TooDeep).with_context(|| Ok(String::from_str(
+            alloc, text,
+        )?)),
+        _ => Err::<u8, io::Error>(failure(word)).with_context(|| Ok(String::from_str(
+            alloc, text,
+        )?)),
+    };
+    printed(alloc, Debugged(came))
+}

@@ -1,0 +1,116 @@
+//! The lines of entries.
+use crate::words::{Debugged, bytes_of, column, given, plain, printed, text_of, three};
+use cacache_core::keeping::let_go;
+use cacache_entry::{SerializableMetadata, entries};
+use rows::Flaw;
+use rows::words::{number_of, word_of};
+use serde_json::Value;
+use std::alloc::Global;
+
+/// The columns of an entry.
+#[derive(Clone, Copy)]
+struct Columns<'a> {
+    key: &'a str,
+    integrity: &'a str,
+    time: &'a str,
+    size: &'a str,
+    metadata: &'a str,
+    raw_metadata: &'a str,
+}
+
+/// The columns of a row's entry.
+fn columns_of(columns: &str) -> Columns<'_> {
+    let (key, rest) = column(columns);
+    let (integrity, rest) = column(rest);
+    let (time, rest) = column(rest);
+    let (size, rest) = column(rest);
+    let (metadata, raw_metadata) = column(rest);
+    Columns {
+        key,
+        integrity,
+        time,
+        size,
+        metadata,
+        raw_metadata,
+    }
+}
+
+/// The text of a column, where it isn't `none`.
+fn integrity_of(alloc: Global, word: &str) -> Result<Option<String>, Flaw> {
+    match word {
+        "none" => Ok(None),
+        _ => Ok(Some(String::from_str(alloc, word)?)),
+    }
+}
+
+/// The bytes of a column, where it isn't `none`.
+fn raw_of(alloc: Global, word: &str) -> Result<Option<Vec<u8>>, Flaw> {
+    match word {
+        "none" => Ok(None),
+        _ => Ok(Some(bytes_of(alloc, word)?)),
+    }
+}
+
+/// The value of a JSON text.
+fn value_of(alloc: Global, word: &str) -> Result<Value, Flaw> {
+    let text = text_of(alloc, word)?;
+    given(Value::from_str(alloc, text.as_str()))
+}
+
+/// The entry of the columns.
+fn entry_of(alloc: Global, columns: Columns<'_>) -> Result<SerializableMetadata, Flaw> {
+    let time = given(columns.time.parse::<u128>())?;
+    let size = number_of(columns.size)?;
+    let key = text_of(alloc, plain(columns.key))?;
+    let integrity = integrity_of(alloc, columns.integrity)?;
+    let raw_metadata = raw_of(alloc, columns.raw_metadata)?;
+    let metadata = value_of(alloc, columns.metadata)?;
+    Ok(SerializableMetadata {
+        key,
+        integrity,
+        time,
+        size,
+        metadata,
+        raw_metadata,
+    })
+}
+
+/// Whether two entries say the same, whatever else their equality looks at.
+fn say_the_same(one: &SerializableMetadata, other: &SerializableMetadata) -> bool {
+    one.key == other.key
+        && one.integrity == other.integrity
+        && one.time == other.time
+        && one.size == other.size
+        && one.metadata == other.metadata
+        && one.raw_metadata == other.raw_metadata
+}
+
+/// Whether entries are this one alone.
+fn are_only(found: &[SerializableMetadata], entry: &SerializableMetadata) -> bool {
+    match found {
+        [read] => say_the_same(read, entry),
+        _ => false,
+    }
+}
+
+/// Whether a line reads back as the entry alone, how long it is, and the line.
+fn shown(alloc: Global, entry: &SerializableMetadata, line: &[u8]) -> Result<String, Flaw> {
+    let found = given(entries(alloc, line))?;
+    three(alloc, are_only(&found, entry), line.len(), word_of(line))
+}
+
+/// That of an entry's line, or why there is none.
+fn written(alloc: Global, entry: &SerializableMetadata) -> Result<String, Flaw> {
+    match cacache_entry::line(alloc, entry) {
+        Ok(line) => shown(alloc, entry, &line),
+        Err(error) => printed(alloc, Debugged(error)),
+    }
+}
+
+/// Whether the line of an entry reads back, how long it is, and the line; or why there is none.
+pub(crate) fn line(alloc: Global, columns: &str) -> Result<String, Flaw> {
+    let entry = entry_of(alloc, columns_of(columns))?;
+    let written = written(alloc, &entry);
+    let_go(entry);
+    written
+}

@@ -1,0 +1,25 @@
+//! Tries rows on core, base and entry. Each row of standard input is an act, what it is given, and what comes of it:
+//!
+//!     ACT GIVEN | .. | WANTED
+//!
+//! A row holds if the act gives that. The rows of a group that hold are counted, and each other row is printed with what was
+//! wanted and what came.
+#![tactic(auto)]
+
+mod acts;
+mod entries;
+mod errors;
+mod integrities;
+mod lines;
+mod lookups;
+mod parts;
+mod paths;
+mod words;
+
+use acts::Acts;
+use rows::run;
+use std::process::ExitCode;
+
+fn main(rt: HostRuntime) -> ExitCode {
+    run(&rt, &mut Acts { alloc: rt.alloc() })
+}

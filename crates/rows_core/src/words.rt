@@ -1,0 +1,101 @@
+//! Words as bytes and texts, and values as texts.
+use cacache_core::errors::Error;
+use cacache_core::keeping::let_go;
+use hex::FromHex;
+use rows::Flaw;
+use rows::words::is_nothing;
+use std::alloc::Global;
+use std::fmt::{self, Debug, Display, Formatter, Write};
+
+/// The first column of what an act is given, and those behind it; what isn't there is empty.
+pub(crate) fn column(columns: &str) -> (&str, &str) {
+    columns.split_once(" | ").unwrap_or((columns, ""))
+}
+
+/// A word as it stands: `-` is the empty one.
+pub(crate) fn plain(word: &str) -> &str {
+    if is_nothing(word) { "" } else { word }
+}
+
+/// Puts a byte behind the bytes, whose two digits a part of a word begins with, and then what follows them.
+fn push_part(bytes: &mut Vec<u8>, part: &str) -> Result<(), Flaw> {
+    let Some((digits, rest)) = part.split_at_checked(2) else {
+        return Err(Flaw::NotRead);
+    };
+    let Ok(byte) = <[u8; 1]>::from_hex(digits) else {
+        return Err(Flaw::NotRead);
+    };
+    bytes.extend_from_slice(&byte)?;
+    Ok(bytes.extend_from_slice(rest.as_bytes())?)
+}
+
+/// The bytes of a word, in which `\xNN` is a byte with these two digits.
+pub(crate) fn bytes_of(alloc: Global, word: &str) -> Result<Vec<u8>, Flaw> {
+    let mut parts = plain(word).split("\\x");
+    let mut bytes = Vec::from_slice(alloc, parts.next().unwrap_or("").as_bytes())?;
+    for part in parts {
+        push_part(&mut bytes, part)?;
+    }
+    Ok(bytes)
+}
+
+/// The text of a word.
+pub(crate) fn text_of(alloc: Global, word: &str) -> Result<String, Flaw> {
+    given(String::from_utf8(bytes_of(alloc, word)?))
+}
+
+/// What a call gives, where nothing is wrong.
+pub(crate) fn given<T, E: Drop>(came: Result<T, E>) -> Result<T, Flaw> {
+    match came {
+        Ok(value) => Ok(value),
+        Err(error) => {
+            let_go(error);
+            Err(Flaw::Refused)
+        }
+    }
+}
+
+/// What a value prints as.
+pub(crate) fn printed<T: Display + Drop>(alloc: Global, value: T) -> Result<String, Flaw> {
+    given(value.to_string(alloc))
+}
+
+/// What a value prints as, or what the error says.
+pub(crate) fn told<T: Display + Drop>(
+    alloc: Global,
+    came: Result<T, Error>,
+) -> Result<String, Flaw> {
+    match came {
+        Ok(value) => printed(alloc, value),
+        Err(error) => printed(alloc, error),
+    }
+}
+
+/// What two values print as.
+pub(crate) fn two<A: Display + Drop, B: Display + Drop>(
+    alloc: Global,
+    one: A,
+    other: B,
+) -> Result<String, Flaw> {
+    given(format!(in alloc; "{one} {other}"))
+}
+
+/// What three values print as.
+pub(crate) fn three<A: Display + Drop, B: Display + Drop, C: Display + Drop>(
+    alloc: Global,
+    one: A,
+    other: B,
+    third: C,
+) -> Result<String, Flaw> {
+    given(format!(in alloc; "{one} {other} {third}"))
+}
+
+/// A value that is printed as `Debug` does.
+#[derive(Drop)]
+pub(crate) struct Debugged<T>(pub(crate) T);
+
+impl<T: Debug> Display for Debugged<T> {
+    fn fmt<W: Write>(&self, f: &mut Formatter<W>) -> fmt::Result {
+        write!(f, "{:?}", self.0)
+    }
+}

@@ -1,0 +1,110 @@
+//! What a row does: a public call, or what somebody else does beside it.
+use crate::calls::called;
+use crate::exports::exported;
+use crate::linkers::linked;
+use crate::place::{MOMENT, On, held, make_folder, make_link, names_in, plant, remove_file};
+use crate::program::without;
+use crate::puts::{driven, put};
+use crate::readers::read;
+use crate::row::Row;
+use crate::words::{bytes_of, shown};
+use crate::writers::written;
+use cacache::store::Store;
+use rows::Flaw;
+use rows::words::cut;
+use std::alloc::AllocError;
+
+/// What a file holds, as a row says it.
+fn file<S: Store>(env: &mut On<S>, path: &str) -> Result<String, AllocError> {
+    match held(env, path)? {
+        Some(bytes) => shown(env.alloc, &bytes),
+        None => String::from_str(env.alloc, "no file"),
+    }
+}
+
+/// How many names a folder has, as a row says it.
+fn names<S: Store>(env: &mut On<S>, path: &str) -> Result<String, AllocError> {
+    let count = names_in(env, path)?;
+    format!(in env.alloc; "{count:?}")
+}
+
+/// Plants a file with these bytes, in words.
+fn planted<S: Store>(env: &mut On<S>, path: &str, input: &str) -> Result<bool, AllocError> {
+    let bytes = bytes_of(env.alloc, input)?;
+    plant(env, path, &bytes)
+}
+
+/// What is done at the moment that an act begins with.
+fn made_at<S: Store>(env: &mut On<S>, act: &str, row: Row<'_>) -> Result<String, Flaw> {
+    let (moment, act) = cut(act);
+    let moment = moment.parse::<u64>().ok();
+    env.clock.moment = moment.unwrap_or(MOMENT);
+    let made = called(env, Row { act, ..row });
+    env.clock.moment = MOMENT;
+    made
+}
+
+/// How often a call asks the clock and asks for a number.
+fn asked<S: Store>(env: &mut On<S>, act: &str, row: Row<'_>) -> Result<String, Flaw> {
+    let (clock, numbers) = (env.clock.asked, env.names.next);
+    let line = called(env, Row { act, ..row })?;
+    let clock = env.clock.asked.wrapping_sub(clock);
+    let numbers = env.names.next.wrapping_sub(numbers);
+    Ok(format!(in env.alloc; "clock {clock}, numbers {numbers}: {line}")?)
+}
+
+/// What a step of somebody else gives, where the name is that of one: whether it was done.
+fn made_beside<S: Store>(
+    env: &mut On<S>,
+    name: &str,
+    path: &str,
+    input: &str,
+) -> Result<Option<&'static str>, AllocError> {
+    let is_done = match name {
+        "plant" => planted(env, path, input),
+        "folder" => make_folder(env, path),
+        "gone" => remove_file(env, path),
+        "link" => make_link(env, input, path),
+        _ => return Ok(None),
+    };
+    Ok(Some(if is_done? { "done" } else { "not done" }))
+}
+
+/// What is given by a look at a file or a folder, by a step of somebody else, or by a public call.
+fn made_or_called<S: Store>(env: &mut On<S>, row: Row<'_>) -> Result<String, Flaw> {
+    let (name, path) = cut(row.act);
+    if let Some(told) = made_beside(env, name, path, row.input)? {
+        return Ok(String::from_str(env.alloc, told)?);
+    }
+    match name {
+        "holds" => Ok(file(env, path)?),
+        "names" => Ok(names(env, path)?),
+        _ => called(env, row),
+    }
+}
+
+/// What is given by calls that a row writes out: writers, readers, linkers, exports and puts.
+fn made_of<S: Store>(env: &mut On<S>, row: Row<'_>) -> Result<String, Flaw> {
+    let Row { act, input, .. } = row;
+    let (name, act) = cut(act);
+    match name {
+        "put" => put(env, act, input),
+        "drive" => driven(env, act, input),
+        "writer" => written(env, act, input),
+        "reader" => read(env, act, input),
+        "linker" => linked(env, act),
+        "export" => exported(env, act),
+        _ => made_or_called(env, row),
+    }
+}
+
+/// What the row's act gives.
+pub(crate) fn made<S: Store>(env: &mut On<S>, row: Row<'_>) -> Result<String, Flaw> {
+    let (name, act) = cut(row.act);
+    match name {
+        "at" => made_at(env, act, row),
+        "asked" => asked(env, act, row),
+        "without" => without(env.alloc, act),
+        _ => made_of(env, row),
+    }
+}

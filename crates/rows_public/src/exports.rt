@@ -1,0 +1,114 @@
+//! Exports: a call's name, the cache, the key or the integrity's text, and the path that the content gets. Each function
+//! knows some of the names and hands on the others.
+use crate::calls::integrity_of;
+use crate::lines::{copied, done};
+use crate::place::On;
+use cacache::Integrity;
+use cacache::content::read;
+use cacache::store::Store;
+use rows::Flaw;
+use rows::words::cut;
+
+/// The line on a link to a content of the module `content::read`.
+fn linked_content<S: Store>(
+    env: &mut On<S>,
+    name: &str,
+    cache: &str,
+    sri: &Integrity,
+    to: &str,
+) -> Result<String, Flaw> {
+    let answer = match name {
+        "reflink" => read::reflink(env, cache, sri, to),
+        "reflink_unchecked" => read::reflink_unchecked(env, cache, sri, to),
+        "hard_link" => read::hard_link(env, cache, sri, to),
+        "hard_link_unchecked" => read::hard_link_unchecked(env, cache, sri, to),
+        _ => return Err(Flaw::NotRead),
+    };
+    Ok(done(env.alloc, answer)?)
+}
+
+/// The line on an export of the module `content::read`.
+fn of_content<S: Store>(
+    env: &mut On<S>,
+    name: &str,
+    cache: &str,
+    sri: &Integrity,
+    to: &str,
+) -> Result<String, Flaw> {
+    let answer = match name {
+        "copy" => read::copy(env, cache, sri, to),
+        "copy_unchecked" => read::copy_unchecked(env, cache, sri, to),
+        _ => return linked_content(env, name, cache, sri, to),
+    };
+    Ok(copied(env.alloc, answer)?)
+}
+
+/// The line on a link to a content by integrity.
+fn linked_by_hash<S: Store>(
+    env: &mut On<S>,
+    name: &str,
+    cache: &str,
+    sri: &Integrity,
+    to: &str,
+) -> Result<String, Flaw> {
+    let answer = match name {
+        "reflink_hash_sync" => cacache::reflink_hash_sync(env, cache, sri, to),
+        "reflink_hash_unchecked_sync" => {
+            cacache::reflink_hash_unchecked_sync(env, cache, sri, to)
+        },
+        "hard_link_hash_sync" => cacache::hard_link_hash_sync(env, cache, sri, to),
+        "hard_link_hash_unchecked_sync" => {
+            cacache::hard_link_hash_unchecked_sync(env, cache, sri, to)
+        },
+        _ => return of_content(env, name, cache, sri, to),
+    };
+    Ok(done(env.alloc, answer)?)
+}
+
+/// The line on an export by integrity.
+fn by_hash<S: Store>(
+    env: &mut On<S>,
+    name: &str,
+    cache: &str,
+    what: &str,
+    to: &str,
+) -> Result<String, Flaw> {
+    let sri = integrity_of(env.alloc, what)?;
+    let answer = match name {
+        "copy_hash_sync" => cacache::copy_hash_sync(env, cache, &sri, to),
+        "copy_hash_unchecked_sync" => cacache::copy_hash_unchecked_sync(env, cache, &sri, to),
+        _ => return linked_by_hash(env, name, cache, &sri, to),
+    };
+    Ok(copied(env.alloc, answer)?)
+}
+
+/// The line on a link to a content by key.
+fn linked_by_key<S: Store>(
+    env: &mut On<S>,
+    name: &str,
+    cache: &str,
+    what: &str,
+    to: &str,
+) -> Result<String, Flaw> {
+    let answer = match name {
+        "reflink_sync" => cacache::reflink_sync(env, cache, what, to),
+        "reflink_unchecked_sync" => cacache::reflink_unchecked_sync(env, cache, what, to),
+        "hard_link_sync" => cacache::hard_link_sync(env, cache, what, to),
+        "hard_link_unchecked_sync" => cacache::hard_link_unchecked_sync(env, cache, what, to),
+        _ => return by_hash(env, name, cache, what, to),
+    };
+    Ok(done(env.alloc, answer)?)
+}
+
+/// The line on an export.
+pub(crate) fn exported<S: Store>(env: &mut On<S>, act: &str) -> Result<String, Flaw> {
+    let (name, words) = cut(act);
+    let (cache, words) = cut(words);
+    let (what, to) = cut(words);
+    let answer = match name {
+        "copy_sync" => cacache::copy_sync(env, cache, what, to),
+        "copy_unchecked_sync" => cacache::copy_unchecked_sync(env, cache, what, to),
+        _ => return linked_by_key(env, name, cache, what, to),
+    };
+    Ok(copied(env.alloc, answer)?)
+}

@@ -1,0 +1,111 @@
+//! Runs of the program, and its start without words.
+use crate::acts::made;
+use crate::place::On;
+use crate::row::Row;
+use crate::streams::{Input, Output};
+use crate::words::{bytes_of, shown, words_of};
+use cacache::store::Store;
+use cacache_program::{run, without_words};
+use rows::Flaw;
+use rows::words::{cut, number_of};
+use std::alloc::{AllocError, Global};
+use std::io::{self, ErrorKind};
+use std::sync::Wait;
+use std::thread::Threads;
+use std::time::Clock;
+
+/// Room for more than any row prints.
+const AMPLE: usize = 1_000_000;
+
+/// A run of the program.
+#[derive(Clone, Copy)]
+struct Run<'a> {
+    words: &'a str,
+    is_torn: bool,
+    room: usize,
+}
+
+/// The run that an act asks for: `torn ..` for an input that fails at its end, `full N ..` for an output with room for N
+/// bytes.
+fn run_of(act: &str) -> Result<Run<'_>, Flaw> {
+    let (words, is_torn, room) = match cut(act) {
+        ("torn", words) => (words, true, AMPLE),
+        ("full", rest) => {
+            let (room, words) = cut(rest);
+            (words, false, number_of(room)?)
+        }
+        _ => (act, false, AMPLE),
+    };
+    Ok(Run {
+        words,
+        is_torn,
+        room,
+    })
+}
+
+/// A status, an output and errors, as a row says them.
+fn told(alloc: Global, status: u8, output: &[u8], errors: &[u8]) -> Result<String, AllocError> {
+    let output = shown(alloc, output)?;
+    let errors = shown(alloc, errors)?;
+    format!(in alloc; "{status} | {output} | {errors}")
+}
+
+/// What a run of the program with these words and this input gives.
+fn ran_with<T: Threads + Wait + Clock + AllocGlobal + Sync, S: Store>(
+    rt: &T,
+    env: &mut On<S>,
+    words: &[String],
+    mut input: Input<'_>,
+    room: usize,
+) -> Result<String, AllocError> {
+    let alloc = env.alloc;
+    let mut output = Output {
+        room,
+        taken: Vec::new(alloc),
+    };
+    let mut errors = Vec::new(alloc);
+    let status = run(rt, env, words, &mut input, &mut output, &mut errors);
+    told(alloc, status, &output.taken, &errors)
+}
+
+/// What a run of the program gives.
+fn ran<T: Threads + Wait + Clock + AllocGlobal + Sync, S: Store>(
+    rt: &T,
+    env: &mut On<S>,
+    row: Row<'_>,
+) -> Result<String, Flaw> {
+    let alloc = env.alloc;
+    let Run {
+        words,
+        is_torn,
+        room,
+    } = run_of(row.act)?;
+    let words = words_of(alloc, words)?;
+    let given = bytes_of(alloc, row.input)?;
+    let bytes = given.as_slice();
+    Ok(ran_with(rt, env, &words, Input { bytes, is_torn }, room)?)
+}
+
+/// What the row's act gives, if it is a run of the program, and else as a call.
+pub(crate) fn ran_or_made<T: Threads + Wait + Clock + AllocGlobal + Sync, S: Store>(
+    rt: &T,
+    env: &mut On<S>,
+    row: Row<'_>,
+) -> Result<String, Flaw> {
+    match cut(row.act) {
+        ("cacache", act) => ran(rt, env, Row { act, ..row }),
+        _ => made(env, row),
+    }
+}
+
+/// What is told where the words can't be had, since memory ran out or a word isn't UTF-8.
+pub(crate) fn without(alloc: Global, why: &str) -> Result<String, Flaw> {
+    let kind = match why {
+        "memory" => ErrorKind::OutOfMemory,
+        "UTF-8" => ErrorKind::InvalidData,
+        _ => return Err(Flaw::NotRead),
+    };
+    let mut errors = Vec::new(alloc);
+    let status = without_words(&io::Error::from(kind), &mut errors);
+    Ok(told(alloc, status, b"", &errors)?)
+}

@@ -1,0 +1,114 @@
+//! Contents that are read in pieces: how the reader is opened, the cache, the key or the integrity's text, how many
+//! bytes are read at first, and what is done then. The input is the path of the content where that is spoilt.
+use crate::calls::integrity_of;
+use crate::lines::{pair, refused};
+use crate::place::{On, plant, remove_file};
+use crate::words::shown;
+use cacache::content::read::open;
+use cacache::store::{OpenedFile, Store};
+use cacache::{Algorithm, Result as Answered, SyncReader};
+use rows::Flaw;
+use rows::words::{cut, number_of};
+use std::alloc::{AllocError, Global};
+use std::io::Read;
+
+/// A reader that is opened in one of the ways, where the word is one.
+fn opened<S: Store>(
+    env: &mut On<S>,
+    way: &str,
+    cache: &str,
+    what: &str,
+) -> Result<Answered<SyncReader<S::File>>, Flaw> {
+    if way == "open" {
+        return Ok(SyncReader::open(env, cache, what));
+    }
+    let sri = integrity_of(env.alloc, what)?;
+    match way {
+        "open_hash" => Ok(SyncReader::open_hash(env, cache, sri)),
+        "content" => Ok(open(env, cache, sri)),
+        _ => Err(Flaw::NotRead),
+    }
+}
+
+/// The line on a check.
+fn checked(alloc: Global, answer: Answered<Algorithm>) -> Result<String, AllocError> {
+    match answer {
+        Ok(algorithm) => format!(in alloc; "checked {algorithm}"),
+        Err(error) => refused(alloc, error),
+    }
+}
+
+/// The line on so many bytes of a reader, or on its failure.
+pub(crate) fn first_of<R: Read>(
+    alloc: Global,
+    reader: &mut R,
+    count: usize,
+) -> Result<String, AllocError> {
+    let mut bytes = vec![in alloc; 0; count]?;
+    match reader.read_exact(&mut bytes) {
+        Ok(()) => shown(alloc, &bytes),
+        Err(_) => String::from_str(alloc, "failed"),
+    }
+}
+
+/// The line on the rest of a reader, or on its failure.
+fn rest_of<R: Read>(alloc: Global, reader: &mut R) -> Result<String, AllocError> {
+    let mut text = String::new(alloc);
+    match reader.read_to_string(&mut text) {
+        Ok(_) => shown(alloc, text.as_str().as_bytes()),
+        Err(_) => String::from_str(alloc, "failed"),
+    }
+}
+
+/// What is done between the first bytes and the rest: `gone` removes the content, and `anew` makes it anew as `hello`.
+fn spoil<S: Store>(env: &mut On<S>, then: &str, path: &str) -> Result<bool, AllocError> {
+    match then {
+        "gone" => remove_file(env, path),
+        "anew" => plant(env, path, b"hello"),
+        _ => Ok(true),
+    }
+}
+
+/// The lines on the first bytes of a reader, and on the rest, which `stop` leaves out.
+fn parts_of<S: Store>(
+    env: &mut On<S>,
+    reader: &mut SyncReader<S::File>,
+    then: &str,
+    count: usize,
+    path: &str,
+) -> Result<String, AllocError> {
+    let alloc = env.alloc;
+    let first = first_of(alloc, reader, count);
+    if then == "stop" {
+        return first;
+    }
+    let _is_spoilt = spoil(env, then, path)?;
+    pair(alloc, first, rest_of(alloc, reader))
+}
+
+/// The line on the parts of a reader and on its check; or why it wasn't opened.
+fn told<S: Store>(
+    env: &mut On<S>,
+    opened: Answered<SyncReader<S::File>>,
+    then: &str,
+    count: usize,
+    path: &str,
+) -> Result<String, AllocError> {
+    let mut reader = match opened {
+        Ok(reader) => reader,
+        Err(error) => return refused(env.alloc, error),
+    };
+    let parts = parts_of(env, &mut reader, then, count, path);
+    pair(env.alloc, parts, checked(env.alloc, reader.check()))
+}
+
+/// The line on a reader.
+pub(crate) fn read<S: Store>(env: &mut On<S>, words: &str, path: &str) -> Result<String, Flaw> {
+    let (way, words) = cut(words);
+    let (cache, words) = cut(words);
+    let (what, words) = cut(words);
+    let (count, then) = cut(words);
+    let count = number_of(count)?;
+    let opened = opened(env, way, cache, what)?;
+    Ok(told(env, opened, then, count, path)?)
+}

@@ -1,0 +1,298 @@
+//! Random calls and lucks, on few keys and contents, so that calls meet.
+use crate::outside::{random_export, random_target};
+use crate::random::Random;
+use cacache_core::bytes::Bytes;
+use cacache_core::errors::Fault;
+use cacache_core::integrity::{Algorithm, Integrity, IntegrityOpts};
+use cacache_core::keeping::let_go;
+use cacache_core::text::Text;
+use cacache_disk::Luck;
+use cacache_table::{Command, Delete, Insert, Json, Link, Options, Put, Source};
+use serde_json::Value;
+use std::alloc::{AllocError, Global};
+
+/// The keys of all calls. Each has a bucket of its own.
+pub(crate) const KEYS: [&str; 3] = ["a", "b", "another key"];
+
+/// A content of calls: bytes, an algorithm, and the integrity that they have under it, as `openssl dgst` prints it.
+type Sample = (&'static str, Algorithm, &'static str);
+
+/// The content that most calls meet at, the bytes of an outside file.
+const HELLO: Sample = (
+    "hello",
+    Algorithm::Sha256,
+    "sha256-LPJNul+wow4m6DsqxbninhsWHlwfp0JecwQzYpOLmCQ=",
+);
+
+/// The contents of all calls.
+pub(crate) const CONTENTS: [Sample; 3] = [
+    HELLO,
+    ("", Algorithm::Sha1, "sha1-2jmj7l5rSw0yVb/vlWAYkK/YBwk="),
+    (
+        "a content of some more bytes",
+        Algorithm::Sha512,
+        "sha512-IC8qU4BYFi2PGOr7QaicKkTB+HcF2qrqwbl6ybyADw3QeaRfiVhrqlZU63bILvSVVc2s/Hbc9hWsmDW2vHHCPQ==",
+    ),
+];
+
+/// The kinds of calls; some come more often.
+const KINDS: [&str; 43] = [
+    "put",
+    "put",
+    "put",
+    "put",
+    "put",
+    "put_hash",
+    "insert",
+    "insert_raw",
+    "delete",
+    "find",
+    "find",
+    "get",
+    "get",
+    "get",
+    "get_hash",
+    "get_hash",
+    "get_hash",
+    "exists",
+    "export",
+    "export",
+    "export",
+    "export",
+    "export",
+    "export",
+    "export_hash",
+    "export_hash",
+    "export_hash",
+    "export_hash",
+    "export_hash",
+    "export_hash",
+    "link",
+    "link",
+    "link",
+    "link",
+    "link",
+    "link",
+    "link_hash",
+    "link_hash",
+    "link_hash",
+    "ls",
+    "remove_hash",
+    "remove_fully",
+    "clear",
+];
+
+/// The faults that are made up.
+const FAULTS: [Fault; 3] = [Fault::Device, Fault::NotFound, Fault::AlreadyExists];
+
+/// The integrity of a text.
+pub(crate) fn integrity_of(alloc: Global, text: &str) -> Result<Integrity, AllocError> {
+    match Integrity::parse(alloc, text) {
+        Ok(integrity) => Ok(integrity),
+        Err(error) => {
+            let_go(error);
+            Err(AllocError)
+        }
+    }
+}
+
+/// The integrity of bytes under an algorithm.
+pub(crate) fn integrity_under(
+    alloc: Global,
+    algorithm: Algorithm,
+    bytes: &[u8],
+) -> Result<Integrity, AllocError> {
+    let mut builder = IntegrityOpts::new().algorithm(algorithm);
+    builder.input(bytes);
+    match builder.result(alloc) {
+        Ok(integrity) => Ok(integrity),
+        Err(error) => {
+            let_go(error);
+            Err(AllocError)
+        }
+    }
+}
+
+/// The text of the integrity of a content's bytes.
+pub(crate) fn text_of(bytes: &[u8]) -> &'static str {
+    for (text, _, integrity) in &CONTENTS {
+        if text.as_bytes() == bytes {
+            return integrity;
+        }
+    }
+    ""
+}
+
+/// Options that say no more than this.
+fn options_of(
+    algorithm: Algorithm,
+    integrity: Option<Integrity>,
+    raw_metadata: Option<Bytes>,
+) -> Options {
+    Options {
+        algorithm,
+        size: None,
+        integrity,
+        metadata: Json::new(Value::Null),
+        raw_metadata,
+    }
+}
+
+/// A link to a random target.
+fn link_of(
+    alloc: Global,
+    random: &mut Random,
+    key: Option<Text>,
+    algorithm: Algorithm,
+    moment: u128,
+) -> Result<Command, AllocError> {
+    Ok(Command::Link(Link {
+        key,
+        target: random_target(alloc, random)?,
+        moment,
+        options: options_of(algorithm, None, None),
+    }))
+}
+
+/// A random kind of call.
+pub(crate) fn random_kind(random: &mut Random) -> &'static str {
+    match random.pick(&KINDS) {
+        Some(kind) => kind,
+        None => "ls",
+    }
+}
+
+/// A random content, mostly the first where it isn't put.
+fn random_content(random: &mut Random, kind: &str) -> Sample {
+    let count = match kind {
+        "put" | "put_hash" => 3,
+        _ => 6,
+    };
+    CONTENTS.get(random.below(count)).copied().unwrap_or(HELLO)
+}
+
+/// A call on a key alone.
+fn on_key(alloc: Global, kind: &str, name: &str, moment: u128) -> Result<Command, AllocError> {
+    let key = Text::from_str(alloc, name)?;
+    Ok(match kind {
+        "delete" => Command::Delete(Delete { key, moment }),
+        "find" => Command::Find(key),
+        "get" => Command::Get(key),
+        _ => Command::RemoveFully(key),
+    })
+}
+
+/// A call on a content alone.
+fn on_hash(alloc: Global, kind: &str, sample: Sample) -> Result<Command, AllocError> {
+    let (_, _, text) = sample;
+    let integrity = integrity_of(alloc, text)?;
+    Ok(match kind {
+        "get_hash" => Command::GetHash(integrity),
+        "exists" => Command::Exists(integrity),
+        _ => Command::RemoveHash(integrity),
+    })
+}
+
+/// An export of the key's content, or of this one.
+fn export_of(
+    alloc: Global,
+    random: &mut Random,
+    kind: &str,
+    name: &str,
+    sample: Sample,
+) -> Result<Command, AllocError> {
+    let export = random_export(alloc, random)?;
+    let (_, _, text) = sample;
+    let source = match kind {
+        "export" => Source::Key(Text::from_str(alloc, name)?),
+        _ => Source::Hash(integrity_of(alloc, text)?),
+    };
+    Ok(Command::Export(source, export))
+}
+
+/// A put of this content, under the key or under none.
+fn put_of(
+    alloc: Global,
+    kind: &str,
+    name: &str,
+    sample: Sample,
+    moment: u128,
+) -> Result<Command, AllocError> {
+    let (text, algorithm, _) = sample;
+    let key = if kind == "put" {
+        Some(Text::from_str(alloc, name)?)
+    } else {
+        None
+    };
+    let data = Bytes::new(alloc, Vec::from_slice(alloc, text.as_bytes())?)?;
+    Ok(Command::Put(Put {
+        key,
+        data,
+        moment,
+        options: options_of(algorithm, None, None),
+    }))
+}
+
+/// The entry of this content alone, with the bytes beside it or without.
+fn insert_of(
+    alloc: Global,
+    kind: &str,
+    name: &str,
+    sample: Sample,
+    moment: u128,
+) -> Result<Command, AllocError> {
+    let (text, algorithm, integrity) = sample;
+    let raw = if kind == "insert_raw" {
+        Some(Bytes::new(alloc, Vec::from_slice(alloc, text.as_bytes())?)?)
+    } else {
+        None
+    };
+    let integrity = integrity_of(alloc, integrity)?;
+    let key = Text::from_str(alloc, name)?;
+    Ok(Command::Insert(Insert {
+        key,
+        moment,
+        options: options_of(algorithm, Some(integrity), raw),
+    }))
+}
+
+/// A call of this kind on a random key and content.
+pub(crate) fn random_command(
+    alloc: Global,
+    random: &mut Random,
+    kind: &str,
+) -> Result<Command, AllocError> {
+    let moment = random.below(1_000_000) as u128;
+    let name = random.pick(&KEYS).copied().unwrap_or("a");
+    let sample = random_content(random, kind);
+    match kind {
+        "ls" => Ok(Command::Ls),
+        "clear" => Ok(Command::Clear),
+        "delete" | "find" | "get" | "remove_fully" => on_key(alloc, kind, name, moment),
+        "get_hash" | "exists" | "remove_hash" => on_hash(alloc, kind, sample),
+        "export" | "export_hash" => export_of(alloc, random, kind, name, sample),
+        "link" | "link_hash" => {
+            let key = if kind == "link" {
+                Some(Text::from_str(alloc, name)?)
+            } else {
+                None
+            };
+            let (_, algorithm, _) = sample;
+            link_of(alloc, random, key, algorithm, moment)
+        }
+        "insert" | "insert_raw" => insert_of(alloc, kind, name, sample, moment),
+        _ => put_of(alloc, kind, name, sample, moment),
+    }
+}
+
+/// A random luck, which is mostly plain. The line of an entry has some 200 bytes.
+pub(crate) fn random_luck(random: &mut Random) -> Luck {
+    let part = random.below(240);
+    let fault = random.pick(&FAULTS).copied().unwrap_or(Fault::Device);
+    match random.below(32) {
+        0 | 1 => Luck::Take(part),
+        2 => Luck::Fail(fault, None),
+        3 => Luck::Fail(fault, Some(part)),
+        _ => Luck::Plain,
+    }
+}

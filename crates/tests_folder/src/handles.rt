@@ -1,0 +1,110 @@
+//! Temporary files that are moved.
+use crate::common::{below, bytes_of, fresh};
+use crate::steps::end_of;
+use cacache_core::bytes::Bytes;
+use cacache_core::keeping::let_go;
+use cacache_core::text::Text;
+use cacache_folder::FolderStore;
+use cacache_store::store::{Answer, Step, Store};
+use std::alloc::{AllocError, Global};
+use std::os::unix::fs::MetadataExt;
+use std::rt::HostRuntime;
+use std::test::Fail;
+use std::{fs, io};
+
+/// The temporary file of an answer.
+fn temp_of<F: Drop, T: Drop>(answer: Answer<F, T>) -> Option<T> {
+    match answer {
+        Answer::Temp(temp) | Answer::Wrote(temp, _) => Some(temp),
+        other => {
+            let_go(other);
+            None
+        }
+    }
+}
+
+/// Makes a temporary file and writes the bytes to it in one step.
+fn written<S: Store>(store: &mut S, path: Text, bytes: Bytes) -> Option<S::Temp> {
+    let temp = temp_of(store.step(Step::CreateTemp(path)))?;
+    temp_of(store.step(Step::Write(temp, bytes)))
+}
+
+/// Makes a temporary file with the bytes `newer`.
+fn newer<S: Store>(
+    alloc: Global,
+    root: &str,
+    store: &mut S,
+    path: &str,
+) -> Result<Option<S::Temp>, AllocError> {
+    let path = below(alloc, root, path)?;
+    let bytes = bytes_of(alloc, "newer")?;
+    Ok(written(store, path, bytes))
+}
+
+/// Moves a temporary file, and returns how the line of that step ends.
+fn moved<S: Store>(
+    alloc: Global,
+    store: &mut S,
+    temp: S::Temp,
+    path: Text,
+) -> Result<String, AllocError> {
+    end_of(alloc, store.step(Step::Persist(temp, path)))
+}
+
+/// Makes a temporary file with the bytes `newer` and moves it to the target. Returns how the line of the move ends.
+pub fn persisted<S: Store>(
+    alloc: Global,
+    root: &str,
+    store: &mut S,
+    path: &str,
+    target: &str,
+) -> Result<String, AllocError> {
+    let target = below(alloc, root, target)?;
+    match newer(alloc, root, store, path)? {
+        Some(temp) => moved(alloc, store, temp, target),
+        None => String::from_str(alloc, "no file"),
+    }
+}
+
+/// The mode of a file without what kind of file it is, and its number in the file system.
+fn mode_and_number(rt: HostRuntime, path: &str) -> io::Result<(u32, u64)> {
+    let found = fs::metadata(&rt, path)?;
+    Ok((found.mode() & 0o777, found.ino()))
+}
+
+/// Makes a temporary file, notes its mode and number, and moves it.
+fn noted_and_moved<S: Store>(
+    rt: HostRuntime,
+    store: &mut S,
+    path: &str,
+    target: Text,
+) -> io::Result<(u32, u64)> {
+    let temp = temp_of(store.step(Step::CreateTemp(Text::from_str(rt.alloc(), path)?)));
+    let noted = mode_and_number(rt, path);
+    if let Some(temp) = temp {
+        let_go(store.step(Step::Persist(temp, target)));
+    }
+    noted
+}
+
+/// What is seen of a temporary file `/temp` that is moved to `/file`: its mode and number before, those after, and
+/// whether the first path is still taken.
+fn seen_below(rt: HostRuntime, root: &str) -> io::Result<((u32, u64), (u32, u64), bool)> {
+    let path = below(rt.alloc(), root, "/temp")?;
+    let target = below(rt.alloc(), root, "/file")?;
+    let to = target.clone()?;
+    let before = noted_and_moved(rt, &mut FolderStore::new(rt), path.as_str(), to)?;
+    let after = mode_and_number(rt, target.as_str())?;
+    Ok((before, after, fs::exists(&rt, path.as_str())?))
+}
+
+#[test]
+fn a_temporary_file_is_private_and_is_moved_itself(rt: HostRuntime) -> Result<(), Fail> {
+    let root = fresh(rt, "private")?;
+    let (before, after, is_left) = seen_below(rt, root.as_str())?;
+    fs::remove_dir_all(&rt, root.as_str())?;
+    assert_eq!(rt; before.0, 0o600);
+    assert_eq!(rt; after, before);
+    assert!(rt; !is_left);
+    Ok(())
+}

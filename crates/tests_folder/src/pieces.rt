@@ -1,0 +1,89 @@
+//! Files that are read piece by piece.
+use cacache_core::bytes::Bytes;
+use cacache_core::keeping::let_go;
+use cacache_core::text::Text;
+use cacache_store::store::{Answer, Step, Store};
+use std::alloc::{AllocError, Global};
+use std::io::Read;
+
+/// The open file of an answer with its bytes.
+fn piece_of<F: Drop, T: Drop>(answer: Answer<F, T>) -> Option<(F, Bytes)> {
+    match answer {
+        Answer::Got(file, bytes) => Some((file, bytes)),
+        other => {
+            let_go(other);
+            None
+        }
+    }
+}
+
+/// The open file of an answer.
+fn file_of<F: Drop, T: Drop>(answer: Answer<F, T>) -> Option<F> {
+    match answer {
+        Answer::File(file) => Some(file),
+        other => {
+            let_go(other);
+            None
+        }
+    }
+}
+
+/// Puts bytes into a bracket.
+fn show(shown: &mut String, bytes: &[u8]) -> Result<(), AllocError> {
+    shown.push('(')?;
+    shown.push_str(std::str::from_utf8(bytes).unwrap_or("?"))?;
+    shown.push(')')
+}
+
+/// Reads one piece, shows it, and returns the file unless it is at its end.
+fn next_of<S: Store>(
+    store: &mut S,
+    file: S::File,
+    max: usize,
+    shown: &mut String,
+) -> Result<Option<S::File>, AllocError> {
+    let Some((file, bytes)) = piece_of(store.step(Step::Read(file, max))) else {
+        return Ok(None);
+    };
+    show(shown, bytes.as_slice())?;
+    Ok(if bytes.is_empty() { None } else { Some(file) })
+}
+
+/// Opens the file and reads it in steps of at most `max` bytes, each of which is put into a bracket.
+pub fn pieces<S: Store>(
+    alloc: Global,
+    store: &mut S,
+    path: Text,
+    max: &str,
+) -> Result<String, AllocError> {
+    let max = max.parse::<usize>().unwrap_or(usize::MAX);
+    let mut shown = String::new(alloc);
+    let mut file = file_of(store.step(Step::Open(path)));
+    for _ in 0..9 {
+        let Some(open) = file else {
+            return Ok(shown);
+        };
+        file = next_of(store, open, max, &mut shown)?;
+    }
+    Ok(shown)
+}
+
+/// What a file gives to three reads of at most three bytes, each put into a bracket.
+fn read_of<F: Read>(alloc: Global, file: &mut F) -> Result<String, AllocError> {
+    let mut shown = String::new(alloc);
+    let mut buf = [0u8; 3];
+    for _ in 0..3 {
+        if let Ok(count) = file.read(&mut buf) {
+            show(&mut shown, &buf[..count])?;
+        }
+    }
+    Ok(shown)
+}
+
+/// Opens the file, and reads it as a `Read`.
+pub fn given<S: Store>(alloc: Global, store: &mut S, path: Text) -> Result<String, AllocError> {
+    match file_of(store.step(Step::Open(path))) {
+        Some(mut file) => read_of(alloc, &mut file),
+        None => String::from_str(alloc, "no file"),
+    }
+}

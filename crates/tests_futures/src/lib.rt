@@ -1,0 +1,9 @@
+//! Tests of futures, of polled writers and of their workers. There is nothing else here.
+#![tactic(auto)]
+
+#[cfg(test)]
+mod pairs;
+#[cfg(test)]
+mod workers;
+#[cfg(test)]
+mod writing;

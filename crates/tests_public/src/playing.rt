@@ -1,0 +1,118 @@
+//! What callers do, as rows, and what comes of it in words.
+use crate::making::{integrity, put};
+use cacache_core::errors::Error;
+use cacache_core::text::Text;
+use cacache_disk::Luck;
+use cacache_table::{Command, Found, Reply};
+use cacache_world::{Move, World, WorldFault};
+use std::alloc::{AllocError, Global};
+
+/// What a caller does.
+#[derive(Clone, Copy)]
+pub(crate) enum Act {
+    /// It begins to put a text under a key.
+    Put(&'static str, &'static str),
+    /// It begins to look a key up.
+    Find(&'static str),
+    /// It begins to read the content of an integrity.
+    GetHash(&'static str),
+    /// It begins to remove a key and its content.
+    RemoveFully(&'static str),
+    /// It goes on with its call.
+    Go,
+    /// It gives its call up.
+    Stop,
+}
+
+/// A caller, what it does, how many moves it makes, the luck of the last of them, and what came of
+/// that one.
+pub(crate) type Row = (usize, Act, usize, Luck, &'static str);
+
+/// The command that an act begins, if it begins one.
+fn command_of(alloc: Global, act: Act) -> Result<Option<Command>, AllocError> {
+    Ok(Some(match act {
+        Act::Put(key, data) => put(alloc, key, data)?,
+        Act::Find(key) => Command::Find(Text::from_str(alloc, key)?),
+        Act::GetHash(text) => Command::GetHash(integrity(alloc, text)?),
+        Act::RemoveFully(key) => Command::RemoveFully(Text::from_str(alloc, key)?),
+        Act::Go | Act::Stop => return Ok(None),
+    }))
+}
+
+/// What a lookup found, in words.
+fn shown_found(alloc: Global, found: &Found) -> Result<String, AllocError> {
+    let found = found.as_metadata();
+    format!(in alloc; "found {} {} {}", found.key, found.integrity, found.size)
+}
+
+/// A reply in words; a failed step is its fault.
+fn shown(alloc: Global, reply: &Reply) -> Result<String, AllocError> {
+    match reply {
+        Reply::Stored(integrity) => format!(in alloc; "stored {integrity}"),
+        Reply::Read(bytes) => {
+            let text = str::from_utf8(bytes.as_slice()).unwrap_or("?");
+            format!(in alloc; "read {text}")
+        }
+        Reply::LookedUp(None) => String::from_str(alloc, "nothing"),
+        Reply::LookedUp(Some(found)) => shown_found(alloc, found),
+        Reply::Done => String::from_str(alloc, "done"),
+        Reply::Refused(Error::IoError(fault, _)) => format!(in alloc; "{fault:?}"),
+        _ => String::from_str(alloc, "another reply"),
+    }
+}
+
+/// What came of the last of so many moves, in words: `more` where the call goes on.
+fn moved(
+    alloc: Global,
+    world: &mut World,
+    caller: usize,
+    moves: usize,
+    last: Luck,
+) -> Result<String, AllocError> {
+    for count in 0..moves {
+        let left = moves - count;
+        let luck = if left == 1 { last } else { Luck::Plain };
+        match world.move_one(caller, luck) {
+            Ok(Move::More) => {}
+            Ok(Move::Done(reply)) if left == 1 => return shown(alloc, &reply),
+            Ok(Move::Done(_)) => return format!(in alloc; "over {} moves before", left - 1),
+            Err(fault) => return format!(in alloc; "{fault:?}"),
+        }
+    }
+    String::from_str(alloc, "more")
+}
+
+/// Begins the call of an act, or gives one up.
+fn acted(
+    alloc: Global,
+    world: &mut World,
+    caller: usize,
+    act: Act,
+) -> Result<Result<(), WorldFault>, AllocError> {
+    Ok(match command_of(alloc, act)? {
+        Some(command) => world.begin(caller, command),
+        None if matches!(act, Act::Stop) => world.stop(caller),
+        None => Ok(()),
+    })
+}
+
+/// What came of a row, in words.
+fn came(alloc: Global, world: &mut World, row: &Row) -> Result<String, AllocError> {
+    let (caller, act, moves, luck, _) = *row;
+    match acted(alloc, world, caller, act)? {
+        Ok(()) => moved(alloc, world, caller, moves, luck),
+        Err(fault) => format!(in alloc; "{fault:?}"),
+    }
+}
+
+/// Plays rows in a world, up to the first of which something else came: its number, from 1, and
+/// what came; empty where there is none.
+pub(crate) fn played(alloc: Global, world: &mut World, rows: &[Row]) -> Result<String, AllocError> {
+    for i in 0..rows.len() {
+        let came = came(alloc, world, &rows[i])?;
+        if came.as_str() != rows[i].4 {
+            return format!(in alloc; "row {}: {came}", i + 1);
+        }
+    }
+    Ok(String::new(alloc))
+}

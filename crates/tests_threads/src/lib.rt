@@ -1,0 +1,13 @@
+//! Tests with threads: at one world, each with a seat of its own, and at one real folder. There is nothing else here.
+#![tactic(auto)]
+
+#[cfg(test)]
+mod folders;
+#[cfg(test)]
+mod making;
+#[cfg(test)]
+mod meetings;
+#[cfg(test)]
+mod seats;
+#[cfg(test)]
+mod storms;
