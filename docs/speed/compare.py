@@ -20,6 +20,8 @@ SMALL = ["put", "get", "put-again", "get-hash", "find", "remove", "exists"]
 LISTED = [1000, 100000]
 # What the kit itself takes is measured too: the bench's word floor-KIND makes the same system calls and digests through the kit alone.
 THROUGH_KIT = ["find", "remove", "exists"]
+# These are made as futures too, by the bench's word future-KIND.
+AS_FUTURE = ["find", "get"]
 # Blocks of SHA-256 in an operation on 1 KiB: 17 of the content where it is hashed, and 3 of the line's text where there is one
 # (2 of a tombstone's). With a key there is also one block of SHA-1, of the key.
 BLOCKS = {"put": 20, "get": 20, "put-again": 20, "get-hash": 17, "find": 3, "remove": 2, "exists": 0, "ls": 3}
@@ -52,6 +54,8 @@ def run_small(bench, floor, at):
         more = [str(SIZE)] if kind.startswith("put") else []
         for who, program in (("ours", bench), ("floor", floor)):
             run(f"{kind} {who}", [program, kind, f"{at}/{folder}-{who}", str(KEYS)] + more, KEYS)
+        if kind in AS_FUTURE:
+            run(f"{kind} future", [bench, f"future-{kind}", f"{at}/put-ours", str(KEYS)], KEYS)
         if kind in THROUGH_KIT:
             # floor-find and floor-exists read what put wrote; floor-remove writes first what it needs
             where = f"{at}/remove-kit" if kind == "remove" else f"{at}/put-ours"
@@ -131,6 +135,8 @@ def tell():
         ours, floor = f"{kind} ours", f"{kind} floor"
         with_digests = median(ours) / (median(floor) + BLOCKS[kind] * block + (kind in KEYED) * key_block)
         print(f"  {kind:10} ours {median(ours) / 1e3:6.2f}  floor {median(floor) / 1e3:6.2f}  by the clock {ratio(ours, floor)}  by the processor {ratio(ours, floor, 1)}  over floor and digests {with_digests:.2f}{over_kit(kind)}")
+    for kind in AS_FUTURE:
+        print(f"  {kind} as a future, over the call {ratio(f'{kind} future', f'{kind} ours')}, of the least times {least(f'{kind} future') / least(f'{kind} ours'):.2f}")
     print("ls, us an entry")
     for keys in LISTED:
         ours, floor = f"ls {keys} ours", f"ls {keys} floor"

@@ -1,17 +1,23 @@
 -- What is read by polls: how it opens, and what a poll fails with.
-use Rattle.std.specs.Prelude.{Result, Ok, Err, ⊤}
+use Rattle.std.specs.Prelude.{ℕ, Result, Ok, Err}
+use Rattle.std.specs.IoError.{error_kind}
 use Rattle.cacache_core.specs.declared.errors.Error.{Error}
-use Rattle.cacache_core.specs.declared.errors.Error.TheVariants.{IoError, OutOfMemory}
+use Rattle.cacache_core.specs.Contexts.{fault_of}
+use Rattle.cacache_store.specs.Failures.{Error as IoError}
 use Rattle.cacache_content.specs.declared.reader.SyncReader.{SyncReader}
 use Rattle.cacache_put.specs.declared.linker.SyncToLinker.{SyncToLinker}
+use Rattle.cacache_futures.specs.Waiting.{TellsFault}
 use Rattle.cacache_async.specs.declared.reader.Reader.{Reader}
 use Rattle.cacache_async.specs.declared.linker.ToLinker.{ToLinker}
 
--- a poll fails with these errors alone
-abbrev pub IsIoOrMemory : Error → Type 0
-IsIoOrMemory (IoError fault message) = ⊤
-IsIoOrMemory OutOfMemory = ⊤
-IsIoOrMemory e = ⊥
+-- a poll tells what a read of the handle answered: how many bytes there were, or the fault
+abbrev pub TellsRead :
+    {F : Type 0} → (F → ℕ → Result ℕ IoError → F → Type 0)
+    → F → ℕ → Result ℕ Error → F → Type 0
+TellsRead reads old room (Ok count) new = reads old room (Ok count) new
+TellsRead reads old room (Err e) new =
+    (failed : IoError) × reads old room (Err failed) new
+    × TellsFault (fault_of (error_kind failed)) e
 
 -- the open content, or why there is none
 abbrev pub reader_in : {F : Type 0} → Result (Reader F) Error → Result (SyncReader F) Error

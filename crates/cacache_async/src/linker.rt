@@ -1,5 +1,5 @@
 //! Links whose target is read by polls before they are made.
-ghost use Rattle.std.specs.Prelude.{◌≡◌, ◌++◌, ℕ, List, IfOk, IfErr};
+ghost use Rattle.std.specs.Prelude.{◌≡◌, ◌++◌, ℕ, List, IfOk, length};
 ghost use Rattle.std.specs.Io.{ReadsAtMost};
 ghost use Rattle.std.specs.Io.KnownBytes.{ReadConsumes};
 ghost use Rattle.futures.specs.Poll.{IfReady, OnPending};
@@ -10,7 +10,7 @@ ghost use Rattle.cacache_table.specs.Runs.{reply_of};
 ghost use Rattle.cacache_content.specs.Passed.{passed};
 ghost use Rattle.cacache_put.specs.OpenLinkers.{CommitsLink, HasHashed, StoresWhole};
 ghost use Rattle.cacache_futures.specs.Waiting.{Waits};
-ghost use Rattle.cacache_async.specs.Polling.{IsIoOrMemory};
+ghost use Rattle.cacache_async.specs.Polling.{TellsRead};
 
 use crate::linking::{
     AsyncToLinkerNewCall, AsyncToLinkerNewFuture, ToLinkerOpenCall, ToLinkerOpenFuture,
@@ -110,9 +110,12 @@ impl<F: OpenedFile> ToLinker<F> {
     pub fn poll_read(&mut self, cx: &mut Context<'_>, buf: &mut [u8]) -> Poll<Result<usize>>
         ensures ready { OnPending result ⊥ }
         ensures kept { Keeps cx.old cx.new }
-        ensures failed { IfReady result (λ r. IfErr r IsIoOrMemory) }
         ensures bytes { IfReady result (λ r. ReadConsumes (F.seen self.old.linker.file).bytes
             (F.seen self.new.linker.file).bytes r buf.new) }
+        ensures left { IfReady result (λ r. LeftFalls (F.seen self.old.linker.file).left
+            (F.seen self.new.linker.file).left r) }
+        ensures earned { IfReady result (λ r. TellsRead F.reads self.old.linker.file
+            (length buf.old) r self.new.linker.file) }
         ensures so_far { IfReady result (λ r. (bytes : List ℕ) → HasHashed self.old.linker bytes
             → HasHashed self.new.linker (bytes ++ passed r buf.new)) }
         ensures linked { self.new.linker.linked ≡ self.old.linker.linked }
@@ -147,6 +150,7 @@ impl<F: OpenedFile> Read for ToLinker<F> {
             (F.seen self.new.linker.file).bytes result buf.new }
         ensures left { LeftFalls (F.seen self.old.linker.file).left
             (F.seen self.new.linker.file).left result }
+        ensures earned { F.reads self.old.linker.file (length buf.old) result self.new.linker.file }
         ensures so_far { (bytes : List ℕ) → HasHashed self.old.linker bytes
             → HasHashed self.new.linker (bytes ++ passed result buf.new) }
         ensures linked { self.new.linker.linked ≡ self.old.linker.linked }

@@ -1,5 +1,5 @@
 //! Open contents that are read by polls.
-ghost use Rattle.std.specs.Prelude.{◌≡◌, ◌++◌, ℕ, List, Some, IsOk, IfOk, IfErr};
+ghost use Rattle.std.specs.Prelude.{◌≡◌, ◌++◌, ℕ, List, Some, IsOk, IfOk, IfErr, length};
 ghost use Rattle.std.specs.Io.{ReadsAtMost};
 ghost use Rattle.std.specs.Io.KnownBytes.{ReadConsumes};
 ghost use Rattle.futures.specs.Poll.{IfReady, OnPending};
@@ -11,7 +11,7 @@ ghost use Rattle.cacache_store.specs.Handles.{LeftFalls};
 ghost use Rattle.cacache_content.specs.OpenReads.{HasRead, OpensHash, OpensKey};
 ghost use Rattle.cacache_content.specs.Passed.{passed};
 ghost use Rattle.cacache_futures.specs.Waiting.{Waits};
-ghost use Rattle.cacache_async.specs.Polling.{IsIoOrMemory, reader_in};
+ghost use Rattle.cacache_async.specs.Polling.{TellsRead, reader_in};
 
 use cacache_content::reader::{SyncReader, open as open_sync};
 use cacache_core::errors::{Fault, Result};
@@ -131,9 +131,12 @@ impl<F: OpenedFile> Reader<F> {
     pub fn poll_read(&mut self, cx: &mut Context<'_>, buf: &mut [u8]) -> Poll<Result<usize>>
         ensures ready { OnPending result ⊥ }
         ensures kept { Keeps cx.old cx.new }
-        ensures failed { IfReady result (λ r. IfErr r IsIoOrMemory) }
         ensures bytes { IfReady result (λ r. ReadConsumes (F.seen self.old.reader.file).bytes
             (F.seen self.new.reader.file).bytes r buf.new) }
+        ensures left { IfReady result (λ r. LeftFalls (F.seen self.old.reader.file).left
+            (F.seen self.new.reader.file).left r) }
+        ensures earned { IfReady result (λ r. TellsRead F.reads self.old.reader.file
+            (length buf.old) r self.new.reader.file) }
         ensures so_far { IfReady result (λ r. (i : List Hash) (bytes : List ℕ)
             → HasRead self.old.reader i bytes
             → HasRead self.new.reader i (bytes ++ passed r buf.new)) }
@@ -173,6 +176,7 @@ impl<F: OpenedFile> Read for Reader<F> {
             (F.seen self.new.reader.file).bytes result buf.new }
         ensures left { LeftFalls (F.seen self.old.reader.file).left
             (F.seen self.new.reader.file).left result }
+        ensures earned { F.reads self.old.reader.file (length buf.old) result self.new.reader.file }
         ensures so_far { (i : List Hash) (bytes : List ℕ) → HasRead self.old.reader i bytes
             → HasRead self.new.reader i (bytes ++ passed result buf.new) }
     {

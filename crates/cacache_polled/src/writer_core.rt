@@ -248,6 +248,7 @@ impl WriterCore {
         ensures err { IfErr result (λ e. e ≡ OutOfMemory) }
         ensures after { self.new.desk ≡ closed self.old.desk }
         ensures busy { busy self.old.desk → (self.new ≡ self.old) × (result ≡ Ok Finish.Busy) }
+        ensures free { result ≡ Ok Finish.Busy → busy self.old.desk }
     {
         match self.desk.state {
             State::Busy(_) => return Ok(Finish::Busy),

@@ -59,6 +59,7 @@ pub fn commit_held<S: Store, C: Clock, N>(
 ) -> Option<Result<Integrity>>
     ensures busy { busy core.old.desk → (result ≡ None) × (core.new ≡ core.old)
         × (temp.new ≡ temp.old) × (about.new ≡ about.old) × (env.new ≡ env.old) }
+    ensures free { result ≡ None → busy core.old.desk }
     ensures closed { core.new.desk ≡ closed core.old.desk }
     ensures gives { IfSome result (λ r. (bytes : List ℕ) → HasHeld core.old bytes
         → Gives S.Temp.seen S.log C.given env.old env.new core.old bytes temp.old about.old r) }

@@ -1,6 +1,7 @@
 //! The commit of a polled writer as a future.
-ghost use Rattle.std.specs.Prelude.{◌≡◌};
+ghost use Rattle.std.specs.Prelude.{◌≡◌, Some};
 ghost use Rattle.std.specs.Arc.{arc_value};
+ghost use Rattle.futures.specs.Poll.{OnPending};
 
 use crate::about::About;
 use crate::commit::commit_held;
@@ -39,7 +40,11 @@ impl<'a, R: Wait, S: Store<Temp = T>, C: Clock, N: Names, T: Drop> WriterCommitF
         env: &'a mut Env<S, C, N>,
         file: PolledFile<T>,
         about: About,
-    ) -> WriterCommitFuture<'a, R, S, C, N, T> {
+    ) -> WriterCommitFuture<'a, R, S, C, N, T>
+        ensures lent { (result.env.ghost_name ≡ env.entry.ghost_name)
+            × (result.env.now ≡ env.entry.now) }
+        ensures waits { (result.file ≡ file) × (result.about ≡ Some about) }
+    {
         let about = Some(about);
         WriterCommitFuture {
             rt,
@@ -56,7 +61,11 @@ impl<'a, R: Wait, S: Store<Temp = T>, C: Clock, N: Names, T: Drop> Future
 
     ghost needs = { λ f s. s ≡ (arc_value f.file.shared).source.id };
 
-    fn poll(&mut self, cx: &mut Context<'_>) -> Poll<Result<Integrity>> {
+    fn poll(&mut self, cx: &mut Context<'_>) -> Poll<Result<Integrity>>
+        ensures pending { OnPending result ((self.new.env.now ≡ self.old.env.now)
+            × (self.new.about ≡ self.old.about)) }
+        ensures env { self.new.env.ghost_name ≡ self.old.env.ghost_name }
+    {
         let rt = self.rt;
         let shared: &Shared<T> = &self.file.shared;
         let mut guard = shared.kept.lock(rt);

@@ -1,36 +1,19 @@
 //! Polled writers are opened.
-ghost use Rattle.std.specs.Prelude.{IfOk, IfErr};
-ghost use Rattle.cacache_store.specs.declared.store.answer.Answer.TheVariants.{Done};
-ghost use Rattle.cacache_table.specs.SingleSteps.{Does, FailsAt};
-ghost use Rattle.cacache_content.specs.OpenWrites.{make_folder as making_folder};
 ghost use Rattle.cacache_writers.specs.Opening.{MakesTemp, OpensAt};
 
 use crate::about::About;
 use crate::writer::Writer;
+use cacache_content::writer::make_folder;
 use cacache_core::errors::Result;
 use cacache_core::integrity::Algorithm;
 use cacache_core::keeping::beside;
 use cacache_core::text::Text;
-use cacache_jobs::{messages, refused, temp_folder, temp_path};
+use cacache_jobs::{messages, refused, temp_path};
 use cacache_put::opts::WriteOpts;
 use cacache_store::store::{Step, Store};
-use cacache_table::answers::{done_of, temp_of};
+use cacache_table::answers::temp_of;
 use cacache_worker::PolledFile;
 use std::alloc::Global;
-
-/// Makes the folder of temporary files.
-fn make_folder<S: Store>(alloc: Global, store: &mut S, cache: &str) -> Result<()>
-    ensures made { IfOk result
-        (λ _. Does (making_folder cache.now) Done (S.log store.old) (S.log store.new)) }
-    ensures err { IfErr result
-        (λ e. FailsAt (making_folder cache.now) e (S.log store.old) (S.log store.new)) }
-{
-    let folder = temp_folder(alloc, cache)?;
-    match done_of(store.step(Step::MakeDirs(folder))) {
-        Ok(()) => Ok(()),
-        Err(refusal) => Err(refused(refusal, messages::making_temps(alloc, cache))),
-    }
-}
 
 /// Makes the temporary file of this number.
 fn make_temp<S: Store>(alloc: Global, store: &mut S, cache: &str, number: u64) -> Result<S::Temp>

@@ -1,4 +1,5 @@
 //! Contents that are written by polls.
+ghost use Rattle.std.specs.Prelude.{◌≡◌, Some};
 ghost use Rattle.futures.specs.Poll.{OnPending};
 ghost use Rattle.futures.specs.Task.{IsArmed, Keeps};
 ghost use Rattle.cacache_futures.specs.Waiting.{Waits};
@@ -115,7 +116,11 @@ impl<T: Drop> Writer<T> {
         self,
         rt: &'a R,
         env: &'a mut Env<S, C, N>,
-    ) -> WriterCommitFuture<'a, R, S, C, N, T> {
+    ) -> WriterCommitFuture<'a, R, S, C, N, T>
+        ensures lent { (result.env.ghost_name ≡ env.entry.ghost_name)
+            × (result.env.now ≡ env.entry.now) }
+        ensures waits { (result.file ≡ self.file) × (result.about ≡ Some self.about) }
+    {
         let Writer { file, about } = self;
         WriterCommitFuture::new(rt, env, file, about)
     }
@@ -125,7 +130,11 @@ impl<T: Drop> Writer<T> {
         self,
         rt: &'a R,
         env: &'a mut Env<S, C, N>,
-    ) -> AsyncWriterCloseFuture<'a, R, S, C, N, T> {
+    ) -> AsyncWriterCloseFuture<'a, R, S, C, N, T>
+        ensures lent { (result.env.ghost_name ≡ env.entry.ghost_name)
+            × (result.env.now ≡ env.entry.now) }
+        ensures waits { (result.file ≡ self.file) × (result.about ≡ Some self.about) }
+    {
         self.commit(rt, env)
     }
 }

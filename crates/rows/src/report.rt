@@ -7,9 +7,20 @@ use std::alloc::Global;
 use std::io;
 use std::process::ExitCode;
 
-/// How the rows went so far.
+/// What a line of standard input is.
 #[derive(Drop)]
-struct Report {
+pub enum Line {
+    /// A group of rows begins.
+    Group,
+    /// A row, in which names are filled in.
+    Row(String),
+    /// It is empty, or gives a name: there is nothing to try.
+    Other,
+}
+
+/// How the rows went so far. A program whose rows need its runtime goes through them by this; each other one is a `Trial`.
+#[derive(Drop)]
+pub struct Report {
     alloc: Global,
     names: Names,
     /// The group's heading.
@@ -20,12 +31,6 @@ struct Report {
     group: Tally,
     /// The rows of all groups.
     all: Tally,
-}
-
-/// Tries a row with its names filled in.
-fn tried(names: &Names, trial: &mut impl Trial, row: &str) -> Result<Outcome, Flaw> {
-    let row = names.filled(row)?;
-    trial.outcome(row.as_str())
 }
 
 /// Whether a row holds; prints it where it doesn't.
@@ -51,7 +56,7 @@ fn is_held(
 
 impl Report {
     /// Before the first line.
-    fn new(alloc: Global) -> Report {
+    pub fn new(alloc: Global) -> Report {
         Report {
             alloc,
             names: Names::new(alloc),
@@ -74,32 +79,63 @@ impl Report {
         Ok(())
     }
 
-    /// Tries a row, and counts it.
-    fn row(&mut self, rt: &impl Print, trial: &mut impl Trial, row: &str) -> io::Result<()> {
-        let tried = tried(&self.names, trial, row);
+    /// Reads a line: `# ` begins a group, `= ` gives a name, an empty line says nothing, and any other one is a row. Prints
+    /// how the group before went.
+    pub fn read(&mut self, rt: &impl Print, line: &str) -> io::Result<Line> {
+        self.line = self.line.saturating_add(1);
+        if line.is_empty() {
+            return Ok(Line::Other);
+        }
+        if let Some(heading) = line.strip_prefix("# ") {
+            self.close(rt)?;
+            self.heading = String::from_str(self.alloc, heading)?;
+            return Ok(Line::Group);
+        }
+        if let Some(name) = line.strip_prefix("= ") {
+            self.names.define(name)?;
+            return Ok(Line::Other);
+        }
+        Ok(Line::Row(self.names.filled(line)?))
+    }
+
+    /// Counts a row, and prints it where it doesn't hold.
+    pub fn count(
+        &mut self,
+        rt: &impl Print,
+        row: &str,
+        tried: Result<Outcome, Flaw>,
+    ) -> io::Result<()> {
         let is_held = is_held(rt, self.line, row, tried)?;
         self.group.count(is_held);
         self.all.count(is_held);
         Ok(())
     }
 
-    /// Takes a line: `# ` begins a group, `= ` gives a name, an empty line says nothing, and any other one is a row.
-    fn take(&mut self, rt: &impl Print, trial: &mut impl Trial, line: &str) -> io::Result<()> {
-        self.line = self.line.saturating_add(1);
-        if line.is_empty() {
-            return Ok(());
-        }
-        if let Some(heading) = line.strip_prefix("# ") {
-            self.close(rt)?;
-            self.heading = String::from_str(self.alloc, heading)?;
+    /// Prints how the last group went and how many rows hold in all, and tells whether each one does.
+    pub fn end(&mut self, rt: &impl Print) -> io::Result<bool> {
+        self.close(rt)?;
+        println!(rt; "all: {} rows hold", self.all.held)?;
+        Ok(self.all.all_hold())
+    }
+}
+
+/// Does what a line says.
+fn take(
+    rt: &impl Print,
+    report: &mut Report,
+    trial: &mut impl Trial,
+    line: &str,
+) -> io::Result<()> {
+    match report.read(rt, line)? {
+        Line::Other => Ok(()),
+        Line::Group => {
             trial.begin();
-            return Ok(());
+            Ok(())
         }
-        if let Some(name) = line.strip_prefix("= ") {
-            self.names.define(name)?;
-            return Ok(());
+        Line::Row(row) => {
+            let tried = trial.outcome(row.as_str());
+            report.count(rt, row.as_str(), tried)
         }
-        self.row(rt, trial, line)
     }
 }
 
@@ -107,19 +143,22 @@ impl Report {
 fn all_hold(rt: &(impl Input + Print + AllocGlobal), trial: &mut impl Trial) -> io::Result<bool> {
     let mut report = Report::new(rt.alloc());
     for line in rt.lines(rt.alloc()) {
-        report.take(rt, trial, line?.as_str())?;
+        take(rt, &mut report, trial, line?.as_str())?;
     }
-    report.close(rt)?;
-    println!(rt; "all: {} rows hold", report.all.held)?;
-    Ok(report.all.all_hold())
+    report.end(rt)
+}
+
+/// What a program of rows returns: 0 if each row holds, and else 1.
+pub fn status(all_hold: io::Result<bool>) -> ExitCode {
+    match all_hold {
+        Ok(true) => ExitCode::from(0),
+        _ => ExitCode::from(1),
+    }
 }
 
 /// Tries the rows of standard input, each with this trial. A line `# ..` begins a group of rows, and after a line `= NAME ..`
 /// the text behind the name stands for `{NAME}` in a row. Prints how many rows of each group hold, and each row that doesn't
 /// with what was wanted and what came. The status is 0 if each row holds, and else 1.
 pub fn run(rt: &(impl Input + Print + AllocGlobal), trial: &mut impl Trial) -> ExitCode {
-    match all_hold(rt, trial) {
-        Ok(true) => ExitCode::from(0),
-        _ => ExitCode::from(1),
-    }
+    status(all_hold(rt, trial))
 }

@@ -1,13 +1,14 @@
-//! Tries rows on the public calls and on the program, each on a disk in memory and on real folders. Each row of standard
-//! input has three columns with bars between them:
+//! Tries rows on the public calls and on the program, each on a disk in memory, on real folders, and as a future where the
+//! call has one. Each row of standard input has three columns with bars between them:
 //!
 //!     ACT | INPUT | RESULT
 //!
-//! A row holds if the act with this input gives this result at both places. The rows of a group that hold are counted,
-//! and each other row is printed with what was wanted and what came.
+//! A row holds if the act with this input gives this result at each place, and the future logs what the call logs. The rows
+//! of a group that hold are counted, and each other row is printed with what was wanted and what came.
 #![tactic(auto)]
 
 mod acts;
+mod awaited;
 mod calls;
 mod exports;
 mod lines;
@@ -15,6 +16,8 @@ mod linkers;
 mod options;
 mod place;
 mod places;
+mod polled;
+mod polled_exports;
 mod program;
 mod puts;
 mod readers;
@@ -24,13 +27,51 @@ mod told;
 mod words;
 mod writers;
 
-use places::Places;
-use rows::run;
+use places::{Places, outcome};
+use rows::{Line, Report, status};
+use std::alloc::AllocGlobal;
+use std::io;
 use std::process::ExitCode;
+use std::random::RandomSource;
+use std::sync::Wait;
+use std::thread::Threads;
+use std::time::Clock;
+
+/// Does what a line says.
+fn take<R: Threads + Wait + Clock + RandomSource + AllocGlobal + Print + Sync>(
+    rt: &R,
+    report: &mut Report,
+    places: &mut Places,
+    line: &str,
+) -> io::Result<()> {
+    match report.read(rt, line)? {
+        Line::Other => Ok(()),
+        Line::Group => {
+            places.begin();
+            Ok(())
+        }
+        Line::Row(row) => {
+            let tried = outcome(rt, places, row.as_str());
+            report.count(rt, row.as_str(), tried)
+        }
+    }
+}
+
+/// Tries the rows of standard input, and tells whether each holds.
+fn all_hold<R: Threads + Wait + Clock + RandomSource + AllocGlobal + Input + Print + Sync>(
+    rt: &R,
+    places: &mut Places,
+) -> io::Result<bool> {
+    let mut report = Report::new(rt.alloc());
+    for line in rt.lines(rt.alloc()) {
+        take(rt, &mut report, places, line?.as_str())?;
+    }
+    report.end(rt)
+}
 
 fn main(rt: HostRuntime) -> ExitCode {
     match Places::new(&rt) {
-        Ok(mut places) => run(&rt, &mut places),
+        Ok(mut places) => status(all_hold(&rt, &mut places)),
         Err(_) => ExitCode::from(1),
     }
 }

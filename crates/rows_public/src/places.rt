@@ -1,81 +1,131 @@
-//! The places at which rows are tried: a disk in memory and real folders.
+//! The places at which rows are tried: a disk in memory, real folders, and a disk in memory whose calls are futures.
 use crate::place::{Numbers, On, on};
+use crate::polled::polled;
 use crate::program::ran_or_made;
 use crate::row::{Row, row_of};
 use crate::told::{counted, told};
 use cacache::store::{FolderStore, MemStore};
 use rows::words::cut;
-use rows::{Flaw, Outcome, Trial};
+use rows::{Flaw, Outcome};
+use std::alloc::AllocGlobal;
+use std::random::RandomSource;
 use std::sync::Wait;
 use std::thread::Threads;
 use std::time::Clock;
 use std::{fs, io};
 
-/// A disk in memory and real folders, which go through the same rows.
+/// A disk in memory, real folders, and a disk in memory for futures, which go through the same rows.
 #[derive(Drop)]
-pub(crate) struct Places<R> {
-    rt: R,
+pub(crate) struct Places {
     memory: On<MemStore>,
     folders: On<FolderStore<HostRuntime>>,
+    futures: On<MemStore>,
 }
 
-impl Places<HostRuntime> {
+impl Places {
     /// Empty ones. The folders are those below the one where the program runs.
-    pub(crate) fn new(rt: &HostRuntime) -> io::Result<Places<HostRuntime>> {
+    pub(crate) fn new(rt: &HostRuntime) -> io::Result<Places> {
         let alloc = rt.alloc();
         let here = fs::canonicalize(rt, ".")?;
         let folders = on(alloc, FolderStore::new(*rt), here.as_str())?;
         let memory = on(alloc, MemStore::new(alloc)?, "/")?;
+        let futures = on(alloc, MemStore::new(alloc)?, "/")?;
         Ok(Places {
-            rt: *rt,
             memory,
             folders,
+            futures,
         })
     }
-}
 
-impl<R: Threads + Wait + Clock + AllocGlobal + Sync> Places<R> {
-    /// What the row's act gives in memory, where an act may ask what the log gained.
-    fn in_memory(&mut self, row: Row<'_>) -> Result<String, Flaw> {
-        match cut(row.act) {
-            ("told", act) => told(&mut self.memory, Row { act, ..row }),
-            ("count", act) => counted(&mut self.memory, Row { act, ..row }),
-            _ => ran_or_made(&self.rt, &mut self.memory, row),
-        }
-    }
-
-    /// What the row's act gives at both places.
-    fn at_both(&mut self, row: Row<'_>) -> Result<String, Flaw> {
-        let in_memory = ran_or_made(&self.rt, &mut self.memory, row)?;
-        let in_folders = ran_or_made(&self.rt, &mut self.folders, row)?;
-        if in_memory == in_folders {
-            return Ok(in_memory);
-        }
-        Ok(format!(in self.rt.alloc(); "{in_memory}, but in folders {in_folders}")?)
-    }
-
-    /// What the row's act gives: after the words `in memory` or `in folders` there alone, else at both places.
-    fn tried(&mut self, row: Row<'_>) -> Result<String, Flaw> {
-        if let Some(act) = row.act.strip_prefix("in memory ") {
-            return self.in_memory(Row { act, ..row });
-        }
-        match row.act.strip_prefix("in folders ") {
-            Some(act) => ran_or_made(&self.rt, &mut self.folders, Row { act, ..row }),
-            None => self.at_both(row),
-        }
-    }
-}
-
-impl<R: Threads + Wait + Clock + AllocGlobal + Sync> Trial for Places<R> {
-    fn begin(&mut self) {
+    /// Forgets the numbers so far: a group of rows begins.
+    pub(crate) fn begin(&mut self) {
         self.memory.names = Numbers { next: 0 };
         self.folders.names = Numbers { next: 0 };
+        self.futures.names = Numbers { next: 0 };
     }
+}
 
-    fn outcome(&mut self, row: &str) -> Result<Outcome, Flaw> {
-        let row = row_of(row)?;
-        let wanted = String::from_str(self.rt.alloc(), row.wanted)?;
-        let got = self.tried(row)?;
-        Ok(Outcome { wanted, got })
+/// What the row's act gives in memory, where an act may ask what the log gained.
+fn in_memory<R: Threads + Wait + Clock + AllocGlobal + Sync>(
+    rt: &R,
+    memory: &mut On<MemStore>,
+    row: Row<'_>,
+) -> Result<String, Flaw> {
+    match cut(row.act) {
+        ("told", act) => told(memory, Row { act, ..row }),
+        ("count", act) => counted(memory, Row { act, ..row }),
+        _ => ran_or_made(rt, memory, row),
     }
+}
+
+/// What the row's act gives as a future, where it is a call that has one.
+fn by_future<R: Threads + Wait + Clock + RandomSource + AllocGlobal + Sync>(
+    rt: &R,
+    futures: &mut On<MemStore>,
+    row: Row<'_>,
+) -> Result<String, Flaw> {
+    match polled(rt, futures, row)? {
+        Some(line) => Ok(line),
+        None => in_memory(rt, futures, row),
+    }
+}
+
+/// What the row's act gives in memory; as a future it must give and log the same.
+fn in_both_memories<R: Threads + Wait + Clock + RandomSource + AllocGlobal + Sync>(
+    rt: &R,
+    places: &mut Places,
+    row: Row<'_>,
+) -> Result<String, Flaw> {
+    let before = places.memory.store.log().len();
+    let line = in_memory(rt, &mut places.memory, row)?;
+    let of_future = by_future(rt, &mut places.futures, row)?;
+    let gained = places.memory.store.log().get(before..);
+    if gained != places.futures.store.log().get(before..) {
+        return Err(Flaw::Told("the future logs something else"));
+    }
+    if line == of_future {
+        return Ok(line);
+    }
+    Ok(format!(in rt.alloc(); "{line}, but as a future {of_future}")?)
+}
+
+/// What the row's act gives at all places.
+fn everywhere<R: Threads + Wait + Clock + RandomSource + AllocGlobal + Sync>(
+    rt: &R,
+    places: &mut Places,
+    row: Row<'_>,
+) -> Result<String, Flaw> {
+    let in_memory = in_both_memories(rt, places, row)?;
+    let in_folders = ran_or_made(rt, &mut places.folders, row)?;
+    if in_memory == in_folders {
+        return Ok(in_memory);
+    }
+    Ok(format!(in rt.alloc(); "{in_memory}, but in folders {in_folders}")?)
+}
+
+/// What the row's act gives: after the words `in memory` or `in folders` there alone, else everywhere.
+fn tried<R: Threads + Wait + Clock + RandomSource + AllocGlobal + Sync>(
+    rt: &R,
+    places: &mut Places,
+    row: Row<'_>,
+) -> Result<String, Flaw> {
+    if let Some(act) = row.act.strip_prefix("in memory ") {
+        return in_both_memories(rt, places, Row { act, ..row });
+    }
+    match row.act.strip_prefix("in folders ") {
+        Some(act) => ran_or_made(rt, &mut places.folders, Row { act, ..row }),
+        None => everywhere(rt, places, row),
+    }
+}
+
+/// What a row wants, and what came.
+pub(crate) fn outcome<R: Threads + Wait + Clock + RandomSource + AllocGlobal + Sync>(
+    rt: &R,
+    places: &mut Places,
+    row: &str,
+) -> Result<Outcome, Flaw> {
+    let row = row_of(row)?;
+    let wanted = String::from_str(rt.alloc(), row.wanted)?;
+    let got = tried(rt, places, row)?;
+    Ok(Outcome { wanted, got })
 }

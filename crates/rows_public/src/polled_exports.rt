@@ -1,0 +1,90 @@
+//! Exports as futures, each under the name of the call that it makes.
+use crate::awaited::awaited;
+use crate::calls::integrity_of;
+use crate::lines::{copied, done};
+use crate::place::On;
+use crate::polled::Told;
+use cacache::Integrity;
+use cacache::store::Store;
+use rows::words::cut;
+use std::alloc::AllocGlobal;
+use std::random::RandomSource;
+use std::sync::Wait;
+
+/// The line on an export by integrity.
+fn by_hash<R: Wait + RandomSource + AllocGlobal, S: Store>(
+    rt: &R,
+    env: &mut On<S>,
+    name: &str,
+    cache: &str,
+    sri: &Integrity,
+    to: &str,
+) -> Told {
+    let alloc = env.alloc;
+    let line = match name {
+        "copy_hash_sync" | "copy" => {
+            copied(alloc, awaited(rt, cacache::copy_hash(env, cache, sri, to))?)
+        }
+        "copy_hash_unchecked_sync" | "copy_unchecked" => {
+            copied(
+                alloc,
+                awaited(rt, cacache::copy_hash_unchecked(env, cache, sri, to))?,
+            )
+        }
+        "reflink_hash_sync" | "reflink" => {
+            done(
+                alloc,
+                awaited(rt, cacache::reflink_hash(env, cache, sri, to))?,
+            )
+        }
+        "hard_link_hash_sync" | "hard_link" => {
+            done(
+                alloc,
+                awaited(rt, cacache::hard_link_hash(env, cache, sri, to))?,
+            )
+        }
+        _ => return Ok(None),
+    };
+    Ok(Some(line?))
+}
+
+/// The line on a link to a content by key.
+fn linked<R: Wait + RandomSource + AllocGlobal, S: Store>(
+    rt: &R,
+    env: &mut On<S>,
+    name: &str,
+    cache: &str,
+    what: &str,
+    to: &str,
+) -> Told {
+    let alloc = env.alloc;
+    let answer = match name {
+        "reflink_sync" => awaited(rt, cacache::reflink(env, cache, what, to))?,
+        "reflink_unchecked_sync" => awaited(rt, cacache::reflink_unchecked(env, cache, what, to))?,
+        "hard_link_sync" => awaited(rt, cacache::hard_link(env, cache, what, to))?,
+        "hard_link_unchecked_sync" => return Ok(None),
+        _ => {
+            let sri = integrity_of(alloc, what)?;
+            return by_hash(rt, env, name, cache, &sri, to);
+        }
+    };
+    Ok(Some(done(alloc, answer)?))
+}
+
+/// The line on an export.
+pub(crate) fn exported<R: Wait + RandomSource + AllocGlobal, S: Store>(
+    rt: &R,
+    env: &mut On<S>,
+    act: &str,
+) -> Told {
+    let alloc = env.alloc;
+    let (name, words) = cut(act);
+    let (cache, words) = cut(words);
+    let (what, to) = cut(words);
+    let answer = match name {
+        "copy_sync" => awaited(rt, cacache::copy(env, cache, what, to))?,
+        "copy_unchecked_sync" => awaited(rt, cacache::copy_unchecked(env, cache, what, to))?,
+        _ => return linked(rt, env, name, cache, what, to),
+    };
+    Ok(Some(copied(alloc, answer)?))
+}
