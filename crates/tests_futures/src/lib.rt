@@ -2,8 +2,6 @@
 #![tactic(auto)]
 
 #[cfg(test)]
-mod pairs;
-#[cfg(test)]
 mod workers;
 #[cfg(test)]
 mod writing;
