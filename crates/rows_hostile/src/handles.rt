@@ -1,0 +1,157 @@
+//! Readers, writers and linkers over a store that fails one read or write. A row's words say which one, counted from 0, and how
+//! many the handle is asked for before its end. Each read asks for five bytes of `hello world`, and each write hands in the
+//! next part of it; the file takes three bytes at most.
+use crate::faulty::{On, on};
+use cacache::content::read::open;
+use cacache::errors::Error;
+use cacache::{Algorithm, Integrity, Result as Answered, WriteOpts};
+use cacache_core::keeping::let_go;
+use rows::Flaw;
+use rows::words::{cut, number_of, word_of, written_out};
+use std::alloc::{AllocError, Global};
+use std::io::{Read, Write};
+
+/// The integrity of `hello world`, as `openssl dgst -sha256 -binary | base64` prints its digest.
+const BOTH: &str = "sha256-uU0nuZNNPgilLlLX2n2r+sSE7+N6U4DukIj3rOLvzek=";
+
+/// What a writer is handed.
+const PARTS: [&str; 3] = ["hello", " worl", "d"];
+
+/// An error, with its fault where it has one.
+fn refused(alloc: Global, error: Error) -> Result<String, AllocError> {
+    let text = match &error {
+        Error::IoError(fault, text) => format!(in alloc; "Refused {fault:?}: {text}"),
+        error => format!(in alloc; "Refused: {error}"),
+    };
+    let_go(error);
+    let text = text?;
+    written_out(alloc, text.as_str())
+}
+
+/// What a commit answers.
+fn stored(alloc: Global, answer: Answered<Integrity>) -> Result<String, AllocError> {
+    match answer {
+        Ok(integrity) => format!(in alloc; "Stored {integrity}"),
+        Err(error) => refused(alloc, error),
+    }
+}
+
+/// What a check answers.
+fn checked(alloc: Global, answer: Answered<Algorithm>) -> Result<String, AllocError> {
+    match answer {
+        Ok(algorithm) => format!(in alloc; "checked {algorithm}"),
+        Err(error) => refused(alloc, error),
+    }
+}
+
+/// Adds what so many reads give, each with a comma behind it.
+fn add_reads<R: Read>(
+    text: &mut String,
+    reader: &mut R,
+    count: usize,
+) -> Result<(), AllocError> {
+    let mut buf = [0; 5];
+    for _ in 0..count {
+        text.push_str(match reader.read(&mut buf) {
+            Ok(count) => word_of(&buf[..count]),
+            Err(_) => "failed",
+        })?;
+        text.push_str(", ")?;
+    }
+    Ok(())
+}
+
+/// Adds what so many writes take, each with a comma behind it.
+fn add_writes<W: Write>(
+    alloc: Global,
+    text: &mut String,
+    writer: &mut W,
+    count: usize,
+) -> Result<(), AllocError> {
+    for part in PARTS.get(..count).unwrap_or(&PARTS) {
+        let taken = match writer.write(part.as_bytes()) {
+            Ok(count) => format!(in alloc; "{count}, ")?,
+            Err(_) => String::from_str(alloc, "failed, ")?,
+        };
+        text.push_str(taken.as_str())?;
+    }
+    Ok(())
+}
+
+/// The two numbers of a row.
+fn numbers(words: &str) -> Result<(usize, usize), Flaw> {
+    let (fails, count) = cut(words);
+    Ok((number_of(fails)?, number_of(count)?))
+}
+
+/// What a reader gives, and its check.
+fn read(env: &mut On, sri: Integrity, count: usize) -> Result<String, AllocError> {
+    let alloc = env.alloc;
+    let mut text = String::new(alloc);
+    let mut reader = match open(env, "c", sri) {
+        Ok(reader) => reader,
+        Err(error) => return refused(alloc, error),
+    };
+    add_reads(&mut text, &mut reader, count)?;
+    let end = checked(alloc, reader.check())?;
+    text.push_str(end.as_str())?;
+    Ok(text)
+}
+
+/// What a reader of this row gives.
+pub(crate) fn reads(alloc: Global, words: &str) -> Result<String, Flaw> {
+    let (fails, count) = numbers(words)?;
+    let mut env = on(alloc, fails)?;
+    let sri = match Integrity::parse(alloc, BOTH) {
+        Ok(sri) => sri,
+        Err(error) => {
+            let_go(error);
+            return Err(Flaw::NoMemory);
+        }
+    };
+    Ok(read(&mut env, sri, count)?)
+}
+
+/// What a writer's writes take, and its commit.
+fn write(env: &mut On, count: usize) -> Result<String, AllocError> {
+    let alloc = env.alloc;
+    let mut text = String::new(alloc);
+    let mut writer = match WriteOpts::new().open_hash_sync(env, "c") {
+        Ok(writer) => writer,
+        Err(error) => return refused(alloc, error),
+    };
+    add_writes(alloc, &mut text, &mut writer, count)?;
+    let end = stored(alloc, writer.commit(env))?;
+    text.push_str(end.as_str())?;
+    Ok(text)
+}
+
+/// What a writer of this row takes, and what is stored then.
+pub(crate) fn writes(alloc: Global, words: &str) -> Result<String, Flaw> {
+    let (fails, count) = numbers(words)?;
+    let mut env = on(alloc, fails)?;
+    let text = write(&mut env, count)?;
+    let kept = word_of(env.store.kept.as_slice());
+    Ok(format!(in alloc; "{text}, kept {kept}")?)
+}
+
+/// What a linker gives, and its commit.
+fn link(env: &mut On, count: usize) -> Result<String, AllocError> {
+    let alloc = env.alloc;
+    let mut text = String::new(alloc);
+    let mut linker = match WriteOpts::new().link_to_hash_sync(env, "c", "/t") {
+        Ok(linker) => linker,
+        Err(error) => return refused(alloc, error),
+    };
+    add_reads(&mut text, &mut linker, count)?;
+    let end = stored(alloc, linker.commit(env))?;
+    text.push_str(end.as_str())?;
+    Ok(text)
+}
+
+/// What a linker of this row gives.
+pub(crate) fn links(alloc: Global, words: &str) -> Result<String, Flaw> {
+    let (fails, count) = numbers(words)?;
+    let mut env = on(alloc, fails)?;
+    Ok(link(&mut env, count)?)
+}

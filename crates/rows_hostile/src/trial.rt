@@ -1,0 +1,87 @@
+//! What a row asks for, and what came.
+use crate::changes::changes;
+use crate::handles::{links, reads, writes};
+use crate::meeting::all_met;
+use crate::script::{Change, Run, played};
+use crate::tally::Tally;
+use rows::words::{column, cut};
+use rows::{Flaw, Outcome, Trial};
+use std::alloc::{AllocError, Global};
+
+/// The rows so far.
+#[derive(Drop)]
+pub(crate) struct Scripts {
+    alloc: Global,
+    /// Whether a row was tried to its end that was not as it is to be.
+    pub(crate) differs: bool,
+}
+
+/// What came of runs with these changes: how many there were, or how the first one differs that does.
+fn all_played(alloc: Global, changes: &[Change]) -> Result<String, AllocError> {
+    let mut tally = Tally::NONE;
+    for change in changes {
+        let (_run, differing) = played(alloc, *change, &mut tally)?;
+        if let Some(text) = differing {
+            return format!(in alloc; "{change:?}: {text}");
+        }
+    }
+    let Tally {
+        runs,
+        moves,
+        replies,
+        failures,
+    } = tally;
+    format!(in alloc; "{runs} runs, {moves} moves, {replies} replies, {failures} failures")
+}
+
+/// What came of the run in which memory may be refused once.
+fn spared(alloc: Global) -> Result<String, AllocError> {
+    let (_run, differing) = played(alloc, Change::Memory, &mut Tally::NONE)?;
+    match differing {
+        Some(text) => Ok(text),
+        None => String::from_str(alloc, "as the model says"),
+    }
+}
+
+/// What came of all runs of a kind.
+fn scripts(alloc: Global, kind: &str) -> Result<String, Flaw> {
+    let (run, differing) = played(alloc, Change::Nothing, &mut Tally::NONE)?;
+    if let Some(text) = differing {
+        return Ok(text);
+    }
+    let changes = changes(alloc, kind, run.sides.history())?;
+    Ok(all_played(alloc, changes.as_slice())?)
+}
+
+/// What came of a row.
+fn tried(alloc: Global, act: &str) -> Result<String, Flaw> {
+    let (kind, words) = cut(act);
+    match kind {
+        "memory" => Ok(spared(alloc)?),
+        "puts" => Ok(all_met(alloc)?),
+        "reader" => reads(alloc, words),
+        "writer" => writes(alloc, words),
+        "linker" => links(alloc, words),
+        _ => scripts(alloc, kind),
+    }
+}
+
+impl Scripts {
+    /// Before any row.
+    pub(crate) fn new(alloc: Global) -> Scripts {
+        Scripts {
+            alloc,
+            differs: false,
+        }
+    }
+}
+
+impl Trial for Scripts {
+    fn outcome(&mut self, row: &str) -> Result<Outcome, Flaw> {
+        let (act, wanted) = column(row)?;
+        let got = tried(self.alloc, act)?;
+        let wanted = String::from_str(self.alloc, wanted)?;
+        self.differs = self.differs || wanted != got;
+        Ok(Outcome { wanted, got })
+    }
+}
