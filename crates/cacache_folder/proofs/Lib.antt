@@ -1,1 +1,3 @@
 mod FolderNames
+pub mod Escapes
+pub mod Paths

@@ -24,7 +24,7 @@ pub struct Ways {
 }
 
 /// The ways of the system's files.
-const PLAIN: Ways = Ways {
+pub(crate) const PLAIN: Ways = Ways {
     fault: None,
     interruptions: 0,
     most: usize::MAX,
@@ -97,7 +97,7 @@ const ASKED: [Row; 10] = [
     (PLAIN, "ReadDir /: Names 0 0 0", "", "symlink_metadata;"),
     (
         PLAIN,
-        "ReadDir /odd: Failed Device",
+        "ReadDir /odd: Names 1 0 0",
         "",
         "symlink_metadata;",
     ),

@@ -1,9 +1,10 @@
 //! Steps on the files of real folders.
 ghost use Rattle.std.specs.Prelude.{◌≤◌, IfOk, length};
 
-use crate::folder::FolderStore;
 use crate::folder::again::write_again;
+use crate::folder::escaped::odd_path;
 use crate::folder::whole::read_whole;
+use crate::folder::{FolderStore, OddPaths};
 use cacache_core::bytes::Bytes;
 use std::fs::{File, Metadata, OpenFile};
 use std::io;
@@ -19,7 +20,7 @@ fn is_same(one: &Metadata, other: &Metadata) -> bool {
     one.ino() != 0 && one.ino() == other.ino() && one.dev() == other.dev()
 }
 
-impl<R: Files + AllocGlobal + Clone + Drop> FolderStore<R> {
+impl<R: Files + OddPaths + AllocGlobal + Clone + Drop> FolderStore<R> {
     /// A new empty file that only its owner may read and write.
     pub(crate) fn create_temp(&self, path: &str) -> io::Result<R::File> {
         File::options()
@@ -43,6 +44,10 @@ impl<R: Files + AllocGlobal + Clone + Drop> FolderStore<R> {
     /// The whole file.
     pub(crate) fn read_all(&self, path: &str) -> io::Result<Bytes> {
         let alloc = self.rt.alloc();
+        if let Some(raw) = odd_path(alloc, path)? {
+            let mut file = self.rt.open_odd(raw.as_slice())?;
+            return Ok(Bytes::new(alloc, read_whole(alloc, &mut file, 0)?)?);
+        }
         let mut file = File::open(&self.rt, path)?;
         let size = usize::try_from(file.metadata()?.len()).unwrap_or(usize::MAX);
         Ok(Bytes::new(alloc, read_whole(alloc, &mut file, size)?)?)

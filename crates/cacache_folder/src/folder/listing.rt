@@ -1,18 +1,22 @@
 //! What is in a folder.
-ghost use Rattle.std.specs.Prelude.{◌≡◌, ◌==◌, ◌↔◌, IfOk, IfErr, IfSome, IsTrue};
+ghost use Rattle.std.specs.Prelude.{◌≡◌, ◌<◌, ◌==◌, ◌↔◌, IfOk, IfErr, IsTrue, length};
 ghost use Rattle.std.specs.List.{list_any};
 ghost use Rattle.std.specs.IoError.{error_kind};
 ghost use Rattle.cacache_core.specs.PathNames.{ends_name, IsProperName};
 ghost use Rattle.cacache_store.specs.Fits.{AreProperNames};
 
-use crate::folder::FolderStore;
-use cacache_core::text::Text;
+use crate::folder::again::read_again;
+use crate::folder::escaped::{raw_path, text_of_name};
+use crate::folder::{FolderStore, OddPaths};
 use cacache_store::store::{Kind, Listing, Name};
 use std::alloc::Global;
-use std::fs::{DirEntry, FileType};
-use std::io::ErrorKind;
+use std::fs::FileType;
+use std::io;
+use std::io::{ErrorKind, Read};
 use std::rt::Files;
-use std::{fs, io};
+
+/// How many bytes of names one read asks for. There is room for any name.
+const NAMES: usize = 4096;
 
 /// Whether the name has this byte.
 fn has(name: &str, byte: u8) -> bool
@@ -48,11 +52,11 @@ fn kind_of(found: FileType) -> Kind {
 
 /// The kind that an entry is listed with; None if it was removed since the folder was read. An entry whose kind can't
 /// be had is listed as a file: the step on it will say why.
-fn listed_kind(found: io::Result<FileType>) -> io::Result<Option<Kind>>
+fn listed_kind(found: io::Result<Kind>) -> io::Result<Option<Kind>>
     ensures memory { IfErr result (λ e. error_kind e ≡ ErrorKind.OutOfMemory) }
 {
     match found {
-        Ok(found) => Ok(Some(kind_of(found))),
+        Ok(kind) => Ok(Some(kind)),
         Err(e) => match e.kind() {
             ErrorKind::NotFound => Ok(None),
             ErrorKind::OutOfMemory => Err(e),
@@ -61,67 +65,109 @@ fn listed_kind(found: io::Result<FileType>) -> io::Result<Option<Kind>>
     }
 }
 
-/// The entry's name and kind; None if it was removed since the folder was read.
-fn name_of<R: Files + Clone + Drop>(
-    alloc: Global,
-    entry: &DirEntry<R, Global>,
-) -> io::Result<Option<Name>>
-    ensures { IfOk result (λ found. IfSome found (λ entry. IsProperName entry.name)) }
+/// The first of some names, each of which is ended by a NUL, and those behind it.
+fn first_name(names: &[u8]) -> (&[u8], &[u8])
+    requires { 0 < length names.now }
+    ensures { length result.1.now < length names.now }
 {
-    let name = entry.file_name();
-    if !is_proper(name) {
+    let (name, ended) = names.split_at(os::name_length(names));
+    match ended.split_first() {
+        Some((_, later)) => (name, later),
+        None => (name, ended),
+    }
+}
+
+/// The name of a thing of this kind, by its bytes.
+fn named(alloc: Global, name: &[u8], kind: Kind) -> io::Result<Name>
+    ensures { IfOk result (λ entry. IsProperName entry.name) }
+{
+    let name = text_of_name(alloc, name)?;
+    if !is_proper(name.as_str()) {
         return Err(io::Error::from(ErrorKind::InvalidFilename));
     }
-    let Some(kind) = listed_kind(entry.file_type())? else {
-        return Ok(None);
-    };
-    let name = Text::from_str(alloc, name)?;
-    Ok(Some(Name { name, kind }))
+    Ok(Name { name, kind })
 }
 
-/// Adds what an entry of a folder names, unless it was removed since the folder was read.
-fn add<R: Files + Clone + Drop>(
-    alloc: Global,
-    names: &mut Vec<Name>,
-    entry: io::Result<DirEntry<R, Global>>,
-) -> io::Result<()>
-    ensures { AreProperNames names.old.items → AreProperNames names.new.items }
-{
-    let entry = entry?;
-    if let Some(name) = name_of(alloc, &entry)? {
-        names.push(name)?;
+impl<R: Files + OddPaths + AllocGlobal + Clone + Drop> FolderStore<R> {
+    /// What kind of thing stands at a path of any bytes.
+    fn kind_at(&self, path: &[u8]) -> io::Result<Kind> {
+        match std::str::from_utf8(path) {
+            Ok(path) => Ok(kind_of(self.rt.symlink_metadata(path)?.file_type())),
+            Err(_) => self.rt.odd_kind(path),
+        }
     }
-    Ok(())
-}
 
-impl<R: Files + AllocGlobal + Clone + Drop> FolderStore<R> {
-    /// The names in the folder. The error is a kind alone: with a wide one the compiler copies the system's buffer for
-    /// each way out.
-    #[inline(never)]
-    fn names_in(&self, path: &str) -> Result<Vec<Name>, ErrorKind>
+    /// Adds what stands under a name of a folder, whose path ends in a `/`, unless it was removed since the folder was
+    /// read.
+    fn add(&self, names: &mut Vec<Name>, folder: &mut Vec<u8>, name: &[u8]) -> io::Result<()>
+        ensures { AreProperNames names.old.items → AreProperNames names.new.items }
+    {
+        if matches!(name, b"" | b"." | b"..") {
+            return Ok(());
+        }
+        let top = folder.len();
+        folder.extend_from_slice(name)?;
+        let kind = listed_kind(self.kind_at(folder.as_slice()));
+        folder.truncate(top);
+        if let Some(kind) = kind? {
+            names.push(named(self.rt.alloc(), name, kind)?)?;
+        }
+        Ok(())
+    }
+
+    /// Adds what stands under some names, each of which is ended by a NUL.
+    fn add_all(&self, names: &mut Vec<Name>, folder: &mut Vec<u8>, read: &[u8]) -> io::Result<()>
+        ensures { AreProperNames names.old.items → AreProperNames names.new.items }
+    {
+        let mut rest = read;
+        'names: while !rest.is_empty() {
+            let (name, later) = first_name(rest);
+            self.add(names, folder, name)?;
+            rest = later;
+        }
+        Ok(())
+    }
+
+    /// The names that an open folder gives, whose path ends in a `/`.
+    fn names_from<D: Read>(&self, open: &mut D, folder: &mut Vec<u8>) -> io::Result<Vec<Name>>
         ensures { IfOk result (λ names. AreProperNames names.items) }
     {
-        let alloc = self.rt.alloc();
-        let mut names = Vec::new(alloc);
-        let found = match fs::read_dir(&self.rt, path) {
-            Ok(found) => found,
-            Err(e) => return Err(e.kind()),
-        };
-        for entry in found {
-            if let Err(e) = add(alloc, &mut names, entry) {
-                return Err(e.kind());
+        let mut names = Vec::new(self.rt.alloc());
+        let mut buf = [0; NAMES];
+        for _ in 0..u64::MAX {
+            let count = read_again(open, &mut buf)?;
+            if count == 0 {
+                return Ok(names);
             }
+            self.add_all(&mut names, folder, &buf[..count])?;
         }
-        Ok(names)
+        Err(io::Error::from(ErrorKind::FileTooLarge))
     }
 
-    /// What is in the folder, in the system's order. It fails if a name isn't UTF-8.
+    /// The names in the folder.
+    fn names_in(&self, path: &str) -> io::Result<Vec<Name>>
+        ensures { IfOk result (λ names. AreProperNames names.items) }
+    {
+        if path.is_empty() {
+            return Err(io::Error::from(ErrorKind::NotFound));
+        }
+        let mut folder = raw_path(self.rt.alloc(), path)?;
+        match std::str::from_utf8(folder.as_slice()) {
+            Ok(text) => {
+                let mut open = self.rt.open_dir(text)?;
+                self.names_from(&mut open, &mut folder)
+            }
+            Err(_) => {
+                let mut open = self.rt.open_odd_dir(folder.as_slice())?;
+                self.names_from(&mut open, &mut folder)
+            }
+        }
+    }
+
+    /// What is in the folder, in the system's order. A name that isn't UTF-8 is listed as an escaped one.
     pub(crate) fn read_dir(&self, path: &str) -> io::Result<Listing>
         ensures { IfOk result (λ listing. AreProperNames listing) }
     {
-        match self.names_in(path) {
-            Ok(names) => Ok(Listing::new(names)),
-            Err(kind) => Err(io::Error::from(kind)),
-        }
+        Ok(Listing::new(self.names_in(path)?))
     }
 }

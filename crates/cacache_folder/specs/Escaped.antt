@@ -1,0 +1,32 @@
+-- Names of any bytes as texts, and the bytes that a path's text stands for.
+use Rattle.std.specs.Prelude.{ℕ, if◌then◌else◌, List, [], ◌∷◌, ◌++◌, drop, map, codes, Result, Ok, Err}
+use Rattle.std.specs.Bool.{nat_eq}
+use Rattle.std.specs.List.{starts_with}
+use Rattle.hex.specs.declared.error.FromHexError.{FromHexError}
+use Rattle.hex.specs.Hex.{decode_of}
+use Rattle.cacache_core.specs.PathNames.{Names, pieces}
+
+abbrev pub quarter : List ℕ
+quarter = codes "%%%%%%%%%%%%%%%%%%%%%%%%%%%%%%%%%%%%%%%%%%%%%%%%%%%%%%%%%%%%%%%%"
+
+-- what an escaped name begins with
+abbrev pub mark : List ℕ
+mark = quarter ++ quarter ++ quarter ++ quarter
+
+abbrev pub or_itself : List ℕ → Result (List ℕ) FromHexError → List ℕ
+or_itself name (Ok bytes) = bytes
+or_itself name (Err e) = name
+
+-- the bytes that a name's text stands for: those of its digits behind the mark, or the text's own
+abbrev pub raw_name : List ℕ → List ℕ
+raw_name name =
+    if starts_with nat_eq name mark then or_itself name (decode_of (drop 256 name)) else name
+
+-- names with a `/` behind each
+abbrev pub slashed : Names → List ℕ
+slashed [] = []
+slashed (n ∷ ns) = n ++ 47 ∷ slashed ns
+
+-- the bytes that a path's text stands for, with a `/` behind each name
+abbrev pub raw_path : List ℕ → List ℕ
+raw_path path = slashed (map raw_name (pieces path))
