@@ -2,7 +2,7 @@
 use cacache_core::keeping::let_go;
 use cacache_core::text::Text;
 use cacache_disk::{Disk, Luck};
-use cacache_store::store::{Answer, Kind, Listing, Name, PlainAnswer, Step};
+use cacache_store::store::{Answer, Kind, Listing, PlainAnswer, Step};
 use rows::words::word_of;
 use std::alloc::{AllocError, Global};
 
@@ -37,24 +37,6 @@ fn file(alloc: Global, disk: &Disk, path: &str) -> Result<String, AllocError> {
     }
 }
 
-/// Adds a name of a folder, with all that is below it.
-fn add(
-    alloc: Global,
-    disk: &mut Disk,
-    folder: &str,
-    name: &Name,
-    depth: usize,
-    places: &mut Vec<String>,
-) -> Result<(), AllocError> {
-    let path = format!(in alloc; "{folder}/{}", name.name.as_str())?;
-    if name.kind != Kind::Folder {
-        places.push(file(alloc, disk, path.as_str())?)?;
-        return Ok(());
-    }
-    places.push(format!(in alloc; "{path}/")?)?;
-    add_below(alloc, disk, path.as_str(), depth, places)
-}
-
 /// Adds all that is below a folder.
 fn add_below(
     alloc: Global,
@@ -70,7 +52,13 @@ fn add_below(
         return Ok(());
     };
     for name in listing.as_slice() {
-        add(alloc, disk, folder, name, depth - 1, places)?;
+        let path = format!(in alloc; "{folder}/{}", name.name.as_str())?;
+        if name.kind == Kind::Folder {
+            places.push(format!(in alloc; "{path}/")?)?;
+            add_below(alloc, disk, path.as_str(), depth - 1, places)?;
+        } else {
+            places.push(file(alloc, disk, path.as_str())?)?;
+        }
     }
     Ok(())
 }
