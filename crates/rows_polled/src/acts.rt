@@ -1,0 +1,77 @@
+//! What a row does in an environment.
+use crate::answers::{add, bytes_of, done, read};
+use crate::linkers::linked_by_polls;
+use crate::opening::integrity_of;
+use crate::place::{On, names_in, plant};
+use crate::polls::ready;
+use crate::readers::read_by_polls;
+use crate::writers::written;
+use cacache_async::read::{read as read_key, read_hash};
+use cacache_async::rm::clear;
+use cacache_store::store::Store;
+use cacache_worker::RemovableTemp;
+use rows::Flaw;
+use rows::words::cut;
+use std::alloc::{AllocError, AllocGlobal};
+use std::random::RandomSource;
+use std::sync::Wait;
+use std::time::Clock;
+
+/// What the act is made on, and its steps.
+pub(crate) fn parts_of(words: &str) -> (&str, &str) {
+    words.split_once(": ").unwrap_or((words, ""))
+}
+
+/// How many names a folder has.
+fn names<S: Store>(env: &mut On<S>, path: &str) -> Result<String, AllocError> {
+    match names_in(env, path)? {
+        Some(count) => format!(in env.alloc; "{count}"),
+        None => String::from_str(env.alloc, "no folder"),
+    }
+}
+
+/// Plants a file.
+fn planted<S: Store>(env: &mut On<S>, words: &str) -> Result<String, AllocError> {
+    let (path, text) = cut(words);
+    let is_planted = plant(env, path, bytes_of(text))?;
+    String::from_str(env.alloc, if is_planted { "Ok" } else { "not planted" })
+}
+
+/// What a call gives whose future is ready at once, or a look at a folder.
+fn called<R: RandomSource + AllocGlobal, S: Store>(
+    rt: &R,
+    env: &mut On<S>,
+    act: &str,
+) -> Result<String, Flaw> {
+    let alloc = env.alloc;
+    let (name, words) = cut(act);
+    let (cache, what) = cut(words);
+    match name {
+        "read" => Ok(read(alloc, ready(rt, read_key(env, cache, what))?)?),
+        "read_hash" => {
+            let sri = integrity_of(alloc, what)?;
+            Ok(read(alloc, ready(rt, read_hash(env, cache, &sri))?)?)
+        }
+        "clear" => Ok(done(alloc, ready(rt, clear(env, cache))?)?),
+        "names" => Ok(names(env, words)?),
+        "plant" => Ok(planted(env, words)?),
+        _ => Err(Flaw::NotRead),
+    }
+}
+
+/// What an act gives.
+pub(crate) fn made<R, S, T>(rt: &R, env: &mut On<S>, act: &str) -> Result<String, Flaw>
+where
+    R: Wait + Clock + RandomSource + AllocGlobal,
+    S: Store<Temp = T>,
+    T: RemovableTemp<R>,
+{
+    let (name, words) = cut(act);
+    let (given, steps) = parts_of(words);
+    match name {
+        "writer" => written(rt, env, given, steps),
+        "reader" => read_by_polls(rt, env, given, steps),
+        "linker" => linked_by_polls(rt, env, given, steps),
+        _ => called(rt, env, act),
+    }
+}

@@ -1,0 +1,53 @@
+//! Gates, and the turns of workers that ask them.
+use cacache_jobs::{Gate, Pass};
+use cacache_worker::{RemovableTemp, Turned, Worker};
+use rows::Flaw;
+use rows::words::{cut, number_of};
+use std::sync::Wait;
+use std::time::Clock;
+
+/// A gate that lets turns through from one on, and says this of those before.
+#[derive(Clone, Copy)]
+struct From {
+    first: u64,
+    before: Pass,
+}
+
+impl Gate for From {
+    fn pass(&self, turn: u64) -> Pass {
+        if turn < self.first { self.before } else { Pass::Go }
+    }
+}
+
+/// The gate that a turn of this name asks: `turn` goes, `wait` and `quit` don't, and `from N` goes from the turn of this
+/// number on.
+fn gate_of(step: &str) -> Result<From, Flaw> {
+    let (first, before) = match cut(step) {
+        ("turn", _) => (0, Pass::Go),
+        ("wait", _) => (u64::MAX, Pass::NotYet),
+        ("quit", _) => (u64::MAX, Pass::Quit),
+        ("from", turn) => (number_of(turn)? as u64, Pass::NotYet),
+        _ => return Err(Flaw::NotRead),
+    };
+    Ok(From { first, before })
+}
+
+/// What came of a turn, as rows say it.
+fn name_of(turned: Turned) -> &'static str {
+    match turned {
+        Turned::Did => "Did",
+        Turned::NoWork => "NoWork",
+        Turned::NotYet => "NotYet",
+        Turned::Over => "Over",
+    }
+}
+
+/// What a turn gives.
+pub(crate) fn turned<R: Wait + Clock, T: RemovableTemp<R>>(
+    rt: &R,
+    worker: &mut Worker<T>,
+    step: &str,
+) -> Result<&'static str, Flaw> {
+    let gate = gate_of(step)?;
+    Ok(name_of(worker.turn(rt, &gate)))
+}

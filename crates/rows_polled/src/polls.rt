@@ -1,0 +1,71 @@
+//! Single polls, and futures that are ready at once.
+use crate::answers::{counted, done, given};
+use cacache_core::errors::Result as Answered;
+use cacache_writers::Writer;
+use futures::task::Poll;
+use futures::test::MockTask;
+use futures::{Future, FutureExt};
+use rows::Flaw;
+use std::alloc::{AllocError, AllocGlobal, Global};
+use std::random::RandomSource;
+use std::sync::Wait;
+
+/// What a future answers that is ready at once.
+pub(crate) fn ready<R: RandomSource + AllocGlobal, F: Future>(
+    rt: &R,
+    future: F,
+) -> Result<F::Output, Flaw>
+    requires { F.can_poll future }
+{
+    match given(future.now_or_never(rt))? {
+        Some(answer) => Ok(answer),
+        None => Err(Flaw::Told("its future is pending")),
+    }
+}
+
+/// The answer to a poll of a write.
+fn wrote(alloc: Global, polled: Poll<Answered<usize>>) -> Result<String, AllocError> {
+    match polled {
+        Poll::Ready(answer) => counted(alloc, answer),
+        Poll::Pending => String::from_str(alloc, "Pending"),
+    }
+}
+
+/// The answer to a poll that says nothing.
+fn over(alloc: Global, polled: Poll<Answered<()>>) -> Result<String, AllocError> {
+    match polled {
+        Poll::Ready(answer) => done(alloc, answer),
+        Poll::Pending => String::from_str(alloc, "Pending"),
+    }
+}
+
+/// What one poll of a write gives.
+pub(crate) fn write<R: Wait, T: Drop>(
+    rt: &R,
+    alloc: Global,
+    task: &MockTask,
+    writer: &mut Writer<T>,
+    data: &[u8],
+) -> Result<String, AllocError> {
+    wrote(alloc, task.enter(|cx| writer.poll_write(rt, cx, data)))
+}
+
+/// What one poll of a flush gives.
+pub(crate) fn flush<R: Wait, T: Drop>(
+    rt: &R,
+    alloc: Global,
+    task: &MockTask,
+    writer: &mut Writer<T>,
+) -> Result<String, AllocError> {
+    over(alloc, task.enter(|cx| writer.poll_flush(rt, cx)))
+}
+
+/// What one poll of a close gives.
+pub(crate) fn close<R: Wait, T: Drop>(
+    rt: &R,
+    alloc: Global,
+    task: &MockTask,
+    writer: &mut Writer<T>,
+) -> Result<String, AllocError> {
+    over(alloc, task.enter(|cx| writer.poll_close(rt, cx)))
+}
