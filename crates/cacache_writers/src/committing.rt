@@ -1,12 +1,15 @@
 //! The commit of a polled writer as a future.
-ghost use Rattle.std.specs.Prelude.{◌≡◌, Some};
+ghost use Rattle.std.specs.Prelude.{◌≡◌, Some, None, IfNone};
 ghost use Rattle.std.specs.Arc.{arc_value};
-ghost use Rattle.futures.specs.Poll.{OnPending};
+ghost use Rattle.futures.specs.Poll.{IfReady, OnPending};
+ghost use Rattle.cacache_futures.specs.Waiting.{SaysOver};
 
 use crate::about::About;
 use crate::commit::commit_held;
-use cacache_core::errors::Result;
+use cacache_core::errors::{Fault, Result};
 use cacache_core::integrity::Integrity;
+use cacache_core::keeping::set;
+use cacache_futures::polling;
 use cacache_store::env::{Clock, Env, Names};
 use cacache_store::store::Store;
 use cacache_worker::{PolledFile, Shared};
@@ -21,6 +24,7 @@ pub struct WriterCommitFuture<'a, R: Wait, S, C, N, T> {
     rt: &'a R,
     env: &'a mut Env<S, C, N>,
     file: PolledFile<T>,
+    /// What is said of the content; None after the answer.
     about: Option<About>,
 }
 
@@ -64,15 +68,24 @@ impl<'a, R: Wait, S: Store<Temp = T>, C: Clock, N: Names, T: Drop> Future
     fn poll(&mut self, cx: &mut Context<'_>) -> Poll<Result<Integrity>>
         ensures pending { OnPending result ((self.new.env.now ≡ self.old.env.now)
             × (self.new.about ≡ self.old.about)) }
+        ensures over { IfReady result (λ _. self.new.about ≡ None) }
+        ensures later { IfNone self.old.about (IfReady result SaysOver
+            × (self.new.env.now ≡ self.old.env.now)) }
         ensures env { self.new.env.ghost_name ≡ self.old.env.ghost_name }
     {
+        if self.about.is_none() {
+            return Poll::Ready(Err(polling(self.env.alloc, Fault::Closed)));
+        }
         let rt = self.rt;
         let shared: &Shared<T> = &self.file.shared;
         let mut guard = shared.kept.lock(rt);
         let kept = &mut *guard;
         match commit_held(self.env, &mut kept.core, &mut kept.temp, &mut self.about) {
             None => cx.register(&shared.source, &mut kept.waker),
-            Some(answer) => Poll::Ready(answer),
+            Some(answer) => {
+                set(&mut self.about, None);
+                Poll::Ready(answer)
+            }
         }
     }
 }
