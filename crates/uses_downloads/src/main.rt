@@ -1,0 +1,80 @@
+//! A downloader. Two bodies are written into the cache at once: each download is a future that hands its pieces to a polled
+//! writer as they come, and one executor runs both. A body is committed under its key once all of it is written.
+#![tactic(auto)]
+
+mod download;
+
+use cacache::env::{Env, ProcessNames, SystemClock};
+use cacache::errors::IoErrorExt;
+use cacache::store::{MemStore, PlainTemp};
+use cacache::{Result, Writer, read};
+use download::Download;
+use futures::Future;
+use futures::executor::block_on;
+use futures::future::join;
+use std::alloc::{AllocGlobal, Global};
+use std::random::RandomSource;
+use std::sync::Wait;
+use std::time::Clock;
+
+/// The folder of the cache.
+const CACHE: &str = "downloads";
+
+/// The bodies, under their keys. They come piece by piece.
+const FOX: (&str, &[u8]) = ("fox", b"The quick brown fox jumps over the lazy dog.\n");
+
+const VOW: (&str, &[u8]) = ("vow", b"Sphinx of black quartz, judge my vow.\n");
+
+/// Where the cache is. With `FolderStore<HostRuntime>` in the place of this store it is in real folders.
+type Place = Env<MemStore, SystemClock<HostRuntime>, ProcessNames>;
+
+/// What went wrong outside the cache.
+fn outside(alloc: Global) -> Result<String> {
+    Ok(String::from_str(alloc, "Failed to run or to print the downloads")?)
+}
+
+/// What a future answers, once it is ready.
+fn answer<R, F, T>(rt: &R, future: F) -> Result<T>
+where
+    R: Wait + RandomSource + AllocGlobal,
+    F: Future<Output = Result<T>>,
+    requires { F.can_poll future }
+{
+    block_on(rt, future).with_context(|| outside(rt.alloc()))?
+}
+
+/// Commits what was written, reads it back, and prints it with its integrity.
+fn store<R>(rt: &R, place: &mut Place, key: &str, writer: Writer<PlainTemp>) -> Result<()>
+where
+    R: Wait + RandomSource + Print + AllocGlobal,
+{
+    let integrity = answer(rt, writer.commit(rt, place))?;
+    let body = answer(rt, read(place, CACHE, key))?;
+    let text = str::from_utf8(&body).unwrap_or("no text\n");
+    print!(rt; "{key} {integrity}: {text}").with_context(|| outside(rt.alloc()))
+}
+
+/// Downloads both bodies at once.
+fn download<R>(rt: &R, place: &mut Place) -> Result<()>
+where
+    R: Wait + Clock + RandomSource + Print + AllocGlobal,
+{
+    let mut fox = answer(rt, Writer::create(place, CACHE, FOX.0))?;
+    let mut vow = answer(rt, Writer::create(place, CACHE, VOW.0))?;
+    let one = Download::new(rt, FOX, &mut fox)?;
+    let other = Download::new(rt, VOW, &mut vow)?;
+    let (one, other) = block_on(rt, join(one, other)).with_context(|| outside(rt.alloc()))?;
+    one?;
+    other?;
+    store(rt, place, FOX.0, fox)?;
+    store(rt, place, VOW.0, vow)
+}
+
+fn main(rt: HostRuntime) -> Result<()> {
+    let alloc = rt.alloc();
+    let store = MemStore::new(alloc)?;
+    let clock = SystemClock::new(rt);
+    let names = ProcessNames::new(rt);
+    let mut place = Env::new(alloc, store, clock, names, "/")?;
+    download(&rt, &mut place)
+}
