@@ -6,14 +6,14 @@ use rows::words::{cut, number_of};
 use std::sync::Wait;
 use std::time::Clock;
 
-/// A gate that lets turns through from one on, and says this of those before.
+/// A gate that lets turns through from this one on, and says so of those before.
 #[derive(Clone, Copy)]
-struct From {
+struct OpensAt {
     first: u64,
     before: Pass,
 }
 
-impl Gate for From {
+impl Gate for OpensAt {
     fn pass(&self, turn: u64) -> Pass {
         if turn < self.first { self.before } else { Pass::Go }
     }
@@ -21,7 +21,7 @@ impl Gate for From {
 
 /// The gate that a turn of this name asks: `turn` goes, `wait` and `quit` don't, and `from N` goes from the turn of this
 /// number on.
-fn gate_of(step: &str) -> Result<From, Flaw> {
+fn gate_of(step: &str) -> Result<OpensAt, Flaw> {
     let (first, before) = match cut(step) {
         ("turn", _) => (0, Pass::Go),
         ("wait", _) => (u64::MAX, Pass::NotYet),
@@ -29,7 +29,7 @@ fn gate_of(step: &str) -> Result<From, Flaw> {
         ("from", turn) => (number_of(turn)? as u64, Pass::NotYet),
         _ => return Err(Flaw::NotRead),
     };
-    Ok(From { first, before })
+    Ok(OpensAt { first, before })
 }
 
 /// What came of a turn, as rows say it.
