@@ -8,7 +8,7 @@ use crate::writers::written;
 use cacache_folder::FolderStore;
 use cacache_memory::MemStore;
 use rows::words::{column, cut, word_of};
-use rows::{Flaw, Outcome, Trial};
+use rows::{Flaw, Outcome};
 use std::random::RandomSource;
 use std::rt::Files;
 use std::sync::Wait;
@@ -18,7 +18,6 @@ use std::{fs, io};
 /// A disk in memory and real folders, which go through the same rows.
 #[derive(Drop)]
 pub(crate) struct Places<R> {
-    rt: R,
     memory: On<MemStore>,
     folders: On<FolderStore<R>>,
 }
@@ -30,11 +29,7 @@ impl Places<HostRuntime> {
         let here = fs::canonicalize(rt, ".")?;
         let folders = on(alloc, FolderStore::new(*rt), here.as_str())?;
         let memory = on(alloc, MemStore::new(alloc)?, "/")?;
-        Ok(Places {
-            rt: *rt,
-            memory,
-            folders,
-        })
+        Ok(Places { memory, folders })
     }
 }
 
@@ -54,38 +49,44 @@ fn unlucky<R: Wait + Clock + RandomSource + AllocGlobal>(
     Ok(line)
 }
 
-impl<R: Wait + Clock + RandomSource + Files + AllocGlobal + Clone + Drop> Places<R> {
-    /// What the act gives at both places.
-    fn at_both(&mut self, act: &str) -> Result<String, Flaw> {
-        let in_memory = made(&self.rt, &mut self.memory, act)?;
-        let in_folders = made(&self.rt, &mut self.folders, act)?;
-        if in_memory == in_folders {
-            return Ok(in_memory);
-        }
-        Ok(format!(in self.rt.alloc(); "{in_memory}, but in folders {in_folders}")?)
+/// What an act gives at both places.
+fn at_both<R>(rt: &R, places: &mut Places<R>, act: &str) -> Result<String, Flaw>
+where
+    R: Wait + Clock + RandomSource + Files + AllocGlobal + Clone + Drop,
+{
+    let in_memory = made(rt, &mut places.memory, act)?;
+    let in_folders = made(rt, &mut places.folders, act)?;
+    if in_memory == in_folders {
+        return Ok(in_memory);
     }
+    Ok(format!(in rt.alloc(); "{in_memory}, but in folders {in_folders}")?)
+}
 
-    /// What the act gives: `core` and `unlucky` at no place, after `memory` or `folders` there alone, else at both places.
-    fn tried(&mut self, act: &str) -> Result<String, Flaw> {
-        let (name, words) = cut(act);
-        match name {
-            "core" => asked_in_turn(self.rt.alloc(), words),
-            "unlucky" => {
-                let (luck, steps) = parts_of(words);
-                unlucky(&self.rt, luck, steps)
-            }
-            "memory" => made(&self.rt, &mut self.memory, words),
-            "folders" => made(&self.rt, &mut self.folders, words),
-            _ => self.at_both(act),
+/// What an act gives: `core` and `unlucky` at no place, after `memory` or `folders` there alone, else at both places.
+fn tried<R>(rt: &R, places: &mut Places<R>, act: &str) -> Result<String, Flaw>
+where
+    R: Wait + Clock + RandomSource + Files + AllocGlobal + Clone + Drop,
+{
+    let (name, words) = cut(act);
+    match name {
+        "core" => asked_in_turn(rt.alloc(), words),
+        "unlucky" => {
+            let (luck, steps) = parts_of(words);
+            unlucky(rt, luck, steps)
         }
+        "memory" => made(rt, &mut places.memory, words),
+        "folders" => made(rt, &mut places.folders, words),
+        _ => at_both(rt, places, act),
     }
 }
 
-impl<R: Wait + Clock + RandomSource + Files + AllocGlobal + Clone + Drop> Trial for Places<R> {
-    fn outcome(&mut self, row: &str) -> Result<Outcome, Flaw> {
-        let (act, wanted) = column(row)?;
-        let wanted = String::from_str(self.rt.alloc(), wanted)?;
-        let got = self.tried(act)?;
-        Ok(Outcome { wanted, got })
-    }
+/// Tries a row.
+pub(crate) fn outcome<R>(rt: &R, places: &mut Places<R>, row: &str) -> Result<Outcome, Flaw>
+where
+    R: Wait + Clock + RandomSource + Files + AllocGlobal + Clone + Drop,
+{
+    let (act, wanted) = column(row)?;
+    let wanted = String::from_str(rt.alloc(), wanted)?;
+    let got = tried(rt, places, act)?;
+    Ok(Outcome { wanted, got })
 }
