@@ -41,16 +41,27 @@ impl<R: Files + OddPaths + AllocGlobal + Clone + Drop> FolderStore<R> {
         write_again(&mut file, bytes)
     }
 
-    /// The whole file.
-    pub(crate) fn read_all(&self, path: &str) -> io::Result<Bytes> {
+    /// The whole file at a path that isn't text.
+    fn read_odd(&self, path: &[u8]) -> io::Result<Bytes> {
         let alloc = self.rt.alloc();
-        if let Some(raw) = odd_path(alloc, path)? {
-            let mut file = self.rt.open_odd(raw.as_slice())?;
-            return Ok(Bytes::new(alloc, read_whole(alloc, &mut file, 0)?)?);
-        }
+        let mut file = self.rt.open_odd(path)?;
+        Ok(Bytes::new(alloc, read_whole(alloc, &mut file, 0)?)?)
+    }
+
+    /// The whole file at a path that is text.
+    fn read_plain(&self, path: &str) -> io::Result<Bytes> {
+        let alloc = self.rt.alloc();
         let mut file = File::open(&self.rt, path)?;
         let size = usize::try_from(file.metadata()?.len()).unwrap_or(usize::MAX);
         Ok(Bytes::new(alloc, read_whole(alloc, &mut file, size)?)?)
+    }
+
+    /// The whole file.
+    pub(crate) fn read_all(&self, path: &str) -> io::Result<Bytes> {
+        match odd_path(self.rt.alloc(), path)? {
+            Some(raw) => self.read_odd(raw.as_slice()),
+            None => self.read_plain(path),
+        }
     }
 
     /// The file at the path, open for reading. The system would open a folder too, and fail its first read.

@@ -1,7 +1,6 @@
 //! What is in a folder.
-ghost use Rattle.std.specs.Prelude.{◌≡◌, ◌<◌, ◌==◌, ◌↔◌, IfOk, IfErr, IsTrue, length};
+ghost use Rattle.std.specs.Prelude.{◌≡◌, ◌<◌, ◌==◌, ◌↔◌, Ok, IfOk, IfErr, IsTrue, length};
 ghost use Rattle.std.specs.List.{list_any};
-ghost use Rattle.std.specs.IoError.{error_kind};
 ghost use Rattle.cacache_core.specs.PathNames.{ends_name, IsProperName};
 ghost use Rattle.cacache_store.specs.Fits.{AreProperNames};
 
@@ -50,18 +49,30 @@ fn kind_of(found: FileType) -> Kind {
     }
 }
 
+/// What a look into a folder gives. Its error is a kind alone: the compiler and the prover pay for a wide one at each way
+/// out.
+type Looked<T> = Result<T, ErrorKind>;
+
+/// The same with the error's kind alone.
+fn looked<T>(found: io::Result<T>) -> Looked<T>
+    ensures { IfOk result (λ x. found ≡ Ok x) }
+{
+    match found {
+        Ok(found) => Ok(found),
+        Err(error) => Err(error.kind()),
+    }
+}
+
 /// The kind that an entry is listed with; None if it was removed since the folder was read. An entry whose kind can't
 /// be had is listed as a file: the step on it will say why.
-fn listed_kind(found: io::Result<Kind>) -> io::Result<Option<Kind>>
-    ensures memory { IfErr result (λ e. error_kind e ≡ ErrorKind.OutOfMemory) }
+fn listed_kind(found: Looked<Kind>) -> Looked<Option<Kind>>
+    ensures memory { IfErr result (λ kind. kind ≡ ErrorKind.OutOfMemory) }
 {
     match found {
         Ok(kind) => Ok(Some(kind)),
-        Err(e) => match e.kind() {
-            ErrorKind::NotFound => Ok(None),
-            ErrorKind::OutOfMemory => Err(e),
-            _ => Ok(Some(Kind::File)),
-        },
+        Err(ErrorKind::NotFound) => Ok(None),
+        Err(ErrorKind::OutOfMemory) => Err(ErrorKind::OutOfMemory),
+        Err(_) => Ok(Some(Kind::File)),
     }
 }
 
@@ -78,45 +89,66 @@ fn first_name(names: &[u8]) -> (&[u8], &[u8])
 }
 
 /// The name of a thing of this kind, by its bytes.
-fn named(alloc: Global, name: &[u8], kind: Kind) -> io::Result<Name>
+fn named(alloc: Global, name: &[u8], kind: Kind) -> Looked<Name>
     ensures { IfOk result (λ entry. IsProperName entry.name) }
 {
-    let name = text_of_name(alloc, name)?;
-    if !is_proper(name.as_str()) {
-        return Err(io::Error::from(ErrorKind::InvalidFilename));
+    match text_of_name(alloc, name) {
+        Ok(name) if is_proper(name.as_str()) => Ok(Name { name, kind }),
+        Ok(_) => Err(ErrorKind::InvalidFilename),
+        Err(_) => Err(ErrorKind::OutOfMemory),
     }
-    Ok(Name { name, kind })
+}
+
+/// Adds an entry.
+fn push(names: &mut Vec<Name>, entry: Name) -> Looked<()>
+    ensures { IsProperName entry.name → AreProperNames names.old.items
+        → AreProperNames names.new.items }
+{
+    match names.push(entry) {
+        Ok(()) => Ok(()),
+        Err(_) => Err(ErrorKind::OutOfMemory),
+    }
 }
 
 impl<R: Files + OddPaths + AllocGlobal + Clone + Drop> FolderStore<R> {
     /// What kind of thing stands at a path of any bytes.
-    fn kind_at(&self, path: &[u8]) -> io::Result<Kind> {
+    fn kind_at(&self, path: &[u8]) -> Looked<Kind> {
         match std::str::from_utf8(path) {
-            Ok(path) => Ok(kind_of(self.rt.symlink_metadata(path)?.file_type())),
-            Err(_) => self.rt.odd_kind(path),
+            Ok(path) => match self.rt.symlink_metadata(path) {
+                Ok(found) => Ok(kind_of(found.file_type())),
+                Err(error) => Err(error.kind()),
+            },
+            Err(_) => looked(self.rt.odd_kind(path)),
         }
+    }
+
+    /// The kind of what stands under a name of a folder, whose path ends in a `/`; None if it was removed.
+    fn kind_below(&self, folder: &mut Vec<u8>, name: &[u8]) -> Looked<Option<Kind>> {
+        let top = folder.len();
+        if folder.extend_from_slice(name).is_err() {
+            return Err(ErrorKind::OutOfMemory);
+        }
+        let kind = listed_kind(self.kind_at(folder.as_slice()));
+        folder.truncate(top);
+        kind
     }
 
     /// Adds what stands under a name of a folder, whose path ends in a `/`, unless it was removed since the folder was
     /// read.
-    fn add(&self, names: &mut Vec<Name>, folder: &mut Vec<u8>, name: &[u8]) -> io::Result<()>
+    fn add(&self, names: &mut Vec<Name>, folder: &mut Vec<u8>, name: &[u8]) -> Looked<()>
         ensures { AreProperNames names.old.items → AreProperNames names.new.items }
     {
         if matches!(name, b"" | b"." | b"..") {
             return Ok(());
         }
-        let top = folder.len();
-        folder.extend_from_slice(name)?;
-        let kind = listed_kind(self.kind_at(folder.as_slice()));
-        folder.truncate(top);
-        if let Some(kind) = kind? {
-            names.push(named(self.rt.alloc(), name, kind)?)?;
+        match self.kind_below(folder, name)? {
+            Some(kind) => push(names, named(self.rt.alloc(), name, kind)?),
+            None => Ok(()),
         }
-        Ok(())
     }
 
     /// Adds what stands under some names, each of which is ended by a NUL.
-    fn add_all(&self, names: &mut Vec<Name>, folder: &mut Vec<u8>, read: &[u8]) -> io::Result<()>
+    fn add_all(&self, names: &mut Vec<Name>, folder: &mut Vec<u8>, read: &[u8]) -> Looked<()>
         ensures { AreProperNames names.old.items → AreProperNames names.new.items }
     {
         let mut rest = read;
@@ -128,39 +160,63 @@ impl<R: Files + OddPaths + AllocGlobal + Clone + Drop> FolderStore<R> {
         Ok(())
     }
 
-    /// The names that an open folder gives, whose path ends in a `/`.
-    fn names_from<D: Read>(&self, open: &mut D, folder: &mut Vec<u8>) -> io::Result<Vec<Name>>
-        ensures { IfOk result (λ names. AreProperNames names.items) }
+    /// Adds what stands under the names that an open folder gives, whose path ends in a `/`.
+    fn fill<D: Read>(&self, names: &mut Vec<Name>, open: &mut D, folder: &mut Vec<u8>) -> Looked<()>
+        ensures { AreProperNames names.old.items → AreProperNames names.new.items }
     {
-        let mut names = Vec::new(self.rt.alloc());
         let mut buf = [0; NAMES];
         for _ in 0..u64::MAX {
-            let count = read_again(open, &mut buf)?;
+            let count = looked(read_again(open, &mut buf))?;
             if count == 0 {
-                return Ok(names);
+                return Ok(());
             }
-            self.add_all(&mut names, folder, &buf[..count])?;
+            self.add_all(names, folder, &buf[..count])?;
         }
-        Err(io::Error::from(ErrorKind::FileTooLarge))
+        Err(ErrorKind::FileTooLarge)
+    }
+
+    /// The names that an open folder gives, whose path ends in a `/`.
+    fn names_from<D: Read + Drop>(
+        &self,
+        open: io::Result<D>,
+        folder: &mut Vec<u8>,
+    ) -> Looked<Vec<Name>>
+        ensures { IfOk result (λ names. AreProperNames names.items) }
+    {
+        let mut open = looked(open)?;
+        let mut names = Vec::new(self.rt.alloc());
+        match self.fill(&mut names, &mut open, folder) {
+            Ok(()) => Ok(names),
+            Err(kind) => Err(kind),
+        }
+    }
+
+    /// The names in the folder of this path, which ends in a `/`.
+    fn names_below(&self, mut folder: Vec<u8>) -> Looked<Vec<Name>>
+        ensures { IfOk result (λ names. AreProperNames names.items) }
+    {
+        match std::str::from_utf8(folder.as_slice()) {
+            Ok(text) => {
+                let open = self.rt.open_dir(text);
+                self.names_from(open, &mut folder)
+            }
+            Err(_) => {
+                let open = self.rt.open_odd_dir(folder.as_slice());
+                self.names_from(open, &mut folder)
+            }
+        }
     }
 
     /// The names in the folder.
-    fn names_in(&self, path: &str) -> io::Result<Vec<Name>>
+    fn names_in(&self, path: &str) -> Looked<Vec<Name>>
         ensures { IfOk result (λ names. AreProperNames names.items) }
     {
         if path.is_empty() {
-            return Err(io::Error::from(ErrorKind::NotFound));
+            return Err(ErrorKind::NotFound);
         }
-        let mut folder = raw_path(self.rt.alloc(), path)?;
-        match std::str::from_utf8(folder.as_slice()) {
-            Ok(text) => {
-                let mut open = self.rt.open_dir(text)?;
-                self.names_from(&mut open, &mut folder)
-            }
-            Err(_) => {
-                let mut open = self.rt.open_odd_dir(folder.as_slice())?;
-                self.names_from(&mut open, &mut folder)
-            }
+        match raw_path(self.rt.alloc(), path) {
+            Ok(folder) => self.names_below(folder),
+            Err(_) => Err(ErrorKind::OutOfMemory),
         }
     }
 
@@ -168,6 +224,9 @@ impl<R: Files + OddPaths + AllocGlobal + Clone + Drop> FolderStore<R> {
     pub(crate) fn read_dir(&self, path: &str) -> io::Result<Listing>
         ensures { IfOk result (λ listing. AreProperNames listing) }
     {
-        Ok(Listing::new(self.names_in(path)?))
+        match self.names_in(path) {
+            Ok(names) => Ok(Listing::new(names)),
+            Err(kind) => Err(io::Error::from(kind)),
+        }
     }
 }

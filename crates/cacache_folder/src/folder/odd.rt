@@ -113,12 +113,7 @@ impl OddPaths for HostRuntime {
 
     fn odd_kind(&self, path: &[u8]) -> io::Result<Kind> {
         let mut found = nothing();
-        done(os::statx(
-            libc::AT_FDCWD,
-            path,
-            libc::AT_SYMLINK_NOFOLLOW,
-            &mut found,
-        ))?;
+        done(os::statx(libc::AT_FDCWD, path, libc::AT_SYMLINK_NOFOLLOW, &mut found))?;
         Ok(match u32::from(found.stx_mode) & libc::S_IFMT {
             libc::S_IFDIR => Kind::Folder,
             libc::S_IFLNK => Kind::Link,
