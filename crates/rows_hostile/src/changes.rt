@@ -65,12 +65,7 @@ fn change(kind: &str, number: usize, part: usize) -> Change {
 }
 
 /// Adds the changes of a site.
-fn add(
-    changes: &mut Vec<Change>,
-    kind: &str,
-    number: usize,
-    site: Site,
-) -> Result<(), AllocError> {
+fn add(changes: &mut Vec<Change>, kind: &str, number: usize, site: Site) -> Result<(), AllocError> {
     let Some(most) = most(kind, site) else {
         return Ok(());
     };
@@ -93,11 +88,7 @@ fn changes_at(alloc: Global, kind: &str, history: &[Record]) -> Result<Vec<Chang
 }
 
 /// The changes that a word asks for.
-pub(crate) fn changes(
-    alloc: Global,
-    kind: &str,
-    history: &[Record],
-) -> Result<Vec<Change>, Flaw> {
+pub(crate) fn changes(alloc: Global, kind: &str, history: &[Record]) -> Result<Vec<Change>, Flaw> {
     match kind {
         "plain" => Ok(vec![in alloc; Change::Nothing]?),
         "fail" | "take" | "part" | "folders" | "stop" => Ok(changes_at(alloc, kind, history)?),

@@ -63,8 +63,14 @@ impl Content {
     /// The folder of its place, with those above it.
     pub(crate) fn folders(self) -> [&'static str; 5] {
         let (upper, lower) = match self {
-            Content::One => ("/cache/content-v2/sha256/76", "/cache/content-v2/sha256/76/92"),
-            Content::Two => ("/cache/content-v2/sha256/3f", "/cache/content-v2/sha256/3f/c4"),
+            Content::One => (
+                "/cache/content-v2/sha256/76",
+                "/cache/content-v2/sha256/76/92",
+            ),
+            Content::Two => (
+                "/cache/content-v2/sha256/3f",
+                "/cache/content-v2/sha256/3f/c4",
+            ),
         };
         [
             "/cache",

@@ -179,5 +179,11 @@ fn store_of(alloc: Global, fails: usize) -> Result<Faulty, AllocError> {
 
 /// An environment whose read or write of this number fails.
 pub(crate) fn on(alloc: Global, fails: usize) -> Result<On, AllocError> {
-    Env::new(alloc, store_of(alloc, fails)?, Still(1000), CountNames::from(0), "/")
+    Env::new(
+        alloc,
+        store_of(alloc, fails)?,
+        Still(1000),
+        CountNames::from(0),
+        "/",
+    )
 }

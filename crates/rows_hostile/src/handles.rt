@@ -45,11 +45,7 @@ fn checked(alloc: Global, answer: Answered<Algorithm>) -> Result<String, AllocEr
 }
 
 /// Adds what so many reads give, each with a comma behind it.
-fn add_reads<R: Read>(
-    text: &mut String,
-    reader: &mut R,
-    count: usize,
-) -> Result<(), AllocError> {
+fn add_reads<R: Read>(text: &mut String, reader: &mut R, count: usize) -> Result<(), AllocError> {
     let mut buf = [0; 5];
     for _ in 0..count {
         text.push_str(match reader.read(&mut buf) {

@@ -41,12 +41,7 @@ fn fault_at(value: &Value, content: Content, luck: Luck) -> Option<Fault> {
 }
 
 /// The content that a lookup found is read.
-fn give(
-    alloc: Global,
-    value: &Value,
-    content: Content,
-    luck: Luck,
-) -> Result<After, AllocError> {
+fn give(alloc: Global, value: &Value, content: Content, luck: Luck) -> Result<After, AllocError> {
     if let Some(fault) = fault_at(value, content, luck) {
         let message = "Failed to read contents for file at";
         return Ok(After::Over(failed_at(alloc, fault, message, content.path())?));
@@ -55,12 +50,7 @@ fn give(
 }
 
 /// The next step of a read by key.
-pub(crate) fn get(
-    alloc: Global,
-    value: &Value,
-    at: At,
-    luck: Luck,
-) -> Result<After, AllocError> {
+pub(crate) fn get(alloc: Global, value: &Value, at: At, luck: Luck) -> Result<After, AllocError> {
     if let At::Content(content) = at {
         return give(alloc, value, content, luck);
     }

@@ -30,12 +30,7 @@ fn folders(
 }
 
 /// The temporary file is made.
-fn temp(
-    alloc: Global,
-    value: &mut Value,
-    number: u64,
-    luck: Luck,
-) -> Result<After, AllocError> {
+fn temp(alloc: Global, value: &mut Value, number: u64, luck: Luck) -> Result<After, AllocError> {
     if let Some(fault) = made_up(luck) {
         let message = "Failed to create temp file while initializing a writer, inside";
         return Ok(After::Over(failed_at(alloc, fault, message, "/cache/tmp")?));
@@ -45,12 +40,7 @@ fn temp(
 }
 
 /// Bytes are written behind those that were.
-fn write(
-    alloc: Global,
-    content: Content,
-    before: usize,
-    luck: Luck,
-) -> Result<After, AllocError> {
+fn write(alloc: Global, content: Content, before: usize, luck: Luck) -> Result<After, AllocError> {
     if let Some(fault) = made_up(luck) {
         return unwritten(alloc, fault);
     }
@@ -153,8 +143,7 @@ pub(crate) fn put(
 ) -> Result<After, AllocError> {
     match going.at {
         At::TempFolder => {
-            let message =
-                "Failed to create cache directory for temporary files, at /cache/tmp";
+            let message = "Failed to create cache directory for temporary files, at /cache/tmp";
             folders(alloc, value, &TEMPS, luck, At::Temp, message)
         }
         At::Temp => temp(alloc, value, going.number, luck),

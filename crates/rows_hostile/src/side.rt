@@ -138,7 +138,11 @@ impl Sides {
             begun = self.begin_in_world(caller, call)?;
         }
         self.model.begin(caller, call);
-        if begun.is_ok() { Ok(()) } else { Err(AllocError) }
+        if begun.is_ok() {
+            Ok(())
+        } else {
+            Err(AllocError)
+        }
     }
 
     /// A caller of the world makes its next step; once more, where the world had no memory.

@@ -72,12 +72,7 @@ fn bucket(alloc: Global, value: &Value, luck: Luck) -> Result<After, AllocError>
 }
 
 /// The next step of a listing.
-pub(crate) fn walk(
-    alloc: Global,
-    value: &Value,
-    at: At,
-    luck: Luck,
-) -> Result<After, AllocError> {
+pub(crate) fn walk(alloc: Global, value: &Value, at: At, luck: Luck) -> Result<After, AllocError> {
     let level = match at {
         At::Level(level) => level,
         _ => 0,

@@ -22,9 +22,7 @@ fn polled(alloc: Global, core: &mut WriterCore, poll: Poll<'_>) -> Answered<Poll
 /// Work that is handed out.
 fn shown_work(alloc: Global, work: &Work) -> Result<String, AllocError> {
     match work {
-        Work::Write(bytes) => {
-            format!(in alloc; "Pending (write {})", word_of(bytes.as_slice()))
-        }
+        Work::Write(bytes) => { format!(in alloc; "Pending (write {})", word_of(bytes.as_slice())) }
         Work::Flush => String::from_str(alloc, "Pending (flush)"),
         Work::Remove => String::from_str(alloc, "Pending (remove)"),
     }

@@ -66,7 +66,10 @@ where
         mut worker,
     } = desk;
     let mut commit = writer.commit(rt, env);
-    add(&mut line, ended(rt.alloc(), task.poll(&mut commit))?.as_str())?;
+    add(
+        &mut line,
+        ended(rt.alloc(), task.poll(&mut commit))?.as_str(),
+    )?;
     for step in after.split("; ").skip(1) {
         let answer = stepped(rt, &task, &mut commit, &mut worker, step)?;
         add(&mut line, answer.as_str())?;

@@ -15,7 +15,11 @@ struct OpensAt {
 
 impl Gate for OpensAt {
     fn pass(&self, turn: u64) -> Pass {
-        if turn < self.first { self.before } else { Pass::Go }
+        if turn < self.first {
+            self.before
+        } else {
+            Pass::Go
+        }
     }
 }
 

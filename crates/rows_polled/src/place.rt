@@ -29,7 +29,11 @@ pub(crate) fn on<S: Store + Drop>(
 }
 
 /// Puts a file with these bytes at the path, as somebody else would, and tells whether all were taken.
-pub(crate) fn plant<S: Store>(env: &mut On<S>, path: &str, bytes: &[u8]) -> Result<bool, AllocError> {
+pub(crate) fn plant<S: Store>(
+    env: &mut On<S>,
+    path: &str,
+    bytes: &[u8],
+) -> Result<bool, AllocError> {
     let alloc = env.alloc;
     let copy = Vec::from_slice(alloc, bytes)?;
     let path = Text::from_str(alloc, path)?;

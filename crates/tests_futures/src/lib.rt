@@ -1,7 +1,5 @@
-//! Tests of futures, of polled writers and of their workers. There is nothing else here.
+//! A test of workers in threads of their own. There is nothing else here.
 #![tactic(auto)]
 
 #[cfg(test)]
 mod workers;
-#[cfg(test)]
-mod writing;
