@@ -1,3 +1,1 @@
 mod FolderNames
-pub mod Escapes
-pub mod Paths

@@ -1,4 +1,2 @@
 pub mod FolderHandles
 pub mod PartialSteps
-pub mod Escaped
-pub mod EscapeLaws

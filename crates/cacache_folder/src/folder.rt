@@ -7,22 +7,17 @@ ghost use Rattle.cacache_folder.specs.PartialSteps.{HandsBackWhole};
 
 mod again;
 mod answers;
-mod escaped;
 mod faults;
 mod files;
-pub mod laws;
 mod listing;
-mod odd;
 mod opened;
 mod paths;
-mod removing;
 mod temp;
 mod whole;
 
 use answers::{created, given, moved, readable, written};
 use cacache_store::store::{Answer, FileHandle, Step, Store, TempHandle};
 use faults::refused;
-pub use odd::{OddFile, OddFolder, OddPaths};
 pub use opened::FolderFile;
 use std::io::ErrorKind;
 use std::rt::Files;
@@ -30,15 +25,12 @@ use std::{fs, io};
 pub use temp::FolderTemp;
 
 /// The folders and files of a runtime's file system, by the system's own rules. It keeps no log.
-///
-/// A name that isn't UTF-8 is listed as an escaped one, and a path with an escaped name can be listed, read whole and
-/// removed: the runtime is asked by its bytes (`OddPaths`).
 #[derive(Drop)]
 pub struct FolderStore<R> {
     rt: R,
 }
 
-impl<R: Files + OddPaths + AllocGlobal + Clone + Drop> FolderStore<R> {
+impl<R: Files + AllocGlobal + Clone + Drop> FolderStore<R> {
     /// The store over the runtime's file system.
     pub fn new(rt: R) -> FolderStore<R>
         ensures { result.rt ≡ rt }
@@ -54,8 +46,8 @@ impl<R: Files + OddPaths + AllocGlobal + Clone + Drop> FolderStore<R> {
             Step::MakeDirs(path) => self.make_dirs(path.as_str()),
             Step::Symlink(target, path) => self.rt.symlink(target.as_str(), path.as_str()),
             Step::HardLink(from, to) => self.rt.hard_link(from.as_str(), to.as_str()),
-            Step::RemoveFile(path) => self.remove_file(path.as_str()),
-            Step::RemoveDir(path) => self.remove_dir(path.as_str()),
+            Step::RemoveFile(path) => self.rt.remove_file(path.as_str()),
+            Step::RemoveDir(path) => self.rt.remove_dir(path.as_str()),
             _ => Err(io::Error::from(ErrorKind::Unsupported)),
         }
     }
@@ -96,7 +88,7 @@ impl<R: Files + OddPaths + AllocGlobal + Clone + Drop> FolderStore<R> {
     }
 }
 
-impl<R: Files + OddPaths + AllocGlobal + Clone + Drop> Store for FolderStore<R> {
+impl<R: Files + AllocGlobal + Clone + Drop> Store for FolderStore<R> {
     type File = FolderFile<R::File>;
 
     type Temp = FolderTemp<R::File>;

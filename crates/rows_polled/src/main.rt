@@ -21,7 +21,6 @@ mod readers;
 mod unlucky;
 mod writers;
 
-use cacache_folder::OddPaths;
 use places::{Places, outcome};
 use rows::{Line, Report, status};
 use std::alloc::AllocGlobal;
@@ -35,7 +34,7 @@ use std::time::Clock;
 /// Does what a line says.
 fn take<R>(rt: &R, report: &mut Report, places: &mut Places<R>, line: &str) -> io::Result<()>
 where
-    R: Wait + Clock + RandomSource + Files + OddPaths + AllocGlobal + Clone + Drop + Print,
+    R: Wait + Clock + RandomSource + Files + AllocGlobal + Clone + Drop + Print,
 {
     match report.read(rt, line)? {
         Line::Other | Line::Group => Ok(()),
@@ -49,7 +48,7 @@ where
 /// Tries the rows of standard input, and tells whether each holds.
 fn all_hold<R>(rt: &R, places: &mut Places<R>) -> io::Result<bool>
 where
-    R: Wait + Clock + RandomSource + Files + OddPaths + AllocGlobal + Clone + Drop + Input + Print,
+    R: Wait + Clock + RandomSource + Files + AllocGlobal + Clone + Drop + Input + Print,
 {
     let mut report = Report::new(rt.alloc());
     for line in rt.lines(rt.alloc()) {

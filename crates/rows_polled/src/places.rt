@@ -5,7 +5,7 @@ use crate::cores::asked_in_turn;
 use crate::place::{On, on};
 use crate::unlucky::{Pile, luck_of};
 use crate::writers::written;
-use cacache_folder::{FolderStore, OddPaths};
+use cacache_folder::FolderStore;
 use cacache_memory::MemStore;
 use rows::words::{column, cut, word_of};
 use rows::{Flaw, Outcome};
@@ -52,7 +52,7 @@ fn unlucky<R: Wait + Clock + RandomSource + AllocGlobal>(
 /// What an act gives at both places.
 fn at_both<R>(rt: &R, places: &mut Places<R>, act: &str) -> Result<String, Flaw>
 where
-    R: Wait + Clock + RandomSource + Files + OddPaths + AllocGlobal + Clone + Drop,
+    R: Wait + Clock + RandomSource + Files + AllocGlobal + Clone + Drop,
 {
     let in_memory = made(rt, &mut places.memory, act)?;
     let in_folders = made(rt, &mut places.folders, act)?;
@@ -65,7 +65,7 @@ where
 /// What an act gives: `core` and `unlucky` at no place, after `memory` or `folders` there alone, else at both places.
 fn tried<R>(rt: &R, places: &mut Places<R>, act: &str) -> Result<String, Flaw>
 where
-    R: Wait + Clock + RandomSource + Files + OddPaths + AllocGlobal + Clone + Drop,
+    R: Wait + Clock + RandomSource + Files + AllocGlobal + Clone + Drop,
 {
     let (name, words) = cut(act);
     match name {
@@ -83,7 +83,7 @@ where
 /// Tries a row.
 pub(crate) fn outcome<R>(rt: &R, places: &mut Places<R>, row: &str) -> Result<Outcome, Flaw>
 where
-    R: Wait + Clock + RandomSource + Files + OddPaths + AllocGlobal + Clone + Drop,
+    R: Wait + Clock + RandomSource + Files + AllocGlobal + Clone + Drop,
 {
     let (act, wanted) = column(row)?;
     let wanted = String::from_str(rt.alloc(), wanted)?;

@@ -10,8 +10,6 @@ mod handles;
 #[cfg(test)]
 mod names;
 #[cfg(test)]
-mod odd;
-#[cfg(test)]
 mod pieces;
 #[cfg(test)]
 mod rows;

@@ -2,7 +2,6 @@
 ghost use Rattle.std.specs.Prelude.{◌≤◌, IfOk};
 
 use crate::ways::Ways;
-use cacache_folder::OddPaths;
 use std::alloc::{Alloc, AllocError, Allocator, Global};
 use std::cell::RefCell;
 use std::fs::{File, Metadata, OpenFile, OpenOptions};
@@ -159,9 +158,6 @@ impl Read for MadeUp {
         Ok(count)
     }
 }
-
-// It hands on no path that isn't UTF-8.
-impl OddPaths for Watched {}
 
 impl Files for Watched {
     type File = WatchedFile;

@@ -24,7 +24,7 @@ pub struct Ways {
 }
 
 /// The ways of the system's files.
-pub(crate) const PLAIN: Ways = Ways {
+const PLAIN: Ways = Ways {
     fault: None,
     interruptions: 0,
     most: usize::MAX,
@@ -95,7 +95,12 @@ const ASKED: [Row; 10] = [
     (PLAIN, "CreateTemp /temp: Failed AlreadyExists", CREATE, ""),
     (PLAIN, "RemoveFile /temp: Done", "", "remove_file;"),
     (PLAIN, "ReadDir /: Names 0 0 0", "", "symlink_metadata;"),
-    (PLAIN, "ReadDir /odd: Names 1 0 0", "", "symlink_metadata;"),
+    (
+        PLAIN,
+        "ReadDir /odd: Failed Device",
+        "",
+        "symlink_metadata;",
+    ),
     (PLAIN, "Persist /temp /moved: Done", CREATE, "write;rename;"),
 ];
 

@@ -1,10 +1,9 @@
 //! Steps on the files of real folders.
 ghost use Rattle.std.specs.Prelude.{◌≤◌, IfOk, length};
 
+use crate::folder::FolderStore;
 use crate::folder::again::write_again;
-use crate::folder::escaped::odd_path;
 use crate::folder::whole::read_whole;
-use crate::folder::{FolderStore, OddPaths};
 use cacache_core::bytes::Bytes;
 use std::fs::{File, Metadata, OpenFile};
 use std::io;
@@ -20,7 +19,7 @@ fn is_same(one: &Metadata, other: &Metadata) -> bool {
     one.ino() != 0 && one.ino() == other.ino() && one.dev() == other.dev()
 }
 
-impl<R: Files + OddPaths + AllocGlobal + Clone + Drop> FolderStore<R> {
+impl<R: Files + AllocGlobal + Clone + Drop> FolderStore<R> {
     /// A new empty file that only its owner may read and write.
     pub(crate) fn create_temp(&self, path: &str) -> io::Result<R::File> {
         File::options()
@@ -41,27 +40,12 @@ impl<R: Files + OddPaths + AllocGlobal + Clone + Drop> FolderStore<R> {
         write_again(&mut file, bytes)
     }
 
-    /// The whole file at a path that isn't text.
-    fn read_odd(&self, path: &[u8]) -> io::Result<Bytes> {
-        let alloc = self.rt.alloc();
-        let mut file = self.rt.open_odd(path)?;
-        Ok(Bytes::new(alloc, read_whole(alloc, &mut file, 0)?)?)
-    }
-
-    /// The whole file at a path that is text.
-    fn read_plain(&self, path: &str) -> io::Result<Bytes> {
+    /// The whole file.
+    pub(crate) fn read_all(&self, path: &str) -> io::Result<Bytes> {
         let alloc = self.rt.alloc();
         let mut file = File::open(&self.rt, path)?;
         let size = usize::try_from(file.metadata()?.len()).unwrap_or(usize::MAX);
         Ok(Bytes::new(alloc, read_whole(alloc, &mut file, size)?)?)
-    }
-
-    /// The whole file.
-    pub(crate) fn read_all(&self, path: &str) -> io::Result<Bytes> {
-        match odd_path(self.rt.alloc(), path)? {
-            Some(raw) => self.read_odd(raw.as_slice()),
-            None => self.read_plain(path),
-        }
     }
 
     /// The file at the path, open for reading. The system would open a folder too, and fail its first read.

@@ -1,12 +1,12 @@
 //! Folders that are made with those on their way.
 ghost use Rattle.std.specs.Prelude.{◌≡◌};
 
-use crate::folder::{FolderStore, OddPaths};
+use crate::folder::FolderStore;
 use std::io;
 use std::io::ErrorKind;
 use std::rt::Files;
 
-impl<R: Files + OddPaths + AllocGlobal + Clone + Drop> FolderStore<R> {
+impl<R: Files + AllocGlobal + Clone + Drop> FolderStore<R> {
     /// Makes every missing folder of the path. A folder that stands costs one question to the system.
     pub(crate) fn make_dirs(&self, path: &str) -> io::Result<()> {
         match self.rt.metadata(path) {

@@ -1,0 +1,1 @@
+-- No answers are needed: a name that isn't proper is an error.
