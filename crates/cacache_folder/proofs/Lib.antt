@@ -1,1 +1,2 @@
 mod FolderNames
+pub mod Escapes

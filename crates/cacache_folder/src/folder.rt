@@ -7,6 +7,7 @@ ghost use Rattle.cacache_folder.specs.PartialSteps.{HandsBackWhole};
 
 mod again;
 mod answers;
+mod escaped;
 mod faults;
 mod files;
 mod listing;
@@ -25,6 +26,8 @@ use std::{fs, io};
 pub use temp::FolderTemp;
 
 /// The folders and files of a runtime's file system, by the system's own rules. It keeps no log.
+///
+/// A name that isn't UTF-8 is listed as an escaped name, so that it hides no other one. No step reaches what stands under it.
 #[derive(Drop)]
 pub struct FolderStore<R> {
     rt: R,

@@ -1,7 +1,10 @@
 //! The commit of a polled writer as a future.
-ghost use Rattle.std.specs.Prelude.{◌≡◌, Some, None, IfNone};
+ghost use Rattle.std.specs.Prelude.{◌≡◌, ⊤, List, Result, Some, None, IfNone};
 ghost use Rattle.std.specs.Arc.{arc_value};
 ghost use Rattle.futures.specs.Poll.{IfReady, OnPending};
+ghost use Rattle.futures.specs.Task.{Covers, Keeps};
+ghost use Rattle.cacache_core.specs.declared.errors.Error.{Error};
+ghost use Rattle.cacache_core.specs.declared.integrity.digest.Hash.{Hash};
 ghost use Rattle.cacache_futures.specs.Waiting.{SaysOver};
 
 use crate::about::About;
@@ -72,6 +75,13 @@ impl<'a, R: Wait, S: Store<Temp = T>, C: Clock, N: Names, T: Drop> Future
         ensures later { IfNone self.old.about (IfReady result SaysOver
             × (self.new.env.now ≡ self.old.env.now)) }
         ensures env { self.new.env.ghost_name ≡ self.old.env.ghost_name }
+        // What each future owes.
+        ensures value { IfReady result (λ _. ⊤) }
+        ensures again { OnPending result ⊤ }
+        ensures same { OnPending result ((r : Result (List Hash) Error) → ⊤ → ⊤) }
+        ensures registered { OnPending result
+            (Covers cx.new (λ s. s ≡ (arc_value self.new.file.shared).source.id)) }
+        ensures kept { Keeps cx.old cx.new }
     {
         if self.about.is_none() {
             return Poll::Ready(Err(polling(self.env.alloc, Fault::Closed)));

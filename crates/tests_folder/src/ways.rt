@@ -95,12 +95,7 @@ const ASKED: [Row; 10] = [
     (PLAIN, "CreateTemp /temp: Failed AlreadyExists", CREATE, ""),
     (PLAIN, "RemoveFile /temp: Done", "", "remove_file;"),
     (PLAIN, "ReadDir /: Names 0 0 0", "", "symlink_metadata;"),
-    (
-        PLAIN,
-        "ReadDir /odd: Failed Device",
-        "",
-        "symlink_metadata;",
-    ),
+    (PLAIN, "ReadDir /odd: Names 1 0 0", "", "symlink_metadata;"),
     (PLAIN, "Persist /temp /moved: Done", CREATE, "write;rename;"),
 ];
 

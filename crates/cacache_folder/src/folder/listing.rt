@@ -1,18 +1,21 @@
 //! What is in a folder.
-ghost use Rattle.std.specs.Prelude.{◌≡◌, ◌==◌, ◌↔◌, IfOk, IfErr, IfSome, IsTrue};
+ghost use Rattle.std.specs.Prelude.{◌≡◌, ◌<◌, ◌==◌, ◌↔◌, Ok, IfOk, IfErr, IsTrue, length};
 ghost use Rattle.std.specs.List.{list_any};
-ghost use Rattle.std.specs.IoError.{error_kind};
 ghost use Rattle.cacache_core.specs.PathNames.{ends_name, IsProperName};
 ghost use Rattle.cacache_store.specs.Fits.{AreProperNames};
 
 use crate::folder::FolderStore;
-use cacache_core::text::Text;
+use crate::folder::again::read_again;
+use crate::folder::escaped::text_of_name;
 use cacache_store::store::{Kind, Listing, Name};
-use std::alloc::Global;
-use std::fs::{DirEntry, FileType};
-use std::io::ErrorKind;
+use std::alloc::{AllocError, Global};
+use std::fs::FileType;
+use std::io;
+use std::io::{ErrorKind, Read};
 use std::rt::Files;
-use std::{fs, io};
+
+/// How many bytes of names one read asks for. There is room for any name.
+const NAMES: usize = 4096;
 
 /// Whether the name has this byte.
 fn has(name: &str, byte: u8) -> bool
@@ -46,76 +49,171 @@ fn kind_of(found: FileType) -> Kind {
     }
 }
 
-/// The kind that an entry is listed with; None if it was removed since the folder was read. An entry whose kind can't
-/// be had is listed as a file: the step on it will say why.
-fn listed_kind(found: io::Result<FileType>) -> io::Result<Option<Kind>>
-    ensures memory { IfErr result (λ e. error_kind e ≡ ErrorKind.OutOfMemory) }
+/// What a look into a folder gives. Its error is a kind alone: the compiler and the prover pay for a wide one at each way
+/// out.
+type Looked<T> = Result<T, ErrorKind>;
+
+/// The same with the error's kind alone.
+fn looked<T>(found: io::Result<T>) -> Looked<T>
+    ensures { IfOk result (λ x. found ≡ Ok x) }
 {
     match found {
-        Ok(found) => Ok(Some(kind_of(found))),
-        Err(e) => match e.kind() {
-            ErrorKind::NotFound => Ok(None),
-            ErrorKind::OutOfMemory => Err(e),
-            _ => Ok(Some(Kind::File)),
-        },
+        Ok(found) => Ok(found),
+        Err(error) => Err(error.kind()),
     }
 }
 
-/// The entry's name and kind; None if it was removed since the folder was read.
-fn name_of<R: Files + Clone + Drop>(
-    alloc: Global,
-    entry: &DirEntry<R, Global>,
-) -> io::Result<Option<Name>>
-    ensures { IfOk result (λ found. IfSome found (λ entry. IsProperName entry.name)) }
+/// The kind that an entry is listed with; None if it was removed since the folder was read. An entry whose kind can't
+/// be had is listed as a file: the step on it will say why.
+fn listed_kind(found: Looked<Kind>) -> Looked<Option<Kind>>
+    ensures memory { IfErr result (λ kind. kind ≡ ErrorKind.OutOfMemory) }
 {
-    let name = entry.file_name();
-    if !is_proper(name) {
-        return Err(io::Error::from(ErrorKind::InvalidFilename));
+    match found {
+        Ok(kind) => Ok(Some(kind)),
+        Err(ErrorKind::NotFound) => Ok(None),
+        Err(ErrorKind::OutOfMemory) => Err(ErrorKind::OutOfMemory),
+        Err(_) => Ok(Some(Kind::File)),
     }
-    let Some(kind) = listed_kind(entry.file_type())? else {
-        return Ok(None);
-    };
-    let name = Text::from_str(alloc, name)?;
-    Ok(Some(Name { name, kind }))
 }
 
-/// Adds what an entry of a folder names, unless it was removed since the folder was read.
-fn add<R: Files + Clone + Drop>(
-    alloc: Global,
-    names: &mut Vec<Name>,
-    entry: io::Result<DirEntry<R, Global>>,
-) -> io::Result<()>
-    ensures { AreProperNames names.old.items → AreProperNames names.new.items }
+/// The first of some names, each of which is ended by a NUL, and those behind it.
+fn first_name(names: &[u8]) -> (&[u8], &[u8])
+    requires { 0 < length names.now }
+    ensures { length result.1.now < length names.now }
 {
-    let entry = entry?;
-    if let Some(name) = name_of(alloc, &entry)? {
-        names.push(name)?;
+    let (name, ended) = names.split_at(
+        names
+            .iter()
+            .position(|byte| *byte == 0)
+            .unwrap_or(names.len()),
+    );
+    match ended.split_first() {
+        Some((_, later)) => (name, later),
+        None => (name, ended),
     }
-    Ok(())
+}
+
+/// The path of the folder with a `/` behind it.
+fn folder_path(alloc: Global, path: &str) -> Result<Vec<u8>, AllocError> {
+    let mut folder = Vec::from_slice(alloc, path.as_bytes())?;
+    folder.push(b'/')?;
+    Ok(folder)
+}
+
+/// The name of a thing of this kind, by its bytes.
+fn named(alloc: Global, name: &[u8], kind: Kind) -> Looked<Name>
+    ensures { IfOk result (λ entry. IsProperName entry.name) }
+{
+    match text_of_name(alloc, name) {
+        Ok(name) if is_proper(name.as_str()) => Ok(Name { name, kind }),
+        Ok(_) => Err(ErrorKind::InvalidFilename),
+        Err(_) => Err(ErrorKind::OutOfMemory),
+    }
+}
+
+/// Adds an entry.
+fn push(names: &mut Vec<Name>, entry: Name) -> Looked<()>
+    ensures { IsProperName entry.name → AreProperNames names.old.items
+        → AreProperNames names.new.items }
+{
+    match names.push(entry) {
+        Ok(()) => Ok(()),
+        Err(_) => Err(ErrorKind::OutOfMemory),
+    }
 }
 
 impl<R: Files + AllocGlobal + Clone + Drop> FolderStore<R> {
-    /// The names in the folder. The error is a kind alone: with a wide one the compiler copies the system's buffer for
-    /// each way out.
-    #[inline(never)]
-    fn names_in(&self, path: &str) -> Result<Vec<Name>, ErrorKind>
-        ensures { IfOk result (λ names. AreProperNames names.items) }
-    {
-        let alloc = self.rt.alloc();
-        let mut names = Vec::new(alloc);
-        let found = match fs::read_dir(&self.rt, path) {
-            Ok(found) => found,
-            Err(e) => return Err(e.kind()),
-        };
-        for entry in found {
-            if let Err(e) = add(alloc, &mut names, entry) {
-                return Err(e.kind());
-            }
+    /// What kind of thing stands at a path of any bytes. The runtime is asked by texts alone.
+    fn kind_at(&self, path: &[u8]) -> Looked<Kind> {
+        match std::str::from_utf8(path) {
+            Ok(path) => match self.rt.symlink_metadata(path) {
+                Ok(found) => Ok(kind_of(found.file_type())),
+                Err(error) => Err(error.kind()),
+            },
+            Err(_) => Err(ErrorKind::Unsupported),
         }
-        Ok(names)
     }
 
-    /// What is in the folder, in the system's order. It fails if a name isn't UTF-8.
+    /// The kind of what stands under a name of a folder, whose path ends in a `/`; None if it was removed.
+    fn kind_below(&self, folder: &mut Vec<u8>, name: &[u8]) -> Looked<Option<Kind>> {
+        let top = folder.len();
+        if folder.extend_from_slice(name).is_err() {
+            return Err(ErrorKind::OutOfMemory);
+        }
+        let kind = listed_kind(self.kind_at(folder.as_slice()));
+        folder.truncate(top);
+        kind
+    }
+
+    /// Adds what stands under a name of a folder, whose path ends in a `/`, unless it was removed since the folder was
+    /// read.
+    fn add(&self, names: &mut Vec<Name>, folder: &mut Vec<u8>, name: &[u8]) -> Looked<()>
+        ensures { AreProperNames names.old.items → AreProperNames names.new.items }
+    {
+        if matches!(name, b"" | b"." | b"..") {
+            return Ok(());
+        }
+        match self.kind_below(folder, name)? {
+            Some(kind) => push(names, named(self.rt.alloc(), name, kind)?),
+            None => Ok(()),
+        }
+    }
+
+    /// Adds what stands under some names, each of which is ended by a NUL.
+    fn add_all(&self, names: &mut Vec<Name>, folder: &mut Vec<u8>, read: &[u8]) -> Looked<()>
+        ensures { AreProperNames names.old.items → AreProperNames names.new.items }
+    {
+        let mut rest = read;
+        'names: while !rest.is_empty() {
+            let (name, later) = first_name(rest);
+            self.add(names, folder, name)?;
+            rest = later;
+        }
+        Ok(())
+    }
+
+    /// Adds what stands under the names that an open folder gives, whose path ends in a `/`.
+    fn fill<D: Read>(&self, names: &mut Vec<Name>, open: &mut D, folder: &mut Vec<u8>) -> Looked<()>
+        ensures { AreProperNames names.old.items → AreProperNames names.new.items }
+    {
+        let mut buf = [0; NAMES];
+        for _ in 0..u64::MAX {
+            let count = looked(read_again(open, &mut buf))?;
+            if count == 0 {
+                return Ok(());
+            }
+            self.add_all(names, folder, &buf[..count])?;
+        }
+        Err(ErrorKind::FileTooLarge)
+    }
+
+    /// The names that an open folder gives, whose path ends in a `/`.
+    fn names_from<D: Read + Drop>(
+        &self,
+        open: io::Result<D>,
+        folder: &mut Vec<u8>,
+    ) -> Looked<Vec<Name>>
+        ensures { IfOk result (λ names. AreProperNames names.items) }
+    {
+        let mut open = looked(open)?;
+        let mut names = Vec::new(self.rt.alloc());
+        match self.fill(&mut names, &mut open, folder) {
+            Ok(()) => Ok(names),
+            Err(kind) => Err(kind),
+        }
+    }
+
+    /// The names in the folder.
+    fn names_in(&self, path: &str) -> Looked<Vec<Name>>
+        ensures { IfOk result (λ names. AreProperNames names.items) }
+    {
+        let Ok(mut folder) = folder_path(self.rt.alloc(), path) else {
+            return Err(ErrorKind::OutOfMemory);
+        };
+        self.names_from(self.rt.open_dir(path), &mut folder)
+    }
+
+    /// What is in the folder, in the system's order. A name that isn't UTF-8 is listed as an escaped one.
     pub(crate) fn read_dir(&self, path: &str) -> io::Result<Listing>
         ensures { IfOk result (λ listing. AreProperNames listing) }
     {

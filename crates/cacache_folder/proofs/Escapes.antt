@@ -1,0 +1,18 @@
+-- What an escaped name stands for.
+use Rattle.std.specs.Prelude.{◌≡◌, ℕ, List, ◌++◌, Result, Ok, Err, IfOk}
+use Rattle.std.proofs.Common.{refl, ap, ◌∙◌}
+use Rattle.hex.specs.Hex.{IsBytes, encode_lower, decode_of}
+use Rattle.hex.proofs.HexLemmas.{decode_of-encode_lower}
+use Rattle.cacache_folder.specs.Escaped.{mark, or_itself, raw_name}
+
+-- what stands for some digits behind the mark
+behind_mark : (digits : List ℕ) → raw_name (mark ++ digits) ≡ or_itself (mark ++ digits) (decode_of digits)
+behind_mark digits = refl
+
+-- an escaped name stands for the bytes that it was made of
+pub stands : {E : Type 0} (r : Result (List ℕ) E) (name : List ℕ) → IsBytes name
+    → IfOk r (λ text. text ≡ mark ++ encode_lower name) → IfOk r (λ text. raw_name text ≡ name)
+stands (Ok text) name bytes is =
+    ap raw_name is ∙ behind_mark (encode_lower name)
+    ∙ ap (or_itself (mark ++ encode_lower name)) (decode_of-encode_lower name bytes)
+stands (Err e) name bytes is = tt

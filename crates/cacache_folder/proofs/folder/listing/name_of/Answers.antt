@@ -1,1 +1,0 @@
--- No answers are needed: a name that isn't proper is an error.

@@ -1,0 +1,22 @@
+-- Names of any bytes as texts.
+use Rattle.std.specs.Prelude.{ℕ, if◌then◌else◌, List, ◌++◌, drop, codes, Result, Ok, Err}
+use Rattle.std.specs.Bool.{nat_eq}
+use Rattle.std.specs.List.{starts_with}
+use Rattle.hex.specs.declared.error.FromHexError.{FromHexError}
+use Rattle.hex.specs.Hex.{decode_of}
+
+abbrev pub quarter : List ℕ
+quarter = codes "%%%%%%%%%%%%%%%%%%%%%%%%%%%%%%%%%%%%%%%%%%%%%%%%%%%%%%%%%%%%%%%%"
+
+-- what an escaped name begins with
+abbrev pub mark : List ℕ
+mark = quarter ++ quarter ++ quarter ++ quarter
+
+abbrev pub or_itself : List ℕ → Result (List ℕ) FromHexError → List ℕ
+or_itself name (Ok bytes) = bytes
+or_itself name (Err e) = name
+
+-- the bytes that a name's text stands for: those of its digits behind the mark, or the text's own
+abbrev pub raw_name : List ℕ → List ℕ
+raw_name name =
+    if starts_with nat_eq name mark then or_itself name (decode_of (drop 256 name)) else name
