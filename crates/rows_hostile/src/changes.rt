@@ -87,10 +87,17 @@ fn changes_at(alloc: Global, kind: &str, history: &[Record]) -> Result<Vec<Chang
     Ok(changes)
 }
 
+/// No change, once.
+fn unchanged(alloc: Global) -> Result<Vec<Change>, AllocError> {
+    let mut changes = Vec::new(alloc);
+    changes.push(Change::Nothing)?;
+    Ok(changes)
+}
+
 /// The changes that a word asks for.
 pub(crate) fn changes(alloc: Global, kind: &str, history: &[Record]) -> Result<Vec<Change>, Flaw> {
     match kind {
-        "plain" => Ok(vec![in alloc; Change::Nothing]?),
+        "plain" => Ok(unchanged(alloc)?),
         "fail" | "take" | "part" | "folders" | "stop" => Ok(changes_at(alloc, kind, history)?),
         _ => Err(Flaw::NotRead),
     }

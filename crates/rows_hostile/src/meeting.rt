@@ -45,7 +45,7 @@ fn meet(
 fn holds_both(sides: &Sides, first: Content, second: Content) -> Result<bool, AllocError> {
     let value = &sides.model.value;
     let entries = value.entries()?;
-    Ok(value.has(first) && value.has(second) && entries.as_slice() == &[second, first])
+    Ok(value.has(first) && value.has(second) && entries.as_slice() == [second, first].as_slice())
 }
 
 /// What a lookup answers, as it is to: that of the put whose append came later.

@@ -81,10 +81,12 @@ fn compared(
     wanted: Option<String>,
     got: Option<String>,
 ) -> Result<Came, AllocError> {
-    match (wanted, got) {
-        (None, None) => Ok(Came::On),
-        (Some(wanted), Some(got)) if wanted == got => Ok(Came::Over(got)),
-        (wanted, got) => Ok(Came::Differs(format!(in alloc; "wanted {wanted:?}, got {got:?}")?)),
+    if wanted != got {
+        return Ok(Came::Differs(format!(in alloc; "wanted {wanted:?}, got {got:?}")?));
+    }
+    match got {
+        None => Ok(Came::On),
+        Some(reply) => Ok(Came::Over(reply)),
     }
 }
 

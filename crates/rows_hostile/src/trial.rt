@@ -44,7 +44,7 @@ fn spared(alloc: Global) -> Result<String, AllocError> {
 }
 
 /// What came of all runs of a kind.
-fn scripts(alloc: Global, kind: &str) -> Result<String, Flaw> {
+fn kind_played(alloc: Global, kind: &str) -> Result<String, Flaw> {
     let (run, differing) = played(alloc, Change::Nothing, &mut Tally::NONE)?;
     if let Some(text) = differing {
         return Ok(text);
@@ -62,7 +62,7 @@ fn tried(alloc: Global, act: &str) -> Result<String, Flaw> {
         "reader" => reads(alloc, words),
         "writer" => writes(alloc, words),
         "linker" => links(alloc, words),
-        _ => scripts(alloc, kind),
+        _ => kind_played(alloc, kind),
     }
 }
 
