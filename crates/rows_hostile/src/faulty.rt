@@ -1,5 +1,5 @@
 //! A store whose open file fails one read, and whose temporary file fails one write.
-ghost use Rattle.std.specs.Prelude.{None};
+ghost use Rattle.std.specs.Prelude.{◌≡◌, ◌+◌, ◌≤◌, None, IfOk, length};
 ghost use Rattle.cacache.specs.Stores.{Fits, plain_step, plain_answer};
 
 use cacache::bytes::Bytes;
@@ -13,6 +13,9 @@ use cacache_core::keeping::{let_go, set};
 use std::alloc::{AllocError, Global};
 use std::io;
 use std::io::{ErrorKind, Read, Write};
+
+/// The most bytes that a read gives.
+const PIECE: usize = 64;
 
 /// An open file that fails the read of this number, counted from 0, and no other.
 #[derive(Drop)]
@@ -40,6 +43,20 @@ impl OpenedFile for Failing {
             return Err(io::Error::from(ErrorKind::Other));
         }
         self.file.read_some(buf)
+    }
+}
+
+impl Failing {
+    /// At most `max` bytes.
+    fn piece(&mut self, alloc: Global, max: usize) -> io::Result<Bytes>
+        ensures count { IfOk result (λ bytes. length bytes ≤ max) }
+        ensures left { IfOk result (λ bytes.
+            self.new.file.left + length bytes ≡ self.old.file.left) }
+    {
+        let mut buf = vec![in alloc; 0; max.min(PIECE)]?;
+        let count = self.read_some(&mut buf)?;
+        buf.truncate(count);
+        Ok(Bytes::new(alloc, buf)?)
     }
 }
 
@@ -76,6 +93,20 @@ impl TempFile for Short {
         let count = buf.len().min(3);
         self.bytes.extend_from_slice(&buf[..count])?;
         Ok(count)
+    }
+}
+
+/// Does a `Read` and answers it.
+fn given(alloc: Global, file: Failing, max: usize) -> Answer<Failing, Short>
+    ensures fits { Fits (plain_step (λ file. file.file)
+        (λ temp. record { path = temp.path; bytes = None }) (Step.Read file max))
+        (plain_answer (λ file. file.file)
+        (λ temp. record { path = temp.path; bytes = None }) result) }
+{
+    let mut file = file;
+    match file.piece(alloc, max) {
+        Ok(bytes) => Answer::Got(file, bytes),
+        Err(_) => Answer::Failed(Fault::Device),
     }
 }
 
@@ -132,6 +163,7 @@ impl Store for Faulty {
                 Answer::Done
             }
             Step::Symlink(_target, _path) => Answer::Done,
+            Step::Read(file, max) => given(self.alloc, file, max),
             Step::Size(_path) => Answer::Length(11),
             Step::Open(_path) => match self.file.take() {
                 Some(file) => Answer::File(file),
