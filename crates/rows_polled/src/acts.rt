@@ -1,15 +1,15 @@
 //! What a row does in an environment.
-use crate::answers::{add, bytes_of, done, read};
+use crate::answers::{bytes_of, done, given, read};
 use crate::linkers::linked_by_polls;
 use crate::opening::integrity_of;
 use crate::place::{On, names_in, plant};
-use crate::polls::ready;
 use crate::readers::read_by_polls;
 use crate::writers::written;
 use cacache_async::read::{read as read_key, read_hash};
 use cacache_async::rm::clear;
 use cacache_store::store::Store;
 use cacache_worker::RemovableTemp;
+use futures::executor::block_on;
 use rows::Flaw;
 use rows::words::cut;
 use std::alloc::{AllocError, AllocGlobal};
@@ -38,7 +38,7 @@ fn planted<S: Store>(env: &mut On<S>, words: &str) -> Result<String, AllocError>
 }
 
 /// What a call gives whose future is ready at once, or a look at a folder.
-fn called<R: RandomSource + AllocGlobal, S: Store>(
+fn called<R: Wait + RandomSource + AllocGlobal, S: Store>(
     rt: &R,
     env: &mut On<S>,
     act: &str,
@@ -47,12 +47,12 @@ fn called<R: RandomSource + AllocGlobal, S: Store>(
     let (name, words) = cut(act);
     let (cache, what) = cut(words);
     match name {
-        "read" => Ok(read(alloc, ready(rt, read_key(env, cache, what))?)?),
+        "read" => Ok(read(alloc, given(block_on(rt, read_key(env, cache, what)))?)?),
         "read_hash" => {
             let sri = integrity_of(alloc, what)?;
-            Ok(read(alloc, ready(rt, read_hash(env, cache, &sri))?)?)
+            Ok(read(alloc, given(block_on(rt, read_hash(env, cache, &sri)))?)?)
         }
-        "clear" => Ok(done(alloc, ready(rt, clear(env, cache))?)?),
+        "clear" => Ok(done(alloc, given(block_on(rt, clear(env, cache)))?)?),
         "names" => Ok(names(env, words)?),
         "plant" => Ok(planted(env, words)?),
         _ => Err(Flaw::NotRead),
@@ -67,11 +67,11 @@ where
     T: RemovableTemp<R>,
 {
     let (name, words) = cut(act);
-    let (given, steps) = parts_of(words);
+    let (on, steps) = parts_of(words);
     match name {
-        "writer" => written(rt, env, given, steps),
-        "reader" => read_by_polls(rt, env, given, steps),
-        "linker" => linked_by_polls(rt, env, given, steps),
+        "writer" => written(rt, env, on, steps),
+        "reader" => read_by_polls(rt, env, on, steps),
+        "linker" => linked_by_polls(rt, env, on, steps),
         _ => called(rt, env, act),
     }
 }

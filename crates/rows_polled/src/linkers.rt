@@ -2,21 +2,22 @@
 use crate::answers::{add, given, refused, stored};
 use crate::opening::algorithm_of;
 use crate::place::On;
-use crate::polls::ready;
 use crate::readers::came;
 use cacache_async::linker::ToLinker;
 use cacache_async::linking::LinkAsync;
 use cacache_core::errors::Result as Answered;
 use cacache_put::opts::WriteOpts;
 use cacache_store::store::{OpenedFile, Store};
+use futures::executor::block_on;
 use futures::test::MockTask;
 use rows::Flaw;
 use rows::words::{cut, number_of};
 use std::alloc::{AllocGlobal, Global};
 use std::random::RandomSource;
+use std::sync::Wait;
 
 /// A linker that is opened with options, of which there are none: `options CACHE KEY TARGET` or `options_hash CACHE - TARGET`.
-fn opened_with<R: RandomSource + AllocGlobal, S: Store>(
+fn opened_with<R: Wait + RandomSource + AllocGlobal, S: Store>(
     rt: &R,
     env: &mut On<S>,
     way: &str,
@@ -25,15 +26,15 @@ fn opened_with<R: RandomSource + AllocGlobal, S: Store>(
 ) -> Result<Answered<ToLinker<S::File>>, Flaw> {
     let (key, target) = cut(what);
     match way {
-        "options" => ready(rt, WriteOpts::new().link_to(env, cache, key, target)),
-        "options_hash" => ready(rt, WriteOpts::new().link_to_hash(env, cache, target)),
+        "options" => given(block_on(rt, WriteOpts::new().link_to(env, cache, key, target))),
+        "options_hash" => given(block_on(rt, WriteOpts::new().link_to_hash(env, cache, target))),
         _ => Err(Flaw::NotRead),
     }
 }
 
 /// A linker that is opened in one of the ways: `open CACHE KEY TARGET`, `open_hash CACHE - TARGET`, `new CACHE ALGORITHM
 /// TARGET`, or with options.
-fn opened<R: RandomSource + AllocGlobal, S: Store>(
+fn opened<R: Wait + RandomSource + AllocGlobal, S: Store>(
     rt: &R,
     env: &mut On<S>,
     words: &str,
@@ -42,11 +43,11 @@ fn opened<R: RandomSource + AllocGlobal, S: Store>(
     let (cache, what) = cut(words);
     let (key, target) = cut(what);
     match way {
-        "open" => ready(rt, ToLinker::open(env, cache, key, target)),
-        "open_hash" => ready(rt, ToLinker::open_hash(env, cache, target)),
+        "open" => given(block_on(rt, ToLinker::open(env, cache, key, target))),
+        "open_hash" => given(block_on(rt, ToLinker::open_hash(env, cache, target))),
         "new" => {
             let algorithm = algorithm_of(key)?;
-            ready(rt, ToLinker::new(env, cache, algorithm, target))
+            given(block_on(rt, ToLinker::new(env, cache, algorithm, target)))
         }
         _ => opened_with(rt, env, way, cache, what),
     }
@@ -89,7 +90,7 @@ fn read_and_committed<R, S: Store>(
     steps: &str,
 ) -> Result<String, Flaw>
 where
-    R: RandomSource + AllocGlobal,
+    R: Wait + RandomSource + AllocGlobal,
 {
     let alloc = rt.alloc();
     let task = given(MockTask::new(rt))?;
@@ -97,13 +98,13 @@ where
         return read_in_turn(alloc, &task, &mut linker, steps);
     };
     let mut line = read_in_turn(alloc, &task, &mut linker, reads)?;
-    let committed = stored(alloc, ready(rt, linker.commit(env))?)?;
+    let committed = stored(alloc, given(block_on(rt, linker.commit(env)))?)?;
     add(&mut line, committed.as_str())?;
     Ok(line)
 }
 
 /// What the steps give of a linker that is opened so.
-pub(crate) fn linked_by_polls<R: RandomSource + AllocGlobal, S: Store>(
+pub(crate) fn linked_by_polls<R: Wait + RandomSource + AllocGlobal, S: Store>(
     rt: &R,
     env: &mut On<S>,
     words: &str,

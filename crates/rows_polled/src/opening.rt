@@ -1,16 +1,18 @@
 //! The ways in which a writer is opened: each is a future that is ready at once.
+use crate::answers::given;
 use crate::place::On;
-use crate::polls::ready;
 use cacache_core::errors::Result as Answered;
 use cacache_core::integrity::{Algorithm, Integrity};
 use cacache_core::keeping::let_go;
 use cacache_put::opts::WriteOpts;
 use cacache_store::store::Store;
 use cacache_writers::{OpenAsync, Writer};
+use futures::executor::block_on;
 use rows::Flaw;
 use rows::words::{cut, number_of};
 use std::alloc::{AllocGlobal, Global};
 use std::random::RandomSource;
+use std::sync::Wait;
 
 /// The algorithm of this name.
 pub(crate) fn algorithm_of(name: &str) -> Result<Algorithm, Flaw> {
@@ -35,7 +37,7 @@ pub(crate) fn integrity_of(alloc: Global, text: &str) -> Result<Integrity, Flaw>
 }
 
 /// A writer that is opened with options: `open CACHE KEY SIZE` and `open_hash CACHE SIZE` expect so many bytes.
-fn opened_with<R: RandomSource + AllocGlobal, S: Store>(
+fn opened_with<R: Wait + RandomSource + AllocGlobal, S: Store>(
     rt: &R,
     env: &mut On<S>,
     way: &str,
@@ -46,11 +48,11 @@ fn opened_with<R: RandomSource + AllocGlobal, S: Store>(
     match way {
         "open" => {
             let opts = WriteOpts::new().size(number_of(size)?);
-            ready(rt, opts.open(env, cache, key))
+            given(block_on(rt, opts.open(env, cache, key)))
         }
         "open_hash" => {
             let opts = WriteOpts::new().size(number_of(what)?);
-            ready(rt, opts.open_hash(env, cache))
+            given(block_on(rt, opts.open_hash(env, cache)))
         }
         _ => Err(Flaw::NotRead),
     }
@@ -58,7 +60,7 @@ fn opened_with<R: RandomSource + AllocGlobal, S: Store>(
 
 /// A writer that is opened in one of the ways: `create CACHE KEY`, `create_with_algo CACHE ALGORITHM KEY`, `new CACHE
 /// ALGORITHM`, or with options.
-pub(crate) fn opened<R: RandomSource + AllocGlobal, S: Store>(
+pub(crate) fn opened<R: Wait + RandomSource + AllocGlobal, S: Store>(
     rt: &R,
     env: &mut On<S>,
     words: &str,
@@ -67,14 +69,14 @@ pub(crate) fn opened<R: RandomSource + AllocGlobal, S: Store>(
     let (cache, what) = cut(words);
     let (name, key) = cut(what);
     match way {
-        "create" => ready(rt, Writer::create(env, cache, what)),
+        "create" => given(block_on(rt, Writer::create(env, cache, what))),
         "create_with_algo" => {
             let algorithm = algorithm_of(name)?;
-            ready(rt, Writer::create_with_algo(env, algorithm, cache, key))
+            given(block_on(rt, Writer::create_with_algo(env, algorithm, cache, key)))
         }
         "new" => {
             let algorithm = algorithm_of(name)?;
-            ready(rt, Writer::new(env, cache, algorithm, Some(3)))
+            given(block_on(rt, Writer::new(env, cache, algorithm, Some(3))))
         }
         _ => opened_with(rt, env, way, cache, what),
     }

@@ -1,27 +1,11 @@
-//! Single polls, and futures that are ready at once.
-use crate::answers::{counted, done, given};
+//! Single polls of a writer.
+use crate::answers::{counted, done};
 use cacache_core::errors::Result as Answered;
 use cacache_writers::Writer;
 use futures::task::Poll;
 use futures::test::MockTask;
-use futures::{Future, FutureExt};
-use rows::Flaw;
-use std::alloc::{AllocError, AllocGlobal, Global};
-use std::random::RandomSource;
+use std::alloc::{AllocError, Global};
 use std::sync::Wait;
-
-/// What a future answers that is ready at once.
-pub(crate) fn ready<R: RandomSource + AllocGlobal, F: Future>(
-    rt: &R,
-    future: F,
-) -> Result<F::Output, Flaw>
-    requires { F.can_poll future }
-{
-    match given(future.now_or_never(rt))? {
-        Some(answer) => Ok(answer),
-        None => Err(Flaw::Told("its future is pending")),
-    }
-}
 
 /// The answer to a poll of a write.
 fn wrote(alloc: Global, polled: Poll<Answered<usize>>) -> Result<String, AllocError> {

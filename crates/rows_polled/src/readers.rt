@@ -2,20 +2,21 @@
 use crate::answers::{add, counted, given, refused};
 use crate::opening::integrity_of;
 use crate::place::On;
-use crate::polls::ready;
 use cacache_async::reader::{Reader, open_async};
 use cacache_core::errors::Result as Answered;
 use cacache_core::integrity::Algorithm;
 use cacache_store::store::{OpenedFile, Store};
+use futures::executor::block_on;
 use futures::task::Poll;
 use futures::test::MockTask;
 use rows::Flaw;
 use rows::words::{cut, number_of, word_of, written_out};
 use std::alloc::{AllocError, AllocGlobal, Global};
 use std::random::RandomSource;
+use std::sync::Wait;
 
 /// A reader that is opened in one of the ways: `open CACHE KEY`, `open_hash CACHE INTEGRITY`, `open_async CACHE INTEGRITY`.
-fn opened<R: RandomSource + AllocGlobal, S: Store>(
+fn opened<R: Wait + RandomSource + AllocGlobal, S: Store>(
     rt: &R,
     env: &mut On<S>,
     words: &str,
@@ -23,14 +24,14 @@ fn opened<R: RandomSource + AllocGlobal, S: Store>(
     let (way, words) = cut(words);
     let (cache, what) = cut(words);
     match way {
-        "open" => ready(rt, Reader::open(env, cache, what)),
+        "open" => given(block_on(rt, Reader::open(env, cache, what))),
         "open_hash" => {
             let sri = integrity_of(env.alloc, what)?;
-            ready(rt, Reader::open_hash(env, cache, sri))
+            given(block_on(rt, Reader::open_hash(env, cache, sri)))
         }
         "open_async" => {
             let sri = integrity_of(env.alloc, what)?;
-            ready(rt, open_async(env, cache, sri))
+            given(block_on(rt, open_async(env, cache, sri)))
         }
         _ => Err(Flaw::NotRead),
     }
@@ -102,7 +103,7 @@ fn read_and_checked<F: OpenedFile>(
 }
 
 /// What the steps give of a reader that is opened so.
-pub(crate) fn read_by_polls<R: RandomSource + AllocGlobal, S: Store>(
+pub(crate) fn read_by_polls<R: Wait + RandomSource + AllocGlobal, S: Store>(
     rt: &R,
     env: &mut On<S>,
     words: &str,
