@@ -55,7 +55,7 @@ where
 }
 
 /// Downloads both bodies at once.
-fn download<R>(rt: &R, place: &mut Place) -> Result<()>
+fn download_both<R>(rt: &R, place: &mut Place) -> Result<()>
 where
     R: Wait + Clock + RandomSource + Print + AllocGlobal,
 {
@@ -76,5 +76,5 @@ fn main(rt: HostRuntime) -> Result<()> {
     let clock = SystemClock::new(rt);
     let names = ProcessNames::new(rt);
     let mut place = Env::new(alloc, store, clock, names, "/")?;
-    download(&rt, &mut place)
+    download_both(&rt, &mut place)
 }
