@@ -1,14 +1,31 @@
 //! What the future of a call answers at its two first polls.
-use crate::place::{Numbers, Still};
 use cacache::errors::Fault;
 use cacache::{Error, Result as Answered};
 use cacache_core::keeping::let_go;
-use cacache_futures::{Call, CallFuture};
+use futures::Future;
 use futures::executor::block_on;
 use rows::Flaw;
 use std::alloc::AllocGlobal;
 use std::random::RandomSource;
 use std::sync::Wait;
+
+/// Why a future gives no answer.
+#[derive(Clone, Copy)]
+pub(crate) enum Unanswered {
+    /// Memory for its executor was refused.
+    Refused,
+    /// Its second poll isn't closed.
+    NotClosed,
+}
+
+impl From<Unanswered> for Flaw {
+    fn from(why: Unanswered) -> Flaw {
+        match why {
+            Unanswered::Refused => Flaw::Refused,
+            Unanswered::NotClosed => Flaw::Told("the second poll isn't closed"),
+        }
+    }
+}
 
 /// Whether this is the answer of a poll after the call's answer.
 fn is_closed<T>(answer: &Answered<T>) -> bool {
@@ -16,23 +33,22 @@ fn is_closed<T>(answer: &Answered<T>) -> bool {
 }
 
 /// What the future's first poll answers; its second one must be closed.
-pub(crate) fn awaited<R, S, K>(
-    rt: &R,
-    mut future: CallFuture<'_, S, Still, Numbers, K>,
-) -> Result<Answered<K::Output>, Flaw>
+pub(crate) fn awaited<R, F, T>(rt: &R, future: F) -> Result<Answered<T>, Unanswered>
 where
     R: Wait + RandomSource + AllocGlobal,
-    K: Call<S, Still, Numbers>,
-    K::Output: Drop,
+    F: Future<Output = Answered<T>>,
+    T: Drop,
+    requires { (f : F) → F.can_poll f }
 {
+    let mut future = future;
     let Ok(first) = block_on(rt, &mut future) else {
-        return Err(Flaw::Refused);
+        return Err(Unanswered::Refused);
     };
     match block_on(rt, &mut future) {
         Ok(second) if is_closed(&second) => Ok(first),
         _ => {
             let_go(first);
-            Err(Flaw::Told("the second poll isn't closed"))
+            Err(Unanswered::NotClosed)
         }
     }
 }
