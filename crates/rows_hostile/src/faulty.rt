@@ -1,6 +1,7 @@
 //! A store whose open file fails one read, and whose temporary file fails one write.
 ghost use Rattle.std.specs.Prelude.{◌≡◌, ◌+◌, ◌≤◌, None, IfOk, length};
 ghost use Rattle.cacache.specs.Stores.{Fits, plain_step, plain_answer};
+ghost use Rattle.rows_hostile.specs.declared.faulty.Short.{Short};
 
 use cacache::bytes::Bytes;
 use cacache::env::{Clock, CountNames, Env};
@@ -99,7 +100,7 @@ impl TempFile for Short {
 /// Does a `Read` and answers it.
 fn given(alloc: Global, file: Failing, max: usize) -> Answer<Failing, Short>
     ensures fits { Fits (plain_step (λ file. file.file)
-        (λ temp. record { path = temp.path; bytes = None }) (Step.Read file max))
+        (λ (temp : Short). record { path = temp.path; bytes = None }) (Step.Read file max))
         (plain_answer (λ file. file.file)
         (λ temp. record { path = temp.path; bytes = None }) result) }
 {
@@ -121,7 +122,9 @@ pub(crate) struct Faulty {
 
 impl Faulty {
     /// A temporary file at this path.
-    fn temp(&self, path: Text) -> Short {
+    fn temp(&self, path: Text) -> Short
+        ensures { result.path ≡ path }
+    {
         Short {
             path,
             bytes: Vec::new(self.alloc),

@@ -1,5 +1,5 @@
 //! Temporary files that fail, and a store that has no others.
-ghost use Rattle.std.specs.Prelude.{◌≤◌, None, IfOk};
+ghost use Rattle.std.specs.Prelude.{◌≡◌, ◌≤◌, None, IfOk};
 ghost use Rattle.cacache_store.specs.Fits.{Fits};
 ghost use Rattle.cacache_store.specs.Plain.{plain_step, plain_answer};
 
@@ -51,7 +51,8 @@ pub(crate) struct Unlucky {
 impl Unlucky {
     /// How many of so many bytes the next write takes.
     fn room(&mut self, size: usize) -> io::Result<usize>
-        ensures { IfOk result (λ count. count ≤ size) }
+        ensures bound { IfOk result (λ count. count ≤ size) }
+        ensures path { self.new.path ≡ self.old.path }
     {
         let number = self.writes.saturating_add(1);
         self.writes = number;
