@@ -177,7 +177,7 @@ impl Files for Watched {
     }
 
     fn open_dir(&self, path: &str) -> io::Result<MadeUp> {
-        let is_odd = path.ends_with("/odd");
+        let is_odd = path.ends_with("/odd/");
         Ok(MadeUp { is_odd, given: 0 })
     }
 

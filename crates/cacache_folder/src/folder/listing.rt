@@ -93,10 +93,10 @@ fn first_name(names: &[u8]) -> (&[u8], &[u8])
     }
 }
 
-/// The path of the folder with a `/` behind it.
-fn folder_path(alloc: Global, path: &str) -> Result<Vec<u8>, AllocError> {
-    let mut folder = Vec::from_slice(alloc, path.as_bytes())?;
-    folder.push(b'/')?;
+/// The path of the folder with a `/` behind it, so that the system follows a link there.
+fn folder_path(alloc: Global, path: &str) -> Result<String, AllocError> {
+    let mut folder = String::from_str(alloc, path)?;
+    folder.push('/')?;
     Ok(folder)
 }
 
@@ -207,10 +207,14 @@ impl<R: Files + AllocGlobal + Clone + Drop> FolderStore<R> {
     fn names_in(&self, path: &str) -> Looked<Vec<Name>>
         ensures { IfOk result (λ names. AreProperNames names.items) }
     {
-        let Ok(mut folder) = folder_path(self.rt.alloc(), path) else {
+        if path.is_empty() {
+            return Err(ErrorKind::NotFound);
+        }
+        let Ok(folder) = folder_path(self.rt.alloc(), path) else {
             return Err(ErrorKind::OutOfMemory);
         };
-        self.names_from(self.rt.open_dir(path), &mut folder)
+        let open = self.rt.open_dir(folder.as_str());
+        self.names_from(open, &mut folder.into_bytes())
     }
 
     /// What is in the folder, in the system's order. A name that isn't UTF-8 is listed as an escaped one.
