@@ -12,8 +12,7 @@ use Rattle.cacache_table.specs.Runs.{without_message}
 use Rattle.cacache_table.proofs.Replies.{finds_shown}
 use Rattle.cacache_entry.specs.Entry.{Entry}
 use Rattle.cacache_jobs.specs.Sites.{site_of}
-use Rattle.cacache_content.specs.declared.reader.SyncReader.{SyncReader}
-use Rattle.cacache_content.specs.OpenReads.{FindsKey, OpensFound, OpensKey}
+use Rattle.cacache_content.specs.OpenReads.{FindsKey, OpensKey}
 
 -- ---- the lookup
 

@@ -11,7 +11,7 @@ ghost use Rattle.cacache_table.specs.Promises.{Stores};
 ghost use Rattle.cacache_table.specs.Runs.{reply_of};
 ghost use Rattle.cacache_table.specs.SingleSteps.{Does, FailsAt};
 ghost use Rattle.cacache_content.specs.Passed.{passed};
-ghost use Rattle.cacache_content.specs.OpenWrites.{HasTaken, GoesOn, OpensTemp, EndsWriter, RemovesTemp, Takes, TakesPart, WholeFails, IsRetried, make_folder as making_folder, make_file as making_file, content_commit, unkeyed};
+ghost use Rattle.cacache_content.specs.OpenWrites.{HasTaken, GoesOn, OpensTemp, EndsWriter, RemovesTemp, Takes, TakesPart, WholeFails, IsRetried, make_folder as making_folder, content_commit, unkeyed};
 
 use cacache_core::errors::Result;
 use cacache_core::hasher::Hasher;

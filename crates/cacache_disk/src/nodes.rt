@@ -1,5 +1,5 @@
 //! The nodes of a disk, by their paths.
-ghost use Rattle.std.specs.Prelude.{◌≡◌, ◌==◌, ◌++◌, IfOk, OnOk, OnErr, length, option_copied};
+ghost use Rattle.std.specs.Prelude.{◌≡◌, ◌==◌, IfOk, OnOk, OnErr, length, option_copied};
 ghost use Rattle.std.specs.FinMap as map;
 ghost use Rattle.cacache_disk.specs.declared.node.Node.TheVariants.{File};
 ghost use Rattle.cacache_store.specs.Fits.{AreProperNames};

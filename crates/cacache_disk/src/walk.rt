@@ -1,5 +1,5 @@
 //! The folders on the way of a path.
-ghost use Rattle.std.specs.Prelude.{◌≡◌, IfOk, OnOk, OnErr, length, take, drop};
+ghost use Rattle.std.specs.Prelude.{◌≡◌, IfOk, OnOk, OnErr, take, drop};
 ghost use Rattle.cacache_disk.specs.Rooted.{Rooted};
 ghost use Rattle.cacache_disk.specs.Deepest.{IsDeepest, way_past, dirs_past};
 ghost use Rattle.cacache_disk.specs.Apply.{make_some};

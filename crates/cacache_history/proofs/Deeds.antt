@@ -9,7 +9,7 @@ use Rattle.cacache_store.specs.declared.store.answer.Answer.TheVariants as answe
 use Rattle.cacache_store.specs.Plain.{PlainStep, PlainAnswer}
 use Rattle.cacache_disk.specs.declared.luck.Luck.{Luck}
 use Rattle.cacache_disk.specs.Tree.{Tree}
-use Rattle.cacache_disk.specs.LedTo.{place, leads, writable, free, replaceable, known, kept}
+use Rattle.cacache_disk.specs.LedTo.{place, free, replaceable, known, kept}
 use Rattle.cacache_disk.specs.Apply.{apply, unless}
 use Rattle.cacache_entry.specs.Entry.{Entry, line_of}
 use Rattle.cacache_entry.specs.Bucket.{entries_of}

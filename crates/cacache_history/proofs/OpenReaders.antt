@@ -27,7 +27,6 @@ use Rattle.cacache_table.specs.Looking.{found_in, found_for, no_bucket, after_bu
 use Rattle.cacache_table.specs.StepPaths.{bucket_path, content_path}
 use Rattle.cacache_table.specs.Runs.{Moves, Runs, Gains, plain_reply, without_message}
 use Rattle.cacache_table.specs.State.{State, looking, over, Lookup, to_report}
-use Rattle.cacache_table.specs.Table.{opening}
 use Rattle.cacache_table.specs.Table as table
 use Rattle.cacache_table.proofs.Branches.{go_on_leads}
 use Rattle.cacache_value.specs.Shows.{blob_bytes, ShowsContent}

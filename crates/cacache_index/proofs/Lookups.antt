@@ -1,5 +1,5 @@
 -- What a run of a lookup shows: it read the bucket once, or memory was refused before.
-use Rattle.std.proofs.Common.{◌≡◌, ◌≢◌, ◌⊎◌, inl, inr, ℕ, List, [], ◌∷◌, Option, Result, Ok, Err, sym, ◌∙◌}
+use Rattle.std.proofs.Common.{◌≡◌, ◌≢◌, ◌⊎◌, inl, inr, ℕ, List, [], Option, Result, Ok, Err, sym, ◌∙◌}
 use Rattle.cacache_core.specs.declared.errors.Error.{Error}
 use Rattle.cacache_core.specs.declared.errors.Error.TheVariants.{IoError, OutOfMemory}
 use Rattle.cacache_core.specs.declared.errors.Fault.{Fault}
@@ -12,10 +12,9 @@ use Rattle.cacache_store.specs.Fits.{Fits}
 use Rattle.cacache_entry.specs.declared.metadata.Metadata.{Metadata}
 use Rattle.cacache_table.specs.declared.answers.Refusal.TheVariants as refusals
 use Rattle.cacache_table.specs.declared.command.Command.TheVariants as commands
-use Rattle.cacache_table.specs.declared.reply.Reply.{Reply}
 use Rattle.cacache_table.specs.declared.reply.Reply.TheVariants.{Refused}
 use Rattle.cacache_table.specs.StepPaths.{bucket_path}
-use Rattle.cacache_table.specs.Replies.{OneRun, bucket_shown, entries_shown, find_reply, looked_up}
+use Rattle.cacache_table.specs.Replies.{bucket_shown, entries_shown, find_reply, looked_up}
 use Rattle.cacache_table.specs.Runs.{Gains, Ran, reply_of, without_message}
 use Rattle.cacache_table.specs.State.{Site}
 use Rattle.cacache_table.specs.Table.{opening}

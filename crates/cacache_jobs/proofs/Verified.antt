@@ -1,9 +1,8 @@
 -- A content is exported exactly where its bytes meet its integrity.
-use Rattle.std.proofs.Common.{◌≡◌, inl, inr, ℕ, List, Bool, true, false, Some, length, refl}
+use Rattle.std.proofs.Common.{◌≡◌, inl, inr, ℕ, List, Some, length, refl}
 use Rattle.cacache_core.specs.declared.errors.Error.{Error}
 use Rattle.cacache_core.specs.declared.errors.Error.TheVariants.{OutOfMemory, IntegrityError}
 use Rattle.cacache_core.specs.Integrity.{Meets, actual}
-use Rattle.cacache_core.specs.Meeting.{meets}
 use Rattle.cacache_core.specs.Refusals.{IsCheckFailure}
 use Rattle.cacache_core.proofs.Meeting.{meets_finds}
 use Rattle.cacache_table.specs.declared.command.Export.{Export}

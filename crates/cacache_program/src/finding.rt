@@ -1,5 +1,5 @@
 //! The word `find`.
-ghost use Rattle.std.specs.Prelude.{◌≡◌, ◌++◌, ◌∷◌, [], IfOk, option_map};
+ghost use Rattle.std.specs.Prelude.{◌≡◌, IfOk, option_map};
 ghost use Rattle.cacache.specs.Entries.{found_view};
 ghost use Rattle.cacache_program.specs.PrintedEntries.{entry_text};
 ghost use Rattle.cacache_program.specs.WordFind.{PrintsFound, found_line};

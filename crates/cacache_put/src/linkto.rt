@@ -1,5 +1,5 @@
 //! Calls that make a content of a link to a file.
-ghost use Rattle.std.specs.Prelude.{◌≡◌, None, Some, IfOk};
+ghost use Rattle.std.specs.Prelude.{None, Some, IfOk};
 ghost use Rattle.cacache_core.specs.declared.integrity.algorithm.Algorithm.TheVariants.{Sha256};
 ghost use Rattle.cacache_table.specs.declared.command.Command.TheVariants as commands;
 ghost use Rattle.cacache_table.specs.declared.reply.Reply.TheVariants.{Stored};

@@ -1,5 +1,5 @@
 //! Whether a seat agrees with its caller's records.
-ghost use Rattle.std.specs.Prelude.{◌≡◌, ◌↔◌, IfOk, IsTrue, map, option_map};
+ghost use Rattle.std.specs.Prelude.{◌≡◌, ◌↔◌, IfOk, IsTrue, map};
 ghost use Rattle.cacache_agree.specs.Said.{said_command, said_reply};
 ghost use Rattle.cacache_shared.specs.Lines.{commands_of, replies_of};
 

@@ -1,5 +1,5 @@
 //! One world for several threads. Each caller has a seat, which holds one part of the ledger.
-ghost use Rattle.std.specs.Prelude.{◌≡◌, ◌+◌, ◌<◌, ◌≤◌, ◌∷◌, [], All, sum_by, length, vec_capacity, IfOk, IfErr, OnOk, OnErr};
+ghost use Rattle.std.specs.Prelude.{◌≡◌, ◌<◌, ◌≤◌, [], All, sum_by, length, vec_capacity, IfOk, IfErr, OnOk, OnErr};
 ghost use Rattle.cacache_shared.specs.Lines.{moves};
 ghost use Rattle.cacache_shared.specs.Seats.{SeatAgrees, SeatGoes, fresh_seats, with_command};
 

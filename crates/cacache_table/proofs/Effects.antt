@@ -29,7 +29,7 @@ use Rattle.cacache_table.specs.State.{State, doing, creating, writing, persistin
 use Rattle.cacache_table.specs.Common.{ends_with, fails, go_on, errand_step}
 use Rattle.cacache_table.specs.Inserting.{insertion, deletion, unless_refused, refused_cause, bucket_line, after_append}
 use Rattle.cacache_table.specs.Storing.{insertion_of, indexed, sized, matches, compared, placed, write_rest, after_write, after_confirm, put_commit}
-use Rattle.cacache_table.specs.Linking.{link_target, after_size, commit_for, after_read}
+use Rattle.cacache_table.specs.Linking.{link_target, after_size, after_read}
 use Rattle.cacache_table.specs.Table.{piece, wants, after, opening}
 use Rattle.cacache_table.specs.Runs.{Moves, Runs}
 use Rattle.cacache_table.proofs.Branches.{cond_leads, go_on_leads}

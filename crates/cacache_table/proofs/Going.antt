@@ -12,7 +12,6 @@ use Rattle.cacache_table.specs.declared.reply.Reply.TheVariants.{Refused}
 use Rattle.cacache_table.specs.State.{State, over}
 use Rattle.cacache_table.specs.Table.{wants, after}
 use Rattle.cacache_table.specs.Runs.{Moves, Runs, Goes, Gone, Gains, Ran}
-use Rattle.cacache_table.proofs.Memory.{no_memory_after}
 
 -- a move in the log
 abbrev made : PlainStep × PlainAnswer → LogItem

@@ -1,5 +1,5 @@
 //! JSON values that contracts see as data.
-ghost use Rattle.std.specs.Prelude.{◌≡◌, IfOk};
+ghost use Rattle.std.specs.Prelude.{◌≡◌};
 ghost use Rattle.serde_json.specs.View.{view};
 
 use serde_json::Value;

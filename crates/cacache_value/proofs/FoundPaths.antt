@@ -1,14 +1,13 @@
 -- What is known of a path where a step found what it wanted.
-use Rattle.std.proofs.Common.{◌≡◌, ◌==◌, length, ℕ, zero, suc, Bool, true, false, cond, List, [], ◌∷◌, ◌++◌, Option, None, Some, Ok, Err, refl, sym, ap, subst, ◌∙◌}
+use Rattle.std.proofs.Common.{◌≡◌, ℕ, zero, suc, true, List, [], ◌∷◌, ◌++◌, Option, None, Some, Ok, Err, refl, sym, ap, subst, ◌∙◌}
 use Rattle.std.specs.Prelude.{Result, IfOk}
 use Rattle.cacache_core.specs.declared.errors.Fault.{Fault}
-use Rattle.cacache_core.specs.declared.errors.Fault.TheVariants.{NotFound, NotEmpty}
+use Rattle.cacache_core.specs.declared.errors.Fault.TheVariants.{NotFound}
 use Rattle.cacache_disk.specs.declared.node.Node.{Node}
 use Rattle.cacache_disk.specs.declared.node.Node.TheVariants.{Folder, File, Link}
 use Rattle.cacache_core.specs.PathNames.{names_of}
-use Rattle.cacache_disk.specs.Tree.{Tree, Names, look, listing}
-use Rattle.cacache_disk.specs.Rooted.{is_folder}
-use Rattle.cacache_disk.specs.LedTo.{and_then, or_fault, through, way_fault, place, standing, followed, leads, on_link, where_there, where_free, where_no_folder, where_removable, where_folder, where_file, where_empty, linked_in, free, replaceable, kept, linked, removable, folder, emptied, writable, dirs}
+use Rattle.cacache_disk.specs.Tree.{Tree, Names, look}
+use Rattle.cacache_disk.specs.LedTo.{and_then, or_fault, through, way_fault, place, standing, followed, leads, on_link, where_no_folder, linked_in, linked, writable, dirs}
 use Rattle.cacache_value.specs.Kinds.{PathKind, Content, Bucket, Temporary, Way, Stray, Elsewhere, path_kind, is_used, IsFor}
 use Rattle.cacache_value.specs.Placed.{MayStand, Placed}
 use Rattle.cacache_disk.proofs.FoundNodes.{NoFolder, and_then_ok, place_ok, no_folder_at, standing_ok}

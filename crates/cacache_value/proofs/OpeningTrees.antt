@@ -1,20 +1,18 @@
 -- Outside files hold nothing of the cache.
-use Rattle.std.proofs.Common.{◌≡◌, ◌==◌, ◌-◌, ◌+◌, ◌<◌, ◌≤◌, ℕ, Bool, true, false, cond, List, [], ◌∷◌, ◌++◌, Option, None, Some, Ok, length, refl, sym, ap, ap₂, subst, ◌∙◌, arith, eqb-true, length-append, append_assoc, append-nil, bytes_eq}
-use Rattle.std.proofs.Math.Seq.{take-append_seam}
+use Rattle.std.proofs.Common.{◌≡◌, ◌==◌, ◌-◌, ◌+◌, ℕ, Bool, true, false, cond, List, [], ◌∷◌, ◌++◌, Option, None, Some, Ok, length, refl, sym, ap, ap₂, subst, ◌∙◌, append_assoc, append-nil, bytes_eq}
 use Rattle.std.specs.FinMap as map
-use Rattle.cacache_core.specs.declared.errors.Fault.TheVariants.{AlreadyExists, NotADirectory}
-use Rattle.cacache_core.specs.Paths.{content_names, folder_names, bucket_names_of}
+use Rattle.cacache_core.specs.Paths.{content_names, bucket_names_of}
 use Rattle.cacache_disk.specs.declared.node.Node.{Node}
-use Rattle.cacache_disk.specs.declared.node.Node.TheVariants.{Folder, File, Link}
+use Rattle.cacache_disk.specs.declared.node.Node.TheVariants.{Folder, File}
 use Rattle.cacache_core.specs.PathNames.{names_of}
-use Rattle.cacache_disk.specs.Tree.{Tree, Names, look, put, same_path, bare, names_cmp}
-use Rattle.cacache_disk.specs.LedTo.{or_fault, dirs_fault, is_in_way, where_no_folder}
+use Rattle.cacache_disk.specs.Tree.{Tree, Names, look, put, same_path, bare}
+use Rattle.cacache_disk.specs.LedTo.{or_fault, dirs_fault, where_no_folder}
 use Rattle.cacache_disk.specs.Apply.{planted, above_last, make_some, if_missing}
 use Rattle.cacache_disk.proofs.Maps.{same_path-true}
 use Rattle.cacache_value.specs.Kinds.{PathKind, Elsewhere, path_kind, kind_beside, node_below, is_path_of, IsFor}
 use Rattle.cacache_value.specs.Value.{blob_in, bucket_in, folders_below, value_of_tree}
 use Rattle.cacache_value.specs.Placed.{MayStand, Placed}
-use Rattle.cacache_disk.specs.Rooted.{is_folder, Rooted, StandsIn}
+use Rattle.cacache_disk.specs.Rooted.{is_folder, Rooted}
 use Rattle.cacache_value.specs.OpeningTrees.{with_files, LieApart, IsOpening}
 use Rattle.cacache_value.specs.ValueLaws.{FilesOpen}
 use Rattle.cacache_value.proofs.KindsApart.{not_true, kind-below, further, inner_used}

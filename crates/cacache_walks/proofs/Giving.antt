@@ -1,12 +1,11 @@
 -- How a walk goes on with more items, and what it stumbles over.
-use Rattle.std.proofs.Common.{◌≡◌, ℕ, ◌+◌, ◌<◌, ◌≤◌, List, [], ◌∷◌, ◌++◌, Bool, Ok, true, false, cond, nat_le, refl, sym, ◌∙◌, ap, length, take, map, length-append, arith}
+use Rattle.std.proofs.Common.{◌≡◌, ℕ, ◌+◌, ◌<◌, List, [], ◌∷◌, ◌++◌, Bool, Ok, true, false, nat_le, refl, sym, ◌∙◌, ap, length, take, map, length-append, arith}
 use Rattle.std.proofs.Math.Seq.{take-append-add}
 use Rattle.std.proofs.lemmas.List.{take-map, length-map}
 use Rattle.std.proofs.lemmas.Bool.{lt-leb}
 use Rattle.cacache_table.specs.State.{State, Item, Walk}
 use Rattle.cacache_table.specs.Walking.{most, give, miss, too_many, walk_on, walk_ends}
 use Rattle.cacache_table.specs.Runs.{plain_item}
-use Rattle.cacache_core.specs.declared.errors.Error.{Error}
 use Rattle.cacache_core.specs.declared.errors.Fault.{Fault}
 use Rattle.cacache_walks.specs.declared.visit.Task.{Task}
 use Rattle.cacache_walks.specs.declared.visit.Task.TheVariants.{Stumble}

@@ -1,5 +1,5 @@
 //! A store that answers by a script, and keeps its log.
-ghost use Rattle.std.specs.Prelude.{◌≡◌, ◌∷◌, ◌++◌, ◌<◌, [], false, Some, IfSome, OnOk, OnSome, vec_len, vec_capacity};
+ghost use Rattle.std.specs.Prelude.{◌≡◌, ◌∷◌, ◌++◌, ◌<◌, [], false, Some, IfSome, OnOk, vec_len, vec_capacity};
 ghost use Rattle.cacache_store.specs.Fits.{Fits, Logs, is_no_memory};
 
 use crate::fitting::{Told, fitting};

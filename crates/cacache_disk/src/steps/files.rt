@@ -1,5 +1,5 @@
 //! Steps on files.
-ghost use Rattle.std.specs.Prelude.{◌≡◌, ℕ, Option, IfOk, IfErr};
+ghost use Rattle.std.specs.Prelude.{Option, IfOk, IfErr};
 ghost use Rattle.cacache_store.specs.declared.store.step.Step.TheVariants.{Append, ReadAll, Open, Size, Exists, RemoveFile};
 ghost use Rattle.cacache_disk.specs.Plans.{IsPlan, Refuses};
 

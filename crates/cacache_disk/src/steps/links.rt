@@ -1,5 +1,5 @@
 //! Steps that give a file or its bytes a second path.
-ghost use Rattle.std.specs.Prelude.{◌≡◌, ℕ, Option, IfOk, IfErr};
+ghost use Rattle.std.specs.Prelude.{Option, IfOk, IfErr};
 ghost use Rattle.cacache_store.specs.declared.store.step.Step.TheVariants.{Symlink, Copy, Reflink, HardLink};
 ghost use Rattle.cacache_disk.specs.Plans.{IsPlan, Refuses};
 

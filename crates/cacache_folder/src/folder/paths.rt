@@ -1,5 +1,4 @@
 //! Folders that are made with those on their way.
-ghost use Rattle.std.specs.Prelude.{◌≡◌};
 
 use crate::folder::FolderStore;
 use std::io;

@@ -1,4 +1,4 @@
-use Rattle.std.proofs.Common.{◌≡◌, ◌∙◌, sym, ap}
+use Rattle.std.proofs.Common.{◌∙◌, sym, ap}
 use Rattle.std.specs.Prelude.{Some}
 use Rattle.cacache_memory.specs.Replay.{tree_of}
 use Rattle.cacache_memory.proofs.PlainLuck.{shown-shared}

@@ -1,4 +1,4 @@
-use Rattle.std.proofs.Common.{◌≡◌, sym, ◌∙◌}
+use Rattle.std.proofs.Common.{sym, ◌∙◌}
 use Rattle.cacache_table.specs.Walking.{walk_on}
 use Rattle.cacache_walks.specs.WalkStates.{pending}
 use Rattle.cacache_walks.proofs.Giving.{stumbled, gave_yes, gave_no}
