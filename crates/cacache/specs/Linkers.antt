@@ -1,2 +1,3 @@
 -- Open linkers, for the crates above: how they open, what they took, and what their commit does.
-pub use Rattle.cacache_put.specs.OpenLinkers.{HasHashed, IsNewLinker, OpensLink, OpensWithSize, HasSize, OpensLinker, CommitsLink, StoresWhole, linked_by, linked_to, sized_link, target_at, asks_size, asks_file, stands_at}
+pub use Rattle.cacache_jobs.specs.Targets.{linked_to, sized_link, target_at}
+pub use Rattle.cacache_put.specs.OpenLinkers.{LinkTarget, HasHashed, IsNewLinker, OpensLink, OpensWithSize, HasSize, OpensLinker, CommitsLink, StoresWhole, linked_by, asks_size, asks_file, stands_at}

@@ -23,7 +23,7 @@ use Rattle.cacache_jobs.specs.declared.looking.Aim.{Aim}
 use Rattle.cacache_jobs.specs.declared.looking.Aim.TheVariants as aims
 use Rattle.cacache_jobs.specs.declared.looking.Lookup.{Lookup}
 use Rattle.cacache_jobs.specs.declared.reading.Content.{Content}
-use Rattle.cacache_jobs.specs.declared.linking.Target.{Target}
+use Rattle.cacache_jobs.specs.Targets.{target_of}
 use Rattle.cacache_jobs.specs.declared.hashing.Hashing.{Hashing}
 use Rattle.cacache_jobs.specs.declared.hashing.Hashing.TheVariants as hashings
 use Rattle.cacache_jobs.specs.declared.stage.Then.{Then}
@@ -70,16 +70,6 @@ told None = Done
 abbrev pub IsInsertion : Insertion → states.Insertion → Type 0
 IsInsertion i j =
     (j.cache ≡ i.cache) × (j.entry.key ≡ string_bytes i.key) × (j.reply ≡ told i.integrity)
-
--- a link's target, as the table has it
-abbrev pub target_of : Target → states.Target
-target_of t = record {
-  cache = t.cache;
-  key = t.key;
-  path = t.path;
-  moment = t.moment;
-  options = t.options;
-}
 
 -- a file is read for this, and these bytes of it were hashed
 abbrev pub HashesFor : Hashing → states.Hashing → List ℕ → Type 0

@@ -1,3 +1,4 @@
+pub mod Targets
 pub mod JobStates
 pub mod Sites
 pub mod Environment

@@ -9,10 +9,10 @@ ghost use Rattle.cacache_table.specs.State.{Content as Named, Hashing as Purpose
 ghost use Rattle.cacache_table.specs.Seen.{seen_by, got_as};
 ghost use Rattle.cacache_jobs.specs.JobStates.{Leads, HashesFor, content_of};
 
-use crate::linking::Target;
 use crate::phase::{Phase, refused};
 use crate::reading::Content;
 use crate::stage::Stage;
+use crate::target::Target;
 use crate::{exporting, messages};
 use cacache_core::errors::{self, Error};
 use cacache_core::hasher::Hasher;
@@ -32,7 +32,7 @@ pub enum Hashing {
     /// The content at this path is verified for the export.
     Verify(IntegrityChecker, Text, Export),
     /// The target is to be linked to.
-    Link(Hasher, Target),
+    Link(Hasher, Target<u128>),
 }
 
 // Written out, so that it is a call of its own: whoever lets one go has a proof that doesn't go through its parts.

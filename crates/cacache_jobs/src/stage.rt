@@ -7,11 +7,11 @@ ghost use Rattle.cacache_jobs.specs.JobStates.{Leads, StageAt, ThenAt};
 
 use crate::hashing::Hashing;
 use crate::inserting::Insertion;
-use crate::linking::Target;
 use crate::looking::Lookup;
 use crate::phase::{Phase, refused};
 use crate::reading::Content;
 use crate::storing::Commit;
+use crate::target::Target;
 use crate::{
     exporting, hashing, inserting, linking, looking, messages, reading, removing, storing, walking,
 };
@@ -128,7 +128,7 @@ pub enum Stage<T> {
     /// The store is asked whether the content is there.
     Asking(Content),
     /// The size of the target is asked.
-    Sizing(Box<Target>),
+    Sizing(Box<Target<u128>>),
     /// The file is opened.
     Opening(Box<Hashing>),
     /// A piece of the file is read, after so many bytes.

@@ -1,5 +1,5 @@
 -- A listing that walks as it is asked: what it gave, and where it stands.
-use Rattle.std.specs.Prelude.{◌≡◌, ◌⊎◌, ◌+◌, ◌*◌, ℕ, List, [], ◌∷◌, ◌++◌, Option, Some, None, Result, Ok, Err, length, map, reverse}
+use Rattle.std.specs.Prelude.{◌≡◌, ◌⊎◌, ◌<◌, ◌≤◌, ◌+◌, ◌*◌, ℕ, List, [], ◌∷◌, ◌++◌, Option, Some, None, Result, Ok, Err, length, map, reverse}
 use Rattle.cacache_core.specs.declared.errors.Error.{Error}
 use Rattle.cacache_core.specs.declared.errors.Error.TheVariants.{OutOfMemory}
 use Rattle.cacache_store.specs.declared.store.log.LogItem.{LogItem}
@@ -104,6 +104,14 @@ module _ {S C N : Type 0} (log : S → Option (List LogItem)) where
   WentOn (Ok done) cache old ls items = StandsBy ls.visit cache old ls (items ++ ready ls)
   WentOn (Err e) cache old ls items =
       (e ≡ OutOfMemory) × Ran (listing cache) (Refused OutOfMemory) old (log ls.env.now.store)
+
+  -- the visit left fewer steps to be made, and no more items to be given
+  abbrev pub Shortens : Visit → Ls S C N → Ls S C N → Type 0
+  Shortens v old new =
+      (cache : List ℕ) (log0 : Option (List LogItem)) (items : List Item)
+      → StandsBy (Some v) cache log0 old items
+      → (steps_left new.visit new.walk < steps_left (Some v) old.walk)
+      × (left new ≤ items_left (Some v) old.walk)
 
   -- an item is ready, or the walk is over; or memory was refused, and it gives no more
   abbrev pub Filled :

@@ -7,7 +7,7 @@ ghost use Rattle.cacache_store.specs.declared.store.log.LogItem.{LogItem};
 ghost use Rattle.cacache_table.specs.Runs.{plain_item};
 ghost use Rattle.cacache_table.specs.State.{Item};
 ghost use Rattle.cacache_ls.specs.Lending.{EnvRests};
-ghost use Rattle.cacache_ls.specs.Iterating.{Filled, Gave, IsListing, KeepsEnv, NextGives, StandsBy, WentOn, item_of, items_left, left, steps_left};
+ghost use Rattle.cacache_ls.specs.Iterating.{Filled, Gave, IsListing, KeepsEnv, NextGives, Shortens, StandsBy, WentOn, item_of, left};
 
 use cacache_core::errors::{self, Error};
 use cacache_core::paths::join;
@@ -88,11 +88,7 @@ impl<'a, S: Store, C, N> Ls<'a, S, C, N> {
         ensures went { (cache : List ℕ) (old : Option (List LogItem)) (items : List Item)
             → StandsBy S.log (Some visit) cache old self.old items
             → WentOn S.log result cache old self.new items }
-        ensures shrinks { OnOk result
-            ((cache : List ℕ) (old : Option (List LogItem)) (items : List Item)
-            → StandsBy S.log (Some visit) cache old self.old items
-            → (steps_left self.new.visit self.new.walk < steps_left (Some visit) self.old.walk)
-            × (left self.new ≤ items_left (Some visit) self.old.walk)) }
+        ensures shrinks { OnOk result (Shortens S.log visit self.old self.new) }
         ensures rests { IfErr result (λ e.
             (self.new.visit ≡ self.old.visit) × (self.new.ready.items ≡ [])) }
     {

@@ -23,12 +23,12 @@ use Rattle.cacache_table.specs.Table.{wants, after, piece}
 use Rattle.cacache_table.proofs.Going.{answer_cases, no_gain, gone_nowhere, gone_on, gone_over, gone_lost, unmoved}
 use Rattle.cacache_table.proofs.Memory.{no_memory_after}
 use Rattle.cacache_jobs.proofs.Hashed.{more_read}
-use Rattle.cacache_put.specs.declared.link_target.Linked.{Linked}
 use Rattle.cacache_put.specs.declared.linker.SyncToLinker.{SyncToLinker}
 use Rattle.cacache_content.specs.OpenReads.{FailsToOpen}
 use Rattle.cacache_table.specs.SingleSteps.{Does, FailsAt}
 use Rattle.cacache_content.proofs.StepAnswers.{Refuses, file_refused, refused_fails}
-use Rattle.cacache_put.specs.OpenLinkers.{AsksSize, HasSize, FailsToSize, OpensLinker, OpensSized, OpensTarget, asks_size, asks_file, target_at}
+use Rattle.cacache_put.specs.OpenLinkers.{AsksSize, HasSize, FailsToSize, OpensLinker, OpensSized, OpensTarget, LinkTarget, asks_size, asks_file}
+use Rattle.cacache_jobs.specs.Targets.{target_at}
 use Rattle.cacache_put.specs.Rest.{links}
 
 -- ---- one part of a run after another
@@ -117,16 +117,16 @@ length_told t n e = absurd cc
 
 -- ---- the target is opened
 
-abbrev opens_of : Linked → ℕ → Hashing
+abbrev opens_of : LinkTarget → ℕ → Hashing
 opens_of l moment = to_link (target_at l moment)
 
-pub opened_target : (l : Linked) (moment : ℕ) (path : List ℕ) (t : PlainAnswer) (f : PlainFile) (old new : Option (List LogItem)) → path ≡ l.path → Ok f ≡ file_in t → Fits (steps.Open path) t → Logs old new (steps.Open path) t → Gone (asks_file l moment) (hashing (to_link (target_at l moment)) f []) old new
+pub opened_target : (l : LinkTarget) (moment : ℕ) (path : List ℕ) (t : PlainAnswer) (f : PlainFile) (old new : Option (List LogItem)) → path ≡ l.path → Ok f ≡ file_in t → Fits (steps.Open path) t → Logs old new (steps.Open path) t → Gone (asks_file l moment) (hashing (to_link (target_at l moment)) f []) old new
 opened_target l moment path t f old new same e fits logs =
     let s = asks_file l moment in
     step_on s s _ (steps.Open path) t old old new (gone_nowhere s old) (rw same refl) fits logs (file_told t f e)
     (go_gave (file_in t) f (λ file. hashing (opens_of l moment) file []) e)
 
-pub unopened_target : (l : Linked) (moment : ℕ) (path : List ℕ) (t : PlainAnswer) (refusal : Refusal) (e : Error) (old new : Option (List LogItem)) → path ≡ l.path → Err refusal ≡ file_in t → Fits (steps.Open path) t → Logs old new (steps.Open path) t → EndsAs e (refuse refusal fails) → Ran (asks_file l moment) (Refused (without_message e)) old new
+pub unopened_target : (l : LinkTarget) (moment : ℕ) (path : List ℕ) (t : PlainAnswer) (refusal : Refusal) (e : Error) (old new : Option (List LogItem)) → path ≡ l.path → Err refusal ≡ file_in t → Fits (steps.Open path) t → Logs old new (steps.Open path) t → EndsAs e (refuse refusal fails) → Ran (asks_file l moment) (Refused (without_message e)) old new
 unopened_target l moment path t refusal e old new same is fits logs ends =
     let s = asks_file l moment in
     step_refused s s (steps.Open path) t refusal e old old new (gone_nowhere s old) (rw same refl) fits logs
@@ -134,13 +134,13 @@ unopened_target l moment path t refusal e old new same is fits logs ends =
 
 -- ---- its size is told
 
-pub told_size : (l : Linked) (moment : ℕ) (path : List ℕ) (t : PlainAnswer) (n : ℕ) (old new : Option (List LogItem)) → path ≡ l.path → Ok n ≡ length_in t → Fits (steps.Size path) t → Logs old new (steps.Size path) t → Gone (asks_size l moment) (after_size (target_at l moment) n) old new
+pub told_size : (l : LinkTarget) (moment : ℕ) (path : List ℕ) (t : PlainAnswer) (n : ℕ) (old new : Option (List LogItem)) → path ≡ l.path → Ok n ≡ length_in t → Fits (steps.Size path) t → Logs old new (steps.Size path) t → Gone (asks_size l moment) (after_size (target_at l moment) n) old new
 told_size l moment path t n old new same e fits logs =
     let s = asks_size l moment in
     step_on s s _ (steps.Size path) t old old new (gone_nowhere s old) (rw same refl) fits logs (length_told t n e)
     (go_gave (length_in t) n (after_size (target_at l moment)) e)
 
-pub untold_size : (l : Linked) (moment : ℕ) (path : List ℕ) (t : PlainAnswer) (refusal : Refusal) (e : Error) (old new : Option (List LogItem)) → path ≡ l.path → Err refusal ≡ length_in t → Fits (steps.Size path) t → Logs old new (steps.Size path) t → EndsAs e (refuse refusal fails) → Ran (asks_size l moment) (Refused (without_message e)) old new
+pub untold_size : (l : LinkTarget) (moment : ℕ) (path : List ℕ) (t : PlainAnswer) (refusal : Refusal) (e : Error) (old new : Option (List LogItem)) → path ≡ l.path → Err refusal ≡ length_in t → Fits (steps.Size path) t → Logs old new (steps.Size path) t → EndsAs e (refuse refusal fails) → Ran (asks_size l moment) (Refused (without_message e)) old new
 untold_size l moment path t refusal e old new same is fits logs ends =
     let s = asks_size l moment in
     step_refused s s (steps.Size path) t refusal e old old new (gone_nowhere s old) (rw same refl) fits logs
@@ -182,9 +182,9 @@ unsized_so path at t refusal e old new same is fits logs ends =
     rw (← same) (refused_fails (steps.Size path) t refusal e old new (size_refused path t refusal is fits) logs ends)
 
 -- the target is opened once its size was asked
-pub opened_sized : {F : Type 0} (file : F → PlainFile) (l next : Linked) (r : Result (SyncToLinker F) Error) (old mid new : Option (List LogItem)) → AsksSize l (Ok next) old mid → OpensTarget file next r mid new → OpensSized file l r old new
+pub opened_sized : {F : Type 0} (file : F → PlainFile) (l next : LinkTarget) (r : Result (SyncToLinker F) Error) (old mid new : Option (List LogItem)) → AsksSize l (Ok next) old mid → OpensTarget file next r mid new → OpensSized file l r old new
 opened_sized file l next (Ok linker) old mid new h opens = (h.0, mid, h.2, subst (λ n. OpensTarget file n (Ok linker) mid new) h.1 opens)
-opened_sized file l next (Err e) old mid new h opens = inr (h.0, mid, h.2, subst (λ (n : Linked). FailsToOpen n.path e mid new) h.1 opens)
+opened_sized file l next (Err e) old mid new h opens = inr (h.0, mid, h.2, subst (λ (n : LinkTarget). FailsToOpen n.path e mid new) h.1 opens)
 
 -- ---- its rest is read
 

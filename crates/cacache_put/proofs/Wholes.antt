@@ -23,7 +23,8 @@ use Rattle.cacache_table.specs.Table.{piece}
 use Rattle.cacache_table.specs.Verifying.{Gives}
 use Rattle.cacache_table.proofs.Promises.{runs_keep}
 use Rattle.cacache_put.specs.declared.linker.SyncToLinker.{SyncToLinker}
-use Rattle.cacache_put.specs.OpenLinkers.{StoresWhole, stands_at, target_at}
+use Rattle.cacache_jobs.specs.Targets.{target_at}
+use Rattle.cacache_put.specs.OpenLinkers.{StoresWhole, stands_at}
 use Rattle.cacache_put.specs.Rest.{links}
 
 module _ (t : Target) (i : List Hash) where

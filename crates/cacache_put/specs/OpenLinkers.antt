@@ -8,67 +8,46 @@ use Rattle.cacache_store.specs.declared.store.answer.Answer.TheVariants as answe
 use Rattle.cacache_store.specs.declared.store.log.LogItem.{LogItem}
 use Rattle.cacache_store.specs.declared.store.plain.PlainFile.{PlainFile}
 use Rattle.cacache_store.specs.declared.store.step.Step.TheVariants as steps
-use Rattle.cacache_table.specs.declared.command.Options.{Options}
 use Rattle.cacache_table.specs.declared.reply.Reply.{Reply}
 use Rattle.cacache_table.specs.declared.reply.Reply.TheVariants.{Stored, Refused}
-use Rattle.cacache_table.specs.Linking.{based, commit_for}
+use Rattle.cacache_table.specs.Linking.{commit_for}
 use Rattle.cacache_table.specs.Promises.{Stores}
 use Rattle.cacache_table.specs.Runs.{Moves, Gains, Gone, Ran, without_message}
-use Rattle.cacache_table.specs.State.{State, sizing, opening_file, hashing, to_link, Target}
+use Rattle.cacache_table.specs.State.{State, sizing, opening_file, hashing, to_link}
 use Rattle.cacache_table.specs.Verifying.{Gives}
-use Rattle.cacache_put.specs.declared.link_target.Linked.{Linked}
 use Rattle.cacache_put.specs.declared.linker.SyncToLinker.{SyncToLinker}
 use Rattle.cacache_content.specs.OpenReads.{OpensFile, FailsToOpen}
 use Rattle.cacache_table.specs.SingleSteps.{Does, FailsAt}
 use Rattle.cacache_put.specs.Options.{Said, options_of}
+use Rattle.cacache_jobs.specs.declared.target.Target.{Target}
 use Rattle.cacache_jobs.specs.Environment.{HasMoment, KeepsRest}
+use Rattle.cacache_jobs.specs.Targets.{linked_to, sized_link, target_at}
 
--- what is to be linked; without a key the time has no effect
-abbrev pub linked_to :
-    List ℕ → List ℕ → Option (List ℕ) → List ℕ → Option ℕ → Options → Linked
-linked_to base cache key target time options = record {
-  cache = cache;
-  key = key;
-  path = based base target;
-  time = time;
-  options = options;
-}
+-- a target that is to be linked to; where it has no moment, the clock is asked for it
+abbrev pub LinkTarget : Type 0
+LinkTarget = Target (Option ℕ)
 
--- the same by what was said of the link
-abbrev pub linked_by : List ℕ → List ℕ → Option (List ℕ) → List ℕ → Said → Linked
+-- what is to be linked by what was said of it; without a key the time has no effect
+abbrev pub linked_by : List ℕ → List ℕ → Option (List ℕ) → List ℕ → Said → LinkTarget
 linked_by base cache None target s = linked_to base cache None target (Some 0) (options_of s)
 linked_by base cache (Some key) target s =
     linked_to base cache (Some key) target s.time (options_of s)
 
--- the same with the size that the link is to have
-abbrev pub sized_link : Linked → ℕ → Linked
-sized_link l size = record l { options = record l.options { size = Some size } }
-
--- the same as the target of a call at this moment
-abbrev pub target_at : Linked → ℕ → Target
-target_at l moment = record {
-  cache = l.cache;
-  key = l.key;
-  path = l.path;
-  moment = moment;
-  options = l.options;
-}
-
 -- ---- where a call with it begins
 
 -- the target's size is asked first
-abbrev pub asks_size : Linked → ℕ → State
+abbrev pub asks_size : LinkTarget → ℕ → State
 asks_size l moment = sizing (target_at l moment)
 
 -- it isn't
-abbrev pub asks_file : Linked → ℕ → State
+abbrev pub asks_file : LinkTarget → ℕ → State
 asks_file l moment = opening_file (to_link (target_at l moment))
 
 -- it was asked, and is the one that the link is to have; or why it wasn't told
 abbrev pub Sizes :
-    Linked → Result Linked Error → Option (List LogItem) → Option (List LogItem) → Type 0
+    LinkTarget → Result LinkTarget Error → Option (List LogItem) → Option (List LogItem) → Type 0
 Sizes l (Ok sized) old new =
-    (sized.time ≡ l.time)
+    (sized.moment ≡ l.moment)
     × ((moment : ℕ) → Gone (asks_size l moment) (asks_file sized moment) old new)
 Sizes l (Err e) old new = (moment : ℕ) → Ran (asks_size l moment) (Refused (without_message e)) old new
 
@@ -81,7 +60,7 @@ HasHashed l bytes =
     × (l.count ≡ min (length bytes) (2 ^ 64 - 1))
 
 -- the linker took nothing yet, and is to make this link
-pub record IsNewLinker {F : Type 0} (linked : Linked) (l : SyncToLinker F) : Type 0 where
+pub record IsNewLinker {F : Type 0} (linked : LinkTarget) (l : SyncToLinker F) : Type 0 where
   pub linked_is : l.linked ≡ linked
   pub empty : HasHashed l []
 
@@ -97,7 +76,7 @@ FailsToSize path e old new = FailsAt (steps.Size path) e old new
 
 -- what is to be linked, with the size that was asked; or why it has none
 abbrev pub AsksSize :
-    Linked → Result Linked Error → Option (List LogItem) → Option (List LogItem) → Type 0
+    LinkTarget → Result LinkTarget Error → Option (List LogItem) → Option (List LogItem) → Type 0
 AsksSize l (Ok next) old new =
     (size : ℕ) × (next ≡ sized_link l size) × HasSize l.path size old new
 AsksSize l (Err e) old new = FailsToSize l.path e old new
@@ -105,14 +84,14 @@ AsksSize l (Err e) old new = FailsToSize l.path e old new
 module _ {F : Type 0} (file : F → PlainFile) where
   -- the target was opened, of which the linker took nothing yet; or why it wasn't
   abbrev pub OpensTarget :
-      Linked → Result (SyncToLinker F) Error → Option (List LogItem) → Option (List LogItem) → Type 0
+      LinkTarget → Result (SyncToLinker F) Error → Option (List LogItem) → Option (List LogItem) → Type 0
   OpensTarget linked (Ok l) old new =
       IsNewLinker linked l × OpensFile linked.path (file l.file) old new
   OpensTarget linked (Err e) old new = FailsToOpen linked.path e old new
 
   -- its size was asked first, and is the one that the link is to have
   abbrev pub OpensSized :
-      Linked → Result (SyncToLinker F) Error → Option (List LogItem) → Option (List LogItem) → Type 0
+      LinkTarget → Result (SyncToLinker F) Error → Option (List LogItem) → Option (List LogItem) → Type 0
   OpensSized linked (Ok l) old new =
       (size : ℕ) × (mid : Option (List LogItem)) × HasSize linked.path size old mid
       × OpensTarget (sized_link linked size) (Ok l) mid new
@@ -124,13 +103,13 @@ module _ {F : Type 0} (file : F → PlainFile) where
   module _ {S C N : Type 0} (log : S → Option (List LogItem)) where
     -- the target was opened, and the environment stayed but for the store
     abbrev pub OpensLink :
-        Env S C N → Env S C N → Linked → Result (SyncToLinker F) Error → Type 0
+        Env S C N → Env S C N → LinkTarget → Result (SyncToLinker F) Error → Type 0
     OpensLink old new linked r =
         OpensTarget linked r (log old.store) (log new.store) × KeepsRest old new
 
     -- the same after its size was asked
     abbrev pub OpensWithSize :
-        Env S C N → Env S C N → Linked → Result (SyncToLinker F) Error → Type 0
+        Env S C N → Env S C N → LinkTarget → Result (SyncToLinker F) Error → Type 0
     OpensWithSize old new linked r =
         OpensSized linked r (log old.store) (log new.store) × KeepsRest old new
 
@@ -145,7 +124,7 @@ module _ {F : Type 0} (file : F → PlainFile) where
       Option ℕ → (ℕ → State) → Result (SyncToLinker F) Error
       → Option (List LogItem) → Option (List LogItem) → Type 0
   OpensLinker time start (Ok l) old new =
-      HasHashed l [] × (l.linked.time ≡ time)
+      HasHashed l [] × (l.linked.moment ≡ time)
       × ((moment : ℕ) → Gone (start moment) (stands_at l [] moment) old new)
   OpensLinker time start (Err e) old new =
       (moment : ℕ) → Ran (start moment) (Refused (without_message e)) old new
@@ -156,7 +135,7 @@ module _ {F : Type 0} (file : F → PlainFile) where
       {S C N : Type 0} → (S → Option (List LogItem)) → (C → Option (List ℕ))
       → Env S C N → Env S C N → SyncToLinker F → List ℕ → Reply → Type 0
   CommitsLink log moments old new l bytes reply =
-      (moment : ℕ) × HasMoment moments l.linked.time old.clock new.clock moment
+      (moment : ℕ) × HasMoment moments l.linked.moment old.clock new.clock moment
       × Ran (stands_at l bytes moment) reply (log old.store) (log new.store)
       × (new.names ≡ old.names) × (new.base ≡ old.base)
 

@@ -3,7 +3,6 @@
 
 pub mod index;
 mod link_opts;
-mod link_target;
 pub mod linker;
 pub mod linkto;
 pub mod opts;

@@ -1,10 +1,10 @@
 //! Links that are opened with options.
 ghost use Rattle.std.specs.Prelude.{None, Some};
-ghost use Rattle.cacache_put.specs.OpenLinkers.{OpensLink, OpensLinker, asks_file, linked_by, linked_to};
+ghost use Rattle.cacache_put.specs.OpenLinkers.{OpensLink, OpensLinker, asks_file, linked_by};
 ghost use Rattle.cacache_put.specs.Options.{options_of};
+ghost use Rattle.cacache_jobs.specs.Targets.{linked_to};
 
-use crate::link_target::Linked;
-use crate::linker::{SyncToLinker, open_target};
+use crate::linker::{SyncToLinker, linked, open_target};
 use crate::opts::WriteOpts;
 use cacache_core::errors::Result;
 use cacache_core::keeping::beside;
@@ -34,7 +34,7 @@ impl WriteOpts {
         let time = self.set_time();
         let (key, opts) = beside(Text::from_str(alloc, key), self)?;
         let (options, key) = beside(opts.into_options(alloc), Some(key))?;
-        let linked = Linked::new(alloc, env.base.as_str(), cache, key, target, time, options)?;
+        let linked = linked(alloc, env.base.as_str(), cache, key, target, time, options)?;
         open_target(alloc, &mut env.store, linked)
     }
 
@@ -54,7 +54,7 @@ impl WriteOpts {
         let alloc = env.alloc;
         let options = self.into_options(alloc)?;
         let base = env.base.as_str();
-        let linked = Linked::new(alloc, base, cache, None, target, Some(0), options)?;
+        let linked = linked(alloc, base, cache, None, target, Some(0), options)?;
         open_target(alloc, &mut env.store, linked)
     }
 }

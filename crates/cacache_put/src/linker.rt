@@ -10,46 +10,66 @@ ghost use Rattle.cacache_table.specs.Runs.{Ran, reply_of};
 ghost use Rattle.cacache_table.specs.State.{hashing, to_link};
 ghost use Rattle.cacache_core.specs.Hashers.{Holds, algorithm_of};
 ghost use Rattle.cacache_content.specs.Passed.{passed};
-ghost use Rattle.cacache_put.specs.OpenLinkers.{AsksSize, CommitsLink, HasHashed, OpensLink, OpensLinker, OpensSized, OpensTarget, OpensWithSize, Sizes, StoresWhole, asks_file, asks_size, linked_by, linked_to, target_at};
+ghost use Rattle.cacache_put.specs.OpenLinkers.{AsksSize, CommitsLink, HasHashed, OpensLink, OpensLinker, OpensSized, OpensTarget, OpensWithSize, Sizes, StoresWhole, asks_file, asks_size, linked_by};
+ghost use Rattle.cacache_jobs.specs.Targets.{linked_to, target_of};
 ghost use Rattle.cacache_table.specs.Blank.{blank};
 ghost use Rattle.cacache_put.specs.Options.{nothing_said};
 ghost use Rattle.cacache_put.specs.Rest.{links};
 
-use crate::link_target::Linked;
 use crate::rest::read_rest;
 use cacache_core::errors::{Error, Result};
 use cacache_core::hasher::Hasher;
 use cacache_core::integrity::{Algorithm, Integrity};
-use cacache_core::keeping::let_go;
+use cacache_core::keeping::{beside, let_go};
 use cacache_core::text::Text;
-use cacache_jobs::{link_from, messages, moment, refused};
+use cacache_jobs::{Target, link_from, messages, moment, refused};
 use cacache_store::env::{Clock, Env, Names};
 use cacache_store::store::{OpenedFile, Step, Store};
 use cacache_table::Options;
 use cacache_table::answers::{file_of, length_of};
-use std::alloc::Global;
+use std::alloc::{AllocError, Global};
 use std::io;
 use std::io::Read;
+
+/// A file that is to be linked to; where the entry's time isn't set, the commit asks the clock for it.
+pub(crate) type LinkTarget = Target<Option<u128>>;
 
 /// An open file that is to become a content by a link to it. It may be read in pieces; `commit` reads the rest. Each byte
 /// is hashed once.
 #[derive(Drop)]
 pub struct SyncToLinker<F> {
-    linked: Linked,
+    linked: LinkTarget,
     hasher: Hasher,
     /// How many bytes were read, or `usize::MAX` if there are more.
     count: usize,
     file: F,
 }
 
+/// What is to be linked in the cache; a target without a `/` in front starts at the base folder.
+pub(crate) fn linked(
+    alloc: Global,
+    base: &str,
+    cache: &str,
+    key: Option<Text>,
+    target: &str,
+    time: Option<u128>,
+    options: Options,
+) -> std::result::Result<LinkTarget, AllocError>
+    ensures { IfOk result
+        (λ l. l ≡ linked_to base.now cache.now key target.now time options) }
+{
+    let (target, (key, options)) = beside(Text::from_str(alloc, target), (key, options))?;
+    Target::new(alloc, base, cache, key, target, time, options)
+}
+
 /// Opens the target.
 pub(crate) fn open_target<S: Store>(
     alloc: Global,
     store: &mut S,
-    linked: Linked,
+    linked: LinkTarget,
 ) -> Result<SyncToLinker<S::File>>
     ensures opens { OpensTarget S.File.seen linked result (S.log store.old) (S.log store.new) }
-    ensures begins { OpensLinker S.File.seen linked.time (asks_file linked) result
+    ensures begins { OpensLinker S.File.seen linked.moment (asks_file linked) result
         (S.log store.old) (S.log store.new) }
 {
     let path = linked.path.clone()?;
@@ -68,7 +88,7 @@ pub(crate) fn open_target<S: Store>(
 }
 
 /// Asks the target's size, which the link is to have.
-fn sized<S: Store>(alloc: Global, store: &mut S, linked: Linked) -> Result<Linked>
+fn sized<S: Store>(alloc: Global, store: &mut S, linked: Linked) -> Result<LinkTarget>
     ensures asks { AsksSize linked result (S.log store.old) (S.log store.new) }
     ensures begins { Sizes linked result (S.log store.old) (S.log store.new) }
 {
@@ -83,10 +103,10 @@ fn sized<S: Store>(alloc: Global, store: &mut S, linked: Linked) -> Result<Linke
 fn open_sized<S: Store>(
     alloc: Global,
     store: &mut S,
-    linked: Linked,
+    linked: LinkTarget,
 ) -> Result<SyncToLinker<S::File>>
     ensures opens { OpensSized S.File.seen linked result (S.log store.old) (S.log store.new) }
-    ensures begins { OpensLinker S.File.seen linked.time (asks_size linked) result
+    ensures begins { OpensLinker S.File.seen linked.moment (asks_size linked) result
         (S.log store.old) (S.log store.new) }
 {
     match sized(alloc, store, linked) {
@@ -98,36 +118,34 @@ fn open_sized<S: Store>(
 /// Makes the link of a target that was read to its end and has this integrity and size.
 fn finish<S: Store, C, N>(
     env: &mut Env<S, C, N>,
-    linked: Linked,
+    target: Target<u128>,
     computed: Integrity,
     count: usize,
-    moment: u128,
 ) -> Result<Integrity>
     ensures ran { (bytes : List ℕ)
-        → computed ≡ integrity_under linked.options.algorithm bytes → count ≡ length bytes
-        → Ran (links (target_at linked moment) bytes) (reply_of Stored result)
+        → computed ≡ integrity_under target.options.algorithm bytes → count ≡ length bytes
+        → Ran (links (target_of target) bytes) (reply_of Stored result)
         (S.log env.old.store) (S.log env.new.store) }
     ensures clock { env.new.clock ≡ env.old.clock }
     ensures names { env.new.names ≡ env.old.names }
     ensures base { env.new.base ≡ env.old.base }
 {
-    let (commit, target) = linked.into_commit(computed, count, moment);
-    link_from(env, commit, target).stored()
+    let (commit, path) = target.into_commit(computed, count);
+    link_from(env, commit, path).stored()
 }
 
 /// Reads the rest of the target, of which so many bytes were hashed, and makes the link.
 fn link_rest<S: Store, C, N>(
     env: &mut Env<S, C, N>,
-    linked: Linked,
+    target: Target<u128>,
     hasher: Hasher,
     count: usize,
     file: S::File,
-    moment: u128,
 ) -> Result<Integrity>
     ensures ran { (bytes : List ℕ)
-        → Holds hasher bytes → algorithm_of hasher ≡ linked.options.algorithm
+        → Holds hasher bytes → algorithm_of hasher ≡ target.options.algorithm
         → count ≡ length bytes
-        → Ran (hashing (to_link (target_at linked moment)) (S.File.seen file) bytes)
+        → Ran (hashing (to_link (target_of target)) (S.File.seen file) bytes)
         (reply_of Stored result) (S.log env.old.store) (S.log env.new.store) }
     ensures clock { env.new.clock ≡ env.old.clock }
     ensures names { env.new.names ≡ env.old.names }
@@ -136,7 +154,7 @@ fn link_rest<S: Store, C, N>(
     let mut hasher = hasher;
     match read_rest(env.alloc, &mut env.store, file, &mut hasher, count) {
         Ok(whole) => match hasher.result(env.alloc) {
-            Ok(computed) => finish(env, linked, computed, whole, moment),
+            Ok(computed) => finish(env, target, computed, whole),
             Err(error) => Err(error),
         },
         Err(error) => Err(error),
@@ -162,7 +180,7 @@ impl<F: OpenedFile> SyncToLinker<F> {
     {
         let alloc = env.alloc;
         let base = env.base.as_str();
-        let linked = Linked::new(
+        let linked = linked(
             alloc,
             base,
             cache,
@@ -194,7 +212,7 @@ impl<F: OpenedFile> SyncToLinker<F> {
         let base = env.base.as_str();
         let key = Some(Text::from_str(alloc, key)?);
         let options = Options::blank(Algorithm::Sha256);
-        let linked = Linked::new(alloc, base, cache, key, target, None, options)?;
+        let linked = linked(alloc, base, cache, key, target, None, options)?;
         open_sized(alloc, &mut env.store, linked)
     }
 
@@ -213,7 +231,7 @@ impl<F: OpenedFile> SyncToLinker<F> {
         let alloc = env.alloc;
         let base = env.base.as_str();
         let options = Options::blank(Algorithm::Sha256);
-        let linked = Linked::new(alloc, base, cache, None, target, Some(0), options)?;
+        let linked = linked(alloc, base, cache, None, target, Some(0), options)?;
         open_sized(alloc, &mut env.store, linked)
     }
 
@@ -240,13 +258,13 @@ impl<F: OpenedFile> SyncToLinker<F> {
             count,
             file,
         } = self;
-        let moment = moment(&mut env.clock, linked.time);
+        let moment = moment(&mut env.clock, linked.moment);
         // a longer target has no size that could be told
         if count == usize::MAX {
             let_go((linked, hasher, file));
             return Err(Error::OutOfMemory);
         }
-        link_rest(env, linked, hasher, count, file, moment)
+        link_rest(env, linked.at(moment), hasher, count, file)
     }
 }
 

@@ -60,3 +60,19 @@ abbrev pub WalkGives : List Item → Result Bool Error → Walk → (states.Walk
 WalkGives taken (Ok true) w next s = Counts taken w × (s ≡ next (walk_of taken w))
 WalkGives taken (Ok false) w next s = Bounds taken w × (s ≡ walk_ends (walk_of taken w))
 WalkGives taken (Err e) w next s = EndsAs e s
+
+-- ---- what a part of it does, whatever was taken before
+
+-- it goes on to this state of the old walk and of what that was to do
+abbrev pub GoesOn :
+    Walk → Walk → Result (Option Visit) Error → (states.Walk → List states.Task → State) → Type 0
+GoesOn old new r next =
+    (taken : List Item) → Counts taken old
+    → WalkLeads taken r new (next (walk_of taken old) (pending old.todo.items))
+
+-- it may go on with more items: whatever the next state is, so does the table
+abbrev pub GivesOn :
+    Walk → Walk → Result Bool Error → (states.Walk → (states.Walk → State) → State) → Type 0
+GivesOn old new r gives =
+    (taken : List Item) → Counts taken old → (next : states.Walk → State)
+    → WalkGives taken r new next (gives (walk_of taken old) next)

@@ -1,9 +1,8 @@
 //! The names of a folder that a walk enters, and the tasks that they bring.
-ghost use Rattle.std.specs.Prelude.{◌≡◌, ◌++◌, List, OnOk};
+ghost use Rattle.std.specs.Prelude.{◌≡◌, ◌++◌, OnOk};
 ghost use Rattle.cacache_table.specs.Common.{go_on};
-ghost use Rattle.cacache_table.specs.State.{Item};
 ghost use Rattle.cacache_table.specs.Walking.{walk_on as walk_on_of, miss as miss_of, entered as entered_of, task_of as table_task, tasks_of, leaving};
-ghost use Rattle.cacache_walks.specs.WalkStates.{Counts, WalkLeads, task_of, pending, walk_of};
+ghost use Rattle.cacache_walks.specs.WalkStates.{GoesOn, task_of, pending};
 
 use crate::messages;
 use crate::visit::{Task, Visit};
@@ -97,9 +96,8 @@ impl Walk {
         level: u8,
         names: Listing,
     ) -> errors::Result<Option<Visit>>
-        ensures { (taken : List Item) → Counts taken self.old
-            → WalkLeads taken result self.new
-            (entered_of (walk_of taken self.old) folder level (pending self.old.todo.items) names) }
+        ensures { GoesOn self.old self.new result
+            (λ w todo. entered_of w folder level todo names) }
     {
         let count = names.as_slice().len() as u64;
         if count > self.left {
@@ -127,10 +125,8 @@ impl Walk {
         level: u8,
         names: Result<Listing, Refusal>,
     ) -> errors::Result<Option<Visit>>
-        ensures { (taken : List Item) → Counts taken self.old
-            → WalkLeads taken result self.new (go_on names
-            (miss_of (walk_of taken self.old) (walk_on_of (pending self.old.todo.items)))
-            (entered_of (walk_of taken self.old) folder level (pending self.old.todo.items))) }
+        ensures { GoesOn self.old self.new result
+            (λ w todo. go_on names (miss_of w (walk_on_of todo)) (entered_of w folder level todo)) }
     {
         match names {
             Ok(names) => self.entered(alloc, folder, level, names),

@@ -3,9 +3,9 @@ ghost use Rattle.std.specs.Prelude.{◌≡◌, ◌+◌, List, [], OnOk, IfOk, If
 ghost use Rattle.cacache_store.specs.Plain.{plain_answer};
 ghost use Rattle.cacache_table.specs.Common.{go_on, refuse};
 ghost use Rattle.cacache_table.specs.Runs.{plain_item, plain_reply, EndsAs};
-ghost use Rattle.cacache_table.specs.State.{State, Item, Walk as TableWalk, over};
+ghost use Rattle.cacache_table.specs.State.{Item, over};
 ghost use Rattle.cacache_table.specs.Walking.{walk as walk_from, give as give_of, walk_on as walk_on_of, walk_ends, too_many as too_many_of, miss as miss_of, unread_bucket, listed as listed_of, after_visit};
-ghost use Rattle.cacache_walks.specs.WalkStates.{Counts, WalksAt, WalkLeads, WalkGives, visit_of, pending, walk_of};
+ghost use Rattle.cacache_walks.specs.WalkStates.{WalksAt, GoesOn, GivesOn, visit_of, walk_of};
 
 use crate::visit::{Task, Visit};
 use crate::{bucket, messages};
@@ -115,9 +115,8 @@ impl Walk {
 
     /// Whether a walk goes on with more items: past the most it ends.
     fn give(&mut self, alloc: Global, items: Vec<Result<Found, Error>>) -> errors::Result<bool>
-        ensures gives { (taken : List Item) → Counts taken self.old → (next : TableWalk → State)
-            → WalkGives taken result self.new next
-            (give_of (walk_of taken self.old) (map plain_item items.items) next) }
+        ensures gives { GivesOn self.old self.new result
+            (λ w next. give_of w (map plain_item items.items) next) }
         ensures todo { OnOk result (self.new.todo.items ≡ self.old.todo.items) }
     {
         let mut items = items;
@@ -142,9 +141,7 @@ impl Walk {
         fault: Fault,
         message: Result<Text, AllocError>,
     ) -> errors::Result<bool>
-        ensures gives { (taken : List Item) → Counts taken self.old → (next : TableWalk → State)
-            → WalkGives taken result self.new next
-            (miss_of (walk_of taken self.old) next fault) }
+        ensures gives { GivesOn self.old self.new result (λ w next. miss_of w next fault) }
         ensures todo { OnOk result (self.new.todo.items ≡ self.old.todo.items) }
     {
         let error = Error::IoError(fault, message?);
@@ -158,9 +155,7 @@ impl Walk {
 
     /// Goes on to the next task that wants a step.
     pub(crate) fn walk_on(&mut self, alloc: Global) -> errors::Result<Option<Visit>>
-        ensures { (taken : List Item) → Counts taken self.old
-            → WalkLeads taken result self.new
-            (walk_on_of (pending self.old.todo.items) (walk_of taken self.old)) }
+        ensures { GoesOn self.old self.new result (λ w todo. walk_on_of todo w) }
     {
         while let Some(task) = self.todo.pop() {
             match task {
@@ -185,9 +180,8 @@ impl Walk {
         refusal: Refusal,
         message: Result<Text, AllocError>,
     ) -> errors::Result<Option<Visit>>
-        ensures { (taken : List Item) → Counts taken self.old
-            → WalkLeads taken result self.new (refuse refusal
-            (miss_of (walk_of taken self.old) (walk_on_of (pending self.old.todo.items)))) }
+        ensures { GoesOn self.old self.new result
+            (λ w todo. refuse refusal (miss_of w (walk_on_of todo))) }
     {
         match refusal {
             Refusal::Fault(fault) => {
@@ -202,9 +196,7 @@ impl Walk {
 
     /// The bytes of a bucket: their items are listed.
     fn listed(&mut self, alloc: Global, bytes: Bytes) -> errors::Result<Option<Visit>>
-        ensures { (taken : List Item) → Counts taken self.old
-            → WalkLeads taken result self.new
-            (listed_of (walk_of taken self.old) (pending self.old.todo.items) bytes) }
+        ensures { GoesOn self.old self.new result (λ w todo. listed_of w todo bytes) }
     {
         let items = bucket::items(alloc, bytes.as_slice())?;
         if self.give(alloc, items)? {
@@ -220,10 +212,8 @@ impl Walk {
         bucket: Text,
         bytes: Result<Bytes, Refusal>,
     ) -> errors::Result<Option<Visit>>
-        ensures { (taken : List Item) → Counts taken self.old
-            → WalkLeads taken result self.new
-            (go_on bytes (unread_bucket (walk_of taken self.old) (pending self.old.todo.items))
-            (listed_of (walk_of taken self.old) (pending self.old.todo.items))) }
+        ensures { GoesOn self.old self.new result
+            (λ w todo. go_on bytes (unread_bucket w todo) (listed_of w todo)) }
     {
         match bytes {
             Ok(bytes) => self.listed(alloc, bytes),
@@ -237,11 +227,8 @@ impl Walk {
 
     /// After a file or a folder was to be removed.
     fn removed(&mut self, alloc: Global, done: Result<(), Refusal>) -> errors::Result<Option<Visit>>
-        ensures { (taken : List Item) → Counts taken self.old
-            → WalkLeads taken result self.new
-            (go_on done
-            (miss_of (walk_of taken self.old) (walk_on_of (pending self.old.todo.items)))
-            (λ _. walk_on_of (pending self.old.todo.items) (walk_of taken self.old))) }
+        ensures { GoesOn self.old self.new result
+            (λ w todo. go_on done (miss_of w (walk_on_of todo)) (λ _. walk_on_of todo w)) }
     {
         match done {
             Ok(()) => self.walk_on(alloc),
@@ -261,10 +248,8 @@ impl Walk {
         visit: Visit,
         answer: Answer<F, T>,
     ) -> errors::Result<Option<Visit>>
-        ensures { (taken : List Item) → Counts taken self.old
-            → WalkLeads taken result self.new
-            (after_visit (walk_of taken self.old) (visit_of visit) (pending self.old.todo.items)
-            (plain_answer F.seen T.seen answer)) }
+        ensures { GoesOn self.old self.new result
+            (λ w todo. after_visit w (visit_of visit) todo (plain_answer F.seen T.seen answer)) }
     {
         match visit {
             Visit::Enter(folder, level) => self.after_listing(

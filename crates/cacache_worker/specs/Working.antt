@@ -20,9 +20,10 @@ abbrev pub Appended : Option (List ℕ) → Option (List ℕ) → List ℕ → C
 Appended old new b (Wrote n) = Appends old new (take n b)
 Appended old new b c = Keeps old new
 
--- what the work did to the file, and with a write the file is given back
+-- what the work did to the file; it is given back, but for one that was to be removed
 abbrev pub Does :
     {T : Type 0} → (T → PlainTemp) → Work → T → Option T → Completion → Type 0
 Does temp (Write b) old (Some new) c = Appended (temp old).bytes (temp new).bytes b c
-Does temp (Write b) old None c = ⊥
-Does temp w old new c = ⊤
+Does temp Flush old (Some new) c = ⊤
+Does temp Remove old None c = ⊤
+Does temp w old new c = ⊥

@@ -11,6 +11,7 @@ fn asked(alloc: Global, step: &PlainStep) -> Result<String, AllocError> {
     let (what, path, count) = match step {
         Step::MakeDirs(path) => ("MakeDirs", path, None),
         Step::CreateTemp(path) => ("CreateTemp", path, None),
+        Step::ReadDir(path) => ("ReadDir", path, None),
         Step::ReadAll(path) => ("ReadAll", path, None),
         Step::Append(path, bytes) => ("Append", path, Some(bytes.len())),
         Step::Write(file, bytes) => ("Write", &file.path, Some(bytes.len())),
@@ -31,6 +32,7 @@ fn answered(alloc: Global, answer: &PlainAnswer) -> Result<String, AllocError> {
         Answer::Wrote(_, count) => format!(in alloc; "wrote {count}"),
         Answer::Took(count) => format!(in alloc; "took {count}"),
         Answer::Bytes(bytes) => format!(in alloc; "{} bytes", bytes.len()),
+        Answer::Names(names) => format!(in alloc; "{} names", names.as_slice().len()),
         Answer::Failed(fault) => format!(in alloc; "{fault:?}"),
         _ => String::from_str(alloc, "another answer"),
     }

@@ -7,5 +7,5 @@ returns-in-Ok g c =
     let opens = rw c.in-Ok.ensures.begins.0 at c.open_target.ensures.begins in
     record {
       opens = opened_sized g.S.File.FileHandle.seen c.args.linked c.in-Ok.linked c.open_target.result _ _ _ c.in-Ok.ensures.asks c.open_target.ensures.opens;
-      begins = opened_after g.S.File.FileHandle.seen c.args.linked.time (asks_size c.args.linked) (asks_file c.in-Ok.linked) c.open_target.result _ _ _ c.in-Ok.ensures.begins.1 opens;
+      begins = opened_after g.S.File.FileHandle.seen c.args.linked.moment (asks_size c.args.linked) (asks_file c.in-Ok.linked) c.open_target.result _ _ _ c.in-Ok.ensures.begins.1 opens;
     }

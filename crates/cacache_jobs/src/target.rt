@@ -1,0 +1,146 @@
+//! What is to be linked, and what becomes of it.
+ghost use Rattle.std.specs.Prelude.{◌≡◌, ℕ, List, IfOk, length};
+ghost use Rattle.cacache_core.specs.Integrity.{integrity_under};
+ghost use Rattle.cacache_table.specs.Linking.{based as based_of, commit_for};
+ghost use Rattle.cacache_jobs.specs.JobStates.{commit_of};
+ghost use Rattle.cacache_jobs.specs.Targets.{linked_to, sized_link, target_at, target_of};
+
+use crate::storing::Commit;
+use cacache_core::integrity::Integrity;
+use cacache_core::keeping::beside;
+use cacache_core::paths;
+use cacache_core::text::Text;
+use cacache_table::Options;
+use std::alloc::{AllocError, Global};
+
+/// A file that is to be linked to, and what is said of the link.
+pub struct Target<M> {
+    pub cache: Text,
+    pub key: Option<Text>,
+    pub path: Text,
+    /// The entry's time, in milliseconds since 1970. An open linker has none yet where its commit is to ask the clock.
+    pub moment: M,
+    pub options: Options,
+}
+
+// Written out, so that it is a call of its own: whoever lets a target go has a proof that doesn't go through its fields.
+impl<M: Drop> Drop for Target<M> {
+    fn drop(self) {
+        let Target {
+            cache: _cache,
+            key: _key,
+            path: _path,
+            moment: _moment,
+            options: _options,
+        } = self;
+    }
+}
+
+impl<M: Drop> Target<M> {
+    /// What is to be linked in the cache; a target without a `/` in front starts at the base folder.
+    pub fn new(
+        alloc: Global,
+        base: &str,
+        cache: &str,
+        key: Option<Text>,
+        target: Text,
+        moment: M,
+        options: Options,
+    ) -> Result<Target<M>, AllocError>
+        ensures { IfOk result
+            (λ t. t ≡ linked_to base.now cache.now key target moment options) }
+    {
+        let kept = (key, target, moment, options);
+        let (cache, (key, target, moment, options)) = beside(Text::from_str(alloc, cache), kept)?;
+        let (path, (cache, key, moment, options)) = beside(
+            based(alloc, base, target),
+            (cache, key, moment, options),
+        )?;
+        Ok(Target {
+            cache,
+            key,
+            path,
+            moment,
+            options,
+        })
+    }
+
+    /// The same with the size that the link is to have.
+    pub fn with_size(self, size: usize) -> Target<M>
+        ensures { result ≡ sized_link self size }
+    {
+        let Target {
+            cache,
+            key,
+            path,
+            moment,
+            options,
+        } = self;
+        let options = options.with_size(size);
+        Target {
+            cache,
+            key,
+            path,
+            moment,
+            options,
+        }
+    }
+
+    /// The same with this moment.
+    pub fn at(self, moment: u128) -> Target<u128>
+        ensures target { target_of result ≡ target_at self moment }
+        ensures options { result.options ≡ self.options }
+    {
+        let Target {
+            cache,
+            key,
+            path,
+            moment: _before,
+            options,
+        } = self;
+        Target {
+            cache,
+            key,
+            path,
+            moment,
+            options,
+        }
+    }
+}
+
+impl Target<u128> {
+    /// The commit of a link to the target, with the integrity and the size that were read, and the target's path.
+    pub fn into_commit(self, computed: Integrity, count: usize) -> (Commit, Text)
+        ensures commit { (bytes : List ℕ)
+            → computed ≡ integrity_under self.options.algorithm bytes → count ≡ length bytes
+            → commit_of result.0 ≡ commit_for (target_of self) bytes }
+        ensures path { result.1 ≡ self.path }
+    {
+        let Target {
+            cache,
+            key,
+            path,
+            moment,
+            options,
+        } = self;
+        let commit = Commit {
+            cache,
+            key,
+            computed,
+            count,
+            moment,
+            options,
+        };
+        (commit, path)
+    }
+}
+
+/// A target that doesn't begin with `/` starts at the base folder.
+pub fn based(alloc: Global, base: &str, target: Text) -> Result<Text, AllocError>
+    ensures { IfOk result (λ path. path ≡ based_of base.now target) }
+{
+    match target.as_str().as_bytes() {
+        [b'/', ..] => Ok(target),
+        _ => paths::join(alloc, base, target.as_str()),
+    }
+}
