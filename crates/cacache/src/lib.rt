@@ -34,7 +34,8 @@ pub use linkto::{SyncToLinker, ToLinker, link_to, link_to_hash, link_to_hash_syn
 pub use ls::list_sync;
 pub use put::{
     SyncWriter, WriteOpts, Writer, write, write_hash, write_hash_sync, write_hash_sync_with_algo,
-    write_hash_with_algo, write_sync, write_sync_with_algo, write_vec_sync, write_with_algo,
+    write_hash_vec_sync, write_hash_vec_sync_with_algo, write_hash_with_algo, write_sync,
+    write_sync_with_algo, write_vec_sync, write_vec_sync_with_algo, write_with_algo,
 };
 pub use rm::{clear, clear_sync, remove, remove_hash, remove_hash_sync, remove_sync};
 pub use serde_json::Value;

@@ -6,7 +6,8 @@ pub use cacache_async::put::{
 };
 pub use cacache_put::opts::WriteOpts;
 pub use cacache_put::put::{
-    write_hash_sync, write_hash_sync_with_algo, write_sync, write_sync_with_algo, write_vec_sync,
+    write_hash_sync, write_hash_sync_with_algo, write_hash_vec_sync, write_hash_vec_sync_with_algo,
+    write_sync, write_sync_with_algo, write_vec_sync, write_vec_sync_with_algo,
 };
 pub use cacache_put::writer::SyncWriter;
 pub use cacache_writers::{

@@ -40,11 +40,15 @@ fn keyed(
     })
 }
 
-/// What to store: a copy of the bytes, without a key.
-fn unkeyed(alloc: Global, algorithm: Algorithm, data: &[u8]) -> std::result::Result<Put, AllocError>
-    ensures { IfOk result (λ put. put ≡ unkeyed_put algorithm «data».now) }
+/// What to store: the bytes, without a key.
+fn unkeyed(
+    alloc: Global,
+    algorithm: Algorithm,
+    data: Vec<u8>,
+) -> std::result::Result<Put, AllocError>
+    ensures { IfOk result (λ put. put ≡ unkeyed_put algorithm «data».items) }
 {
-    let data = Bytes::new(alloc, Vec::from_slice(alloc, data)?)?;
+    let data = Bytes::new(alloc, data)?;
     let options = Options::blank(algorithm);
     Ok(Put {
         key: None,
@@ -105,8 +109,8 @@ pub fn write_sync_with_algo<S: Store, C: Clock, N: Names>(
 {
     let moment = env.clock.now();
     let number = env.names.fresh();
-    let data = Vec::from_slice(env.alloc, data)?;
-    let put = keyed(env.alloc, algo, key, data, moment)?;
+    let copy = Vec::from_slice(env.alloc, data)?;
+    let put = keyed(env.alloc, algo, key, copy, moment)?;
     stored(env, cache, put, number)
 }
 
@@ -121,9 +125,24 @@ pub fn write_vec_sync<S: Store, C: Clock, N: Names>(
     ensures ran { RunsPut S.log C.given N.given env.old env.new cache.now
         (keyed_put Sha256 key.now «data».items) (reply_of Stored result) }
 {
+    write_vec_sync_with_algo(env, Algorithm::Sha256, cache, key, data)
+}
+
+/// What `write_vec_sync` does, with an algorithm of the caller's for the integrity.
+pub fn write_vec_sync_with_algo<S: Store, C: Clock, N: Names>(
+    env: &mut Env<S, C, N>,
+    algo: Algorithm,
+    cache: &str,
+    key: &str,
+    data: Vec<u8>,
+) -> Result<Integrity>
+    ensures stored { IfOk result (λ i. i ≡ integrity_under algo «data».items) }
+    ensures ran { RunsPut S.log C.given N.given env.old env.new cache.now
+        (keyed_put algo key.now «data».items) (reply_of Stored result) }
+{
     let moment = env.clock.now();
     let number = env.names.fresh();
-    let put = keyed(env.alloc, Algorithm::Sha256, key, data, moment)?;
+    let put = keyed(env.alloc, algo, key, data, moment)?;
     stored(env, cache, put, number)
 }
 
@@ -153,6 +172,36 @@ pub fn write_hash_sync_with_algo<S: Store, C: Clock, N: Names>(
     ensures stored { IfOk result (λ i. i ≡ integrity_under algo «data».now) }
     ensures ran { RunsNumbered S.log N.given env.old env.new cache.now
         (commands.Put (unkeyed_put algo «data».now)) (reply_of Stored result) }
+{
+    let number = env.names.fresh();
+    let copy = Vec::from_slice(env.alloc, data)?;
+    let put = unkeyed(env.alloc, algo, copy)?;
+    stored(env, cache, put, number)
+}
+
+/// What `write_hash_sync` does, with bytes that are moved in, so that none is copied.
+pub fn write_hash_vec_sync<S: Store, C: Clock, N: Names>(
+    env: &mut Env<S, C, N>,
+    cache: &str,
+    data: Vec<u8>,
+) -> Result<Integrity>
+    ensures stored { IfOk result (λ i. i ≡ integrity_under Sha256 «data».items) }
+    ensures ran { RunsNumbered S.log N.given env.old env.new cache.now
+        (commands.Put (unkeyed_put Sha256 «data».items)) (reply_of Stored result) }
+{
+    write_hash_vec_sync_with_algo(env, Algorithm::Sha256, cache, data)
+}
+
+/// What `write_hash_vec_sync` does, with an algorithm of the caller's for the integrity.
+pub fn write_hash_vec_sync_with_algo<S: Store, C: Clock, N: Names>(
+    env: &mut Env<S, C, N>,
+    algo: Algorithm,
+    cache: &str,
+    data: Vec<u8>,
+) -> Result<Integrity>
+    ensures stored { IfOk result (λ i. i ≡ integrity_under algo «data».items) }
+    ensures ran { RunsNumbered S.log N.given env.old env.new cache.now
+        (commands.Put (unkeyed_put algo «data».items)) (reply_of Stored result) }
 {
     let number = env.names.fresh();
     let put = unkeyed(env.alloc, algo, data)?;

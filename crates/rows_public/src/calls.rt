@@ -72,6 +72,29 @@ fn by_hash<S: Store>(
     Ok(line?)
 }
 
+/// The line on a call into which these bytes are moved.
+fn storing_vec_under<S: Store>(
+    env: &mut On<S>,
+    name: &str,
+    algo: Algorithm,
+    words: &str,
+    bytes: &[u8],
+) -> Result<String, Flaw> {
+    let alloc = env.alloc;
+    let (cache, key) = cut(words);
+    let bytes = Vec::from_slice(alloc, bytes)?;
+    let result = match name {
+        "write_vec_sync_with_algo" => {
+            cacache::write_vec_sync_with_algo(env, algo, cache, key, bytes)
+        }
+        "write_hash_vec_sync_with_algo" => {
+            cacache::write_hash_vec_sync_with_algo(env, algo, cache, bytes)
+        }
+        _ => return Err(Flaw::NotRead),
+    };
+    Ok(stored(alloc, result)?)
+}
+
 /// The line on a call that stores these bytes, which is given an algorithm's name, the cache, and a key where it has one.
 fn storing_under<S: Store>(
     env: &mut On<S>,
@@ -96,7 +119,7 @@ fn storing_under<S: Store>(
                 cacache::write_hash_sync_with_algo(env, algo, cache, bytes),
             )
         }
-        _ => return Err(Flaw::NotRead),
+        _ => return storing_vec_under(env, name, algo, words, bytes),
     };
     Ok(line?)
 }
@@ -116,6 +139,10 @@ fn storing<S: Store>(
         "write_vec_sync" => {
             let bytes = Vec::from_slice(alloc, bytes)?;
             stored(alloc, cacache::write_vec_sync(env, cache, key, bytes))
+        }
+        "write_hash_vec_sync" => {
+            let bytes = Vec::from_slice(alloc, bytes)?;
+            stored(alloc, cacache::write_hash_vec_sync(env, cache, bytes))
         }
         _ => return storing_under(env, name, words, bytes),
     };
