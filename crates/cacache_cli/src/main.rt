@@ -1,8 +1,7 @@
 //! Stores bytes in a cache and reads them back.
 #![tactic(auto)]
 
-use cacache::env::{Env, ProcessNames, SystemClock};
-use cacache::store::FolderStore;
+use cacache::env::folders;
 use cacache_program::{run, without_words};
 use std::io::{self, Write};
 use std::process::ExitCode;
@@ -21,10 +20,7 @@ fn main(rt: HostRuntime) -> ExitCode {
         Ok(words) => words,
         Err(error) => return ExitCode::from(without_words(&error, &mut rt.stderr())),
     };
-    let store = FolderStore::new(rt);
-    let clock = SystemClock::new(rt);
-    let names = ProcessNames::new(rt);
-    let Ok(mut env) = Env::new(rt.alloc(), store, clock, names, ".") else {
+    let Ok(mut env) = folders(rt, ".") else {
         let _ = rt.stderr().write_all(b"out of memory\n");
         return ExitCode::from(1);
     };

@@ -7,9 +7,9 @@ mod pieces;
 
 use builds::Builds;
 use cacache::Result;
-use cacache::env::{Clock, Env, Names, ProcessNames, SystemClock};
+use cacache::env::{Clock, Names, memory};
 use cacache::errors::IoErrorExt;
-use cacache::store::{MemStore, Store};
+use cacache::store::Store;
 use pieces::PIECES;
 
 /// A file outside the cache.
@@ -27,16 +27,13 @@ fn run<S: Store, C: Clock, N: Names>(builds: &mut Builds<S, C, N>) -> Result<()>
 }
 
 fn main(rt: HostRuntime) -> Result<()> {
-    let alloc = rt.alloc();
-    // `FolderStore::new(rt)` in the place of this store keeps the builds in real folders, where the file is there already.
-    let mut store = MemStore::new(alloc)?;
-    store.plant(TOOLCHAIN, b"a compiler and its libraries")?;
-    let clock = SystemClock::new(rt);
-    let names = ProcessNames::new(rt);
-    let mut builds = Builds::new(Env::new(alloc, store, clock, names, "/")?);
+    // `folders(rt, "/")` in its place keeps the builds in real folders, where the file is there already.
+    let mut env = memory(rt, "/")?;
+    env.store.plant(TOOLCHAIN, b"a compiler and its libraries")?;
+    let mut builds = Builds::new(env);
     run(&mut builds)?;
     print!(rt; "{}", builds.report).with_context(|| Ok(String::from_str(
-        alloc,
+        rt.alloc(),
         "Failed to print the report",
     )?))
 }

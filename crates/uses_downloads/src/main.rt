@@ -4,9 +4,9 @@
 
 mod download;
 
-use cacache::env::{Env, ProcessNames, SystemClock};
+use cacache::env::{Memory, memory};
 use cacache::errors::IoErrorExt;
-use cacache::store::{MemStore, PlainTemp};
+use cacache::store::PlainTemp;
 use cacache::{Result, Writer, read};
 use download::Download;
 use futures::Future;
@@ -25,9 +25,6 @@ const FOX: (&str, &[u8]) = ("fox", b"The quick brown fox jumps over the lazy dog
 
 const VOW: (&str, &[u8]) = ("vow", b"Sphinx of black quartz, judge my vow.\n");
 
-/// Where the cache is. With `FolderStore<HostRuntime>` in the place of this store it is in real folders.
-type Place = Env<MemStore, SystemClock<HostRuntime>, ProcessNames>;
-
 /// What went wrong outside the cache.
 fn outside(alloc: Global) -> Result<String> {
     Ok(String::from_str(alloc, "Failed to run or to print the downloads")?)
@@ -44,7 +41,7 @@ where
 }
 
 /// Commits what was written, reads it back, and prints it with its integrity.
-fn store<R>(rt: &R, place: &mut Place, key: &str, writer: Writer<PlainTemp>) -> Result<()>
+fn store<R>(rt: &R, place: &mut Memory, key: &str, writer: Writer<PlainTemp>) -> Result<()>
 where
     R: Wait + RandomSource + Print + AllocGlobal,
 {
@@ -55,7 +52,7 @@ where
 }
 
 /// Downloads both bodies at once.
-fn download_both<R>(rt: &R, place: &mut Place) -> Result<()>
+fn download_both<R>(rt: &R, place: &mut Memory) -> Result<()>
 where
     R: Wait + Clock + RandomSource + Print + AllocGlobal,
 {
@@ -71,10 +68,7 @@ where
 }
 
 fn main(rt: HostRuntime) -> Result<()> {
-    let alloc = rt.alloc();
-    let store = MemStore::new(alloc)?;
-    let clock = SystemClock::new(rt);
-    let names = ProcessNames::new(rt);
-    let mut place = Env::new(alloc, store, clock, names, "/")?;
+    // `Folders` and `folders` in the place of these keep the cache in real folders.
+    let mut place: Memory = memory(rt, "/")?;
     download_both(&rt, &mut place)
 }

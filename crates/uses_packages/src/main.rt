@@ -9,9 +9,9 @@ mod packages;
 mod registry;
 
 use cacache::Result;
-use cacache::env::{Clock, Env, Names, ProcessNames, SystemClock};
+use cacache::env::{Clock, Names, memory};
 use cacache::errors::IoErrorExt;
-use cacache::store::{MemStore, Store};
+use cacache::store::Store;
 use lock::{Package, read_lock};
 use packages::Packages;
 
@@ -29,16 +29,12 @@ fn run<S: Store, C: Clock, N: Names>(
 }
 
 fn main(rt: HostRuntime) -> Result<()> {
-    let alloc = rt.alloc();
     let locked = read_lock(&rt)?;
-    // `FolderStore::new(rt)` in the place of this store keeps the packages in real folders.
-    let store = MemStore::new(alloc)?;
-    let clock = SystemClock::new(rt);
-    let names = ProcessNames::new(rt);
-    let mut packages = Packages::new(Env::new(alloc, store, clock, names, "/")?);
+    // `folders(rt, "/")` in its place keeps the packages in real folders.
+    let mut packages = Packages::new(memory(rt, "/")?);
     run(&mut packages, &locked)?;
     print!(rt; "{}", packages.report).with_context(|| Ok(String::from_str(
-        alloc,
+        rt.alloc(),
         "Failed to print the report",
     )?))
 }

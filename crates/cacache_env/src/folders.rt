@@ -1,0 +1,41 @@
+//! Real folders, with the system's clock and the numbers of this process.
+ghost use Rattle.std.specs.Prelude.{◌≡◌, IfErr, IfOk};
+ghost use Rattle.cacache_core.specs.declared.errors.Error.TheVariants.{OutOfMemory};
+
+use cacache_content::reader::SyncReader;
+use cacache_content::writer::SyncWriter;
+use cacache_core::errors::Result;
+use cacache_folder::{FolderFile, FolderStore, FolderTemp, ProcessNames, SystemClock};
+use cacache_put::linker::SyncToLinker;
+use cacache_store::env::Env;
+use std::rt::Files;
+
+/// An open file of the system.
+type File = <HostRuntime as Files>::File;
+
+/// The environment of caches in real folders.
+pub type Folders = Env<FolderStore<HostRuntime>, SystemClock<HostRuntime>, ProcessNames>;
+
+/// An open content of a cache in real folders.
+pub type FolderReader = SyncReader<FolderFile<File>>;
+
+/// A content that is being written into a cache in real folders.
+pub type FolderWriter = SyncWriter<FolderTemp<File>>;
+
+/// An open file that is to become a content of a cache in real folders by a link.
+pub type FolderLinker = SyncToLinker<FolderFile<File>>;
+
+/// The environment of caches in real folders. A relative target of a link starts from the folder `base`.
+///
+/// `OutOfMemory` is the only error. No folder is touched.
+pub fn folders(rt: HostRuntime, base: &str) -> Result<Folders>
+    ensures store { IfOk result (λ env. env.store.rt ≡ rt) }
+    ensures clock { IfOk result (λ env. env.clock.rt ≡ rt) }
+    ensures base { IfOk result (λ env. env.base ≡ base.now) }
+    ensures err { IfErr result (λ e. e ≡ OutOfMemory) }
+{
+    let store = FolderStore::new(rt);
+    let clock = SystemClock::new(rt);
+    let names = ProcessNames::new(rt);
+    Ok(Env::new(rt.alloc(), store, clock, names, base)?)
+}

@@ -1,0 +1,40 @@
+//! A disk in memory, with the system's clock and the numbers of this process.
+ghost use Rattle.std.specs.Prelude.{◌≡◌, [], IfErr, IfOk};
+ghost use Rattle.cacache_core.specs.declared.errors.Error.TheVariants.{OutOfMemory};
+
+use cacache_content::reader::SyncReader;
+use cacache_content::writer::SyncWriter;
+use cacache_core::errors::Result;
+use cacache_folder::{ProcessNames, SystemClock};
+use cacache_memory::MemStore;
+use cacache_put::linker::SyncToLinker;
+use cacache_store::env::Env;
+use cacache_store::store::{PlainFile, PlainTemp};
+
+/// The environment of caches on a disk in memory.
+pub type Memory = Env<MemStore, SystemClock<HostRuntime>, ProcessNames>;
+
+/// An open content of a cache in memory.
+pub type MemoryReader = SyncReader<PlainFile>;
+
+/// A content that is being written into a cache in memory.
+pub type MemoryWriter = SyncWriter<PlainTemp>;
+
+/// An open file in memory that is to become a content by a link.
+pub type MemoryLinker = SyncToLinker<PlainFile>;
+
+/// The environment of caches on a disk in memory, which has nothing but the top folder. A relative target of a link starts
+/// from the folder `base`.
+///
+/// `OutOfMemory` is the only error.
+pub fn memory(rt: HostRuntime, base: &str) -> Result<Memory>
+    ensures store { IfOk result (λ env. env.store ≡ []) }
+    ensures clock { IfOk result (λ env. env.clock.rt ≡ rt) }
+    ensures base { IfOk result (λ env. env.base ≡ base.now) }
+    ensures err { IfErr result (λ e. e ≡ OutOfMemory) }
+{
+    let store = MemStore::new(rt.alloc())?;
+    let clock = SystemClock::new(rt);
+    let names = ProcessNames::new(rt);
+    Ok(Env::new(rt.alloc(), store, clock, names, base)?)
+}
