@@ -3,7 +3,7 @@ ghost use Rattle.std.specs.Prelude.{◌≡◌, None, Some};
 ghost use Rattle.cacache_core.specs.declared.integrity.algorithm.Algorithm.TheVariants.{Sha256};
 ghost use Rattle.cacache_table.specs.Blank.{blank};
 ghost use Rattle.cacache_jobs.specs.Targets.{linked_to};
-ghost use Rattle.cacache_put.specs.OpenLinkers.{OpensLink, OpensLinker, OpensWithSize, asks_file, asks_size, linked_by};
+ghost use Rattle.cacache_put.specs.OpenLinkers.{BeginsLink, OpensLink, OpensWithSize, asks_file, asks_size, linked_by};
 ghost use Rattle.cacache_put.specs.Options.{nothing_said, options_of};
 ghost use Rattle.cacache_futures.specs.Waiting.{Waits};
 ghost use Rattle.cacache_async.specs.Polling.{linker_in};
@@ -41,9 +41,8 @@ impl<'a, S: Store, C: Clock, N: Names> Call<S, C, N> for AsyncToLinkerNewCall<'a
 
     ghost makes = { λ c old r new. OpensLink S.File.seen S.log old new (linked_by old.base c.cache.now
         None c.target.now (record nothing_said { algorithm = c.algo })) (linker_in r)
-        × OpensLinker S.File.seen (Some 0) (asks_file (linked_to old.base c.cache.now
-        None c.target.now (Some 0) (blank c.algo))) (linker_in r)
-        (S.log old.store) (S.log new.store) };
+        × BeginsLink S.File.seen S.log old new asks_file
+        (linked_to old.base c.cache.now None c.target.now (Some 0) (blank c.algo)) (linker_in r) };
 
     fn make(self, env: &mut Env<S, C, N>) -> Result<ToLinker<S::File>> {
         let alloc = env.alloc;
@@ -70,9 +69,9 @@ impl<'a, S: Store, C: Clock, N: Names> Call<S, C, N> for ToLinkerOpenCall<'a> {
 
     ghost makes = { λ c old r new. OpensWithSize S.File.seen S.log old new (linked_by old.base c.cache.now
         (Some c.key.now) c.target.now nothing_said) (linker_in r)
-        × OpensLinker S.File.seen None (asks_size (linked_to old.base c.cache.now
-        (Some c.key.now) c.target.now None (blank Sha256))) (linker_in r)
-        (S.log old.store) (S.log new.store) };
+        × BeginsLink S.File.seen S.log old new asks_size
+        (linked_to old.base c.cache.now (Some c.key.now) c.target.now None (blank Sha256))
+        (linker_in r) };
 
     fn make(self, env: &mut Env<S, C, N>) -> Result<ToLinker<S::File>> {
         let alloc = env.alloc;
@@ -98,9 +97,8 @@ impl<'a, S: Store, C: Clock, N: Names> Call<S, C, N> for ToLinkerOpenHashCall<'a
 
     ghost makes = { λ c old r new. OpensWithSize S.File.seen S.log old new (linked_by old.base c.cache.now
         None c.target.now nothing_said) (linker_in r)
-        × OpensLinker S.File.seen (Some 0) (asks_size (linked_to old.base c.cache.now
-        None c.target.now (Some 0) (blank Sha256))) (linker_in r)
-        (S.log old.store) (S.log new.store) };
+        × BeginsLink S.File.seen S.log old new asks_size
+        (linked_to old.base c.cache.now None c.target.now (Some 0) (blank Sha256)) (linker_in r) };
 
     fn make(self, env: &mut Env<S, C, N>) -> Result<ToLinker<S::File>> {
         let alloc = env.alloc;
@@ -125,9 +123,8 @@ impl<'a, S: Store, C: Clock, N: Names> Call<S, C, N> for WriteOptsLinkToCall<'a>
 
     ghost makes = { λ c old r new. OpensLink S.File.seen S.log old new (linked_by old.base c.cache.now
         (Some c.key.now) c.target.now c.opts) (linker_in r)
-        × OpensLinker S.File.seen c.opts.time (asks_file (linked_to old.base c.cache.now
-        (Some c.key.now) c.target.now c.opts.time (options_of c.opts))) (linker_in r)
-        (S.log old.store) (S.log new.store) };
+        × BeginsLink S.File.seen S.log old new asks_file (linked_to old.base c.cache.now
+        (Some c.key.now) c.target.now c.opts.time (options_of c.opts)) (linker_in r) };
 
     fn make(self, env: &mut Env<S, C, N>) -> Result<ToLinker<S::File>> {
         let WriteOptsLinkToCall {
@@ -157,9 +154,9 @@ impl<'a, S: Store, C: Clock, N: Names> Call<S, C, N> for WriteOptsLinkToHashCall
 
     ghost makes = { λ c old r new. OpensLink S.File.seen S.log old new (linked_by old.base c.cache.now
         None c.target.now c.opts) (linker_in r)
-        × OpensLinker S.File.seen (Some 0) (asks_file (linked_to old.base c.cache.now
-        None c.target.now (Some 0) (options_of c.opts))) (linker_in r)
-        (S.log old.store) (S.log new.store) };
+        × BeginsLink S.File.seen S.log old new asks_file
+        (linked_to old.base c.cache.now None c.target.now (Some 0) (options_of c.opts))
+        (linker_in r) };
 
     fn make(self, env: &mut Env<S, C, N>) -> Result<ToLinker<S::File>> {
         let WriteOptsLinkToHashCall {

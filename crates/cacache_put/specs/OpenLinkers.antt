@@ -129,6 +129,12 @@ module _ {F : Type 0} (file : F → PlainFile) where
   OpensLinker time start (Err e) old new =
       (moment : ℕ) → Ran (start moment) (Refused (without_message e)) old new
 
+  -- the environment's store made the moves of such an opening
+  abbrev pub BeginsLink :
+      {S C N : Type 0} → (S → Option (List LogItem)) → Env S C N → Env S C N
+      → (LinkTarget → ℕ → State) → LinkTarget → Result (SyncToLinker F) Error → Type 0
+  BeginsLink log old new asks l r = OpensLinker l.moment (asks l) r (log old.store) (log new.store)
+
   -- what a commit does to the environment: it runs the rest of the call, of a moment that was set or
   -- asked for once
   abbrev pub CommitsLink :

@@ -1,6 +1,6 @@
 //! Links that are opened with options.
 ghost use Rattle.std.specs.Prelude.{None, Some};
-ghost use Rattle.cacache_put.specs.OpenLinkers.{OpensLink, OpensLinker, asks_file, linked_by};
+ghost use Rattle.cacache_put.specs.OpenLinkers.{BeginsLink, OpensLink, asks_file, linked_by};
 ghost use Rattle.cacache_put.specs.Options.{options_of};
 ghost use Rattle.cacache_jobs.specs.Targets.{linked_to};
 
@@ -26,9 +26,8 @@ impl WriteOpts {
     ) -> Result<SyncToLinker<S::File>>
         ensures opens { OpensLink S.File.seen S.log env.old env.new (linked_by env.old.base cache.now
             (Some key.now) target.now self) result }
-        ensures begins { OpensLinker S.File.seen self.time (asks_file (linked_to env.old.base
-            cache.now (Some key.now) target.now self.time (options_of self))) result
-            (S.log env.old.store) (S.log env.new.store) }
+        ensures begins { BeginsLink S.File.seen S.log env.old env.new asks_file (linked_to
+            env.old.base cache.now (Some key.now) target.now self.time (options_of self)) result }
     {
         let alloc = env.alloc;
         let time = self.set_time();
@@ -47,9 +46,8 @@ impl WriteOpts {
     ) -> Result<SyncToLinker<S::File>>
         ensures opens { OpensLink S.File.seen S.log env.old env.new (linked_by env.old.base cache.now
             None target.now self) result }
-        ensures begins { OpensLinker S.File.seen (Some 0) (asks_file (linked_to env.old.base
-            cache.now None target.now (Some 0) (options_of self))) result
-            (S.log env.old.store) (S.log env.new.store) }
+        ensures begins { BeginsLink S.File.seen S.log env.old env.new asks_file
+            (linked_to env.old.base cache.now None target.now (Some 0) (options_of self)) result }
     {
         let alloc = env.alloc;
         let options = self.into_options(alloc)?;

@@ -10,7 +10,7 @@ ghost use Rattle.cacache_table.specs.Runs.{Ran, reply_of};
 ghost use Rattle.cacache_table.specs.State.{hashing, to_link};
 ghost use Rattle.cacache_core.specs.Hashers.{Holds, algorithm_of};
 ghost use Rattle.cacache_content.specs.Passed.{passed};
-ghost use Rattle.cacache_put.specs.OpenLinkers.{AsksSize, CommitsLink, HasHashed, OpensLink, OpensLinker, OpensSized, OpensTarget, OpensWithSize, Sizes, StoresWhole, asks_file, asks_size, linked_by};
+ghost use Rattle.cacache_put.specs.OpenLinkers.{AsksSize, BeginsLink, CommitsLink, HasHashed, OpensLink, OpensLinker, OpensSized, OpensTarget, OpensWithSize, Sizes, StoresWhole, asks_file, asks_size, linked_by};
 ghost use Rattle.cacache_jobs.specs.Targets.{linked_to, target_of};
 ghost use Rattle.cacache_table.specs.Blank.{blank};
 ghost use Rattle.cacache_put.specs.Options.{nothing_said};
@@ -174,9 +174,8 @@ impl<F: OpenedFile> SyncToLinker<F> {
     ) -> Result<SyncToLinker<F>>
         ensures opens { OpensLink F.seen S.log env.old env.new (linked_by env.old.base cache.now None
             target.now (record nothing_said { algorithm = algo })) result }
-        ensures begins { OpensLinker F.seen (Some 0) (asks_file (linked_to env.old.base cache.now
-            None target.now (Some 0) (blank algo))) result
-            (S.log env.old.store) (S.log env.new.store) }
+        ensures begins { BeginsLink F.seen S.log env.old env.new asks_file
+            (linked_to env.old.base cache.now None target.now (Some 0) (blank algo)) result }
     {
         let alloc = env.alloc;
         let base = env.base.as_str();
@@ -204,9 +203,8 @@ impl<F: OpenedFile> SyncToLinker<F> {
     ) -> Result<SyncToLinker<F>>
         ensures opens { OpensWithSize F.seen S.log env.old env.new (linked_by env.old.base cache.now
             (Some key.now) target.now nothing_said) result }
-        ensures begins { OpensLinker F.seen None (asks_size (linked_to env.old.base cache.now
-            (Some key.now) target.now None (blank Sha256))) result
-            (S.log env.old.store) (S.log env.new.store) }
+        ensures begins { BeginsLink F.seen S.log env.old env.new asks_size
+            (linked_to env.old.base cache.now (Some key.now) target.now None (blank Sha256)) result }
     {
         let alloc = env.alloc;
         let base = env.base.as_str();
@@ -224,9 +222,8 @@ impl<F: OpenedFile> SyncToLinker<F> {
     ) -> Result<SyncToLinker<F>>
         ensures opens { OpensWithSize F.seen S.log env.old env.new (linked_by env.old.base cache.now
             None target.now nothing_said) result }
-        ensures begins { OpensLinker F.seen (Some 0) (asks_size (linked_to env.old.base cache.now
-            None target.now (Some 0) (blank Sha256))) result
-            (S.log env.old.store) (S.log env.new.store) }
+        ensures begins { BeginsLink F.seen S.log env.old env.new asks_size
+            (linked_to env.old.base cache.now None target.now (Some 0) (blank Sha256)) result }
     {
         let alloc = env.alloc;
         let base = env.base.as_str();

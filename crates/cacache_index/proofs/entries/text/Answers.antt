@@ -1,8 +1,7 @@
 -- The text is cut off where it stands in the line.
 use Rattle.std.proofs.Common.{◌≤◌, List, ℕ, length, drop, subst, sym, ap, ◌∙◌}
-use Rattle.cacache.specs.Entries.{text_of}
-use Rattle.cacache_program.proofs.Texts.{text_in_line, line_reaches_text}
-use Rattle.cacache_program.proofs.entries.entry_text.Goals as goal
+use Rattle.cacache_index.proofs.Texts.{text_in_line, line_reaches_text}
+use Rattle.cacache_index.proofs.entries.text.Goals as goal
 
 pub split_off-requires : goal.split_off-requires
 split_off-requires c =
@@ -10,7 +9,6 @@ split_off-requires c =
     subst (λ (xs : List ℕ). 66 ≤ length xs) (sym c.in_ok-line.ensures.line) (line_reaches_text _) in
     subst (λ (n : ℕ). 66 ≤ n) (sym c.in_ok-line.line.ok.0) reached
 
-pub returns : goal.returns
-returns c =
-    c.in_ok-split_off.ensures.tail ∙ ap (drop 66) c.in_ok-line.ensures.line
-    ∙ text_in_line _ ∙ ap text_of c.in_ok-entry.ensures
+pub returns-clause-text : goal.returns-clause-text
+returns-clause-text c =
+    c.in_ok-split_off.ensures.tail ∙ ap (drop 66) c.in_ok-line.ensures.line ∙ text_in_line _
