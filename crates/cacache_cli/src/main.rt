@@ -2,7 +2,7 @@
 #![tactic(auto)]
 
 use cacache::env::folders;
-use cacache_program::{run, without_words};
+use cacache_program::{run, tell_about, without_words};
 use std::io::{self, Write};
 use std::process::ExitCode;
 
@@ -20,6 +20,9 @@ fn main(rt: HostRuntime) -> ExitCode {
         Ok(words) => words,
         Err(error) => return ExitCode::from(without_words(&error, &mut rt.stderr())),
     };
+    if let Some(status) = tell_about(&words, &mut rt.stdout(), &mut rt.stderr()) {
+        return ExitCode::from(status);
+    }
     let Ok(mut env) = folders(rt, ".") else {
         let _ = rt.stderr().write_all(b"out of memory\n");
         return ExitCode::from(1);

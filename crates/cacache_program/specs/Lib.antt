@@ -1,3 +1,4 @@
+pub mod About
 pub mod Words
 pub mod Output
 pub mod PrintedEntries

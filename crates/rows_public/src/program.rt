@@ -5,7 +5,7 @@ use crate::row::Row;
 use crate::streams::{Input, Output};
 use crate::words::{bytes_of, shown, words_of};
 use cacache::store::Store;
-use cacache_program::{run, without_words};
+use cacache_program::{run, tell_about, without_words};
 use rows::Flaw;
 use rows::words::{cut, number_of};
 use std::alloc::{AllocError, Global};
@@ -64,7 +64,10 @@ fn ran_with<T: Threads + Wait + Clock + AllocGlobal + Sync, S: Store>(
         taken: Vec::new(alloc),
     };
     let mut errors = Vec::new(alloc);
-    let status = run(rt, env, words, &mut input, &mut output, &mut errors);
+    let status = match tell_about(words, &mut output, &mut errors) {
+        Some(status) => status,
+        None => run(rt, env, words, &mut input, &mut output, &mut errors),
+    };
     told(alloc, status, &output.taken, &errors)
 }
 
