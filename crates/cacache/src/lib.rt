@@ -10,6 +10,7 @@ pub mod get;
 pub mod index;
 pub mod integrity;
 pub mod jobs;
+pub mod laws;
 pub mod linkto;
 pub mod ls;
 pub mod polled;
