@@ -1,5 +1,5 @@
 -- A link that is made stores its whole target.
-use Rattle.std.proofs.Common.{◌≡◌, inl, inr, ℕ, List, [], ◌∷◌, ◌++◌, Option, Result, Ok, Err, refl, sym, append_assoc, append-nil}
+use Rattle.std.proofs.Common.{◌≡◌, inl, inr, ℕ, List, [], ◌∷◌, ◌++◌, Option, Result, Ok, Err, refl, sym, subst, append_assoc, append-nil}
 use Rattle.std.proofs.lemmas.Option.{same_Some}
 use Rattle.std.specs.Prelude.{IfOk}
 use Rattle.cacache_core.specs.declared.errors.Error.{Error}
@@ -56,8 +56,13 @@ module _ (t : Target) (i : List Hash) where
       by_answer more answer run = absurd (not_refused (refusal_in answer) moves run)
 
 -- a commit that isn't refused stores what it took with what its run read
-pub stores_whole : {F : Type 0} (file : F → PlainFile) (l : SyncToLinker F) (bytes : List ℕ) (moment : ℕ) (r : Result (List Hash) Error) (old new : Option (List LogItem)) → Ran (stands_at file l bytes moment) (reply_of Stored r) old new → IfOk r (λ i. StoresWhole file l bytes i old new)
+stores_whole : {F : Type 0} (file : F → PlainFile) (l : SyncToLinker F) (bytes : List ℕ) (moment : ℕ) (r : Result (List Hash) Error) (old new : Option (List LogItem)) → Ran (stands_at file l bytes moment) (reply_of Stored r) old new → IfOk r (λ i. StoresWhole file l bytes i old new)
 stores_whole file l bytes moment (Ok i) old new ran =
     let x = brings (target_at l.linked moment) i (file l.file) bytes ran.0 ran.1 in
     (ran.0, ran.2, x.0, x.1, moment, x.2)
 stores_whole file l bytes moment (Err e) old new ran = tt
+
+-- the same of a target that is the linker's at its moment
+pub stores_whole_of : {F : Type 0} (file : F → PlainFile) (l : SyncToLinker F) (bytes : List ℕ) (moment : ℕ) (t : Target) (r : Result (List Hash) Error) (old new : Option (List LogItem)) → t ≡ target_at l.linked moment → Ran (hashing (to_link t) (file l.file) bytes) (reply_of Stored r) old new → IfOk r (λ i. StoresWhole file l bytes i old new)
+stores_whole_of file l bytes moment t r old new same ran =
+    stores_whole file l bytes moment r old new (subst (λ (u : Target). Ran (hashing (to_link u) (file l.file) bytes) (reply_of Stored r) old new) same ran)

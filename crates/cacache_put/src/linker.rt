@@ -88,7 +88,7 @@ pub(crate) fn open_target<S: Store>(
 }
 
 /// Asks the target's size, which the link is to have.
-fn sized<S: Store>(alloc: Global, store: &mut S, linked: Linked) -> Result<LinkTarget>
+fn sized<S: Store>(alloc: Global, store: &mut S, linked: LinkTarget) -> Result<LinkTarget>
     ensures asks { AsksSize linked result (S.log store.old) (S.log store.new) }
     ensures begins { Sizes linked result (S.log store.old) (S.log store.new) }
 {

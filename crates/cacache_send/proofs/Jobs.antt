@@ -30,8 +30,9 @@ Checker-send = search (Hasher-send, crosses_core, crosses, sendable) depth 30 fi
 Commit-send : IsSend (Commit.the_field).row
 Commit-send = search (Options-send, crosses_core, crosses, sendable) depth 30 fits 20000
 
-Target-send : IsSend (Target.the_field).row
-Target-send = search (Options-send, crosses_core, crosses, sendable) depth 30 fits 20000
+module _ (M : RattleType) (m : IsSend M) where
+  Target-send : IsSend (Target.the_field M).row
+  Target-send = search (Options-send, crosses_core, crosses, sendable) depth 30 fits 20000
 
 Insertion-send : IsSend (Insertion.the_field).row
 Insertion-send = search (crosses_core, crosses, sendable) depth 30 fits 20000
