@@ -1,5 +1,6 @@
 //! Laws that a caller's own proof may cite: functions without a body, whose contracts say what follows of the calls, of
 //! entries and of histories.
+pub use cacache_contents::contents_laws;
 pub use cacache_core::laws::{integrity_laws, path_laws, text_laws};
 pub use cacache_entry::{bucket_laws, entry_laws, lookup_laws};
 pub use cacache_history::{

@@ -1,12 +1,12 @@
 //! Public calls that give one answer. A call's name is followed by the cache and what else the call is given. Each function
 //! knows some of the names and hands on the others.
-use crate::lines::{done, exists, found, has, listed, read, stored};
+use crate::lines::{contents, done, exists, found, has, listed, read, stored};
 use crate::options::options_of;
 use crate::place::On;
 use crate::row::Row;
 use crate::words::bytes_of;
 use cacache::content::path::content_path;
-use cacache::content::read::has_content;
+use cacache::content::read::{has_content, list};
 use cacache::content::rm::rm;
 use cacache::index::{delete, find, insert, ls};
 use cacache::store::Store;
@@ -232,6 +232,7 @@ fn on_cache<S: Store>(
         "clear_sync" => done(alloc, cacache::clear_sync(env, cache)),
         "ls" => listed(alloc, ls(env, cache)),
         "list_sync" => listed(alloc, cacache::list_sync(env, cache)),
+        "list" => contents(alloc, list(env, cache)),
         _ => return added(env, name, words, input),
     };
     Ok(line?)

@@ -3,6 +3,7 @@ ghost use Rattle.std.specs.Prelude.{IfOk};
 ghost use Rattle.cacache.specs.Listings.{IsListing};
 
 use crate::words::shown;
+use cacache::content::read::Contents;
 use cacache::errors::Error;
 use cacache::ls::Ls;
 use cacache::store::Store;
@@ -89,6 +90,24 @@ pub(crate) fn has(
         Ok(None) => String::from_str(alloc, "Has nothing"),
         Err(error) => refused(alloc, error),
     }
+}
+
+/// The line on a cache's contents: their addresses, and the paths of all else.
+pub(crate) fn contents(alloc: Global, answer: Answered<Contents>) -> Result<String, AllocError> {
+    let contents = match answer {
+        Ok(contents) => contents,
+        Err(error) => return refused(alloc, error),
+    };
+    let mut line = String::from_str(alloc, "Contents")?;
+    for address in &contents.addresses {
+        line.push_str("; ")?;
+        line.push_str(address.to_string(alloc)?.as_str())?;
+    }
+    for path in &contents.strange {
+        line.push_str("; strange ")?;
+        line.push_str(path.as_str())?;
+    }
+    Ok(line)
 }
 
 /// The line on an entry: its key, integrity, time, size, metadata and raw metadata.

@@ -1,4 +1,4 @@
-//! What is there of a content, its bytes at once or in pieces, and its exports.
+//! What contents there are, what is there of one, its bytes at once or in pieces, and its exports.
 pub use cacache_async::export_hash::{
     CopyHashFuture as CopyAsyncFuture, CopyHashUncheckedFuture as CopyUncheckedAsyncFuture,
     HardLinkHashFuture as HardLinkAsyncFuture, ReflinkHashFuture as ReflinkAsyncFuture,
@@ -11,6 +11,7 @@ pub use cacache_async::read::{
 };
 pub use cacache_async::reader::{OpenAsyncFuture, Reader as AsyncReader, open_async};
 pub use cacache_content::reader::{SyncReader as Reader, open};
+pub use cacache_contents::{Contents, list};
 pub use cacache_get::{
     copy_hash_sync as copy, copy_hash_unchecked_sync as copy_unchecked,
     hard_link_hash_sync as hard_link, hard_link_hash_unchecked_sync as hard_link_unchecked,

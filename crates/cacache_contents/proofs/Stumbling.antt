@@ -1,0 +1,80 @@
+-- A walk that met something too deep has items; one without leads on to its first task.
+use Rattle.std.proofs.Common.{◌≡◌, ◌+◌, ◌<◌, ℕ, List, [], ◌∷◌, ◌++◌, Bool, true, false, cond, nat_le, Option, None, Some, refl, sym, ap, subst, ◌∙◌, length, map, take, arith, length-append}
+use Rattle.cacache_core.specs.declared.errors.Fault.{Fault}
+use Rattle.cacache_table.specs.declared.reply.Reply.TheVariants.{Listed, Done}
+use Rattle.cacache_table.specs.State.{State, Item, walking, over, Visit, Task, visit, stumble, Walk}
+use Rattle.cacache_table.specs.Walking.{failed, walk_on, too_many, most}
+use Rattle.cacache_table.specs.Runs.{plain_item}
+use Rattle.cacache_walks.specs.declared.visit.Visit as visits
+use Rattle.cacache_walks.specs.declared.walk.Walk as walks
+use Rattle.cacache_walks.specs.WalkStates.{WalksAt, pending, visit_of, walk_of}
+use Rattle.cacache_contents.specs.Reading.{Folder}
+use Rattle.cacache_contents.specs.WalkSteps.{Matches, Stands}
+
+abbrev pub items_at : State → List Item
+items_at (walking w v todo) = w.items
+items_at (over (Listed items)) = items
+items_at other = []
+
+abbrev pub clears_at : State → Bool
+clears_at (walking w v todo) = w.clears
+clears_at other = false
+
+abbrev pub lists : List Item → ℕ → Walk
+lists items left = record { clears = false; items = items; left = left }
+
+more_items : (items : List Item) (x : Item) → 0 < length (items ++ x ∷ [])
+more_items items x = let l : length (items ++ x ∷ []) ≡ length items + 1 = length-append items (x ∷ []) in omega (arith, l)
+
+given : (b : Bool) (next : Walk → State) (items : List Item) (x : Item) (left : ℕ) → 0 < length (items_at (next (lists (items ++ x ∷ []) left))) → 0 < length (items_at (cond b (next (lists (items ++ x ∷ []) left)) (too_many (lists (take most (items ++ x ∷ [])) left))))
+given true next items x left some = some
+given false next items x left some = more_items (take most (items ++ x ∷ [])) _
+
+-- a walk with items never stands without
+stuck : (todo : List Task) (items : List Item) (left : ℕ) → 0 < length items → 0 < length (items_at (walk_on todo (lists items left)))
+stuck [] items left some = some
+stuck (visit v ∷ todo) items left some = some
+stuck (stumble fault ∷ todo) items left some =
+    given (nat_le (length items + length (failed fault ∷ [])) most) (walk_on todo) items (failed fault) left
+    (stuck todo (items ++ failed fault ∷ []) left (more_items items (failed fault)))
+
+-- nor does one that stumbles first
+stumbles : (todo : List Task) (fault : Fault) (left : ℕ) → 0 < length (items_at (walk_on (stumble fault ∷ todo) (lists [] left)))
+stumbles todo fault left =
+    given (nat_le (length (failed fault ∷ [])) most) (walk_on todo) [] (failed fault) left (stuck todo (failed fault ∷ []) left (more_items [] (failed fault)))
+
+pub none_at : (items : List Item) → items ≡ [] → 0 < length items → ⊥
+none_at items e some = let l : length items ≡ 0 = ap length e in omega (arith, l, some)
+
+ends_empty : (clears : Bool) (items : List Item) → items ≡ [] → items_at (cond clears (over Done) (over (Listed items))) ≡ []
+ends_empty true items e = refl
+ends_empty false items e = e
+
+-- where a walk stands that gave nothing, no item is
+pub no_items : (w : walks.Walk) (next : Option visits.Visit) (s : State) → w.items.items ≡ [] → WalksAt [] w next s → items_at s ≡ []
+no_items w (Some v) s none h = rw (h.1, none) refl
+no_items w None s none h = ap items_at h.1 ∙ ends_empty w.clears (map plain_item w.items.items) (rw none refl)
+
+not_over : (clears : Bool) (w : Walk) (v : Visit) (todo : List Task) (items : List Item) → walking w v todo ≡ cond clears (over Done) (over (Listed items)) → ⊥
+not_over true w v todo items e = absurd cc
+not_over false w v todo items e = absurd cc
+
+-- ---- from its tasks it goes on to the first
+
+pub led : (tasks : List Task) (left : ℕ) (w : walks.Walk) (next : Option visits.Visit) (fs : List Folder) → w.items.items ≡ [] → Matches tasks fs → WalksAt [] w next (walk_on tasks (lists [] left)) → Stands next w fs
+led [] left w None [] none m h = refl
+led [] left w None (f ∷ fs) none m h = absurd m
+led [] left w (Some v) fs none m h = absurd (let e = h.1 in cc)
+led (visit x ∷ todo) left w (Some v) fs none m h =
+    let e : walking (lists [] left) x todo ≡ walking (walk_of [] w) (visit_of v) (pending w.todo.items) = h.1 in
+    let clears : w.clears ≡ false = sym (ap clears_at e) in
+    let same : x ≡ visit_of v = cc in
+    let rest : todo ≡ pending w.todo.items = cc in
+    (clears, none, h.0, subst (λ y. Matches (visit y ∷ pending w.todo.items) fs) same (subst (λ ts. Matches (visit x ∷ ts) fs) rest m))
+led (visit x ∷ todo) left w None fs none m h = absurd (not_over w.clears (lists [] left) x todo (map plain_item w.items.items) h.1)
+led (stumble fault ∷ todo) left w next fs none m h = absurd (none_at (items_at (walk_on (stumble fault ∷ todo) (lists [] left))) (no_items w next _ none h) (stumbles todo fault left))
+
+-- nothing is in a list without length
+pub nothing_in : {X : Type 0} (xs : List X) → length xs ≡ 0 → xs ≡ []
+nothing_in [] e = refl
+nothing_in (x ∷ xs) e = absurd cc

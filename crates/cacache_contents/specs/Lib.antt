@@ -1,0 +1,4 @@
+pub mod Reading
+pub mod Addresses
+pub mod Listing
+pub mod WalkSteps

@@ -1,0 +1,97 @@
+-- A walk that reads a folder and all folders below it, and the files and links that it finds.
+use Rattle.std.specs.Prelude.{◌≡◌, ◌⊎◌, ◌≤◌, ◌+◌, ℕ, List, [], ◌∷◌, ◌++◌, Option, None, Some, filter_map, unwrap_or}
+use Rattle.std.specs.List.{flat_map}
+use Rattle.cacache_core.specs.declared.errors.Error.{Error}
+use Rattle.cacache_core.specs.declared.errors.Error.TheVariants.{IoError, OutOfMemory}
+use Rattle.cacache_core.specs.declared.errors.Fault.TheVariants.{NotFound, TooDeep}
+use Rattle.cacache_core.specs.Paths.{join}
+use Rattle.cacache_store.specs.declared.store.answer.Kind.{Kind}
+use Rattle.cacache_store.specs.declared.store.answer.Kind.TheVariants as kinds
+use Rattle.cacache_store.specs.declared.store.answer.Name.{Name}
+use Rattle.cacache_store.specs.declared.store.answer.Answer.TheVariants.{Names, Failed}
+use Rattle.cacache_store.specs.declared.store.step.Step.TheVariants.{ReadDir}
+use Rattle.cacache_store.specs.Plain.{PlainStep, PlainAnswer}
+use Rattle.cacache_store.specs.Fits.{Fits}
+use Rattle.cacache_table.specs.Runs.{Moves}
+
+-- a folder that is to be read, and its level below the first one
+pub record Folder : Type 0 where
+  pub path : List ℕ
+  pub level : ℕ
+
+-- the folder where the walk begins
+abbrev pub first : List ℕ → Folder
+first path = record { path = path; level = 0 }
+
+-- ---- what stands in a folder
+
+-- a folder there, one level deeper
+abbrev pub folder_as : Kind → List ℕ → ℕ → Option Folder
+folder_as kinds.Folder path level = Some (record { path = path; level = level + 1 })
+folder_as kinds.File path level = None
+folder_as kinds.Link path level = None
+
+-- the path of a file or link there
+abbrev pub file_as : Kind → List ℕ → Option (List ℕ)
+file_as kinds.Folder path = None
+file_as kinds.File path = Some path
+file_as kinds.Link path = Some path
+
+-- the folders that a folder's names tell
+abbrev pub folders_in : Folder → List Name → List Folder
+folders_in f names = filter_map (λ n. folder_as n.kind (join f.path n.name) f.level) names
+
+-- the paths of the files and links that a folder's names tell
+abbrev pub files_in : List ℕ → List Name → List (List ℕ)
+files_in path names = filter_map (λ n. file_as n.kind (join path n.name)) names
+
+-- ---- a whole walk
+
+-- the names that an answer shows; a folder that isn't there has none
+abbrev pub names_shown : PlainAnswer → Option (List Name)
+names_shown (Names names) = Some names
+names_shown (Failed NotFound) = Some []
+names_shown answer = None
+
+-- the moves read these folders, each at most sixteen levels down, and all folders below them
+abbrev pub Reads : List Folder → Moves → Type 0
+Reads [] [] = Unit {0}
+Reads [] (m ∷ moves) = ⊥
+Reads (f ∷ todo) [] = ⊥
+Reads (f ∷ todo) (m ∷ moves) =
+    (m.0 ≡ ReadDir f.path) × Fits m.0 m.1 × (f.level ≤ 16)
+    × ((names : List Name) × (names_shown m.1 ≡ Some names)
+    × Reads (folders_in f names ++ todo) moves)
+
+-- the files and links that a move shows
+abbrev pub shown_by : PlainStep → PlainAnswer → List (List ℕ)
+shown_by (ReadDir path) answer = files_in path (unwrap_or (names_shown answer) [])
+shown_by step answer = []
+
+-- the files and links that the moves show
+abbrev pub files_shown : Moves → List (List ℕ)
+files_shown moves = flat_map (λ m. shown_by m.0 m.1) moves
+
+-- ---- a walk that an error ends
+
+-- there was no memory left, a folder lies too deep, or there are too many names
+abbrev pub IsOwnError : Error → Type 0
+IsOwnError OutOfMemory = Unit {0}
+IsOwnError (IoError fault message) = fault ≡ TooDeep
+IsOwnError e = ⊥
+
+-- a failed step has the error's fault, unless there was no memory left
+abbrev pub IsErrorOf : PlainAnswer → Error → Type 0
+IsErrorOf answer OutOfMemory = Unit {0}
+IsErrorOf (Failed fault) (IoError f message) = f ≡ fault
+IsErrorOf answer e = ⊥
+
+-- the moves begin a walk that this error ends: its own, or that of the last move, which failed
+abbrev pub Stops : List Folder → Moves → Error → Type 0
+Stops todo [] e = IsOwnError e
+Stops [] (m ∷ moves) e = ⊥
+Stops (f ∷ todo) (m ∷ moves) e =
+    (m.0 ≡ ReadDir f.path) × Fits m.0 m.1 × (f.level ≤ 16)
+    × (((names : List Name) × (names_shown m.1 ≡ Some names)
+    × Stops (folders_in f names ++ todo) moves e)
+    ⊎ ((names_shown m.1 ≡ None) × (moves ≡ []) × IsErrorOf m.1 e))

@@ -1,0 +1,89 @@
+-- Where the walk stands between two visits, and what one visit adds.
+use Rattle.std.specs.Prelude.{◌≡◌, ◌≤◌, ◌+◌, ◌*◌, ℕ, List, [], ◌∷◌, ◌++◌, Option, None, Some, false}
+use Rattle.cacache_core.specs.declared.errors.Error.{Error}
+use Rattle.cacache_core.specs.declared.errors.Fault.TheVariants.{NotFound}
+use Rattle.cacache_store.specs.declared.store.log.LogItem.{LogItem}
+use Rattle.cacache_store.specs.declared.store.answer.Name.{Name}
+use Rattle.cacache_store.specs.declared.store.answer.Answer.TheVariants.{Names, Failed}
+use Rattle.cacache_store.specs.declared.store.step.Step.TheVariants.{ReadDir}
+use Rattle.cacache_store.specs.Plain.{PlainAnswer}
+use Rattle.cacache_store.specs.Fits.{Fits}
+use Rattle.cacache_table.specs.State as states
+use Rattle.cacache_table.specs.State.{enter, read_bucket, remove_file, remove_folder, visit, stumble}
+use Rattle.cacache_table.specs.Runs.{Moves, Gains, weight, weights}
+use Rattle.cacache_walks.specs.declared.visit.Visit.{Visit}
+use Rattle.cacache_walks.specs.declared.visit.Visit.TheVariants as visits
+use Rattle.cacache_walks.specs.declared.walk.Walk.{Walk}
+use Rattle.cacache_walks.specs.WalkStates.{Counts, visit_of, pending}
+use Rattle.cacache_contents.specs.Reading.{Folder, Reads, Stops, names_shown, files_in, files_shown}
+use Rattle.cacache_contents.specs.Listing.{StopsAt}
+
+-- ---- one visit
+
+-- the log gained the step that reads this folder, with an answer that shows these names
+pub record AnswerShows
+    (t : PlainAnswer) (names : List Name) (path : List ℕ)
+    (old new : Option (List LogItem)) : Type 0 where
+  pub fits : Fits (ReadDir path) t
+  pub shown : names_shown t ≡ Some names
+  pub gained : Gains old new ((ReadDir path, t) ∷ [])
+
+-- a visit is answered so: a folder is read, its files are found, and a file takes no step
+abbrev pub Answered : Visit → PlainAnswer → Option (List LogItem) → Option (List LogItem)
+    → List (List ℕ) → List (List ℕ) → Type 0
+Answered (visits.Enter path level) t old new before after =
+    (names : List Name) × (t ≡ Names names)
+    × ((shown : PlainAnswer) × AnswerShows shown names path old new)
+    × (after ≡ before ++ files_in path names)
+Answered v t old new before after = (t ≡ Failed NotFound) × (new ≡ old) × (after ≡ before)
+
+-- this error ended the reading of the folder, at whichever level, before whichever others
+abbrev pub StopsIn : List ℕ → Error
+    → Option (List LogItem) → Option (List LogItem) → Type 0
+StopsIn path e old new = (level : ℕ) (todo : List Folder)
+    → level ≤ 16 → StopsAt (record { path = path; level = level } ∷ todo) e old new
+
+-- this error ended a visit to a folder
+abbrev pub StopsVisit : Visit → Error
+    → Option (List LogItem) → Option (List LogItem) → Type 0
+StopsVisit (visits.Enter path level) e old new = StopsIn path e old new
+StopsVisit v e old new = ⊥
+
+-- ---- the whole walk
+
+-- the tasks of a walk are these folders, and files; it stumbles over a folder that lies too deep
+abbrev pub Matches : List states.Task → List Folder → Type 0
+Matches [] [] = Unit {0}
+Matches [] (f ∷ fs) = ⊥
+Matches (visit (enter path level) ∷ todo) [] = ⊥
+Matches (visit (enter path level) ∷ todo) (f ∷ fs) =
+    (f ≡ record { path = path; level = level }) × (level ≤ 16) × Matches todo fs
+Matches (visit (read_bucket path) ∷ todo) fs = Matches todo fs
+Matches (visit (remove_file path) ∷ todo) fs = ⊥
+Matches (visit (remove_folder path) ∷ todo) fs = ⊥
+Matches (stumble fault ∷ todo) [] = ⊥
+Matches (stumble fault ∷ todo) (f ∷ fs) = Matches todo fs
+
+-- it wants the step of this visit, before these folders; or it is over
+abbrev pub Stands : Option Visit → Walk → List Folder → Type 0
+Stands (Some v) w fs =
+    (w.clears ≡ false) × (w.items.items ≡ []) × Counts [] w
+    × Matches (visit (visit_of v) ∷ pending w.todo.items) fs
+Stands None w fs = fs ≡ []
+
+-- from these folders it went on so: by these moves, to the files that they show
+pub record GoesFrom
+    (fs : List Folder) (next : Option Visit) (w : Walk) (old new : Option (List LogItem))
+    (before after : List (List ℕ)) : Type 0 where
+  pub moves : Moves
+  pub gained : Gains old new moves
+  pub found : after ≡ before ++ files_shown moves
+  pub rest : List Folder
+  pub stands : Stands next w rest
+  pub reads : (more : Moves) → Reads rest more → Reads fs (moves ++ more)
+  pub stops : (more : Moves) (e : Error) → Stops rest more e → Stops fs (moves ++ more) e
+
+-- how many steps may still come
+abbrev pub steps_left : Option Visit → Walk → ℕ
+steps_left (Some v) w = 2 * w.left + weight (visit_of v) + weights (pending w.todo.items)
+steps_left None w = 0
