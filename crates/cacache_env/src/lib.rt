@@ -1,8 +1,8 @@
 //! Environments in one line: real folders, or a disk in memory.
 #![tactic(auto)]
 
-mod folders;
-mod memory;
+mod in_memory;
+mod on_folders;
 
-pub use folders::{FolderLinker, FolderReader, FolderWriter, Folders, folders};
-pub use memory::{Memory, MemoryLinker, MemoryReader, MemoryWriter, memory};
+pub use in_memory::{Memory, MemoryLinker, MemoryReader, MemoryWriter, memory};
+pub use on_folders::{FolderLinker, FolderReader, FolderWriter, Folders, folders};
