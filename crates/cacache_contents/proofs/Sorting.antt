@@ -1,8 +1,8 @@
 -- Files that are sorted one by one.
-use Rattle.std.proofs.Common.{◌≡◌, inl, inr, ℕ, List, [], ◌∷◌, ◌++◌, refl, sym, ap, ◌∙◌, subst, arith}
+use Rattle.std.proofs.Common.{◌≡◌, inl, inr, ℕ, List, [], ◌∷◌, ◌++◌, refl, sym, ap, ◌∙◌, subst}
 use Rattle.std.specs.Prelude.{◌↔◌, Contains}
-use Rattle.cacache_core.proofs.PathTexts.{paths_differ}
 use Rattle.std.proofs.lemmas.List.Elements.{Contains-push, Contains-push_cases, Contains-append_left}
+use Rattle.cacache_core.proofs.PathTexts.{paths_differ}
 use Rattle.cacache_core.specs.declared.integrity.digest.Hash.{Hash}
 use Rattle.cacache_core.specs.Paths.{joined, content_names}
 use Rattle.cacache_contents.specs.Addresses.{IsContent, IsStrange}
@@ -51,15 +51,6 @@ sorts_strange cache p files strange addresses is s = record {
       | inr same ↦ subst (Contains (strange ++ p ∷ [])) same (Contains-push strange p)
     ]),
   );
-}
-
-no_elements : {X : Type 0} (x : X) → Contains [] x → ⊥
-no_elements x c = let lt = c.1 in omega (arith, lt)
-
-pub sorts_nothing : (cache : List ℕ) → Sorts cache [] [] []
-sorts_nothing cache = record {
-  contents = λ i. ((λ c. absurd (no_elements i c)), (λ k. absurd (no_elements k.0 k.1)));
-  others = λ q. ((λ c. absurd (no_elements q c)), (λ k. absurd (no_elements q k.0)));
 }
 
 pub listed_are_shown : ListedAreShown

@@ -1,6 +1,7 @@
 -- How an error ends the walk.
-use Rattle.std.proofs.Common.{◌≡◌, ◌≢◌, ℕ, List, [], ◌∷◌, ◌++◌, Option, None, Some, Result, Ok, Err, IfOk, IfErr, inl, inr, refl, sym, subst}
+use Rattle.std.proofs.Common.{◌≡◌, ◌≤◌, ◌≢◌, ℕ, List, [], ◌∷◌, ◌++◌, Option, None, Some, Result, Ok, Err, IfOk, IfErr, inl, inr, refl, sym, subst, ◌-◌, Bool, true, false, cond, nat_le, length, append-nil}
 use Rattle.std.specs.Prelude.{IsErrAnd}
+use Rattle.std.proofs.lemmas.Bool.{leb-false}
 use Rattle.cacache_core.specs.declared.errors.Error.{Error}
 use Rattle.cacache_core.specs.declared.errors.Error.TheVariants.{IoError, OutOfMemory}
 use Rattle.cacache_core.specs.declared.errors.Fault.{Fault}
@@ -14,23 +15,24 @@ use Rattle.cacache_store.specs.Fits.{Fits, Logs}
 use Rattle.cacache_table.specs.Answers.{names_in}
 use Rattle.cacache_table.specs.declared.answers.Refusal.TheVariants as refusals
 use Rattle.cacache_table.specs.Runs.{Moves, Gains}
+use Rattle.cacache_table.specs.State.{Task, visit}
+use Rattle.cacache_table.specs.Walking.{after_visit, entered, tasks_of, too_many, walk_on}
 use Rattle.cacache_walks.specs.declared.visit.Visit as visits
 use Rattle.cacache_walks.specs.declared.visit.Visit.TheVariants as made
 use Rattle.cacache_walks.specs.declared.walk.Walk as walks
-use Rattle.cacache_contents.specs.Reading.{Folder, IsErrorOf, IsOwnError, Reads, Stops, files_shown, folders_in, names_shown}
+use Rattle.cacache_walks.specs.WalkStates.{Counts, WalksAt, pending, visit_of, walk_of}
+use Rattle.cacache_contents.specs.Reading.{Folder, HasDeeper, IsErrorOf, IsOwnError, Reads, Stops, files_shown, folders_in, names_shown}
 use Rattle.cacache_contents.specs.Listing.{StopsAt}
-use Rattle.cacache_contents.specs.WalkSteps.{AnswerShows, Answered, GoesFrom, Stands, StopsIn, StopsVisit}
-use Rattle.cacache_contents.proofs.VisitSteps.{unmoved}
+use Rattle.cacache_contents.specs.WalkSteps.{AnswerShows, Answered, GoesFrom, Matches, Stands, StopsIn, StopsVisit}
+use Rattle.cacache_contents.proofs.Stumbling.{deeper_or_none, lists}
+use Rattle.cacache_contents.proofs.VisitSteps.{lists_nothing, tasks_match, unmoved}
 use Rattle.cacache_contents.proofs.WholeWalk.{gains_both}
 
 -- ---- in one folder
 
 -- no step was made
-pub stops_here : (fs : List Folder) (e : Error) (old new : Option (List LogItem)) → new ≡ old → IsOwnError e → StopsAt fs e old new
-stops_here fs e old new same own = ([], unmoved old new same, own)
-
-pub stops_before : (path : List ℕ) (e : Error) (old new : Option (List LogItem)) → new ≡ old → IsOwnError e → StopsIn path e old new
-stops_before path e old new same own level todo deep = stops_here _ e old new same own
+pub stops_here : (left : ℕ) (fs : List Folder) (e : Error) (old new : Option (List LogItem)) → new ≡ old → IsOwnError fs e → StopsAt left fs e old new
+stops_here left fs e old new same own = ([], unmoved old new same, own)
 
 none_shown : (fault : Fault) → fault ≢ NotFound → names_shown (Failed fault) ≡ None
 none_shown NotFound other = absurd (other refl)
@@ -38,9 +40,9 @@ none_shown fault other = refl
 
 -- the step failed
 pub stops_at_fault : (path : List ℕ) (t : PlainAnswer) (fault : Fault) (e : Error) (old new : Option (List LogItem)) → Fits (ReadDir path) t → Logs old new (ReadDir path) t → names_in t ≡ Err (refusals.Fault fault) → fault ≢ NotFound → IsErrorOf (Failed fault) e → StopsIn path e old new
-stops_at_fault path (Failed f) fault e old new fits logs is other says = λ level todo deep.
+stops_at_fault path (Failed f) fault e old new fits logs is other says = λ left level todo deep.
     let same : f ≡ fault = cc in
-    ((ReadDir path, Failed f) ∷ [], logs, (refl, tt, deep, inr (rw same (none_shown fault other), refl, rw same says)))
+    ((ReadDir path, Failed f) ∷ [], logs, (refl, tt, deep, inr (refl, inr (rw same (none_shown fault other), rw same says))))
 stops_at_fault path (NoMemory step) fault e old new fits logs is other says = absurd cc
 stops_at_fault path (Names names) fault e old new fits logs is other says = absurd cc
 stops_at_fault path t fault e old new fits logs is other says = absurd fits
@@ -54,56 +56,83 @@ unread_shows path (NoMemory step) fault names old new fits logs is missing none 
 unread_shows path (Names shown) fault names old new fits logs is missing none = absurd cc
 unread_shows path t fault names old new fits logs is missing none = absurd fits
 
--- memory was refused
-pub stops_at_memory : (path : List ℕ) (t : PlainAnswer) (e : Error) (old new : Option (List LogItem)) → Fits (ReadDir path) t → Logs old new (ReadDir path) t → names_in t ≡ Err refusals.Memory → IsOwnError e → StopsIn path e old new
-stops_at_memory path (NoMemory step) e old new fits logs is own = stops_before path e old new logs own
-stops_at_memory path (Failed f) e old new fits logs is own = absurd cc
-stops_at_memory path (Names names) e old new fits logs is own = absurd cc
-stops_at_memory path t e old new fits logs is own = absurd fits
-
--- after its names were shown
-pub stops_behind : (path : List ℕ) (t : PlainAnswer) (names : List Name) (e : Error) (old new : Option (List LogItem)) → AnswerShows t names path old new → IsOwnError e → StopsIn path e old new
-stops_behind path t names e old new shows own level todo deep =
-    ((ReadDir path, t) ∷ [], shows.gained, (refl, shows.fits, deep, inl (names, shows.shown, own)))
+-- after its names were shown there was no memory left
+stops_behind : (path : List ℕ) (t : PlainAnswer) (names : List Name) (old new : Option (List LogItem)) → AnswerShows t names path old new → StopsIn path OutOfMemory old new
+stops_behind path t names old new shows left level todo deep =
+    ((ReadDir path, t) ∷ [], shows.gained, (refl, shows.fits, deep, inl (names, shows.shown, tt)))
 
 -- ---- at a visit
 
-pub stops_visit : (v : visits.Visit) (e : Error) (old new : Option (List LogItem)) (w : walks.Walk) (fs : List Folder) → StopsVisit v e old new → Stands (Some v) w fs → StopsAt fs e old new
+pub stops_visit : (v : visits.Visit) (e : Error) (old new : Option (List LogItem)) (w : walks.Walk) (fs : List Folder) → StopsVisit v e old new → Stands (Some v) w fs → StopsAt w.left fs e old new
 stops_visit (made.Enter path level) e old new w [] stops s = absurd s.3
-stops_visit (made.Enter path level) e old new w (f ∷ fs) stops s = rw s.3.0 (stops level fs s.3.1)
+stops_visit (made.Enter path level) e old new w (f ∷ fs) stops s = rw s.3.0 (stops w.left level fs s.3.1)
 stops_visit (made.ReadBucket path) e old new w fs stops s = absurd stops
 stops_visit (made.RemoveFile path) e old new w fs stops s = absurd stops
 stops_visit (made.RemoveFolder path) e old new w fs stops s = absurd stops
 
-pub stops_after : (v : visits.Visit) (t : PlainAnswer) (e : Error) (old new : Option (List LogItem)) (before after : List (List ℕ)) (w : walks.Walk) (fs : List Folder) → Answered v t old new before after → IsOwnError e → Stands (Some v) w fs → StopsAt fs e old new
-stops_after (made.Enter path level) t e old new before after w [] a own s = absurd s.3
-stops_after (made.Enter path level) t e old new before after w (f ∷ fs) a own s = rw s.3.0 (stops_behind path a.2.0 a.0 e old new a.2.1 own level fs s.3.1)
-stops_after (made.ReadBucket path) t e old new before after w fs a own s = stops_here fs e old new a.1 own
-stops_after (made.RemoveFile path) t e old new before after w fs a own s = absurd s.3
-stops_after (made.RemoveFolder path) t e old new before after w fs a own s = absurd s.3
+-- after it there was no memory left
+pub stops_after : (v : visits.Visit) (t : PlainAnswer) (old new : Option (List LogItem)) (before after : List (List ℕ)) (w : walks.Walk) (fs : List Folder) → Answered v t old new before after → Stands (Some v) w fs → StopsAt w.left fs OutOfMemory old new
+stops_after (made.Enter path level) t old new before after w [] a s = absurd s.3
+stops_after (made.Enter path level) t old new before after w (f ∷ fs) a s = rw s.3.0 (stops_behind path a.2.0 a.0 old new a.2.1 w.left level fs s.3.1)
+stops_after (made.ReadBucket path) t old new before after w fs a s = stops_here w.left fs OutOfMemory old new a.1 tt
+stops_after (made.RemoveFile path) t old new before after w fs a s = absurd s.3
+stops_after (made.RemoveFolder path) t old new before after w fs a s = absurd s.3
+
+-- ---- too deep
+
+own_depth : (fs : List Folder) (e : Error) → IsErrorOf (Failed TooDeep) e → HasDeeper fs → IsOwnError fs e
+own_depth fs OutOfMemory says deeper = tt
+own_depth fs (IoError fault message) says deeper = (says, deeper)
+own_depth fs e says deeper = absurd says
+
+-- a file was met, and a folder behind it lies too deep
+deep_behind : (tasks : List Task) (e : Error) (old new : Option (List LogItem)) (left : ℕ) (w : walks.Walk) (next : Option visits.Visit) (fs : List Folder) → new ≡ old → Matches tasks fs → WalksAt [] w next (walk_on tasks (lists [] left)) → ¬ (w.items.items ≡ []) → IsErrorOf (Failed TooDeep) e → StopsAt left fs e old new
+deep_behind tasks e old new left w next fs same m h some says = elim (deeper_or_none tasks left w next fs m h) [
+  | inl deeper ↦ stops_here left fs e old new same (own_depth fs e says deeper)
+  | inr none ↦ absurd (some none)
+]
+
+-- a folder was read, and has too many names, or a folder there or behind it lies too deep
+deep_in : (b : Bool) (tasks : List Task) (path : List ℕ) (level : ℕ) (names : List Name) (u : PlainAnswer) (e : Error) (old new : Option (List LogItem)) (left : ℕ) (w : walks.Walk) (next : Option visits.Visit) (fs : List Folder) → nat_le (length names) left ≡ b → AnswerShows u names path old new → level ≤ 16
+    → Matches tasks (folders_in (record { path = path; level = level }) names ++ fs) → WalksAt [] w next (cond b (walk_on tasks (lists [] (left - length names))) (too_many (lists [] left))) → ¬ (w.items.items ≡ []) → IsErrorOf (Failed TooDeep) e → StopsAt left (record { path = path; level = level } ∷ fs) e old new
+deep_in true tasks path level names u e old new left w next fs is shows deep m h some says = elim (deeper_or_none tasks (left - length names) w next (folders_in (record { path = path; level = level }) names ++ fs) m h) [
+  | inl deeper ↦ ((ReadDir path, u) ∷ [], shows.gained, (refl, shows.fits, deep, inl (names, shows.shown, own_depth (folders_in (record { path = path; level = level }) names ++ fs) e says deeper)))
+  | inr none ↦ absurd (some none)
+]
+deep_in false tasks path level names u e old new left w next fs is shows deep m h some says =
+    ((ReadDir path, u) ∷ [], shows.gained, (refl, shows.fits, deep, inr (refl, inl (names, shows.shown, leb-false (length names) left is, says))))
+
+deep_by : (v : visits.Visit) (t : PlainAnswer) (e : Error) (old new : Option (List LogItem)) (before after : List (List ℕ)) (w0 w1 : walks.Walk) (next : Option visits.Visit) (fs : List Folder) → Answered v t old new before after → Matches (visit (visit_of v) ∷ pending w0.todo.items) fs → WalksAt [] w1 next (after_visit (lists [] w0.left) (visit_of v) (pending w0.todo.items) t) → ¬ (w1.items.items ≡ []) → IsErrorOf (Failed TooDeep) e → StopsAt w0.left fs e old new
+deep_by (made.Enter path level) t e old new before after w0 w1 next [] a m h some says = absurd m
+deep_by (made.Enter path level) t e old new before after w0 w1 next (f ∷ fs) a m h some says =
+    let entered_so : WalksAt [] w1 next (entered (lists [] w0.left) path level (pending w0.todo.items) a.0) = rw a.1 at h in
+    let plain = rw (append-nil (tasks_of false level path a.0)) at entered_so in
+    rw m.0 (deep_in (nat_le (length a.0) w0.left) (tasks_of false level path a.0 ++ pending w0.todo.items) path level a.0 a.2.0 e old new w0.left w1 next fs refl a.2.1 m.1 (tasks_match level path a.0 (pending w0.todo.items) fs m.2) plain some says)
+deep_by (made.ReadBucket path) t e old new before after w0 w1 next fs a m h some says = deep_behind (pending w0.todo.items) e old new w0.left w1 next fs a.1 m (rw a.0 at h) some says
+deep_by (made.RemoveFile path) t e old new before after w0 w1 next fs a m h some says = absurd m
+deep_by (made.RemoveFolder path) t e old new before after w0 w1 next fs a m h some says = absurd m
+
+-- after a visit the walk has an item
+pub stops_deep : (v : visits.Visit) (t : PlainAnswer) (e : Error) (old new : Option (List LogItem)) (before after : List (List ℕ)) (w0 w1 : walks.Walk) (next : Option visits.Visit) (fs : List Folder) → Answered v t old new before after → Stands (Some v) w0 fs → (Counts [] w0 → WalksAt [] w1 next (after_visit (walk_of [] w0) (visit_of v) (pending w0.todo.items) t)) → ¬ (w1.items.items ≡ []) → IsErrorOf (Failed TooDeep) e → StopsAt w0.left fs e old new
+stops_deep v t e old new before after w0 w1 next fs a s h some says =
+    deep_by v t e old new before after w0 w1 next fs a s.3 (subst (λ u. WalksAt [] w1 next (after_visit u (visit_of v) (pending w0.todo.items) t)) (lists_nothing w0 s.0 s.1) (h s.2)) some says
 
 -- ---- the whole walk
 
-pub stops_on : {next : Option visits.Visit} {w : walks.Walk} {fs : List Folder} {old mid new : Option (List LogItem)} {before after : List (List ℕ)} (e : Error) → (g : GoesFrom fs next w old mid before after) → StopsAt g.rest e mid new → StopsAt fs e old new
+pub stops_on : {next : Option visits.Visit} {w : walks.Walk} {left : ℕ} {fs : List Folder} {old mid new : Option (List LogItem)} {before after : List (List ℕ)} (e : Error) → (g : GoesFrom left fs next w old mid before after) → StopsAt w.left g.rest e mid new → StopsAt left fs e old new
 stops_on {old = old} {mid = mid} {new = new} e g s = (g.moves ++ s.0, gains_both old mid new g.moves s.0 g.gained s.1, g.stops s.0 e s.2)
 
 -- a whole walk may still end out of memory
-reads_stop : (fs : List Folder) (moves : Moves) → Reads fs moves → Stops fs moves OutOfMemory
-reads_stop [] [] r = tt
-reads_stop [] (m ∷ moves) r = absurd r
-reads_stop (f ∷ fs) [] r = absurd r
-reads_stop (f ∷ fs) (m ∷ moves) r = (r.0, r.1, r.2, inl (r.3.0, r.3.1, reads_stop (folders_in f r.3.0 ++ fs) moves r.3.2))
+reads_stop : (left : ℕ) (fs : List Folder) (moves : Moves) → Reads fs moves → Stops left fs moves OutOfMemory
+reads_stop left [] [] r = tt
+reads_stop left [] (m ∷ moves) r = absurd r
+reads_stop left (f ∷ fs) [] r = absurd r
+reads_stop left (f ∷ fs) (m ∷ moves) r = (r.0, r.1, r.2, inl (r.3.0, r.3.1, reads_stop (left - length r.3.0) (folders_in f r.3.0 ++ fs) moves r.3.2))
 
-pub stops_whole : (fs : List Folder) (files : List (List ℕ)) (old new : Option (List LogItem)) → (moves : Moves) × Gains old new moves × Reads fs moves × (files ≡ files_shown moves) → StopsAt fs OutOfMemory old new
-stops_whole fs files old new whole = (whole.0, whole.1, reads_stop fs whole.0 whole.2)
+pub stops_whole : (left : ℕ) (fs : List Folder) (files : List (List ℕ)) (old new : Option (List LogItem)) → (moves : Moves) × Gains old new moves × Reads fs moves × (files ≡ files_shown moves) → StopsAt left fs OutOfMemory old new
+stops_whole left fs files old new whole = (whole.0, whole.1, reads_stop left fs whole.0 whole.2)
 
 -- ---- errors
-
--- a walk that says `TooDeep` says it of itself
-pub own_depth : (e : Error) → IsErrorOf (Failed TooDeep) e → IsOwnError e
-own_depth OutOfMemory says = tt
-own_depth (IoError fault message) says = says
-own_depth e says = absurd says
 
 -- what holds of a value or an error, where something else does
 pub value_so : {X E : Type 0} {P Q : X → Type 0} (r : Result X E) → ((x : X) → P x → Q x) → IfOk r P → IfOk r Q

@@ -1,14 +1,16 @@
 -- A walk that met something too deep has items; one without leads on to its first task.
-use Rattle.std.proofs.Common.{◌≡◌, ◌+◌, ◌<◌, ℕ, List, [], ◌∷◌, ◌++◌, Bool, true, false, cond, nat_le, Option, None, Some, refl, sym, ap, subst, ◌∙◌, length, map, take, arith, length-append}
+use Rattle.std.proofs.Common.{◌≡◌, ◌+◌, ◌<◌, ℕ, List, [], ◌∷◌, ◌++◌, Bool, true, false, cond, nat_le, Option, None, Some, inl, inr, ◌⊎◌, refl, sym, ap, subst, ◌∙◌, length, map, take, arith, length-append}
+use Rattle.std.proofs.lemmas.List.Elements.{Contains-push, Contains-append_left}
+use Rattle.cacache_core.specs.declared.errors.Error.{Error}
 use Rattle.cacache_core.specs.declared.errors.Fault.{Fault}
 use Rattle.cacache_table.specs.declared.reply.Reply.TheVariants.{Listed, Done}
 use Rattle.cacache_table.specs.State.{State, Item, walking, over, Visit, Task, visit, stumble, Walk}
 use Rattle.cacache_table.specs.Walking.{failed, walk_on, too_many, most}
-use Rattle.cacache_table.specs.Runs.{plain_item}
+use Rattle.cacache_table.specs.Runs.{Moves, plain_item}
 use Rattle.cacache_walks.specs.declared.visit.Visit as visits
 use Rattle.cacache_walks.specs.declared.walk.Walk as walks
 use Rattle.cacache_walks.specs.WalkStates.{WalksAt, pending, visit_of, walk_of}
-use Rattle.cacache_contents.specs.Reading.{Folder}
+use Rattle.cacache_contents.specs.Reading.{Folder, HasDeeper, Stops}
 use Rattle.cacache_contents.specs.WalkSteps.{Matches, Stands}
 
 abbrev pub items_at : State → List Item
@@ -73,6 +75,46 @@ led (visit x ∷ todo) left w (Some v) fs none m h =
     (clears, none, h.0, subst (λ y. Matches (visit y ∷ pending w.todo.items) fs) same (subst (λ ts. Matches (visit x ∷ ts) fs) rest m))
 led (visit x ∷ todo) left w None fs none m h = absurd (not_over w.clears (lists [] left) x todo (map plain_item w.items.items) h.1)
 led (stumble fault ∷ todo) left w next fs none m h = absurd (none_at (items_at (walk_on (stumble fault ∷ todo) (lists [] left))) (no_items w next _ none h) (stumbles todo fault left))
+
+-- ---- how many names may still come
+
+abbrev left_at : State → ℕ
+left_at (walking w v todo) = w.left
+left_at other = 0
+
+none_left : (n k : ℕ) (moves : Moves) (e : Error) → Stops n [] moves e → Stops k [] moves e
+none_left n k [] e s = s
+none_left n k (m ∷ moves) e s = absurd s
+
+pub at_most : (x y : Visit) (todo more : List Task) (left : ℕ) (w : walks.Walk) (fs : List Folder) (moves : Moves) (e : Error) → walking (lists [] left) x todo ≡ walking (walk_of [] w) y more → Stops w.left fs moves e → Stops left fs moves e
+at_most x y todo more left w fs moves e is s = subst (λ (n : ℕ). Stops n fs moves e) (sym (ap left_at is)) s
+
+-- the walk goes on with them
+pub same_left : (tasks : List Task) (left : ℕ) (w : walks.Walk) (next : Option visits.Visit) (fs : List Folder) → w.items.items ≡ [] → Matches tasks fs → WalksAt [] w next (walk_on tasks (lists [] left)) → (moves : Moves) (e : Error) → Stops w.left fs moves e → Stops left fs moves e
+same_left [] left w next [] none m h moves e s = none_left w.left left moves e s
+same_left [] left w next (f ∷ fs) none m h moves e s = absurd m
+same_left (visit x ∷ todo) left w (Some v) fs none m h moves e s = at_most x (visit_of v) todo (pending w.todo.items) left w fs moves e h.1 s
+same_left (visit x ∷ todo) left w None fs none m h moves e s = absurd (not_over w.clears (lists [] left) x todo (map plain_item w.items.items) h.1)
+same_left (stumble fault ∷ todo) left w next fs none m h moves e s = absurd (none_at (items_at (walk_on (stumble fault ∷ todo) (lists [] left))) (no_items w next _ none h) (stumbles todo fault left))
+
+-- ---- it has items only where a folder lies too deep
+
+none_mapped : (items : List Item) → [] ≡ map plain_item items → items ≡ []
+none_mapped [] e = refl
+none_mapped (x ∷ items) e = absurd cc
+
+ended_empty : (clears : Bool) (items : List Item) → over (Listed []) ≡ cond clears (over Done) (over (Listed (map plain_item items))) → items ≡ []
+ended_empty true items e = absurd cc
+ended_empty false items e = none_mapped items (ap items_at e)
+
+pub deeper_or_none : (tasks : List Task) (left : ℕ) (w : walks.Walk) (next : Option visits.Visit) (fs : List Folder) → Matches tasks fs → WalksAt [] w next (walk_on tasks (lists [] left)) → HasDeeper fs ⊎ (w.items.items ≡ [])
+deeper_or_none [] left w None [] m h = inr (ended_empty w.clears w.items.items h.1)
+deeper_or_none [] left w (Some v) [] m h = absurd (let e = h.1 in cc)
+deeper_or_none [] left w next (f ∷ fs) m h = absurd m
+deeper_or_none (visit x ∷ todo) left w (Some v) fs m h = inr (none_mapped w.items.items (ap items_at h.1))
+deeper_or_none (visit x ∷ todo) left w None fs m h = absurd (not_over w.clears (lists [] left) x todo (map plain_item w.items.items) h.1)
+deeper_or_none (stumble fault ∷ todo) left w next [] m h = absurd m
+deeper_or_none (stumble fault ∷ todo) left w next (f ∷ fs) m h = inl (f, Contains-append_left (f ∷ []) fs f (Contains-push [] f), m.0)
 
 -- nothing is in a list without length
 pub nothing_in : {X : Type 0} (xs : List X) → length xs ≡ 0 → xs ≡ []

@@ -3,6 +3,7 @@ use Rattle.std.proofs.Common.{◌≡◌, ℕ, ◌<◌, ◌≤◌, ◌+◌, ◌-�
 use Rattle.std.specs.Prelude.{IfSome}
 use Rattle.std.proofs.lemmas.List.{take_all, length-drop}
 use Rattle.std.proofs.lemmas.List.Elements.{All-nil, All-cons}
+use Rattle.base64.specs.GeneralPurpose.{IsBytes}
 use Rattle.hex.specs.Hex.{encode_lower, lower_digits, decode_of}
 use Rattle.hex.proofs.HexLemmas.{length-encode_with, decode_of-encode_lower}
 use Rattle.cacache_core.proofs.Printed.{printed}
@@ -13,7 +14,6 @@ use Rattle.cacache_core.specs.declared.integrity.digest.Hash.{Hash}
 use Rattle.cacache_core.specs.Integrity.{IsHash, IsIntegrity, hash_of, address}
 use Rattle.cacache_core.specs.Paths.{join, joined, cut_digits, content_names}
 use Rattle.cacache_core.specs.Texts.{name_of, hash_text, read_integrity}
-use Rattle.base64.specs.GeneralPurpose.{IsBytes}
 use Rattle.cacache_core.specs.declared.errors.Error.{Error}
 use Rattle.cacache_core.specs.declared.errors.Error.TheVariants.{IntegrityError, OutOfMemory}
 use Rattle.cacache_core.specs.Refusals.{IsReadFailure}

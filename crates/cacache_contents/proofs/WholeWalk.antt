@@ -13,7 +13,7 @@ use Rattle.cacache_walks.specs.declared.walk.Walk as walks
 use Rattle.cacache_walks.specs.WalkStates.{WalksAt, pending, visit_of, walk_of}
 use Rattle.cacache_contents.specs.Reading.{Folder, Reads, files_shown, shown_by, first, Stops}
 use Rattle.cacache_contents.specs.WalkSteps.{Matches, GoesFrom}
-use Rattle.cacache_contents.proofs.Stumbling.{clears_at, lists}
+use Rattle.cacache_contents.proofs.Stumbling.{at_most, clears_at, lists}
 use Rattle.cacache_contents.proofs.VisitSteps.{unmoved}
 
 -- ---- the whole walk
@@ -25,19 +25,19 @@ gains_both (Some log) mid new ms ns a b =
     let made : PlainStep × PlainAnswer → LogItem = λ m. Made m.0 m.1 in
     (rw a at b) ∙ ap Some (append_assoc log (map made ms) (map made ns) ∙ ap (λ more. log ++ more) (sym (map-append made ms ns)))
 
-pub goes_on : {n1 n2 : Option visits.Visit} {w1 w2 : walks.Walk} {fs : List Folder} {old mid new : Option (List LogItem)} {before between after : List (List ℕ)} → (g : GoesFrom fs n1 w1 old mid before between) → GoesFrom g.rest n2 w2 mid new between after → GoesFrom fs n2 w2 old new before after
-goes_on {fs = fs} {old = old} {mid = mid} {new = new} {before = before} g h = record {
+pub goes_on : {n1 n2 : Option visits.Visit} {w1 w2 : walks.Walk} {left : ℕ} {fs : List Folder} {old mid new : Option (List LogItem)} {before between after : List (List ℕ)} → (g : GoesFrom left fs n1 w1 old mid before between) → GoesFrom w1.left g.rest n2 w2 mid new between after → GoesFrom left fs n2 w2 old new before after
+goes_on {left = left} {fs = fs} {old = old} {mid = mid} {new = new} {before = before} g h = record {
   moves = g.moves ++ h.moves;
   gained = gains_both old mid new g.moves h.moves g.gained h.gained;
   found = h.found ∙ ap (λ l. l ++ files_shown h.moves) g.found ∙ append_assoc before (files_shown g.moves) (files_shown h.moves) ∙ ap (λ l. before ++ l) (sym (flat_map-append (λ m. shown_by m.0 m.1) g.moves h.moves));
   rest = h.rest;
   stands = h.stands;
   reads = λ more r. subst (Reads fs) (sym (append_assoc g.moves h.moves more)) (g.reads (h.moves ++ more) (h.reads more r));
-  stops = λ more e s. subst (λ (ms : Moves). Stops fs ms e) (sym (append_assoc g.moves h.moves more)) (g.stops (h.moves ++ more) e (h.stops more e s));
+  stops = λ more e s. subst (λ (ms : Moves). Stops left fs ms e) (sym (append_assoc g.moves h.moves more)) (g.stops (h.moves ++ more) e (h.stops more e s));
 }
 
 -- it begins before its folder
-pub begins : (w : walks.Walk) (v : visits.Visit) (top : List ℕ) (log : Option (List LogItem)) → w.items.items ≡ [] → WalksAt [] w (Some v) (walk false top) → GoesFrom (first top ∷ []) (Some v) w log log [] []
+pub begins : (w : walks.Walk) (v : visits.Visit) (top : List ℕ) (log : Option (List LogItem)) → w.items.items ≡ [] → WalksAt [] w (Some v) (walk false top) → GoesFrom most (first top ∷ []) (Some v) w log log [] []
 begins w v top log none h =
     let e : walking (lists [] most) (enter top 0) [] ≡ walking (walk_of [] w) (visit_of v) (pending w.todo.items) = h.1 in
     let clears : w.clears ≡ false = sym (ap clears_at e) in
@@ -50,11 +50,11 @@ begins w v top log none h =
       rest = first top ∷ [];
       stands = (clears, none, h.0, subst (λ y. Matches (visit y ∷ pending w.todo.items) (first top ∷ [])) same (subst (λ ts. Matches (visit (enter top 0) ∷ ts) (first top ∷ [])) rest (refl, omega arith, tt)));
       reads = λ more r. r;
-      stops = λ more e s. s;
+      stops = λ more f s. at_most (enter top 0) (visit_of v) [] (pending w.todo.items) most w (first top ∷ []) more f e s;
     }
 
 -- it is over when no folder is left
-pub ended : (next : Option visits.Visit) (w : walks.Walk) (top : List ℕ) (old new : Option (List LogItem)) (files : List (List ℕ)) → next ≡ None → GoesFrom (first top ∷ []) next w old new [] files → (moves : Moves) × Gains old new moves × Reads (first top ∷ []) moves × (files ≡ files_shown moves)
+pub ended : (next : Option visits.Visit) (w : walks.Walk) (top : List ℕ) (old new : Option (List LogItem)) (files : List (List ℕ)) → next ≡ None → GoesFrom most (first top ∷ []) next w old new [] files → (moves : Moves) × Gains old new moves × Reads (first top ∷ []) moves × (files ≡ files_shown moves)
 ended next w top old new files is g =
     let none : g.rest ≡ [] = rw is at g.stands in
     (g.moves, g.gained, subst (Reads (first top ∷ [])) (append-nil g.moves) (g.reads [] (rw none tt)), g.found)

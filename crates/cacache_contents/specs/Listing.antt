@@ -10,6 +10,7 @@ use Rattle.cacache_core.specs.Integrity.{IsHash, rank}
 use Rattle.cacache_core.specs.Paths.{join, joined, content_names}
 use Rattle.cacache_store.specs.declared.store.log.LogItem.{LogItem}
 use Rattle.cacache_table.specs.Runs.{Moves, Gains}
+use Rattle.cacache_table.specs.Walking.{most}
 use Rattle.cacache_contents.specs.Addresses.{IsContent, IsStrange}
 use Rattle.cacache_contents.specs.Reading.{Folder, Reads, Stops, first, files_shown}
 
@@ -54,15 +55,20 @@ IsByBytes paths = IsStrictlySortedBy (slice_cmp nat_cmp) paths
 
 -- ---- its errors
 
--- the log gained moves through these folders, which this error ended
-abbrev pub StopsAt : List Folder → Error
+-- the log gained moves through these folders, with at most so many names, which this error ended
+abbrev pub StopsAt : ℕ → List Folder → Error
     → Option (List LogItem) → Option (List LogItem) → Type 0
-StopsAt todo e old new = (moves : Moves) × Gains old new moves × Stops todo moves e
+StopsAt left todo e old new = (moves : Moves) × Gains old new moves × Stops left todo moves e
+
+-- the error ended the walk through this folder, which takes at most 2^63 names
+abbrev pub StopsBelow : List ℕ → Error
+    → Option (List LogItem) → Option (List LogItem) → Type 0
+StopsBelow path = StopsAt most (first path ∷ [])
 
 -- the error ended the walk through the folder of contents
 abbrev pub StopsListing : List ℕ → Error
     → Option (List LogItem) → Option (List LogItem) → Type 0
-StopsListing cache = StopsAt (first (contents_folder cache) ∷ [])
+StopsListing cache = StopsBelow (contents_folder cache)
 
 -- ---- a law
 

@@ -1,5 +1,5 @@
 -- A walk that reads a folder and all folders below it, and the files and links that it finds.
-use Rattle.std.specs.Prelude.{◌≡◌, ◌⊎◌, ◌≤◌, ◌+◌, ℕ, List, [], ◌∷◌, ◌++◌, Option, None, Some, filter_map, unwrap_or}
+use Rattle.std.specs.Prelude.{◌≡◌, ◌⊎◌, ◌≤◌, ◌<◌, ◌+◌, ◌-◌, ℕ, List, [], ◌∷◌, ◌++◌, Option, None, Some, Contains, length, filter_map, unwrap_or}
 use Rattle.std.specs.List.{flat_map}
 use Rattle.cacache_core.specs.declared.errors.Error.{Error}
 use Rattle.cacache_core.specs.declared.errors.Error.TheVariants.{IoError, OutOfMemory}
@@ -74,11 +74,15 @@ files_shown moves = flat_map (λ m. shown_by m.0 m.1) moves
 
 -- ---- a walk that an error ends
 
--- there was no memory left, a folder lies too deep, or there are too many names
-abbrev pub IsOwnError : Error → Type 0
-IsOwnError OutOfMemory = Unit {0}
-IsOwnError (IoError fault message) = fault ≡ TooDeep
-IsOwnError e = ⊥
+-- one of the folders lies more than sixteen levels down
+abbrev pub HasDeeper : List Folder → Type 0
+HasDeeper folders = (f : Folder) × Contains folders f × (16 < f.level)
+
+-- with these folders still to read there was no memory left, or one of them lies too deep
+abbrev pub IsOwnError : List Folder → Error → Type 0
+IsOwnError todo OutOfMemory = Unit {0}
+IsOwnError todo (IoError fault message) = (fault ≡ TooDeep) × HasDeeper todo
+IsOwnError todo e = ⊥
 
 -- a failed step has the error's fault, unless there was no memory left
 abbrev pub IsErrorOf : PlainAnswer → Error → Type 0
@@ -86,12 +90,19 @@ IsErrorOf answer OutOfMemory = Unit {0}
 IsErrorOf (Failed fault) (IoError f message) = f ≡ fault
 IsErrorOf answer e = ⊥
 
--- the moves begin a walk that this error ends: its own, or that of the last move, which failed
-abbrev pub Stops : List Folder → Moves → Error → Type 0
-Stops todo [] e = IsOwnError e
-Stops [] (m ∷ moves) e = ⊥
-Stops (f ∷ todo) (m ∷ moves) e =
+-- the last answer shows more names than so many, which is too deep, or none and says why
+abbrev pub EndsBy : ℕ → PlainAnswer → Error → Type 0
+EndsBy left answer e =
+    ((names : List Name) × (names_shown answer ≡ Some names)
+    × (left < length names) × IsErrorOf (Failed TooDeep) e)
+    ⊎ ((names_shown answer ≡ None) × IsErrorOf answer e)
+
+-- the moves begin a walk that may take so many names, and this error ends it
+abbrev pub Stops : ℕ → List Folder → Moves → Error → Type 0
+Stops left todo [] e = IsOwnError todo e
+Stops left [] (m ∷ moves) e = ⊥
+Stops left (f ∷ todo) (m ∷ moves) e =
     (m.0 ≡ ReadDir f.path) × Fits m.0 m.1 × (f.level ≤ 16)
     × (((names : List Name) × (names_shown m.1 ≡ Some names)
-    × Stops (folders_in f names ++ todo) moves e)
-    ⊎ ((names_shown m.1 ≡ None) × (moves ≡ []) × IsErrorOf m.1 e))
+    × Stops (left - length names) (folders_in f names ++ todo) moves e)
+    ⊎ ((moves ≡ []) × EndsBy left m.1 e))

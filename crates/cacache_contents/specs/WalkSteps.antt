@@ -1,5 +1,5 @@
 -- Where the walk stands between two visits, and what one visit adds.
-use Rattle.std.specs.Prelude.{◌≡◌, ◌≤◌, ◌+◌, ◌*◌, ℕ, List, [], ◌∷◌, ◌++◌, Option, None, Some, false}
+use Rattle.std.specs.Prelude.{◌≡◌, ◌≤◌, ◌<◌, ◌+◌, ◌*◌, ℕ, List, [], ◌∷◌, ◌++◌, Option, None, Some, false}
 use Rattle.cacache_core.specs.declared.errors.Error.{Error}
 use Rattle.cacache_core.specs.declared.errors.Fault.TheVariants.{NotFound}
 use Rattle.cacache_store.specs.declared.store.log.LogItem.{LogItem}
@@ -37,11 +37,11 @@ Answered (visits.Enter path level) t old new before after =
     × (after ≡ before ++ files_in path names)
 Answered v t old new before after = (t ≡ Failed NotFound) × (new ≡ old) × (after ≡ before)
 
--- this error ended the reading of the folder, at whichever level, before whichever others
+-- this error ended the reading of the folder, wherever the walk was
 abbrev pub StopsIn : List ℕ → Error
     → Option (List LogItem) → Option (List LogItem) → Type 0
-StopsIn path e old new = (level : ℕ) (todo : List Folder)
-    → level ≤ 16 → StopsAt (record { path = path; level = level } ∷ todo) e old new
+StopsIn path e old new = (left level : ℕ) (todo : List Folder)
+    → level ≤ 16 → StopsAt left (record { path = path; level = level } ∷ todo) e old new
 
 -- this error ended a visit to a folder
 abbrev pub StopsVisit : Visit → Error
@@ -62,7 +62,7 @@ Matches (visit (read_bucket path) ∷ todo) fs = Matches todo fs
 Matches (visit (remove_file path) ∷ todo) fs = ⊥
 Matches (visit (remove_folder path) ∷ todo) fs = ⊥
 Matches (stumble fault ∷ todo) [] = ⊥
-Matches (stumble fault ∷ todo) (f ∷ fs) = Matches todo fs
+Matches (stumble fault ∷ todo) (f ∷ fs) = (16 < f.level) × Matches todo fs
 
 -- it wants the step of this visit, before these folders; or it is over
 abbrev pub Stands : Option Visit → Walk → List Folder → Type 0
@@ -71,9 +71,9 @@ Stands (Some v) w fs =
     × Matches (visit (visit_of v) ∷ pending w.todo.items) fs
 Stands None w fs = fs ≡ []
 
--- from these folders it went on so: by these moves, to the files that they show
+-- from these folders, with so many names, it went on so: by moves, to the files that they show
 pub record GoesFrom
-    (fs : List Folder) (next : Option Visit) (w : Walk) (old new : Option (List LogItem))
+    (left : ℕ) (fs : List Folder) (next : Option Visit) (w : Walk) (old new : Option (List LogItem))
     (before after : List (List ℕ)) : Type 0 where
   pub moves : Moves
   pub gained : Gains old new moves
@@ -81,7 +81,8 @@ pub record GoesFrom
   pub rest : List Folder
   pub stands : Stands next w rest
   pub reads : (more : Moves) → Reads rest more → Reads fs (moves ++ more)
-  pub stops : (more : Moves) (e : Error) → Stops rest more e → Stops fs (moves ++ more) e
+  pub stops : (more : Moves) (e : Error)
+      → Stops w.left rest more e → Stops left fs (moves ++ more) e
 
 -- how many steps may still come
 abbrev pub steps_left : Option Visit → Walk → ℕ

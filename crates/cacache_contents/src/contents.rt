@@ -1,5 +1,5 @@
 //! The call that lists the contents.
-ghost use Rattle.std.specs.Prelude.{◌≡◌, List, IfOk, IfErr, map, codes, string_bytes};
+ghost use Rattle.std.specs.Prelude.{◌≡◌, IfOk, IfErr, map, codes, string_bytes};
 ghost use Rattle.cacache_core.specs.declared.errors.Error.TheVariants.{OutOfMemory};
 ghost use Rattle.cacache_core.specs.Paths.{join};
 ghost use Rattle.cacache_contents.specs.Listing.{IsByBytes, IsByHash, ListedAreShown, ListsContents, Sorts, StopsListing};
@@ -27,13 +27,13 @@ pub struct Contents {
 
 /// Files and links, by what their paths are.
 #[derive(Drop)]
-struct Found {
+struct Parts {
     addresses: Vec<Integrity>,
     strange: Vec<Text>,
 }
 
-/// The files and links by what their paths are, in their order.
-fn told(alloc: Global, cache: &str, top: &str, files: Vec<Text>) -> Result<Found>
+/// The files and links by what their paths are, as they come.
+fn told(alloc: Global, cache: &str, top: &str, files: Vec<Text>) -> Result<Parts>
     requires { top.now ≡ join cache.now (codes "content-v2") }
     ensures sorts { IfOk result
         (λ f. Sorts cache.now files.items f.addresses.items f.strange.items) }
@@ -47,7 +47,7 @@ fn told(alloc: Global, cache: &str, top: &str, files: Vec<Text>) -> Result<Found
             None => strange.push(file)?,
         }
     }
-    Ok(Found { addresses, strange })
+    Ok(Parts { addresses, strange })
 }
 
 /// The texts as strings.
@@ -70,7 +70,7 @@ fn sorted(alloc: Global, cache: &str, top: &str, files: Vec<Text>) -> Result<Con
     ensures by_bytes { IfOk result (λ c. IsByBytes (map string_bytes c.strange.items)) }
     ensures memory { IfErr result (λ e. e ≡ OutOfMemory) }
 {
-    let Found {
+    let Parts {
         mut addresses,
         mut strange,
     } = told(alloc, cache, top, files)?;

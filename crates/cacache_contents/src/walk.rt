@@ -5,7 +5,7 @@ ghost use Rattle.cacache_store.specs.declared.store.answer.Answer.TheVariants.{F
 ghost use Rattle.cacache_store.specs.Plain.{PlainAnswer, plain_answer};
 ghost use Rattle.cacache_table.specs.Runs.{Moves, Gains};
 ghost use Rattle.cacache_contents.specs.Reading.{Folder, IsErrorOf, Reads, first, files_in, files_shown};
-ghost use Rattle.cacache_contents.specs.Listing.{StopsAt};
+ghost use Rattle.cacache_contents.specs.Listing.{StopsAt, StopsBelow};
 ghost use Rattle.cacache_contents.specs.WalkSteps.{AnswerShows, Answered, GoesFrom, Stands, StopsIn, StopsVisit, steps_left};
 
 use cacache_core::errors::{Error, Fault, Result};
@@ -71,7 +71,8 @@ fn push_files(
     Ok(())
 }
 
-/// What a visit is answered; the files that it shows are added. A visit to a file takes no step.
+/// What a visit is answered; the files that it shows are added. A visit to a file takes no step: it
+/// counts as a bucket that isn't there, which lists nothing.
 fn visited<S: Store>(
     store: &mut S,
     alloc: Global,
@@ -105,14 +106,15 @@ fn make<S: Store>(
     visit: Visit,
 ) -> Result<Option<Visit>>
     ensures goes { IfOk result (λ next. (fs : List Folder) → Stands (Some visit) walk.old fs
-        → GoesFrom fs next walk.new (S.log store.old) (S.log store.new)
+        → GoesFrom walk.old.left fs next walk.new (S.log store.old) (S.log store.new)
         files.old.items files.new.items) }
     ensures smaller { IfOk result (λ next. (fs : List Folder) → Stands (Some visit) walk.old fs
         → steps_left next walk.new < steps_left (Some visit) walk.old) }
     ensures stops { IfErr result (λ e. (fs : List Folder) → Stands (Some visit) walk.old fs
-        → StopsAt fs e (S.log store.old) (S.log store.new)) }
+        → StopsAt walk.old.left fs e (S.log store.old) (S.log store.new)) }
 {
     let answer = visited(store, alloc, top, files, &visit)?;
+    // It reads no bucket, so its items are `TooDeep` alone, and its only error is out of memory.
     let Ok(next) = walk.resume(alloc, visit, answer) else {
         return Err(Error::OutOfMemory);
     };
@@ -128,7 +130,7 @@ pub(crate) fn files_below<S: Store>(store: &mut S, alloc: Global, top: &str) -> 
         (λ files. (moves : Moves) × Gains (S.log store.old) (S.log store.new) moves
         × Reads (first top.now ∷ []) moves × (files.items ≡ files_shown moves)) }
     ensures stops { IfErr result
-        (λ e. StopsAt (first top.now ∷ []) e (S.log store.old) (S.log store.new)) }
+        (λ e. StopsBelow top.now e (S.log store.old) (S.log store.new)) }
 {
     let (mut walk, visit) = Walk::new(alloc, false, Text::from_str(alloc, top)?)?;
     let mut files = Vec::new(alloc);

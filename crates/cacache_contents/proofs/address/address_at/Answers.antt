@@ -1,7 +1,7 @@
 use Rattle.std.proofs.Common.{◌≡◌, ◌∷◌, [], ℕ, List, true, false, length, drop, sym, ap, ◌∙◌, bytes_eq}
 use Rattle.std.proofs.lemmas.Slice.Eq.{bytes_eq-Decides}
-use Rattle.cacache_contents.proofs.TakenApart.{behind_top, not_shorter, same_path_of, rest_all, lie_of}
 use Rattle.cacache_core.specs.Integrity.{hash_of}
+use Rattle.cacache_contents.proofs.TakenApart.{behind_top, not_shorter, same_path_of, rest_all, lie_of}
 use Rattle.cacache_contents.proofs.address.address_at.Goals as goal
 
 pub returns-then-path-top-clause-address : goal.returns-then-path-top-clause-address

@@ -1,10 +1,11 @@
 use Rattle.std.proofs.Common.{◌∷◌, []}
+use Rattle.cacache_table.specs.Walking.{most}
 use Rattle.cacache_contents.specs.Reading.{first}
 use Rattle.cacache_contents.specs.WalkSteps.{GoesFrom, steps_left}
 use Rattle.cacache_contents.proofs.walk.files_below.Given as goal
 
 abbrev pub invariant-visits : goal.invariant-visits
-invariant-visits g l = GoesFrom (first l.fn.top ∷ []) l.next l.walk (g.S.Store.log l.fn.store) (g.S.Store.log l.store) [] l.files.items
+invariant-visits g l = GoesFrom most (first l.fn.top ∷ []) l.next l.walk (g.S.Store.log l.fn.store) (g.S.Store.log l.store) [] l.files.items
 
 abbrev pub decreases-visits : goal.decreases-visits
 decreases-visits g l = steps_left l.next l.walk

@@ -1,8 +1,8 @@
-use Rattle.std.proofs.Common.{sym, ◌∙◌, []}
-use Rattle.cacache_contents.proofs.Stopping.{error_as, own_depth, stops_after, stops_visit}
+use Rattle.std.proofs.Common.{◌≡◌, ◌==◌, true, false, length, ap, sym, ◌∙◌, []}
+use Rattle.std.proofs.lemmas.Bool.{eqb-true}
+use Rattle.cacache_contents.proofs.Stopping.{error_as, stops_after, stops_deep, stops_visit}
 use Rattle.cacache_contents.proofs.Stumbling.{nothing_in}
 use Rattle.cacache_contents.proofs.VisitSteps.{goes_after, fewer_after}
-use Rattle.std.proofs.lemmas.Bool.{eqb-true}
 use Rattle.cacache_contents.proofs.walk.make.Goals as goal
 
 pub returns-clause-goes : goal.returns-clause-goes
@@ -16,9 +16,9 @@ returns-in_err-answer-clause-stops g c =
     error_as _ c.from_residual.result c.in_err-answer.field-0.0 c.from_residual.ensures.1 (λ fs stands. stops_visit c.args.visit c.in_err-answer.field-0.0 _ _ c.args.walk.now fs c.in_err-answer.ensures.stops stands)
 
 pub returns-in_default-clause-stops : goal.returns-in_default-clause-stops
-returns-in_default-clause-stops g c =
-    λ fs stands. stops_after c.args.visit _ _ _ _ _ _ c.args.walk.now fs c.in_ok-answer.ensures.answers tt stands
+returns-in_default-clause-stops g c = λ fs stands. stops_after c.args.visit _ _ _ _ _ c.args.walk.now fs c.in_ok-answer.ensures.answers stands
 
 pub returns-then-not-is_empty-clause-stops : goal.returns-then-not-is_empty-clause-stops
-returns-then-not-is_empty-clause-stops g c =
-    λ fs stands. stops_after c.args.visit _ c.failure.result _ _ _ _ c.args.walk.now fs c.in_ok-answer.ensures.answers (own_depth c.failure.result c.failure.ensures) stands
+returns-then-not-is_empty-clause-stops g c = λ fs stands. stops_deep c.args.visit _ c.failure.result _ _ _ _ c.args.walk.now c.resume.new.self c.in-Ok.next fs c.in_ok-answer.ensures.answers stands (λ counts. c.in-Ok.ensures [] counts) (λ none.
+    let empty = c.resume.new.self.items.ok.0 ∙ ap length none in
+    let wrong : false ≡ true = sym c.if-not-is_empty.true ∙ c.is_empty.ensures ∙ ap (λ n. n == 0) empty in cc) c.failure.ensures
