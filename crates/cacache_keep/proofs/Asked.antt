@@ -1,0 +1,147 @@
+-- Reads, questions and listings, one after another.
+use Rattle.std.proofs.Common.{◌≡◌, ◌+◌, ℕ, List, [], ◌∷◌, ◌++◌, Bool, true, false, Option, Some, Ok, Err, Result, IfOk, inl, refl, sym, ap, subst, ◌∙◌, map, length, length-append, arith}
+use Rattle.std.specs.List.{filter}
+use Rattle.std.proofs.lemmas.List.{map-append}
+use Rattle.std.proofs.lemmas.List.Elements.{filter-append}
+use Rattle.std.specs.Prelude.{not}
+use Rattle.cacache_core.specs.declared.errors.Error.{Error}
+use Rattle.cacache_core.specs.declared.integrity.digest.Hash.{Hash}
+use Rattle.cacache_store.specs.declared.env.Env.{Env}
+use Rattle.cacache_store.specs.declared.store.log.LogItem.{LogItem}
+use Rattle.cacache_entry.specs.Latest.{Found}
+use Rattle.cacache_table.specs.declared.command.Command.{Command}
+use Rattle.cacache_table.specs.declared.command.Command.TheVariants as commands
+use Rattle.cacache_table.specs.declared.reply.Reply.{Reply}
+use Rattle.cacache_table.specs.declared.reply.Reply.TheVariants as replies
+use Rattle.cacache_table.specs.State.{Site, Item}
+use Rattle.cacache_table.specs.Table.{opening}
+use Rattle.cacache_table.specs.Runs.{Ran, plain_item}
+use Rattle.cacache_jobs.specs.Environment.{KeepsRest}
+use Rattle.cacache_jobs.specs.Sites.{site_of}
+use Rattle.cacache_keep.specs.Calls.{AsksEach, ListsEntries, Made, ReadsEach, SaysGood, has_bytes, question_of, read_of, tells_damage}
+
+-- ---- the environment
+
+pub keeps_on : {S C N : Type 0} (a b c : Env S C N) → KeepsRest a b → KeepsRest b c → KeepsRest a c
+keeps_on a b c one two = (two.0 ∙ one.0, two.1 ∙ one.1, two.2 ∙ one.2)
+
+-- ---- one more call
+
+pub made_on : (site : Site) (calls : List (Command × Reply)) (call : Command × Reply) (old mid new : Option (List LogItem)) → Made site calls old mid → Ran (opening site call.0) call.1 mid new → Made site (calls ++ call ∷ []) old new
+made_on site [] call old mid new made ran = (new, subst (λ (log : Option (List LogItem)). Ran (opening site call.0) call.1 log new) made ran, refl)
+made_on site (c ∷ calls) call old mid new made ran = (made.0, made.1, made_on site calls call made.0 mid new made.2 ran)
+
+pub mapped_on : {X : Type 0} (site : Site) (of : X → Command × Reply) (xs : List X) (x : X) (old mid new : Option (List LogItem)) → Made site (map of xs) old mid → Ran (opening site (of x).0) (of x).1 mid new → Made site (map of (xs ++ x ∷ [])) old new
+mapped_on site of xs x old mid new made ran = subst (λ (calls : List (Command × Reply)). Made site calls old new) (sym (map-append of xs (x ∷ []))) (made_on site (map of xs) (of x) old mid new made ran)
+
+-- ---- what a filter keeps of one more
+
+pub kept : {X : Type 0} (p : X → Bool) (xs : List X) (x : X) → p x ≡ true → filter p (xs ++ x ∷ []) ≡ filter p xs ++ x ∷ []
+kept p xs x is = filter-append p xs (x ∷ []) ∙ ap (λ more. filter p xs ++ more) (one p x is)
+  where
+    one : {X : Type 0} (p : X → Bool) (x : X) → p x ≡ true → filter p (x ∷ []) ≡ x ∷ []
+    one p x is = rw is refl
+
+pub passed : {X : Type 0} (p : X → Bool) (xs : List X) (x : X) → p x ≡ false → filter p (xs ++ x ∷ []) ≡ filter p xs
+passed p xs x is = filter-append p xs (x ∷ []) ∙ ap (λ more. filter p xs ++ more) (none p x is) ∙ append_none (filter p xs)
+  where
+    none : {X : Type 0} (p : X → Bool) (x : X) → p x ≡ false → filter p (x ∷ []) ≡ []
+    none p x is = rw is refl
+
+    append_none : {X : Type 0} (xs : List X) → xs ++ [] ≡ xs
+    append_none [] = refl
+    append_none (x ∷ xs) = ap (λ l. x ∷ l) (append_none xs)
+
+-- ---- contents that are read
+
+abbrev pub Reads : Site → List (List Hash) → List (List Hash) → Option (List LogItem) → Option (List LogItem) → Type 0
+Reads site addresses damaged old new = (good : ℕ) × ReadsEach site addresses good damaged old new
+
+pub none_read : (site : Site) (damaged : List (List Hash)) (log : Option (List LogItem)) → damaged ≡ [] → Reads site [] damaged log log
+none_read site damaged log none = (0, record { reads = []; each = refl; reading = refl; whole = refl; broken = none; counts = omega (arith, ap length none) })
+
+pub good_read : (site : Site) (addresses damaged : List (List Hash)) (i : List Hash) (old mid new : Option (List LogItem)) → Reads site addresses damaged old mid → SaysGood site i true mid new → Reads site (addresses ++ i ∷ []) damaged old new
+good_read site addresses damaged i old mid new g says =
+    let r = g.1 in
+    let more : List Hash × Reply = (i, says.0) in (
+      g.0 + 1,
+      record {
+        reads = r.reads ++ more ∷ [];
+        each = map-append (λ (x : List Hash × Reply). x.0) r.reads (more ∷ []) ∙ ap (λ (l : List (List Hash)). l ++ i ∷ []) r.each;
+        reading = mapped_on site read_of r.reads more old mid new r.reading says.2;
+        whole = ap (λ n. n + 1) r.whole ∙ sym (ap length (kept (λ (x : List Hash × Reply). has_bytes x.1) r.reads more says.1.0) ∙ length-append (filter (λ (x : List Hash × Reply). has_bytes x.1) r.reads) (more ∷ []));
+        broken = r.broken ∙ ap (λ (l : List (List Hash × Reply)). map (λ x. x.0) l) (sym (passed (λ (x : List Hash × Reply). tells_damage x.1) r.reads more says.1.1));
+        counts = omega (arith, r.counts, length-append addresses (i ∷ []));
+      },
+    )
+
+pub damaged_read : (site : Site) (addresses damaged : List (List Hash)) (i : List Hash) (old mid new : Option (List LogItem)) → Reads site addresses damaged old mid → SaysGood site i false mid new → Reads site (addresses ++ i ∷ []) (damaged ++ i ∷ []) old new
+damaged_read site addresses damaged i old mid new g says =
+    let r = g.1 in
+    let more : List Hash × Reply = (i, says.0) in
+    let broken : List (List Hash × Reply) = filter (λ (x : List Hash × Reply). tells_damage x.1) r.reads in (
+      g.0,
+      record {
+        reads = r.reads ++ more ∷ [];
+        each = map-append (λ (x : List Hash × Reply). x.0) r.reads (more ∷ []) ∙ ap (λ (l : List (List Hash)). l ++ i ∷ []) r.each;
+        reading = mapped_on site read_of r.reads more old mid new r.reading says.2;
+        whole = r.whole ∙ ap length (sym (passed (λ (x : List Hash × Reply). has_bytes x.1) r.reads more says.1.0));
+        broken = ap (λ (l : List (List Hash)). l ++ i ∷ []) r.broken ∙ sym (map-append (λ (x : List Hash × Reply). x.0) broken (more ∷ [])) ∙ ap (λ (l : List (List Hash × Reply)). map (λ x. x.0) l) (sym (kept (λ (x : List Hash × Reply). tells_damage x.1) r.reads more says.1.1));
+        counts = omega (arith, r.counts, length-append addresses (i ∷ []), length-append damaged (i ∷ []));
+      },
+    )
+
+-- ---- entries whose content is asked for
+
+pub none_asked : (site : Site) (dangling : List Found) (log : Option (List LogItem)) → dangling ≡ [] → AsksEach site [] dangling log log
+none_asked site dangling log none = record { asks = []; each = refl; asking = refl; absent = none }
+
+pub there_asked : (site : Site) (entries dangling : List Found) (f : Found) (old mid new : Option (List LogItem)) → AsksEach site entries dangling old mid → Ran (opening site (commands.Exists f.integrity)) (replies.Exists true) mid new → AsksEach site (entries ++ f ∷ []) dangling old new
+there_asked site entries dangling f old mid new r ran =
+    let more : Found × Bool = (f, true) in
+    record {
+      asks = r.asks ++ more ∷ [];
+      each = map-append (λ (x : Found × Bool). x.0) r.asks (more ∷ []) ∙ ap (λ (l : List Found). l ++ f ∷ []) r.each;
+      asking = mapped_on site question_of r.asks more old mid new r.asking ran;
+      absent = r.absent ∙ ap (λ (l : List (Found × Bool)). map (λ x. x.0) l) (sym (passed (λ (x : Found × Bool). not x.1) r.asks more refl));
+    }
+
+pub absent_asked : (site : Site) (entries dangling : List Found) (f : Found) (old mid new : Option (List LogItem)) → AsksEach site entries dangling old mid → Ran (opening site (commands.Exists f.integrity)) (replies.Exists false) mid new → AsksEach site (entries ++ f ∷ []) (dangling ++ f ∷ []) old new
+absent_asked site entries dangling f old mid new r ran =
+    let more : Found × Bool = (f, false) in
+    let absent : List (Found × Bool) = filter (λ (x : Found × Bool). not x.1) r.asks in
+    record {
+      asks = r.asks ++ more ∷ [];
+      each = map-append (λ (x : Found × Bool). x.0) r.asks (more ∷ []) ∙ ap (λ (l : List Found). l ++ f ∷ []) r.each;
+      asking = mapped_on site question_of r.asks more old mid new r.asking ran;
+      absent = ap (λ (l : List Found). l ++ f ∷ []) r.absent ∙ sym (map-append (λ (x : Found × Bool). x.0) absent (more ∷ [])) ∙ ap (λ (l : List (Found × Bool)). map (λ x. x.0) l) (sym (kept (λ (x : Found × Bool). not x.1) r.asks more refl));
+    }
+
+-- ---- the index
+
+plain_entries : (entries : List Found) → map plain_item (map Ok entries) ≡ map Ok entries
+plain_entries [] = refl
+plain_entries (f ∷ fs) = ap (λ (l : List Item). Ok f ∷ l) (plain_entries fs)
+
+pub entries_listed : (site : Site) (items : List Item) (entries : List Found) (old new : Option (List LogItem)) → Ran (opening site commands.Ls) (replies.Listed (map plain_item items)) old new → items ≡ map Ok entries → ListsEntries site entries old new
+entries_listed site items entries old new ran is =
+    let plain : map plain_item items ≡ map Ok entries = ap (map plain_item) is ∙ plain_entries entries in
+    (map Ok entries, inl refl, subst (λ (l : List Item). Ran (opening site commands.Ls) (replies.Listed l) old new) plain ran)
+
+-- what holds of a value, where something else does
+pub value_so : {X E : Type 0} {P Q : X → Type 0} (r : Result X E) → ((x : X) → P x → Q x) → IfOk r P → IfOk r Q
+value_so (Ok x) f h = f x h
+value_so (Err e) f h = h
+
+-- ---- at the same place
+
+pub ran_at : (cache base before : List ℕ) (command given : Command) (reply answered : Reply) (old new : Option (List LogItem)) → before ≡ base → given ≡ command → answered ≡ reply → Ran (opening (site_of cache before 0) given) answered old new → Ran (opening (site_of cache base 0) command) reply old new
+ran_at cache base before command given reply answered old new same asks says ran =
+    subst (λ (r : Reply). Ran (opening (site_of cache base 0) command) r old new) says
+    (subst (λ (k : Command). Ran (opening (site_of cache base 0) k) answered old new) asks
+    (subst (λ (b : List ℕ). Ran (opening (site_of cache b 0) given) answered old new) same ran))
+
+pub says_at : (cache base before : List ℕ) (i : List Hash) (good said : Bool) (old new : Option (List LogItem)) → before ≡ base → said ≡ good → SaysGood (site_of cache before 0) i said old new → SaysGood (site_of cache base 0) i good old new
+says_at cache base before i good said old new same is says =
+    subst (λ (b : Bool). SaysGood (site_of cache base 0) i b old new) is
+    (subst (λ (b : List ℕ). SaysGood (site_of cache b 0) i said old new) same says)

@@ -1,0 +1,17 @@
+-- Contents that are removed, one after another.
+use Rattle.std.proofs.Common.{◌≡◌, ◌+◌, ◌<◌, ℕ, List, [], ◌∷◌, ◌++◌, Option, sym, ap, subst, ◌∙◌, map, length, get_or, take}
+use Rattle.std.proofs.lemmas.List.{take_more}
+use Rattle.cacache_core.specs.declared.integrity.digest.Hash.{Hash}
+use Rattle.cacache_store.specs.declared.store.log.LogItem.{LogItem}
+use Rattle.cacache_table.specs.declared.command.Command.{Command}
+use Rattle.cacache_table.specs.declared.reply.Reply.{Reply}
+use Rattle.cacache_table.specs.State.{Site}
+use Rattle.cacache_table.specs.Table.{opening}
+use Rattle.cacache_table.specs.Runs.{Ran}
+use Rattle.cacache_keep.specs.Calls.{Made, removal}
+use Rattle.cacache_keep.proofs.Asked.{mapped_on}
+
+pub one_removed : (site : Site) (addresses : List (List Hash)) (k : ℕ) (i : List Hash) (old mid new : Option (List LogItem)) → k < length addresses → i ≡ get_or addresses k i → Made site (map removal (take k addresses)) old mid → Ran (opening site (removal i).0) (removal i).1 mid new → Made site (map removal (take (k + 1) addresses)) old new
+one_removed site addresses k i old mid new below is made ran =
+    let more : take (k + 1) addresses ≡ take k addresses ++ i ∷ [] = take_more addresses k i below ∙ ap (λ (h : List Hash). take k addresses ++ h ∷ []) (sym is) in
+    subst (λ (l : List (List Hash)). Made site (map removal l) old new) (sym more) (mapped_on site removal (take k addresses) i old mid new made ran)

@@ -1,0 +1,33 @@
+use Rattle.std.proofs.Common.{◌++◌, ◌∷◌, [], true, false, refl, sym, subst, List}
+use Rattle.cacache_core.specs.declared.integrity.digest.Hash.{Hash}
+use Rattle.cacache_jobs.specs.Sites.{site_of}
+use Rattle.cacache_keep.proofs.Asked.{Reads, damaged_read, good_read, keeps_on, none_read, says_at}
+use Rattle.cacache_keep.proofs.reading.damaged_of.Goals as goal
+
+pub loop-sri-init : goal.loop-sri-init
+loop-sri-init g c = ((refl, refl, refl), none_read _ _ _ c.new-damaged.ensures.items)
+
+pub loop-sri-preserved-in_ok-push : goal.loop-sri-preserved-in_ok-push
+loop-sri-preserved-in_ok-push g c =
+    let i = c.loop-sri.invariant in
+    let site = site_of c.args.cache.now c.args.env.now.base 0 in
+    let old = g.S.Store.log c.args.env.now.store in
+    let mid = g.S.Store.log c.loop-sri.env.store in
+    let new = g.S.Store.log c.is_good.new.env.store in
+    let says = says_at c.args.cache.now c.args.env.now.base c.loop-sri.env.base c.in-Some.sri false c.in_ok-is_good.field-0 mid new i.0.2 c.if-not-branch.true c.in_ok-is_good.ensures.says in
+    let more = damaged_read site c.loop-sri.yielded c.loop-sri.damaged.items c.in-Some.sri old mid new i.1 says in (
+      keeps_on c.args.env.now c.loop-sri.env c.is_good.new.env i.0 c.is_good.ensures.rest,
+      subst (λ (l : List (List Hash)). Reads site (c.loop-sri.yielded ++ c.in-Some.sri ∷ []) l old new) (sym c.in_ok-push.ensures.items) more,
+    )
+
+pub loop-sri-preserved : goal.loop-sri-preserved
+loop-sri-preserved g c =
+    let i = c.loop-sri.invariant in
+    let site = site_of c.args.cache.now c.args.env.now.base 0 in
+    let old = g.S.Store.log c.args.env.now.store in
+    let mid = g.S.Store.log c.loop-sri.env.store in
+    let new = g.S.Store.log c.is_good.new.env.store in
+    let says = says_at c.args.cache.now c.args.env.now.base c.loop-sri.env.base c.in-Some.sri true c.in_ok-is_good.field-0 mid new i.0.2 c.if-not-branch.false c.in_ok-is_good.ensures.says in (
+      keeps_on c.args.env.now c.loop-sri.env c.is_good.new.env i.0 c.is_good.ensures.rest,
+      good_read site c.loop-sri.yielded c.loop-sri.damaged.items c.in-Some.sri old mid new i.1 says,
+    )

@@ -1,0 +1,131 @@
+-- What a verification and a collection ask of a cache, call by call.
+use Rattle.std.specs.Prelude.{◌≡◌, ◌⊎◌, ◌↔◌, ◌+◌, ◌≤◌, ℕ, List, [], ◌∷◌, Bool, true, false, Option, Some, Ok, Err, Vec, Contains, filter, length, map, not}
+use Rattle.cacache_core.specs.declared.errors.Error.{Error}
+use Rattle.cacache_core.specs.declared.errors.Error.TheVariants.{IoError, IntegrityError}
+use Rattle.cacache_core.specs.declared.errors.Fault.TheVariants.{NotFound}
+use Rattle.cacache_core.specs.declared.integrity.digest.Hash.{Hash}
+use Rattle.cacache_core.specs.Integrity.{address}
+use Rattle.cacache_store.specs.declared.store.log.LogItem.{LogItem}
+use Rattle.cacache_entry.specs.Latest.{Found}
+use Rattle.cacache_table.specs.declared.command.Command.{Command}
+use Rattle.cacache_table.specs.declared.command.Command.TheVariants as commands
+use Rattle.cacache_table.specs.declared.reply.Reply.{Reply}
+use Rattle.cacache_table.specs.declared.reply.Reply.TheVariants as replies
+use Rattle.cacache_table.specs.State.{Site, Item}
+use Rattle.cacache_table.specs.Table.{opening}
+use Rattle.cacache_table.specs.Runs.{Ran, plain_item}
+
+-- the log gained runs of these calls with these replies, one after another
+abbrev pub Made : Site → List (Command × Reply)
+    → Option (List LogItem) → Option (List LogItem) → Type 0
+Made site [] old new = new ≡ old
+Made site (call ∷ calls) old new =
+    (next : Option (List LogItem)) × Ran (opening site call.0) call.1 old next
+    × Made site calls next new
+
+-- ---- contents that are read
+
+-- the error says that a content is damaged: its bytes don't meet the address, or it is gone
+abbrev pub is_damage : Error → Bool
+is_damage (IntegrityError fault) = true
+is_damage (IoError NotFound message) = true
+is_damage error = false
+
+-- a reply with the bytes of a content, which are good
+abbrev pub has_bytes : Reply → Bool
+has_bytes (replies.Read bytes) = true
+has_bytes reply = false
+
+-- a reply that says that a content is damaged
+abbrev pub tells_damage : Reply → Bool
+tells_damage (replies.Refused error) = is_damage error
+tells_damage reply = false
+
+-- a reply that says which of the two it is
+abbrev pub Tells : Reply → Bool → Type 0
+Tells reply good = (has_bytes reply ≡ good) × (tells_damage reply ≡ not good)
+
+-- the log gained a read of the content, which says so of it
+abbrev pub SaysGood :
+    Site → List Hash → Bool → Option (List LogItem) → Option (List LogItem) → Type 0
+SaysGood site i good old new =
+    (reply : Reply) × Tells reply good × Ran (opening site (commands.GetHash i)) reply old new
+
+-- an address and the reply to a read of it, as a call
+abbrev pub read_of : List Hash × Reply → Command × Reply
+read_of r = (commands.GetHash r.0, r.1)
+
+-- The log gained a read of each of these addresses, in turn: so many contents are good, and these
+-- are damaged. Together they are all of them.
+pub record ReadsEach
+    (site : Site) (addresses : List (List Hash)) (good : ℕ) (damaged : List (List Hash))
+    (old new : Option (List LogItem)) : Type 0 where
+  pub reads : List (List Hash × Reply)
+  pub each : map (λ r. r.0) reads ≡ addresses
+  pub reading : Made site (map read_of reads) old new
+  pub whole : good ≡ length (filter (λ r. has_bytes r.1) reads)
+  pub broken : damaged ≡ map (λ r. r.0) (filter (λ r. tells_damage r.1) reads)
+  pub counts : good + length damaged ≡ length addresses
+
+-- ---- the index
+
+-- items, as the reply of a listing
+abbrev pub listed : {A : Type 0} → Vec Item A → Reply
+listed items = replies.Listed (map plain_item items.items)
+
+-- the only item says that the folder of the index isn't there
+abbrev pub IsMissing : List Item → Type 0
+IsMissing items = (message : List ℕ) × (items ≡ Err (IoError NotFound message) ∷ [])
+
+-- the index has these entries: they are all its items, or its folder isn't there
+abbrev pub AreEntries : List Item → List Found → Type 0
+AreEntries items entries = (items ≡ map Ok entries) ⊎ (IsMissing items × (entries ≡ []))
+
+-- the log gained a listing of the index, which has these entries
+abbrev pub ListsEntries :
+    Site → List Found → Option (List LogItem) → Option (List LogItem) → Type 0
+ListsEntries site entries old new =
+    (items : List Item) × AreEntries items entries
+    × Ran (opening site commands.Ls) (replies.Listed items) old new
+
+-- ---- entries whose content is asked for
+
+-- an entry and whether its content is there, as a call
+abbrev pub question_of : Found × Bool → Command × Reply
+question_of a = (commands.Exists a.0.integrity, replies.Exists a.1)
+
+-- the log gained a question for the content of each entry, in turn; for these it isn't there
+pub record AsksEach
+    (site : Site) (entries dangling : List Found)
+    (old new : Option (List LogItem)) : Type 0 where
+  pub asks : List (Found × Bool)
+  pub each : map (λ a. a.0) asks ≡ entries
+  pub asking : Made site (map question_of asks) old new
+  pub absent : dangling ≡ map (λ a. a.0) (filter (λ a. not a.1) asks)
+
+-- ---- contents that are removed
+
+-- a removal that is done, as a call
+abbrev pub removal : List Hash → Command × Reply
+removal i = (commands.RemoveHash i, replies.Done)
+
+-- an entry has the address of the integrity
+abbrev pub IsUsed : List Found → List Hash → Type 0
+IsUsed entries i =
+    (found : Found) × Contains entries found × (address found.integrity ≡ address i)
+
+-- these are the ones of the addresses that no entry has
+pub record AreUnused (entries : List Found) (addresses unused : List (List Hash)) : Type 0 where
+  pub which : (i : List Hash)
+      → Contains unused i ↔ (Contains addresses i × (IsUsed entries i → ⊥))
+  pub fewer : length unused ≤ length addresses
+
+-- the address of the integrity is among the hashes
+abbrev pub IsAmong : List Hash → List Hash → Type 0
+IsAmong live i = (h : Hash) × Contains live h × (address i ≡ Some h)
+
+-- these are the ones of the addresses that aren't among the hashes
+pub record AreOthers (live : List Hash) (addresses others : List (List Hash)) : Type 0 where
+  pub which : (i : List Hash)
+      → Contains others i ↔ (Contains addresses i × (IsAmong live i → ⊥))
+  pub fewer : length others ≤ length addresses

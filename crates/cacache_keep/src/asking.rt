@@ -1,0 +1,33 @@
+//! Entries whose content isn't there.
+ghost use Rattle.std.specs.Prelude.{◌≡◌, IfOk, map};
+ghost use Rattle.cacache_entry.specs.View.{found_view};
+ghost use Rattle.cacache_jobs.specs.Environment.{KeepsRest};
+ghost use Rattle.cacache_jobs.specs.Sites.{site_of};
+ghost use Rattle.cacache_keep.specs.Calls.{AsksEach};
+
+use cacache_core::errors::Result;
+use cacache_entry::Metadata;
+use cacache_get::exists_sync;
+use cacache_store::env::{Clock, Env, Names};
+use cacache_store::store::Store;
+use cacache_table::Found;
+
+/// Those of the entries whose content isn't there.
+pub(crate) fn dangling_of<S: Store, C: Clock, N: Names>(
+    env: &mut Env<S, C, N>,
+    cache: &str,
+    entries: Vec<Found>,
+) -> Result<Vec<Metadata>>
+    ensures asks { IfOk result (λ dangling. AsksEach (site_of cache.now env.old.base 0)
+        entries.items (map found_view dangling.items)
+        (S.log env.old.store) (S.log env.new.store)) }
+    ensures rest { KeepsRest env.old env.new }
+{
+    let mut dangling = Vec::new(env.alloc);
+    for found in entries {
+        if !exists_sync(env, cache, &found.as_metadata().integrity)? {
+            dangling.push(found.into_metadata())?;
+        }
+    }
+    Ok(dangling)
+}

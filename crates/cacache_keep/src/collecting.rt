@@ -1,0 +1,50 @@
+//! The call that removes what no entry has.
+ghost use Rattle.std.specs.Prelude.{◌≡◌, IfOk};
+ghost use Rattle.cacache_jobs.specs.Sites.{site_of};
+ghost use Rattle.cacache_keep.specs.Keeping.{Collects};
+
+use crate::index::entries;
+use crate::live::unused;
+use crate::removing::remove_each;
+use cacache_contents::{Contents, list};
+use cacache_core::errors::Result;
+use cacache_core::integrity::Integrity;
+use cacache_core::keeping::let_go;
+use cacache_store::env::{Clock, Env, Names};
+use cacache_store::store::Store;
+
+/// What a collection did.
+#[derive(Drop)]
+pub struct Collected {
+    /// How many contents were left.
+    pub kept: u64,
+    /// The addresses of the contents that are removed.
+    pub dropped: Vec<Integrity>,
+}
+
+/// Removes each content of a cache that is the address of no entry. What lies among the contents and
+/// is none stays.
+///
+/// Errors are those of `cacache_contents::list`, and the first error among the items of the index,
+/// both before anything is removed; a folder of the index that isn't there has no items. A removal
+/// that failed ends the call, and those before it stay done. `OutOfMemory` may come at any time.
+pub fn collect<S: Store, C: Clock, N: Names>(
+    env: &mut Env<S, C, N>,
+    cache: &str,
+) -> Result<Collected>
+    ensures collects { IfOk result (λ c. Collects (site_of cache.now env.old.base 0)
+        c.kept c.dropped.items (S.log env.old.store) (S.log env.new.store)) }
+    ensures clock { env.new.clock ≡ env.old.clock }
+    ensures names { env.new.names ≡ env.old.names }
+    ensures base { env.new.base ≡ env.old.base }
+{
+    let Contents { addresses, strange } = list(env, cache)?;
+    let_go(strange);
+    let entries = entries(env, cache)?;
+    let count = addresses.len();
+    let dropped = unused(env.alloc, addresses, entries.as_slice())?;
+    let_go(entries);
+    remove_each(env, cache, dropped.as_slice())?;
+    let kept = (count - dropped.len()) as u64;
+    Ok(Collected { kept, dropped })
+}

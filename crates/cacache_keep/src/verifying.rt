@@ -1,0 +1,55 @@
+//! The call that verifies a cache.
+ghost use Rattle.std.specs.Prelude.{◌≡◌, IfOk, map, string_bytes};
+ghost use Rattle.cacache_entry.specs.View.{found_view};
+ghost use Rattle.cacache_jobs.specs.Sites.{site_of};
+ghost use Rattle.cacache_keep.specs.Keeping.{Verifies};
+
+use crate::asking::dangling_of;
+use crate::index::entries;
+use crate::reading::{Read, read_each};
+use cacache_contents::{Contents, list};
+use cacache_core::errors::Result;
+use cacache_core::integrity::Integrity;
+use cacache_entry::Metadata;
+use cacache_store::env::{Clock, Env, Names};
+use cacache_store::store::Store;
+
+/// What a verification found.
+#[derive(Drop)]
+pub struct Verdict {
+    /// How many contents have the bytes that their address says.
+    pub good: u64,
+    /// The addresses of the others, in the order of the listing.
+    pub damaged: Vec<Integrity>,
+    /// The entries whose content isn't there.
+    pub dangling: Vec<Metadata>,
+    /// The paths of what lies among the contents and is none, by their bytes.
+    pub strange: Vec<String>,
+}
+
+/// Reads each content of a cache, and asks of each entry whether its content is there. Nothing
+/// changes.
+///
+/// A content whose bytes don't meet its address is damaged, and so is one that was gone when it was
+/// to be read. Errors are those of `cacache_contents::list`, of any other read that failed, and the
+/// first error among the items of the index; a folder of the index that isn't there has no items.
+/// `OutOfMemory` may come at any time.
+pub fn verify<S: Store, C: Clock, N: Names>(env: &mut Env<S, C, N>, cache: &str) -> Result<Verdict>
+    ensures verifies { IfOk result (λ v. Verifies (site_of cache.now env.old.base 0)
+        v.good v.damaged.items (map found_view v.dangling.items) (map string_bytes v.strange.items)
+        (S.log env.old.store) (S.log env.new.store)) }
+    ensures clock { env.new.clock ≡ env.old.clock }
+    ensures names { env.new.names ≡ env.old.names }
+    ensures base { env.new.base ≡ env.old.base }
+{
+    let Contents { addresses, strange } = list(env, cache)?;
+    let Read { good, damaged } = read_each(env, cache, addresses)?;
+    let entries = entries(env, cache)?;
+    let dangling = dangling_of(env, cache, entries)?;
+    Ok(Verdict {
+        good,
+        damaged,
+        dangling,
+        strange,
+    })
+}

@@ -1,0 +1,64 @@
+//! What goes to the output and to the errors.
+ghost use Rattle.std.specs.Prelude.{◌≡◌, ◌⊎◌};
+
+use cacache::errors::Error;
+use cacache_keep::{Collected, Verdict};
+use std::alloc::{AllocError, Global};
+use std::io::Write;
+
+/// What the program says to wrong words.
+pub const USAGE: &str = "usage: cacache-keep verify|collect CACHE\n";
+
+/// Prints the usage, and returns the status of wrong words.
+pub(crate) fn misused<E: Write>(errors: &mut E) -> u8
+    ensures { result ≡ 2 }
+{
+    let _ = errors.write_all(USAGE.as_bytes());
+    2
+}
+
+/// Prints a call's error on a line of its own, and returns the status of a failed call.
+pub(crate) fn call_failed<E: Write>(errors: &mut E, error: &Error) -> u8
+    ensures { result ≡ 1 }
+{
+    let _ = writeln!(errors, "{error}");
+    1
+}
+
+/// What is printed of a verification.
+pub(crate) fn verdict_text(alloc: Global, verdict: &Verdict) -> Result<String, AllocError> {
+    let (damaged, dangling) = (verdict.damaged.len(), verdict.dangling.len());
+    let (good, strange) = (verdict.good, verdict.strange.len());
+    format!(in alloc; "good {good}\ndamaged {damaged}\ndangling {dangling}\nstrange {strange}\n")
+}
+
+/// What is printed of a collection.
+pub(crate) fn collected_text(alloc: Global, collected: &Collected) -> Result<String, AllocError> {
+    format!(in alloc;
+        "kept {}\ndropped {}\n",
+        collected.kept,
+        collected.dropped.len()
+    )
+}
+
+/// Prints the text, and returns the status: this one, or 1 where it can't be had or printed.
+pub(crate) fn put_out<W: Write, E: Write>(
+    text: Result<String, AllocError>,
+    status: u8,
+    output: &mut W,
+    errors: &mut E,
+) -> u8
+    ensures fails { (result ≡ status) ⊎ (result ≡ 1) }
+    ensures quiet { result ≡ 0 → errors.new ≡ errors.old }
+{
+    let Ok(text) = text else {
+        return call_failed(errors, &Error::OutOfMemory);
+    };
+    match output.write_all(text.as_bytes()) {
+        Ok(()) => status,
+        Err(_) => {
+            let _ = errors.write_all(b"output failed\n");
+            1
+        }
+    }
+}

@@ -1,0 +1,74 @@
+//! What the rows do.
+use crate::place::On;
+use crate::planting::plant;
+use cacache::store::Store;
+use cacache::{Error, Integrity, Result as Answered};
+use cacache_core::keeping::let_go;
+use cacache_keep_program::run;
+use rows::Flaw;
+use rows::words::{cut, string_of, word_of, written_out};
+use std::alloc::{AllocError, Global};
+
+/// The line on an answer: what was stored, or what failed.
+fn told<T: Drop>(alloc: Global, answer: Answered<T>) -> Result<String, AllocError> {
+    match answer {
+        Ok(_) => String::from_str(alloc, "Done"),
+        Err(error) => refused(alloc, error),
+    }
+}
+
+/// The line on an error.
+fn refused(alloc: Global, error: Error) -> Result<String, AllocError> {
+    let text = format!(in alloc; "Refused: {error}");
+    let_go(error);
+    written_out(alloc, text?.as_str())
+}
+
+/// The words of a text.
+fn words_of(alloc: Global, text: &str) -> Result<Vec<String>, AllocError> {
+    let mut words = Vec::new(alloc);
+    for word in text.split(' ') {
+        words.push(String::from_str(alloc, word)?)?;
+    }
+    Ok(words)
+}
+
+/// What a run of the program gives: the status, the output and the errors.
+fn ran<S: Store>(env: &mut On<S>, words: &str) -> Result<String, AllocError> {
+    let alloc = env.alloc;
+    let words = words_of(alloc, words)?;
+    let (mut output, mut errors) = (Vec::new(alloc), Vec::new(alloc));
+    let status = run(env, &words, &mut output, &mut errors);
+    let output = written_out(alloc, word_of(&output))?;
+    let errors = written_out(alloc, word_of(&errors))?;
+    format!(in alloc; "{status} | {output} | {errors}")
+}
+
+/// Removes a content by the text of its integrity.
+fn removed<S: Store>(env: &mut On<S>, cache: &str, text: &str) -> Result<String, Flaw> {
+    let alloc = env.alloc;
+    match Integrity::parse(alloc, text) {
+        Ok(sri) => Ok(told(alloc, cacache::remove_hash_sync(env, cache, &sri))?),
+        Err(error) => Ok(refused(alloc, error)?),
+    }
+}
+
+/// What an act gives.
+pub(crate) fn made<S: Store>(env: &mut On<S>, act: &str, input: &str) -> Result<String, Flaw> {
+    let alloc = env.alloc;
+    let (name, words) = cut(act);
+    let (cache, rest) = cut(words);
+    let bytes = string_of(alloc, input)?.into_bytes();
+    let line = match name {
+        "write_sync" => told(alloc, cacache::write_vec_sync(env, cache, rest, bytes)),
+        "remove_sync" => told(alloc, cacache::remove_sync(env, cache, rest)),
+        "remove_hash_sync" => return removed(env, cache, rest),
+        "plant" => {
+            let is_done = plant(env, cache, bytes)?;
+            String::from_str(alloc, if is_done { "done" } else { "not done" })
+        }
+        "cacache-keep" => ran(env, words),
+        _ => return Err(Flaw::NotRead),
+    };
+    Ok(line?)
+}
