@@ -22,8 +22,8 @@ pub struct Collected {
     pub dropped: Vec<Integrity>,
 }
 
-/// Removes each content of a cache that is the address of no entry. What lies among the contents and
-/// is none stays.
+/// Removes each content of a cache whose address no entry has. What lies among the contents and is
+/// none stays.
 ///
 /// Errors are those of `cacache_contents::list`, and the first error among the items of the index,
 /// both before anything is removed; a folder of the index that isn't there has no items. A removal

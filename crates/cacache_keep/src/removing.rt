@@ -1,5 +1,5 @@
 //! Contents that are removed, one after another.
-ghost use Rattle.std.specs.Prelude.{◌≡◌, OnOk, map};
+ghost use Rattle.std.specs.Prelude.{OnOk, map};
 ghost use Rattle.cacache_jobs.specs.Environment.{KeepsRest};
 ghost use Rattle.cacache_jobs.specs.Sites.{site_of};
 ghost use Rattle.cacache_keep.specs.Calls.{Made, removal};
