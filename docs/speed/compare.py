@@ -62,6 +62,13 @@ def run_small(bench, floor, at):
             run(f"{kind} kit", [bench, f"floor-{kind}", where, str(KEYS)], KEYS)
 
 
+def run_handles(bench, at):
+    """The same by open handles: each links to the contents of a cache of its own, since a link is made once."""
+    run("put-writer", [bench, "put-writer", f"{at}/put-writer", str(KEYS), str(SIZE)], KEYS)
+    run("link", [bench, "link", f"{at}/put-ours", str(KEYS)], KEYS)
+    run("linker", [bench, "linker", f"{at}/put-writer", str(KEYS)], KEYS)
+
+
 def run_listing(bench, floor, at):
     for keys in LISTED:
         for who, program in (("ours", bench), ("floor", floor)):
@@ -137,6 +144,8 @@ def tell():
         print(f"  {kind:10} ours {median(ours) / 1e3:6.2f}  floor {median(floor) / 1e3:6.2f}  by the clock {ratio(ours, floor)}  by the processor {ratio(ours, floor, 1)}  over floor and digests {with_digests:.2f}{over_kit(kind)}")
     for kind in AS_FUTURE:
         print(f"  {kind} as a future, over the call {ratio(f'{kind} future', f'{kind} ours')}, of the least times {least(f'{kind} future') / least(f'{kind} ours'):.2f}")
+    for handle, call in (("put-writer", "put ours"), ("linker", "link")):
+        print(f"  {handle} over the call {ratio(handle, call)}, of the least times {least(handle) / least(call):.2f}")
     print("ls, us an entry")
     for keys in LISTED:
         ours, floor = f"ls {keys} ours", f"ls {keys} floor"
@@ -164,6 +173,7 @@ def main():
             at = f"{root}/{turn}"
             os.mkdir(at)
             run_small(bench, floor, at)
+            run_handles(bench, at)
             run_listing(bench, floor, at)
             run_large(bench, at)
             run_deep(bench, at)
