@@ -1,3 +1,4 @@
 mod Asked
 mod Removed
 mod Searching
+mod Stopped

@@ -1,7 +1,7 @@
 -- What a verification and a collection ask of a cache, call by call.
-use Rattle.std.specs.Prelude.{◌≡◌, ◌⊎◌, ◌↔◌, ◌+◌, ◌≤◌, ℕ, List, [], ◌∷◌, Bool, true, false, Option, Some, Ok, Err, Vec, Contains, filter, length, map, not}
+use Rattle.std.specs.Prelude.{◌≡◌, ◌⊎◌, ◌↔◌, ◌++◌, ◌+◌, ◌≤◌, All, ℕ, List, [], ◌∷◌, Bool, true, false, Option, Some, Ok, Err, Vec, Contains, filter, length, map, not}
 use Rattle.cacache_core.specs.declared.errors.Error.{Error}
-use Rattle.cacache_core.specs.declared.errors.Error.TheVariants.{IoError, IntegrityError}
+use Rattle.cacache_core.specs.declared.errors.Error.TheVariants.{IoError, IntegrityError, OutOfMemory}
 use Rattle.cacache_core.specs.declared.errors.Fault.TheVariants.{NotFound}
 use Rattle.cacache_core.specs.declared.integrity.digest.Hash.{Hash}
 use Rattle.cacache_core.specs.Integrity.{address}
@@ -13,7 +13,7 @@ use Rattle.cacache_table.specs.declared.reply.Reply.{Reply}
 use Rattle.cacache_table.specs.declared.reply.Reply.TheVariants as replies
 use Rattle.cacache_table.specs.State.{Site, Item}
 use Rattle.cacache_table.specs.Table.{opening}
-use Rattle.cacache_table.specs.Runs.{Ran, plain_item}
+use Rattle.cacache_table.specs.Runs.{Ran, plain_item, without_message}
 
 -- the log gained runs of these calls with these replies, one after another
 abbrev pub Made : Site → List (Command × Reply)
@@ -129,3 +129,46 @@ pub record AreOthers (live : List Hash) (addresses others : List (List Hash)) : 
   pub which : (i : List Hash)
       → Contains others i ↔ (Contains addresses i × (IsAmong live i → ⊥))
   pub fewer : length others ≤ length addresses
+
+-- ---- calls that an error ends
+
+-- the command reads, and changes nothing
+abbrev pub IsReading : Command → Type 0
+IsReading (commands.GetHash i) = Unit {0}
+IsReading (commands.Exists i) = Unit {0}
+IsReading commands.Ls = Unit {0}
+IsReading command = ⊥
+
+-- the reply says the error: it is why the call was refused, or why an item couldn't be read
+abbrev pub SaysError : Reply → Error → Type 0
+SaysError (replies.Refused error) e = error ≡ without_message e
+SaysError (replies.Listed items) e = Contains items (Err (without_message e))
+SaysError reply e = ⊥
+
+-- the last of the calls says the error, or memory ran out
+abbrev pub SaysWhy : List (Command × Reply) → Error → Type 0
+SaysWhy calls e =
+    (e ≡ OutOfMemory)
+    ⊎ ((before : List (Command × Reply)) × (last : Command × Reply)
+    × (calls ≡ before ++ last ∷ []) × SaysError last.1 e)
+
+-- the log gained runs of calls that read, which the error ended
+pub record StopsReading
+    (site : Site) (e : Error) (old new : Option (List LogItem)) : Type 0 where
+  pub calls : List (Command × Reply)
+  pub made : Made site calls old new
+  pub harmless : All (λ c. IsReading c.0) calls
+  pub why : SaysWhy calls e
+
+-- the log gained removals of the first of these addresses, and the next one was refused
+pub record StopsRemoving
+    (site : Site) (addresses : List (List Hash)) (e : Error)
+    (old new : Option (List LogItem)) : Type 0 where
+  pub gone : List (List Hash)
+  pub next : List Hash
+  pub rest : List (List Hash)
+  pub split : addresses ≡ gone ++ next ∷ rest
+  pub between : Option (List LogItem)
+  pub removing : Made site (map removal gone) old between
+  pub refused :
+      Ran (opening site (commands.RemoveHash next)) (replies.Refused (without_message e)) between new

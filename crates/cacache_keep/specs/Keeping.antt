@@ -1,11 +1,12 @@
 -- What a verification and a collection do, over any store.
-use Rattle.std.specs.Prelude.{◌≡◌, ◌+◌, ℕ, List, Option, length, map}
+use Rattle.std.specs.Prelude.{◌≡◌, ◌⊎◌, ◌+◌, ℕ, List, Option, length, map}
+use Rattle.cacache_core.specs.declared.errors.Error.{Error}
 use Rattle.cacache_core.specs.declared.integrity.digest.Hash.{Hash}
 use Rattle.cacache_store.specs.declared.store.log.LogItem.{LogItem}
 use Rattle.cacache_entry.specs.Latest.{Found}
 use Rattle.cacache_table.specs.State.{Site}
-use Rattle.cacache_contents.specs.Listing.{IsByHash, ListsContents}
-use Rattle.cacache_keep.specs.Calls.{AreUnused, AsksEach, ListsEntries, Made, ReadsEach, removal}
+use Rattle.cacache_contents.specs.Listing.{IsByHash, ListsContents, StopsListing}
+use Rattle.cacache_keep.specs.Calls.{AreUnused, AsksEach, ListsEntries, Made, ReadsEach, StopsReading, StopsRemoving, removal}
 
 -- The contents are listed, each is read, the index is listed, and of each entry is asked whether
 -- its content is there.
@@ -23,8 +24,8 @@ pub record Verifies
   pub listing : ListsEntries site entries read listed
   pub asking : AsksEach site entries dangling listed new
 
--- the contents and the index are listed, and each address that no entry has is removed
-pub record Collects
+-- the contents and the index are listed, and these are the addresses that no entry has
+pub record Chooses
     (site : Site) (kept : ℕ) (dropped : List (List Hash))
     (old new : Option (List LogItem)) : Type 0 where
   pub addresses : List (List Hash)
@@ -33,8 +34,31 @@ pub record Collects
   pub found : Option (List LogItem)
   pub contents : ListsContents site.cache addresses strange old found
   pub entries : List Found
-  pub listed : Option (List LogItem)
-  pub listing : ListsEntries site entries found listed
+  pub listing : ListsEntries site entries found new
   pub unused : AreUnused entries addresses dropped
   pub counts : kept + length dropped ≡ length addresses
-  pub removing : Made site (map removal dropped) listed new
+
+-- and then each of them is removed
+abbrev pub Collects : Site → ℕ → List (List Hash)
+    → Option (List LogItem) → Option (List LogItem) → Type 0
+Collects site kept dropped old new =
+    (chosen : Option (List LogItem)) × Chooses site kept dropped old chosen
+    × Made site (map removal dropped) chosen new
+
+-- ---- errors
+
+-- the error ended the listing of the contents, or calls after it that read and change nothing
+abbrev pub StopsEarly : Site → Error → Option (List LogItem) → Option (List LogItem) → Type 0
+StopsEarly site e old new =
+    StopsListing site.cache e old new
+    ⊎ ((addresses : List (List Hash)) × (strange : List (List ℕ))
+    × (found : Option (List LogItem)) × ListsContents site.cache addresses strange old found
+    × StopsReading site e found new)
+
+-- so it did, or it ended the removals
+abbrev pub StopsCollecting :
+    Site → Error → Option (List LogItem) → Option (List LogItem) → Type 0
+StopsCollecting site e old new =
+    StopsEarly site e old new
+    ⊎ ((kept : ℕ) × (dropped : List (List Hash)) × (chosen : Option (List LogItem))
+    × Chooses site kept dropped old chosen × StopsRemoving site dropped e chosen new)

@@ -1,9 +1,9 @@
 //! Entries whose content isn't there.
-ghost use Rattle.std.specs.Prelude.{IfOk, map};
+ghost use Rattle.std.specs.Prelude.{IfOk, IfErr, map};
 ghost use Rattle.cacache_entry.specs.View.{found_view};
 ghost use Rattle.cacache_jobs.specs.Environment.{KeepsRest};
 ghost use Rattle.cacache_jobs.specs.Sites.{site_of};
-ghost use Rattle.cacache_keep.specs.Calls.{AsksEach};
+ghost use Rattle.cacache_keep.specs.Calls.{AsksEach, StopsReading};
 
 use cacache_core::errors::Result;
 use cacache_entry::Metadata;
@@ -20,6 +20,8 @@ pub(crate) fn dangling_of<S: Store, C: Clock, N: Names>(
 ) -> Result<Vec<Metadata>>
     ensures asks { IfOk result (λ dangling. AsksEach (site_of cache.now env.old.base 0)
         entries.items (map found_view dangling.items)
+        (S.log env.old.store) (S.log env.new.store)) }
+    ensures stops { IfErr result (λ e. StopsReading (site_of cache.now env.old.base 0) e
         (S.log env.old.store) (S.log env.new.store)) }
     ensures rest { KeepsRest env.old env.new }
 {

@@ -1,7 +1,7 @@
 //! The call that removes what no entry has.
-ghost use Rattle.std.specs.Prelude.{◌≡◌, IfOk};
+ghost use Rattle.std.specs.Prelude.{◌≡◌, IfOk, IfErr};
 ghost use Rattle.cacache_jobs.specs.Sites.{site_of};
-ghost use Rattle.cacache_keep.specs.Keeping.{Collects};
+ghost use Rattle.cacache_keep.specs.Keeping.{Collects, StopsCollecting};
 
 use crate::index::entries;
 use crate::live::unused;
@@ -22,8 +22,8 @@ pub struct Collected {
     pub dropped: Vec<Integrity>,
 }
 
-/// Removes each content of a cache whose address no entry has. What lies among the contents and is
-/// none stays.
+/// Removes each content of a cache that is the address of no entry. What lies among the contents and
+/// is none stays.
 ///
 /// Errors are those of `cacache_contents::list`, and the first error among the items of the index,
 /// both before anything is removed; a folder of the index that isn't there has no items. A removal
@@ -34,6 +34,8 @@ pub fn collect<S: Store, C: Clock, N: Names>(
 ) -> Result<Collected>
     ensures collects { IfOk result (λ c. Collects (site_of cache.now env.old.base 0)
         c.kept c.dropped.items (S.log env.old.store) (S.log env.new.store)) }
+    ensures stops { IfErr result (λ e. StopsCollecting (site_of cache.now env.old.base 0) e
+        (S.log env.old.store) (S.log env.new.store)) }
     ensures clock { env.new.clock ≡ env.old.clock }
     ensures names { env.new.names ≡ env.old.names }
     ensures base { env.new.base ≡ env.old.base }

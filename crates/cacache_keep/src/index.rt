@@ -1,9 +1,10 @@
 //! The entries of the index.
-ghost use Rattle.std.specs.Prelude.{◌≡◌, Ok, true, IfOk, map};
+ghost use Rattle.std.specs.Prelude.{◌≡◌, ◌⊎◌, Ok, Err, true, IfOk, IfErr, Contains, map};
+ghost use Rattle.cacache_core.specs.declared.errors.Error.TheVariants.{OutOfMemory};
 ghost use Rattle.cacache_table.specs.Runs.{reply_of};
 ghost use Rattle.cacache_jobs.specs.Environment.{Calls, KeepsRest};
 ghost use Rattle.cacache_jobs.specs.Sites.{site_of};
-ghost use Rattle.cacache_keep.specs.Calls.{IsMissing, ListsEntries, listed};
+ghost use Rattle.cacache_keep.specs.Calls.{IsMissing, ListsEntries, StopsReading, listed};
 
 use cacache_core::errors::{Error, Fault, Result};
 use cacache_core::keeping::let_go;
@@ -42,7 +43,8 @@ fn is_missing(items: &[std::result::Result<Found, Error>]) -> bool
 
 /// The items, if each is an entry; the first that is an error else.
 fn entries_of(alloc: Global, items: Vec<std::result::Result<Found, Error>>) -> Result<Vec<Found>>
-    ensures { IfOk result (λ entries. items.items ≡ map Ok entries.items) }
+    ensures ok { IfOk result (λ entries. items.items ≡ map Ok entries.items) }
+    ensures err { IfErr result (λ e. (e ≡ OutOfMemory) ⊎ Contains items.items (Err e)) }
 {
     let mut entries = Vec::new(alloc);
     for item in items {
@@ -55,6 +57,8 @@ fn entries_of(alloc: Global, items: Vec<std::result::Result<Found, Error>>) -> R
 pub(crate) fn entries<S: Store, C, N>(env: &mut Env<S, C, N>, cache: &str) -> Result<Vec<Found>>
     ensures lists { IfOk result (λ entries. ListsEntries (site_of cache.now env.old.base 0)
         entries.items (S.log env.old.store) (S.log env.new.store)) }
+    ensures stops { IfErr result (λ e. StopsReading (site_of cache.now env.old.base 0) e
+        (S.log env.old.store) (S.log env.new.store)) }
     ensures rest { KeepsRest env.old env.new }
 {
     let items = items(env, cache)?;

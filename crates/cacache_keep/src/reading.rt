@@ -1,8 +1,8 @@
 //! Contents that are read, each in turn: good ones and damaged ones.
-ghost use Rattle.std.specs.Prelude.{◌≡◌, ℕ, IfOk};
+ghost use Rattle.std.specs.Prelude.{◌≡◌, ℕ, IfOk, IfErr};
 ghost use Rattle.cacache_jobs.specs.Environment.{KeepsRest};
 ghost use Rattle.cacache_jobs.specs.Sites.{site_of};
-ghost use Rattle.cacache_keep.specs.Calls.{ReadsEach, SaysGood, is_damage};
+ghost use Rattle.cacache_keep.specs.Calls.{ReadsEach, SaysGood, StopsReading, is_damage};
 
 use cacache_core::errors::{Error, Fault, Result};
 use cacache_core::integrity::Integrity;
@@ -38,6 +38,8 @@ fn is_good<S: Store, C: Clock, N: Names>(
 ) -> Result<bool>
     ensures says { IfOk result (λ good. SaysGood (site_of cache.now env.old.base 0) sri.now good
         (S.log env.old.store) (S.log env.new.store)) }
+    ensures stops { IfErr result (λ e. StopsReading (site_of cache.now env.old.base 0) e
+        (S.log env.old.store) (S.log env.new.store)) }
     ensures rest { KeepsRest env.old env.new }
 {
     match read_hash_sync(env, cache, sri) {
@@ -64,6 +66,8 @@ fn damaged_of<S: Store, C: Clock, N: Names>(
     ensures reads { IfOk result (λ damaged.
         (good : ℕ) × ReadsEach (site_of cache.now env.old.base 0)
         addresses.items good damaged.items (S.log env.old.store) (S.log env.new.store)) }
+    ensures stops { IfErr result (λ e. StopsReading (site_of cache.now env.old.base 0) e
+        (S.log env.old.store) (S.log env.new.store)) }
     ensures rest { KeepsRest env.old env.new }
 {
     let mut damaged = Vec::new(env.alloc);
@@ -83,6 +87,8 @@ pub(crate) fn read_each<S: Store, C: Clock, N: Names>(
 ) -> Result<Read>
     ensures reads { IfOk result (λ read. ReadsEach (site_of cache.now env.old.base 0)
         addresses.items read.good read.damaged.items
+        (S.log env.old.store) (S.log env.new.store)) }
+    ensures stops { IfErr result (λ e. StopsReading (site_of cache.now env.old.base 0) e
         (S.log env.old.store) (S.log env.new.store)) }
     ensures rest { KeepsRest env.old env.new }
 {

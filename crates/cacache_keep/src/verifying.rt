@@ -1,8 +1,8 @@
 //! The call that verifies a cache.
-ghost use Rattle.std.specs.Prelude.{◌≡◌, IfOk, map, string_bytes};
+ghost use Rattle.std.specs.Prelude.{◌≡◌, IfOk, IfErr, map, string_bytes};
 ghost use Rattle.cacache_entry.specs.View.{found_view};
 ghost use Rattle.cacache_jobs.specs.Sites.{site_of};
-ghost use Rattle.cacache_keep.specs.Keeping.{Verifies};
+ghost use Rattle.cacache_keep.specs.Keeping.{StopsEarly, Verifies};
 
 use crate::asking::dangling_of;
 use crate::index::entries;
@@ -37,6 +37,8 @@ pub struct Verdict {
 pub fn verify<S: Store, C: Clock, N: Names>(env: &mut Env<S, C, N>, cache: &str) -> Result<Verdict>
     ensures verifies { IfOk result (λ v. Verifies (site_of cache.now env.old.base 0)
         v.good v.damaged.items (map found_view v.dangling.items) (map string_bytes v.strange.items)
+        (S.log env.old.store) (S.log env.new.store)) }
+    ensures stops { IfErr result (λ e. StopsEarly (site_of cache.now env.old.base 0) e
         (S.log env.old.store) (S.log env.new.store)) }
     ensures clock { env.new.clock ≡ env.old.clock }
     ensures names { env.new.names ≡ env.old.names }

@@ -1,0 +1,114 @@
+-- Calls that an error ends.
+use Rattle.std.proofs.Common.{◌≡◌, ◌⊎◌, ℕ, List, [], ◌∷◌, ◌++◌, Bool, Option, Ok, Err, Result, IfErr, inl, inr, refl, sym, ap, subst, ◌∙◌, map, arith, append_assoc}
+use Rattle.std.specs.Prelude.{All, Contains, IsErrAnd}
+use Rattle.std.proofs.lemmas.List.{get_or-map, length-map}
+use Rattle.std.proofs.lemmas.List.Elements.{All-append, All-cons, All-map, All-nil}
+use Rattle.cacache_core.specs.declared.errors.Error.{Error}
+use Rattle.cacache_core.specs.declared.errors.Error.TheVariants.{OutOfMemory}
+use Rattle.cacache_core.specs.declared.integrity.digest.Hash.{Hash}
+use Rattle.cacache_store.specs.declared.store.log.LogItem.{LogItem}
+use Rattle.cacache_entry.specs.Latest.{Found}
+use Rattle.cacache_table.specs.declared.command.Command.{Command}
+use Rattle.cacache_table.specs.declared.command.Command.TheVariants as commands
+use Rattle.cacache_table.specs.declared.reply.Reply.{Reply}
+use Rattle.cacache_table.specs.declared.reply.Reply.TheVariants as replies
+use Rattle.cacache_table.specs.State.{Site, Item}
+use Rattle.cacache_table.specs.Table.{opening}
+use Rattle.cacache_table.specs.Runs.{Ran, plain_item, without_message}
+use Rattle.cacache_jobs.specs.Sites.{site_of}
+use Rattle.cacache_keep.specs.Calls.{AsksEach, IsReading, ListsEntries, Made, ReadsEach, SaysWhy, StopsReading, question_of, read_of}
+
+-- ---- calls behind calls
+
+pub made_both : (site : Site) (calls more : List (Command × Reply)) (old mid new : Option (List LogItem)) → Made site calls old mid → Made site more mid new → Made site (calls ++ more) old new
+made_both site [] more old mid new made after = subst (λ (log : Option (List LogItem)). Made site more log new) made after
+made_both site (c ∷ calls) more old mid new made after = (made.0, made.1, made_both site calls more made.0 mid new made.2 after)
+
+why_on : (calls more : List (Command × Reply)) (e : Error) → SaysWhy more e → SaysWhy (calls ++ more) e
+why_on calls more e (inl memory) = inl memory
+why_on calls more e (inr last) =
+    inr (calls ++ last.0, last.1, ap (λ (l : List (Command × Reply)). calls ++ l) last.2 ∙ sym (append_assoc calls last.0 (last.1 ∷ [])), last.3)
+
+-- the error ends what begins with these calls
+pub stops_on : (site : Site) (calls : List (Command × Reply)) (e : Error) (old mid new : Option (List LogItem)) → Made site calls old mid → All (λ (c : Command × Reply). IsReading c.0) calls → StopsReading site e mid new → StopsReading site e old new
+stops_on site calls e old mid new made harmless s = record {
+  calls = calls ++ s.calls;
+  made = made_both site calls s.calls old mid new made s.made;
+  harmless = All-append (λ (c : Command × Reply). IsReading c.0) calls s.calls harmless s.harmless;
+  why = why_on calls s.calls e s.why;
+}
+
+-- memory ran out after these calls
+pub stops_lost : (site : Site) (calls : List (Command × Reply)) (old new : Option (List LogItem)) → Made site calls old new → All (λ (c : Command × Reply). IsReading c.0) calls → StopsReading site OutOfMemory old new
+stops_lost site calls old new made harmless = record { calls = calls; made = made; harmless = harmless; why = inl refl }
+
+-- this call was refused
+pub stops_at : (site : Site) (command : Command) (e : Error) (old new : Option (List LogItem)) → IsReading command → Ran (opening site command) (replies.Refused (without_message e)) old new → StopsReading site e old new
+stops_at site command e old new reading ran = record {
+  calls = (command, replies.Refused (without_message e)) ∷ [];
+  made = (new, ran, refl);
+  harmless = All-cons (λ (c : Command × Reply). IsReading c.0) (command, replies.Refused (without_message e)) [] reading (All-nil (λ (c : Command × Reply). IsReading c.0));
+  why = inr ([], (command, replies.Refused (without_message e)), refl, refl);
+}
+
+-- ---- reads, questions, listings
+
+pub reads_harmless : (reads : List (List Hash × Reply)) → All (λ (c : Command × Reply). IsReading c.0) (map read_of reads)
+reads_harmless reads = All-map (λ (c : Command × Reply). IsReading c.0) read_of reads (λ k d below. tt)
+
+pub asks_harmless : (asks : List (Found × Bool)) → All (λ (c : Command × Reply). IsReading c.0) (map question_of asks)
+asks_harmless asks = All-map (λ (c : Command × Reply). IsReading c.0) question_of asks (λ k d below. tt)
+
+abbrev pub listing : List Item → List (Command × Reply)
+listing items = (commands.Ls, replies.Listed items) ∷ []
+
+pub listing_harmless : (items : List Item) → All (λ (c : Command × Reply). IsReading c.0) (listing items)
+listing_harmless items = All-cons (λ (c : Command × Reply). IsReading c.0) (commands.Ls, replies.Listed items) [] tt (All-nil (λ (c : Command × Reply). IsReading c.0))
+
+-- an item of the listing is the error, or memory ran out
+pub item_stops : (site : Site) (items : List Item) (e : Error) (old new : Option (List LogItem)) → Ran (opening site commands.Ls) (replies.Listed (map plain_item items)) old new → (e ≡ OutOfMemory) ⊎ Contains items (Err e) → StopsReading site e old new
+item_stops site items e old new ran why = record {
+  calls = listing (map plain_item items);
+  made = (new, ran, refl);
+  harmless = listing_harmless (map plain_item items);
+  why = elim why [
+    | inl memory ↦ inl memory
+    | inr c ↦ inr ([], (commands.Ls, replies.Listed (map plain_item items)), refl, plain_among items e c)
+  ];
+}
+  where
+    plain_among : (items : List Item) (e : Error) → Contains items (Err e) → Contains (map plain_item items) (Err (without_message e))
+    plain_among items e c = (c.0, omega (arith, c.1, length-map items plain_item), get_or-map plain_item items c.0 (Err e) (Err (without_message e)) c.1 ∙ ap plain_item c.2)
+
+pub reads_stop : (site : Site) (addresses damaged : List (List Hash)) (good : ℕ) (e : Error) (old mid new : Option (List LogItem)) → ReadsEach site addresses good damaged old mid → StopsReading site e mid new → StopsReading site e old new
+reads_stop site addresses damaged good e old mid new r s = stops_on site (map read_of r.reads) e old mid new r.reading (reads_harmless r.reads) s
+
+pub asks_stop : (site : Site) (entries dangling : List Found) (e : Error) (old mid new : Option (List LogItem)) → AsksEach site entries dangling old mid → StopsReading site e mid new → StopsReading site e old new
+asks_stop site entries dangling e old mid new r s = stops_on site (map question_of r.asks) e old mid new r.asking (asks_harmless r.asks) s
+
+pub entries_stop : (site : Site) (entries : List Found) (e : Error) (old mid new : Option (List LogItem)) → ListsEntries site entries old mid → StopsReading site e mid new → StopsReading site e old new
+entries_stop site entries e old mid new l s = stops_on site (listing l.0) e old mid new (mid, l.2, refl) (listing_harmless l.0) s
+
+-- memory ran out right there
+pub lost_here : (site : Site) (log : Option (List LogItem)) → StopsReading site OutOfMemory log log
+lost_here site log = stops_lost site [] log log refl (All-nil (λ (c : Command × Reply). IsReading c.0))
+
+-- the base folder is the same
+pub stops_base : (cache base before : List ℕ) (e : Error) (old new : Option (List LogItem)) → before ≡ base → StopsReading (site_of cache before 0) e old new → StopsReading (site_of cache base 0) e old new
+stops_base cache base before e old new same s = subst (λ (b : List ℕ). StopsReading (site_of cache b 0) e old new) same s
+
+-- ---- results
+
+-- what holds of an error, where something else does
+pub error_so : {X E : Type 0} {P Q : E → Type 0} (r : Result X E) → ((e : E) → P e → Q e) → IfErr r P → IfErr r Q
+error_so (Ok x) f h = h
+error_so (Err e) f h = f e h
+
+-- the error that `?` hands on
+pub error_as : {X E : Type 0} (P : E → Type 0) (r : Result X E) (e : E) → IsErrAnd r (λ x. x ≡ e) → P e → IfErr r P
+error_as P (Ok x) e same p = tt
+error_as P (Err x) e same p = subst P (sym same) p
+
+-- what holds at a base folder holds at the same one
+pub at_base : (P : Site → Type 0) (cache base before : List ℕ) → before ≡ base → P (site_of cache before 0) → P (site_of cache base 0)
+at_base P cache base before same p = subst (λ (b : List ℕ). P (site_of cache b 0)) same p
