@@ -1,7 +1,7 @@
 //! What the program does with its words.
-ghost use Rattle.std.specs.Prelude.{◌≡◌, ◌≢◌, ◌≤◌, ◌⊎◌, codes};
+ghost use Rattle.std.specs.Prelude.{◌≡◌, ◌≢◌, ◌≤◌, ◌⊎◌};
 ghost use Rattle.std.specs.IoError.{error_kind};
-ghost use Rattle.cacache_keep_program.specs.Words.{AsksFor};
+ghost use Rattle.cacache_keep_program.specs.Words.{IsWrong};
 
 use crate::output::{call_failed, collected_text, misused, put_out, verdict_text};
 use cacache::env::{Clock, Env, Names};
@@ -64,8 +64,7 @@ pub fn run<S: Store, C: Clock, N: Names, W: Write, E: Write>(
     errors: &mut E,
 ) -> u8
     ensures status { result ≤ 3 }
-    ensures wrong { (AsksFor (codes "verify") words.now → ⊥) → (AsksFor (codes "collect") words.now → ⊥)
-        → result ≡ 2 }
+    ensures wrong { IsWrong words.now → result ≡ 2 }
     ensures nothing_done { result ≡ 2 → (env.new ≡ env.old) × (output.new ≡ output.old) }
     ensures quiet { result ≡ 0 → errors.new ≡ errors.old }
 {

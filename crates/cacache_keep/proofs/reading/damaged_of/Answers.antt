@@ -1,7 +1,7 @@
 use Rattle.std.proofs.Common.{◌++◌, ◌∷◌, [], true, false, refl, sym, subst, List}
+use Rattle.cacache_core.specs.declared.errors.Error.TheVariants.{OutOfMemory}
 use Rattle.cacache_core.specs.declared.integrity.digest.Hash.{Hash}
 use Rattle.cacache_jobs.specs.Sites.{site_of}
-use Rattle.cacache_core.specs.declared.errors.Error.TheVariants.{OutOfMemory}
 use Rattle.cacache_keep.specs.Calls.{StopsReading}
 use Rattle.cacache_keep.proofs.Stopped.{error_as, lost_here, reads_stop, stops_base}
 use Rattle.cacache_keep.proofs.Asked.{Reads, damaged_read, good_read, keeps_on, none_read, says_at}
