@@ -29,7 +29,7 @@ fn same_integrities(a: &Option<Integrity>, b: &Option<Integrity>) -> bool
 fn same_options(alloc: Global, a: &Options, b: &Options) -> Result<bool, AllocError>
     ensures { IfOk result (λ same. IsTrue same ↔ (said_options a.now ≡ said_options b.now)) }
 {
-    if a.algorithm != b.algorithm || a.size != b.size {
+    if a.algorithm != b.algorithm || a.size != b.size || a.durable != b.durable {
         return Ok(false);
     }
     if !same_integrities(&a.integrity, &b.integrity) || a.raw_metadata != b.raw_metadata {

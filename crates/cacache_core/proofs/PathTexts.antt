@@ -1,6 +1,6 @@
 -- Paths as texts: below one cache, equal paths have equal names.
-use Rattle.std.proofs.Common.{◌≡◌, ◌≢◌, ℕ, ◌<◌, ◌≤◌, ◌+◌, ◌-◌, ◌^◌, ◌==◌, Bool, true, false, cond, List, [], ◌∷◌, ◌++◌, length, get_or, slice_index, take, drop, codes, refl, sym, ap, ap₂, ◌∙◌, subst, arith, append_assoc, append-nil, length-append}
-use Rattle.std.specs.Prelude.{All}
+use Rattle.std.proofs.Common.{◌≡◌, ◌≢◌, ℕ, ◌<◌, ◌≤◌, ◌+◌, ◌-◌, ◌^◌, ◌==◌, Bool, true, false, cond, List, ◌∷◌, ◌++◌, length, get_or, slice_index, take, drop, codes, refl, sym, ap, ap₂, ◌∙◌, subst, arith, append_assoc, append-nil, length-append}
+use Rattle.std.specs.Prelude.{All, []}
 use Rattle.std.specs.Int.{w64, to_be_bytes, from_be_bytes}
 use Rattle.std.proofs.lemmas.Bool.{ne_eqb}
 use Rattle.std.proofs.lemmas.List.{append_cancel_left, get_or-append-add}
@@ -23,17 +23,17 @@ use Rattle.cacache_core.specs.Texts.{name_of}
 -- ---- names after a slash each
 
 -- the names' texts, each after a slash
-below : List (List ℕ) → List ℕ
+pub below : List (List ℕ) → List ℕ
 below [] = []
 below (n ∷ ns) = 47 ∷ n ++ below ns
 
 -- a text that a further name follows after a slash
-record IsOpen (p : List ℕ) : Type 0 where
-  some : 0 < length p
-  no_slash : slice_index p (length p - 1) ≢ 47
+pub record IsOpen (p : List ℕ) : Type 0 where
+  pub some : 0 < length p
+  pub no_slash : slice_index p (length p - 1) ≢ 47
 
 -- a proper name is one
-open_name : (n : List ℕ) → IsProperName n → IsOpen n
+pub open_name : (n : List ℕ) → IsProperName n → IsOpen n
 open_name [] proper = absurd (let clash : false ≡ true = proper.0 in cc)
 open_name (c ∷ n) proper = record {
   some = omega arith;
@@ -42,7 +42,7 @@ open_name (c ∷ n) proper = record {
       let clash : false ≡ true = sym proper.2 ∙ list_any_at ends_name (c ∷ n) (length (c ∷ n) - 1) 0 (omega arith) slash in cc;
 }
 
-open_after : (p n : List ℕ) → IsOpen n → IsOpen (p ++ n)
+pub open_after : (p n : List ℕ) → IsOpen n → IsOpen (p ++ n)
 open_after p n is = record {
   some = omega (arith, length-append p n, is.some);
   no_slash
@@ -50,15 +50,15 @@ open_after p n is = record {
       λ e. is.no_slash (sym (get_or-append-add p n (length n - 1) 0) ∙ ap (λ (k : ℕ). get_or (p ++ n) k 0) (sym place) ∙ e);
 }
 
-open_below : (p n : List ℕ) → IsOpen n → IsOpen (p ++ 47 ∷ n)
+pub open_below : (p n : List ℕ) → IsOpen n → IsOpen (p ++ 47 ∷ n)
 open_below p n is = subst IsOpen (append_assoc p (47 ∷ []) n) (open_after (p ++ 47 ∷ []) n is)
 
-join_open : (p n : List ℕ) → IsOpen p → join p n ≡ p ++ 47 ∷ n
+pub join_open : (p n : List ℕ) → IsOpen p → join p n ≡ p ++ 47 ∷ n
 unfolding join
 join_open p n is =
     rw (ne_eqb (length p) 0 (λ e. absurd (omega (arith, is.some))), ne_eqb (slice_index p (length p - 1)) 47 is.no_slash) refl
 
-joined_open : (p : List ℕ) (ns : List (List ℕ)) → IsOpen p → All IsProperName ns → joined p ns ≡ p ++ below ns
+pub joined_open : (p : List ℕ) (ns : List (List ℕ)) → IsOpen p → All IsProperName ns → joined p ns ≡ p ++ below ns
 unfolding below
 joined_open p [] is all = sym (append-nil p)
 joined_open p (n ∷ ns) is all =

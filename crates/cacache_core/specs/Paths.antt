@@ -44,6 +44,11 @@ folder_names [] = []
 folder_names (n ∷ []) = []
 folder_names (n ∷ m ∷ ns) = n ∷ folder_names (m ∷ ns)
 
+-- a path, and the path of each name below it but the last
+abbrev pub folders_to : List ℕ → List (List ℕ) → List (List ℕ)
+folders_to path [] = []
+folders_to path (n ∷ ns) = path ∷ folders_to (join path n) ns
+
 -- the first names are a beginning of the second
 pub record Begins (ns ms : List (List ℕ)) : Type 0 where
   pub count : ℕ

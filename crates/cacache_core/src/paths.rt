@@ -6,9 +6,12 @@ ghost use Rattle.cacache_core.specs.Integrity.{address as address_of};
 ghost use Rattle.cacache_core.specs.PathNames.{is_above, is_name};
 ghost use Rattle.cacache_core.specs.Paths.{join as join_of, joined, cut_digits, content_names, bucket_names_of, bucket_names, temp_names, folder_names};
 
+mod leading;
+
 use crate::digest::Hash;
 use crate::integrity::Integrity;
 use crate::text::Text;
+pub use leading::{bucket_folders, content_folders};
 use std::alloc::{AllocError, Global};
 
 /// Room for the names behind a cache folder in the path of a SHA-256 content.

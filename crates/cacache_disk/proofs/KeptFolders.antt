@@ -1,6 +1,6 @@
 -- Every step leaves each node in a folder.
-use Rattle.std.proofs.Common.{◌≡◌, ◌==◌, ◌+◌, ℕ, zero, suc, Bool, true, false, cond, List, [], ◌∷◌, ◌++◌, Option, None, Some, Ok, length, take, refl, sym, ap, subst, ◌∙◌, arith, eqb-true, length-append, append_assoc, append-nil}
-use Rattle.std.specs.Prelude.{Result, Err, IfOk, OnOk, OnErr, filter_map, slice_index_or}
+use Rattle.std.proofs.Common.{◌≡◌, ◌==◌, ◌+◌, ℕ, zero, suc, Bool, true, false, cond, List, ◌∷◌, ◌++◌, Option, None, Some, Ok, length, take, refl, sym, ap, subst, ◌∙◌, arith, eqb-true, length-append, append_assoc, append-nil}
+use Rattle.std.specs.Prelude.{Result, Err, IfOk, OnOk, OnErr, filter_map, slice_index_or, []}
 use Rattle.std.proofs.Math.Seq.{take-append_seam}
 use Rattle.std.proofs.lemmas.Bool.{eq-eqb}
 use Rattle.std.specs.List.{cons_option}
@@ -10,7 +10,7 @@ use Rattle.std.specs.Bool.{nat_eq}
 use Rattle.std.specs.Cmp.Lexicographic.{pointwise, slice_cmp, lists_ties, texts_ties}
 use Rattle.cacache_core.specs.declared.errors.Fault.{Fault}
 use Rattle.cacache_core.specs.declared.errors.Fault.TheVariants.{IsADirectory, InvalidInput}
-use Rattle.cacache_store.specs.declared.store.step.Step.TheVariants.{MakeDirs, CreateTemp, Write, Persist, Append, ReadAll, Open, Read, Size, Exists, Symlink, Copy, Reflink, HardLink, ReadDir, RemoveFile, RemoveDir}
+use Rattle.cacache_store.specs.declared.store.step.Step.TheVariants.{MakeDirs, CreateTemp, Write, Persist, Append, ReadAll, Open, Read, Size, Exists, Symlink, Copy, Reflink, HardLink, ReadDir, RemoveFile, RemoveDir, SyncTemp, SyncFile, SyncDir}
 use Rattle.cacache_store.specs.Plain.{PlainStep, PlainAnswer}
 use Rattle.cacache_disk.specs.declared.luck.Luck.{Luck}
 use Rattle.cacache_disk.specs.declared.luck.Luck.TheVariants.{Plain, Fail, Take}
@@ -185,6 +185,9 @@ module _ (t : Tree) (rooted : Rooted t) where
       unless_tree Rooted (emptied t p) t _ rooted (λ names found.
       let f = emptied_ok t p names found in
       cut_rooted t names rooted (not_top names f.2) (empty_bare t names f.3))
+  plain_rooted (SyncTemp f) most = rooted
+  plain_rooted (SyncFile p) most = asked (file_at t p IsADirectory) _
+  plain_rooted (SyncDir p) most = asked (folder t p) _
 
 pub steps_keep_rooted : (t : Tree) (step : PlainStep) (luck : Luck) → Rooted t → Rooted (apply t step luck).1
 steps_keep_rooted t step luck rooted = apply_tree Rooted t step luck rooted (plain_rooted t rooted step)

@@ -5,7 +5,7 @@ use Rattle.cacache_core.specs.declared.errors.Fault.{Fault}
 use Rattle.cacache_core.specs.declared.errors.Fault.TheVariants as fault
 use Rattle.cacache_store.specs.declared.store.plain.PlainFile.{PlainFile}
 use Rattle.cacache_store.specs.declared.store.plain.PlainTemp.{PlainTemp}
-use Rattle.cacache_store.specs.declared.store.step.Step.TheVariants.{MakeDirs, CreateTemp, Write, Persist, Append, ReadAll, Open, Read, Size, Exists, Symlink, Copy, Reflink, HardLink, ReadDir, RemoveFile, RemoveDir}
+use Rattle.cacache_store.specs.declared.store.step.Step.TheVariants.{MakeDirs, CreateTemp, Write, Persist, Append, ReadAll, Open, Read, Size, Exists, Symlink, Copy, Reflink, HardLink, ReadDir, RemoveFile, RemoveDir, SyncTemp, SyncFile, SyncDir}
 use Rattle.cacache_store.specs.Fits.{is_no_memory}
 use Rattle.cacache_store.specs.Plain.{PlainStep, PlainAnswer}
 use Rattle.cacache_disk.specs.declared.luck.Luck.{Luck}
@@ -53,6 +53,9 @@ plain_answer_same t (HardLink p q) most = told_unless (free t q) t _ (λ _. told
 plain_answer_same t (ReadDir p) most = told_unless (folder t p) t _ (λ _. refl)
 plain_answer_same t (RemoveFile p) most = told_unless (removable t p) t _ (λ _. refl)
 plain_answer_same t (RemoveDir p) most = told_unless (emptied t p) t _ (λ _. refl)
+plain_answer_same t (SyncTemp f) most = refl
+plain_answer_same t (SyncFile p) most = told_unless (file_at t p fault.IsADirectory) t _ (λ _. refl)
+plain_answer_same t (SyncDir p) most = told_unless (folder t p) t _ (λ _. refl)
 
 told_fails : (own : Option Fault) (f : Fault) (t left : Tree) → is_no_memory (fails own f t left).0 ≡ false
 told_fails None f t left = refl

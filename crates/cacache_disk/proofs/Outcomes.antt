@@ -4,7 +4,7 @@ use Rattle.std.specs.Prelude.{Option, None, Some, Result, Ok, Err}
 use Rattle.cacache_core.specs.declared.errors.Fault.{Fault}
 use Rattle.cacache_core.specs.declared.errors.Fault.TheVariants.{InvalidInput}
 use Rattle.cacache_store.specs.declared.store.answer.Answer.TheVariants.{Failed}
-use Rattle.cacache_store.specs.declared.store.step.Step.TheVariants.{MakeDirs, CreateTemp, Write, Persist, Append, ReadAll, Open, Read, Size, Exists, Symlink, Copy, Reflink, HardLink, ReadDir, RemoveFile, RemoveDir}
+use Rattle.cacache_store.specs.declared.store.step.Step.TheVariants.{MakeDirs, CreateTemp, Write, Persist, Append, ReadAll, Open, Read, Size, Exists, Symlink, Copy, Reflink, HardLink, ReadDir, RemoveFile, RemoveDir, SyncTemp, SyncFile, SyncDir}
 use Rattle.cacache_store.specs.Fits.{Fits}
 use Rattle.cacache_store.specs.Plain.{PlainStep, PlainAnswer}
 use Rattle.cacache_disk.specs.declared.change.Change.TheVariants as change
@@ -40,6 +40,9 @@ part_fault t (HardLink p q) part = refl
 part_fault t (ReadDir p) part = refl
 part_fault t (RemoveFile p) part = refl
 part_fault t (RemoveDir p) part = refl
+part_fault t (SyncTemp f) part = refl
+part_fault t (SyncFile p) part = refl
+part_fault t (SyncDir p) part = refl
 
 left_at : (t : Tree) (step : PlainStep) (part : ℕ) (plan : Plan) (b : Bool) → plain t step (cond b (Some part) None) ≡ (plan.answer, changed t plan.change)
     → cond b (plain t step (Some part)).1 t ≡ changed t (cond b plan.change change.Nothing)

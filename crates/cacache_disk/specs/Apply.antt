@@ -5,9 +5,9 @@ use Rattle.cacache_core.specs.declared.errors.Fault.{Fault}
 use Rattle.cacache_core.specs.declared.errors.Fault.TheVariants.{NotFound, NotADirectory, IsADirectory, InvalidInput, Closed, Device}
 use Rattle.cacache_store.specs.declared.store.plain.PlainFile.{PlainFile}
 use Rattle.cacache_store.specs.declared.store.plain.PlainTemp.{PlainTemp}
-use Rattle.cacache_store.specs.declared.store.step.Step.TheVariants.{MakeDirs, CreateTemp, Write, Persist, Append, ReadAll, Open, Read, Size, Exists, Symlink, Copy, Reflink, HardLink, ReadDir, RemoveFile, RemoveDir}
+use Rattle.cacache_store.specs.declared.store.step.Step.TheVariants.{MakeDirs, CreateTemp, Write, Persist, Append, ReadAll, Open, Read, Size, Exists, Symlink, Copy, Reflink, HardLink, ReadDir, RemoveFile, RemoveDir, SyncTemp, SyncFile, SyncDir}
 use Rattle.cacache_store.specs.declared.store.answer.Answer.TheVariants as answer
-use Rattle.cacache_store.specs.declared.store.answer.Answer.TheVariants.{Done, Temp, Wrote, Took, Bytes, Got, There, Length, Failed}
+use Rattle.cacache_store.specs.declared.store.answer.Answer.TheVariants.{Done, Temp, Wrote, Took, Bytes, Got, There, Length, Synced, Failed}
 use Rattle.cacache_store.specs.Plain.{PlainStep, PlainAnswer}
 use Rattle.cacache_disk.specs.declared.find.Wanted.TheVariants as wanted
 use Rattle.cacache_disk.specs.declared.luck.Luck.{Luck}
@@ -131,6 +131,9 @@ plain t (HardLink p q) most =
 plain t (ReadDir p) most = unless (folder t p) t (λ names. (answer.Names (listing t names), t))
 plain t (RemoveFile p) most = unless (removable t p) t (λ names. (Done, cut t names))
 plain t (RemoveDir p) most = unless (emptied t p) t (λ names. (Done, cut t names))
+plain t (SyncTemp f) most = (Synced f, t)
+plain t (SyncFile p) most = unless (file_at t p IsADirectory) t (λ bytes. (Done, t))
+plain t (SyncDir p) most = unless (folder t p) t (λ names. (Done, t))
 
 -- a step of which a take does only a part
 abbrev pub is_taking : PlainStep → Bool

@@ -9,6 +9,7 @@ mod files;
 mod folders;
 mod handles;
 mod links;
+mod syncs;
 
 use crate::change::{Change, Plan};
 use crate::disk::Disk;
@@ -133,6 +134,9 @@ impl Disk {
             Step::ReadDir(path) => self.read_dir(path, most),
             Step::RemoveFile(path) => self.remove_file(path, most),
             Step::RemoveDir(path) => self.remove_dir(path, most),
+            Step::SyncTemp(temp) => self.sync_temp(temp, most),
+            Step::SyncFile(path) => self.sync_file(path, most),
+            Step::SyncDir(path) => self.sync_dir(path, most),
         }
     }
 }

@@ -1,5 +1,5 @@
 -- What an index entry is, its text, and the line that holds it.
-use Rattle.std.specs.Prelude.{ℕ, List, [], ◌∷◌, ◌++◌, codes, Option, Some, None}
+use Rattle.std.specs.Prelude.{ℕ, Bool, if◌then◌else◌, List, [], ◌∷◌, ◌++◌, codes, Option, Some, None}
 use Rattle.serde_json.specs.Data.{unsigned, Data, null, number, string, array, object, Items, no_items, item, Members, no_members, member}
 use Rattle.serde_json.specs.Written.{compact_text}
 use Rattle.cacache_core.specs.Digests.{sha256_hex}
@@ -49,3 +49,11 @@ piece_of e = sha256_hex (text_of e) ++ 9 ∷ text_of e
 -- the line of an entry: LF and its piece
 abbrev pub line_of : Entry → List ℕ
 line_of e = 10 ∷ piece_of e
+
+-- what closes the line of a durable commit: LF
+abbrev pub closing : Bool → List ℕ
+closing durable = if durable then 10 ∷ [] else []
+
+-- the line of an entry as its commit appends it
+abbrev pub closed_line : Bool → Entry → List ℕ
+closed_line durable e = line_of e ++ closing durable

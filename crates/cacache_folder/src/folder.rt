@@ -13,10 +13,11 @@ mod files;
 mod listing;
 mod opened;
 mod paths;
+mod syncing;
 mod temp;
 mod whole;
 
-use answers::{created, given, moved, readable, written};
+use answers::{created, given, moved, readable, synced, written};
 use cacache_store::store::{Answer, FileHandle, Step, Store, TempHandle};
 use faults::refused;
 pub use opened::FolderFile;
@@ -51,6 +52,8 @@ impl<R: Files + AllocGlobal + Clone + Drop> FolderStore<R> {
             Step::HardLink(from, to) => self.rt.hard_link(from.as_str(), to.as_str()),
             Step::RemoveFile(path) => self.rt.remove_file(path.as_str()),
             Step::RemoveDir(path) => self.rt.remove_dir(path.as_str()),
+            Step::SyncFile(path) => self.sync_file(path.as_str()),
+            Step::SyncDir(path) => self.sync_dir(path.as_str()),
             _ => Err(io::Error::from(ErrorKind::Unsupported)),
         }
     }
@@ -110,6 +113,7 @@ impl<R: Files + AllocGlobal + Clone + Drop> Store for FolderStore<R> {
                 created(file, path)
             }
             Step::Write(temp, bytes) => written(temp, bytes),
+            Step::SyncTemp(temp) => synced(temp),
             Step::Persist(temp, path) => {
                 let done = fs::rename(&self.rt, temp.path(), path.as_str());
                 moved(done, temp, path)

@@ -26,17 +26,18 @@ use Rattle.cacache_history.proofs.Keyed.{ToKeys, step_keyed, opening_keyed}
 
 -- a step that a call may make appends to the bucket of a key
 to_keys : (s : Setup) (n : ℕ) (step : PlainStep) → calls.Allowed (call_site s n) (may_export s) (is_outside s) step → ToKeys (home s) step
-to_keys s n (steps.Append p line) a = (a.0.key, subst (λ q. names_of q ≡ names_below (home s) (bucket_names a.0.key)) (sym a.3) (bucket_below s a.0.key))
+to_keys s n (steps.Append p line) a = (a.0.key, subst (λ q. names_of q ≡ names_below (home s) (bucket_names a.0.key)) (sym a.4) (bucket_below s a.0.key))
 to_keys s n other a = tt
 
 -- of an entry's line, whose key it is
 appends_own : (s : Setup) (n : ℕ) (step : PlainStep) → calls.Allowed (call_site s n) (may_export s) (is_outside s) step → AppendsOwn (home s) step
 appends_own s n (steps.Append p line) a = record {
   entry = a.0;
-  formed = a.1;
-  fits = Fits-no_cause a.0 a.1 a.2;
-  same = a.4;
-  here = subst (λ q. names_of q ≡ names_below (home s) (bucket_names a.0.key)) (sym a.3) (bucket_below s a.0.key);
+  formed = a.2;
+  fits = Fits-no_cause a.0 a.2 a.3;
+  durable = a.1;
+  same = a.5;
+  here = subst (λ q. names_of q ≡ names_below (home s) (bucket_names a.0.key)) (sym a.4) (bucket_below s a.0.key);
 }
 appends_own s n other a = tt
 

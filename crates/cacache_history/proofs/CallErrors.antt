@@ -12,17 +12,18 @@ use Rattle.cacache_table.specs.declared.command.Command.TheVariants as commands
 use Rattle.cacache_table.specs.declared.command.Insert.{Insert}
 use Rattle.cacache_table.specs.declared.reply.Reply.{Reply}
 use Rattle.cacache_table.specs.declared.reply.Reply.TheVariants.{Listed, Done, Refused}
-use Rattle.cacache_table.specs.Answers.{done_in, temp_in, written_in, there_in, taken_in, names_in}
+use Rattle.cacache_table.specs.Answers.{done_in, temp_in, written_in, synced_in, there_in, taken_in, names_in}
 use Rattle.cacache_table.specs.Common.{fails, go_on}
-use Rattle.cacache_table.specs.Inserting.{unless_refused, bucket_line, after_append, insertion, deletion, refused_cause}
-use Rattle.cacache_table.specs.State.{State, Site, doing, creating, writing, persisting, linking, confirming, appending, looking, reading, asking, sizing, opening_file, hashing, copying, walking, over, Commit, Insertion, Visit, enter, read_bucket, remove_file, remove_folder, Task, visit, stumble, Walk}
-use Rattle.cacache_table.specs.Storing.{insertion_of, indexed, sized, compared, placed, write_rest, after_write, after_confirm, put_commit}
+use Rattle.cacache_table.specs.Inserting.{unless_refused, bucket_line, recorded, after_append, insertion, deletion, refused_cause}
+use Rattle.cacache_table.specs.State.{State, Site, doing, creating, writing, syncing, persisting, linking, confirming, appending, looking, reading, asking, sizing, opening_file, hashing, copying, walking, over, Commit, Insertion, Visit, enter, read_bucket, remove_file, remove_folder, Task, visit, stumble, Walk}
+use Rattle.cacache_table.specs.Storing.{insertion_of, indexed, sized, compared, placed, settled, write_rest, after_write, after_confirm, put_commit}
 use Rattle.cacache_table.specs.Walking.{failed, give, miss, walk_on, tasks_of, leaving, too_many, entered, after_visit}
 use Rattle.cacache_table.specs.Table.{after, opening}
 use Rattle.cacache_table.specs.Runs.{Moves, Runs}
 use Rattle.cacache_table.proofs.Branches.{cond_leads, go_on_leads}
 use Rattle.cacache_history.specs.CallErrors.{FailsOnly, CallsFailOnly}
 use Rattle.cacache_history.proofs.Tasks.{Clears, ClearsAt, clears_more, names_clear, leaves_clear}
+use Rattle.cacache_history.proofs.Syncing.{moves_on, settles, resettles, records}
 
 -- a commit that expects no integrity and no size, and whose entry can be written
 record Plain (c : Commit) : Type 0 where
@@ -35,6 +36,7 @@ abbrev Calm : State → Type 0
 Calm (doing errand s) = Calm s
 Calm (creating number c rest) = Plain c
 Calm (writing c file rest) = Plain c
+Calm (syncing c file) = Plain c
 Calm (persisting c file) = Plain c
 Calm (linking c target) = Plain c
 Calm (confirming c fault) = Plain c
@@ -67,19 +69,22 @@ by_integrity c (Some expected) e p = absurd cc
 places : (c : Commit) → Plain c → Calm (placed c)
 places c p = by_integrity c c.options.integrity p.no_integrity p
 
+settled_calm : (c : Commit) → Plain c → Calm (settled c)
+settled_calm c p = settles Calm (λ p s h. (h, h)) c (places c p)
+
 writes_rest : (c : Commit) (file : PlainTemp) (rest : List ℕ) → Plain c → Calm (write_rest c file rest)
-writes_rest c file [] p = p
+writes_rest c file [] p = moves_on Calm c file p p
 writes_rest c file (b ∷ bs) p = p
 
 writes : (c : Commit) (rest : List ℕ) (w : PlainTemp × ℕ) → Plain c → Calm (after_write c rest w)
 writes c rest w p = cond_leads Calm (w.1 == 0) (fails faults.WriteZero) (write_rest c w.0 (drop w.1 rest)) (λ _. tt) (λ _. writes_rest c w.0 (drop w.1 rest) p)
 
 confirms : (c : Commit) (fault : Fault) (there : Bool) → Plain c → Calm (after_confirm c fault there)
-confirms c fault true p = places c p
+confirms c fault true p = resettles Calm (λ p s h. (h, h)) c (places c p)
 confirms c fault false p = tt
 
 appends : (i : Insertion) (n : ℕ) → FailsOnly i.reply → Calm (after_append i n)
-appends i n h = cond_leads Calm (nat_le (length (bucket_line i)) n) (over i.reply) (fails faults.ShortAppend) (λ _. h) (λ _. tt)
+appends i n h = cond_leads Calm (nat_le (length (bucket_line i)) n) (recorded i) (fails faults.ShortAppend) (λ _. records Calm (λ p s h. (h, h)) i h) (λ _. tt)
 
 -- ---- clearings
 
@@ -127,8 +132,9 @@ calm_after : (s : State) (a : PlainAnswer) → Calm s → Calm (after s a)
 calm_after (doing errand s) a h = go_calm (done_in a) (λ _. s) (λ _. h)
 calm_after (creating number c rest) a h = go_calm (temp_in a) (λ file. write_rest c file rest) (λ file. writes_rest c file rest h)
 calm_after (writing c file rest) a h = go_calm (written_in a) (after_write c rest) (λ w. writes c rest w h)
-calm_after (persisting c file) a h = go_on_leads Calm (done_in a) (confirming c) (λ _. placed c) tt (λ fault. h) (λ _ _. places c h)
-calm_after (linking c target) a h = go_on_leads Calm (done_in a) (confirming c) (λ _. placed c) tt (λ fault. h) (λ _ _. places c h)
+calm_after (syncing c file) a h = go_calm (synced_in a) (persisting c) (λ _. h)
+calm_after (persisting c file) a h = go_on_leads Calm (done_in a) (confirming c) (λ _. settled c) tt (λ fault. h) (λ _ _. settled_calm c h)
+calm_after (linking c target) a h = go_on_leads Calm (done_in a) (confirming c) (λ _. settled c) tt (λ fault. h) (λ _ _. settled_calm c h)
 calm_after (confirming c fault) a h = go_on_leads Calm (there_in a) (λ _. fails fault) (after_confirm c fault) tt (λ _. tt) (λ there _. confirms c fault there h)
 calm_after (appending i) a h = go_calm (taken_in a) (after_append i) (λ n. appends i n h)
 calm_after (walking w v todo) a h = visits w h.0 todo h.2 v a h.1

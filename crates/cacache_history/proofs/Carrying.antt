@@ -33,17 +33,18 @@ use Rattle.cacache_table.specs.ContentReads.{checked, is_there, is_absent}
 use Rattle.cacache_table.specs.Exporting.{export_from, export_content, export, verified, counted}
 use Rattle.cacache_table.specs.Looking.{found_in, found_content, found_for, after_bucket, no_bucket}
 use Rattle.cacache_table.specs.Walking.{most, failed, give, miss, walk_on, tasks_of, leaving, too_many, entered, unread_bucket, listed, visit_step, after_visit, items_in}
-use Rattle.cacache_table.specs.State.{State, doing, creating, writing, persisting, linking, confirming, appending, looking, reading, asking, sizing, opening_file, hashing, copying, walking, over, Site, Commit, Insertion, Aim, to_report, to_read, to_export, to_remove, Lookup, Content, to_verify, to_link, Errand, make_folder, remove, reflink, hard_link, Item, Visit, enter, read_bucket, remove_file, remove_folder, Task, visit, stumble, Walk}
-use Rattle.cacache_table.specs.Answers.{done_in, temp_in, written_in, there_in, taken_in, bytes_in, file_in, got_in, length_in, names_in}
+use Rattle.cacache_table.specs.State.{State, doing, creating, writing, syncing, persisting, linking, confirming, appending, looking, reading, asking, sizing, opening_file, hashing, copying, walking, over, Site, Commit, Insertion, Aim, to_report, to_read, to_export, to_remove, Lookup, Content, to_verify, to_link, Errand, make_folder, remove, reflink, hard_link, sync_file, sync_dir, Item, Visit, enter, read_bucket, remove_file, remove_folder, Task, visit, stumble, Walk}
+use Rattle.cacache_table.specs.Answers.{done_in, temp_in, written_in, synced_in, there_in, taken_in, bytes_in, file_in, got_in, length_in, names_in}
 use Rattle.cacache_table.specs.Common.{ends_with, fails, errand_step}
-use Rattle.cacache_table.specs.Inserting.{insertion, deletion, unless_refused, refused_cause, bucket_line, after_append}
-use Rattle.cacache_table.specs.Storing.{insertion_of, indexed, sized, matches, compared, placed, write_rest, after_write, after_confirm}
+use Rattle.cacache_table.specs.Inserting.{insertion, deletion, unless_refused, refused_cause, bucket_line, recorded, after_append}
+use Rattle.cacache_table.specs.Storing.{insertion_of, indexed, sized, matches, compared, placed, settled, resettled, write_rest, after_write, after_confirm}
 use Rattle.cacache_table.specs.Linking.{link_target, after_size, after_read}
 use Rattle.cacache_table.specs.Table.{wants, after, opening}
 use Rattle.cacache_table.proofs.Branches.{cond_leads, go_on_leads}
 use Rattle.cacache_value.specs.Acts.{Act, PutBytes, PutLink}
 use Rattle.cacache_value.proofs.Shows.{apply_answer}
 use Rattle.cacache_table.proofs.Sound.{some_is}
+use Rattle.cacache_history.proofs.Syncing.{temp_synced, moves_on, settles, resettles, records}
 
 -- what a call makes a content of: bytes, and the path where they go; or a link to a target
 pub data Own : Type 0 where
@@ -84,6 +85,7 @@ abbrev pub Carries : Own → State → Type 0
 Carries own (doing errand s) = Carries own s
 Carries own (creating number c rest) = AreBytes own rest × GoesTo own c
 Carries own (writing c file rest) = Holds own file rest × GoesTo own c
+Carries own (syncing c file) = Holds own file [] × GoesTo own c
 Carries own (persisting c file) = Holds own file [] × GoesTo own c
 Carries own (linking c target) = IsTarget own target
 Carries own (sizing t) = IsTarget own t.path
@@ -104,6 +106,8 @@ errand_makes own (make_folder path) = tt
 errand_makes own (remove path) = tt
 errand_makes own (reflink from to) = tt
 errand_makes own (hard_link from to) = tt
+errand_makes own (sync_file path) = tt
+errand_makes own (sync_dir path) = tt
 
 visit_makes : (own : Own) (v : Visit) → Makes own (visit_step v)
 visit_makes own (enter p level) = tt
@@ -115,6 +119,7 @@ pub carries_makes : (own : Own) (s : State) (step : PlainStep) → Carries own s
 carries_makes own (doing errand s) step h w = some_is (Makes own) _ step w (errand_makes own errand)
 carries_makes own (creating number c rest) step h w = some_is (Makes own) _ step w tt
 carries_makes own (writing c file rest) step h w = some_is (Makes own) (steps.Write file rest) step w tt
+carries_makes own (syncing c file) step h w = some_is (Makes own) (steps.SyncTemp file) step w tt
 carries_makes own (persisting c file) step h w = some_is (Makes own) _ step w h
 carries_makes own (linking c target) step h w = some_is (Makes own) _ step w h
 carries_makes own (confirming c fault) step h w = some_is (Makes own) _ step w tt
@@ -179,8 +184,11 @@ module _ (own : Own) where
   places : (c : Commit) → Carries own (placed c)
   places c = uncompared c c.options.integrity
 
+  settled_carry : (c : Commit) → Carries own (settled c)
+  settled_carry c = settles (Carries own) (λ p s h. (h, h)) c (places c)
+
   rests : (c : Commit) (file : PlainTemp) (rest : List ℕ) → GoesTo own c → Holds own file rest → Carries own (write_rest c file rest)
-  rests c file [] goes h = (h, goes)
+  rests c file [] goes h = moves_on (Carries own) c file (h, goes) (h, goes)
   rests c file (b ∷ bs) goes h = (h, goes)
 
   writes : (c : Commit) (rest : List ℕ) (old : List ℕ) (w : PlainTemp × ℕ) → GoesTo own c → w.0.bytes ≡ Some (old ++ take w.1 rest) → AreBytes own (old ++ rest) → Carries own (after_write c rest w)
@@ -269,19 +277,26 @@ module _ (own : Own) where
         go_on_leads (Carries own) (written_in a) fails (after_write c rest) tt (λ fault. tt)
         (λ w e. writes c rest h.0 w goes (temp_written t file rest h.0 luck w h.1 (ap written_in (sym is) ∙ e)) h.2)
 
+    syncs_on : (c : Commit) (file : PlainTemp) → GoesTo own c → Holds own file [] → Goes (syncing c file) (steps.SyncTemp file)
+    unfolding Goes
+    syncs_on c file goes h is =
+        go_on_leads (Carries own) (synced_in a) fails (persisting c) tt (λ fault. tt)
+        (λ new e. (subst (λ f. Holds own f []) (temp_synced t file new luck (ap synced_in (sym is) ∙ e)) h, goes))
+
     pub carries_on : (s : State) (step : PlainStep) → Carries own s → wants s ≡ Some step → a ≡ (apply t step luck).0 → Carries own (after s a)
     unfolding Goes
     carries_on (doing errand s) step h w is = go_on_leads (Carries own) (done_in a) fails (λ _. s) tt (λ fault. tt) (λ x e. h)
     carries_on (creating number c rest) step h w is = to_wanted (creating number c rest) _ step w (creates number c rest _ h.1 h.0) is
     carries_on (writing c file rest) step h w is = to_wanted (writing c file rest) (steps.Write file rest) step w (writes_on c file rest h.1 h.0) is
-    carries_on (persisting c file) step h w is = go_on_leads (Carries own) (done_in a) (confirming c) (λ _. placed c) tt (λ fault. tt) (λ x e. places c)
-    carries_on (linking c target) step h w is = go_on_leads (Carries own) (done_in a) (confirming c) (λ _. placed c) tt (λ fault. tt) (λ x e. places c)
+    carries_on (syncing c file) step h w is = to_wanted (syncing c file) (steps.SyncTemp file) step w (syncs_on c file h.1 h.0) is
+    carries_on (persisting c file) step h w is = go_on_leads (Carries own) (done_in a) (confirming c) (λ _. settled c) tt (λ fault. tt) (λ x e. settled_carry c)
+    carries_on (linking c target) step h w is = go_on_leads (Carries own) (done_in a) (confirming c) (λ _. settled c) tt (λ fault. tt) (λ x e. settled_carry c)
     carries_on (confirming c fault) step h w is =
         go_on_leads (Carries own) (there_in a) (λ _. fails fault) (after_confirm c fault) tt (λ other. tt)
-        (λ there e. cond_leads (Carries own) there (placed c) (fails fault) (λ _. places c) (λ _. tt))
+        (λ there e. cond_leads (Carries own) there (resettled c) (fails fault) (λ _. resettles (Carries own) (λ p s h. (h, h)) c (places c)) (λ _. tt))
     carries_on (appending i) step h w is =
         go_on_leads (Carries own) (taken_in a) fails (after_append i) tt (λ fault. tt)
-        (λ n e. cond_leads (Carries own) (nat_le (length (bucket_line i)) n) (over i.reply) (fails faults.ShortAppend) (λ _. tt) (λ _. tt))
+        (λ n e. cond_leads (Carries own) (nat_le (length (bucket_line i)) n) (recorded i) (fails faults.ShortAppend) (λ _. records (Carries own) (λ p s h. (h, h)) i tt) (λ _. tt))
     carries_on (sizing target) step h w is = go_on_leads (Carries own) (length_in a) fails (after_size target) tt (λ fault. tt) (λ n e. h)
     carries_on (opening_file (to_link target)) step h w is =
         go_on_leads (Carries own) (file_in a) fails (λ file. hashing (to_link target) file []) tt (λ fault. tt) (λ file e. h)

@@ -24,7 +24,7 @@ use Rattle.cacache_history.specs.History.{History, Turn, IsLegal}
 use Rattle.cacache_history.specs.Turns.{made_in, EachTurn}
 use Rattle.cacache_history.specs.Commits.{Deed, does, finds, deeds, PutsContent, IsNotOk, InsertionAdds, AddsAfter, CommitsAs, ReadsTarget, LinksAs, IsCase, CommitsAreCases}
 use Rattle.cacache_history.proofs.Carrying.{Own, own_bytes, own_link, put_own, own_of, Makes}
-use Rattle.cacache_history.proofs.Deeds.{PutsAt, SendsEntry, Realizes, turns_realize}
+use Rattle.cacache_history.proofs.Deeds.{PutsAt, SendsEntry, Realizes, took_entry, turns_realize}
 use Rattle.cacache_history.proofs.Holding.{TurnsHold}
 use Rattle.cacache_history.proofs.Linked.{CommitsOf, links_read}
 use Rattle.cacache_history.proofs.Runs.{reached, reply_run, lost_run}
@@ -37,7 +37,7 @@ module _ (own : Own) (reply : Option Reply) (r : Reply) (refused : IsRefused r �
   sent_adds : (i : Insertion) (a : PlainAnswer) (new : List Deed) → IsRefused r ⊎ TookAll (bucket_line i) a → SendsEntry (bucket_path i.cache i.entry.key) i.entry a new → InsertionAdds i new reply
   unfolding bucket_line
   sent_adds i a new (inl e) (inl h) = inl (h.0, refused e)
-  sent_adds i a new (inr took) (inl h) = absurd (h.1 took)
+  sent_adds i a new (inr took) (inl h) = absurd (h.1 (took_entry i.durable i.entry a took))
   sent_adds i a new end (inr h) = inr (does (AddEntries h.0 (i.entry ∷ [])), (h.0, h.1, refl), h.2)
 
   adds : (i : Insertion) (es : List Effect) (ds : List Deed) → FormedIfWritten i → Realizes own es ds → Inserts i es r → InsertionAdds i ds reply
@@ -46,7 +46,7 @@ module _ (own : Own) (reply : Option Reply) (r : Reply) (refused : IsRefused r �
   adds i es ds formed real (inr h) =
       let k : Realizes own (sent (bucket_path i.cache i.entry.key) (bucket_line i) h.1.0 ∷ []) ds = subst (λ x. Realizes own x ds) h.1.1 real in
       let all : ds ≡ k.0 = k.2 ∙ ap (λ more. k.0 ++ more) k.4 ∙ append-nil k.0 in
-      subst (λ x. InsertionAdds i x reply) (sym all) (sent_adds i h.1.0 k.0 h.1.2 (k.3 i.entry (formed h.0) (Fits-no_cause i.entry (formed h.0) h.0) refl))
+      subst (λ x. InsertionAdds i x reply) (sym all) (sent_adds i h.1.0 k.0 h.1.2 (k.3 i.entry i.durable (formed h.0) (Fits-no_cause i.entry (formed h.0) h.0) refl))
 
   adds_after : (c : Commit) (key : Option (List ℕ)) (es : List Effect) (ds : List Deed) → ((k : List ℕ) → key ≡ Some k → FormedIfWritten (insertion_of c k)) → Realizes own es ds → Indexes c key es r
       → AddsAfter c key ds reply

@@ -1,5 +1,5 @@
 -- What turns do follows from the effects of their steps.
-use Rattle.std.proofs.Common.{◌≡◌, ◌⊎◌, inl, inr, ◌≤◌, ℕ, Bool, true, false, nat_le, List, [], ◌∷◌, ◌++◌, Option, None, Some, Result, Ok, Err, length, take, refl, sym, ap, subst, ◌∙◌, append-nil, arith}
+use Rattle.std.proofs.Common.{◌≡◌, ◌⊎◌, inl, inr, ◌≤◌, ℕ, Bool, true, false, nat_le, List, [], ◌∷◌, ◌++◌, Option, None, Some, Result, Ok, Err, length, take, refl, sym, ap, subst, ◌∙◌, append-nil, length-append, arith}
 use Rattle.std.proofs.lemmas.Bool.{leb-true, leb-false}
 use Rattle.cacache_core.specs.declared.errors.Fault.{Fault}
 use Rattle.cacache_core.specs.PathNames.{Names, names_of}
@@ -11,12 +11,12 @@ use Rattle.cacache_disk.specs.declared.luck.Luck.{Luck}
 use Rattle.cacache_disk.specs.Tree.{Tree}
 use Rattle.cacache_disk.specs.LedTo.{place, free, replaceable, known, kept}
 use Rattle.cacache_disk.specs.Apply.{apply, unless}
-use Rattle.cacache_entry.specs.Entry.{Entry, line_of}
+use Rattle.cacache_entry.specs.Entry.{Entry, line_of, closing, closed_line}
 use Rattle.cacache_entry.specs.Bucket.{entries_of}
 use Rattle.cacache_entry.specs.FittingEntries.{IsEntry, IsWritable}
 use Rattle.cacache_table.specs.Effects.{Effect, stored, sent, changed, effect, effects_of, TookAll}
 use Rattle.cacache_value.specs.Acts.{PutBytes, PutLink, AddEntries, MakeFolders, act_at, act_with, folders_left, amount_left, act_of}
-use Rattle.cacache_value.proofs.AppendedLines.{whole_line, torn_line}
+use Rattle.cacache_value.proofs.AppendedLines.{whole_closed, torn_closed}
 use Rattle.cacache_value.proofs.Shows.{apply_answer}
 use Rattle.cacache_history.specs.Setup.{Setup}
 use Rattle.cacache_history.specs.History.{Turn}
@@ -74,7 +74,7 @@ SendsEntry path e a new =
     ⊎ ((names : Names) × (names_of path ≡ Ok names) × (new ≡ does (AddEntries names (e ∷ [])) ∷ []))
 
 abbrev pub SendsAt : List ℕ → List ℕ → PlainAnswer → List Deed → Type 0
-SendsAt path line a new = (e : Entry) → IsEntry e → IsWritable e → line ≡ line_of e → SendsEntry path e a new
+SendsAt path line a new = (e : Entry) (durable : Bool) → IsEntry e → IsWritable e → line ≡ closed_line durable e → SendsEntry path e a new
 
 -- the deeds of these effects
 abbrev pub Realizes : Own → List Effect → List Deed → Type 0
@@ -93,29 +93,34 @@ took_left : (line : List ℕ) (luck : Luck) (a : PlainAnswer) → TookAll line a
 took_left line luck (answers.Took n) h = (n, refl, h)
 took_left line luck a h = absurd h
 
-module _ (path : List ℕ) (e : Entry) (formed : IsEntry e) (fits : IsWritable e) (luck : Luck) (a : PlainAnswer) where
+-- a closed line that was taken whole was taken without what closes it
+pub took_entry : (durable : Bool) (e : Entry) (a : PlainAnswer) → TookAll (closed_line durable e) a → TookAll (line_of e) a
+took_entry durable e (answers.Took n) h = omega (arith, h, length-append (line_of e) (closing durable))
+took_entry durable e a h = absurd h
+
+module _ (path : List ℕ) (e : Entry) (durable : Bool) (formed : IsEntry e) (fits : IsWritable e) (luck : Luck) (a : PlainAnswer) where
   -- what an append of the line did, where so much of it was left
   left_deeds : Names → Option ℕ → List Deed
-  left_deeds names left = deeds_of_act (act_with left (λ count. AddEntries names (entries_of (take count (line_of e))))) ++ []
+  left_deeds names left = deeds_of_act (act_with left (λ count. AddEntries names (entries_of (take count (closed_line durable e))))) ++ []
 
   left_sends : (names : Names) (left : Option ℕ) → names_of path ≡ Ok names → amount_left luck a ≡ left → SendsEntry path e a (left_deeds names left)
   unfolding left_deeds
   left_sends names None is amount = inl (refl, λ took. let t = took_left (line_of e) luck a took in let no : None ≡ Some t.0 = sym amount ∙ t.1 in absurd cc)
   left_sends names (Some count) is amount = by (nat_le (length (line_of e)) count) refl
     where
-      by : (b : Bool) → nat_le (length (line_of e)) count ≡ b → SendsEntry path e a (deeds_of_act (AddEntries names (entries_of (take count (line_of e)))) ++ [])
-      by true l = inr (names, is, ap (λ es. deeds_of_act (AddEntries names es) ++ []) (whole_line e count formed fits (leb-true _ _ l)))
+      by : (b : Bool) → nat_le (length (line_of e)) count ≡ b → SendsEntry path e a (deeds_of_act (AddEntries names (entries_of (take count (closed_line durable e)))) ++ [])
+      by true l = inr (names, is, ap (λ es. deeds_of_act (AddEntries names es) ++ []) (whole_closed durable e count formed fits (leb-true _ _ l)))
       by false l =
           inl (
-            ap (λ es. deeds_of_act (AddEntries names es) ++ []) (torn_line e count formed fits (leb-false _ _ l)),
+            ap (λ es. deeds_of_act (AddEntries names es) ++ []) (torn_closed durable e count formed fits (leb-false _ _ l)),
             λ took. let t = took_left (line_of e) luck a took in let same : Some count ≡ Some t.0 = sym amount ∙ t.1 in let n : count ≡ t.0 = cc in omega (arith, leb-false _ _ l, t.2, n),
           )
 
-  append_sends : (t : Tree) (r : Result Names Fault) → names_of path ≡ r → a ≡ (apply t (steps.Append path (line_of e)) luck).0
-      → SendsEntry path e a (deeds_of_act (act_at r (λ names. act_with (amount_left luck a) (λ count. AddEntries names (entries_of (take count (line_of e)))))) ++ [])
+  append_sends : (t : Tree) (r : Result Names Fault) → names_of path ≡ r → a ≡ (apply t (steps.Append path (closed_line durable e)) luck).0
+      → SendsEntry path e a (deeds_of_act (act_at r (λ names. act_with (amount_left luck a) (λ count. AddEntries names (entries_of (take count (closed_line durable e)))))) ++ [])
   unfolding left_deeds
   append_sends t (Ok names) is answered = left_sends names (amount_left luck a) is refl
-  append_sends t (Err fault) is answered = inl (refl, failed_took (line_of e) a (subst IsFailed (sym answered) (append_fails t path luck fault is (line_of e))))
+  append_sends t (Err fault) is answered = inl (refl, failed_took (line_of e) a (subst IsFailed (sym answered) (append_fails t path luck fault is (closed_line durable e))))
 
 folders_nothing : (r : Result Names Fault) (luck : Luck) (a : PlainAnswer) → deeds_of_act (act_at r (λ names. act_with (folders_left names luck a) (MakeFolders names))) ≡ []
 folders_nothing (Err fault) luck a = refl
@@ -160,9 +165,9 @@ module _ (own : Own) (t : Tree) (luck : Luck) (es : List Effect) (ds : List Deed
     deeds_of_act (act_of (steps.Append path line) luck a) ++ [],
     ds,
     refl,
-    (λ e formed fits same.
+    (λ e durable formed fits same.
         subst (λ l. SendsEntry path e a (deeds_of_act (act_of (steps.Append path l) luck a) ++ [])) (sym same)
-        (append_sends path e formed fits luck a t (names_of path) refl (is ∙ ap (λ l. (apply t (steps.Append path l) luck).0) same))),
+        (append_sends path e durable formed fits luck a t (names_of path) refl (is ∙ ap (λ l. (apply t (steps.Append path l) luck).0) same))),
     h,
   )
 
@@ -180,6 +185,9 @@ module _ (own : Own) (t : Tree) (luck : Luck) (es : List Effect) (ds : List Deed
   one_step (steps.Read file n) a is m = h
   one_step (steps.Size p) a is m = h
   one_step (steps.ReadDir p) a is m = h
+  one_step (steps.SyncTemp file) a is m = h
+  one_step (steps.SyncFile p) a is m = h
+  one_step (steps.SyncDir p) a is m = h
   one_step (steps.Copy p q) a is m = ([], ds, refl, h)
   one_step (steps.Reflink p q) a is m = ([], ds, refl, h)
   one_step (steps.HardLink p q) a is m = ([], ds, refl, h)

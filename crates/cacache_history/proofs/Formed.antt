@@ -1,6 +1,6 @@
 -- Each entry of each bucket is well-formed.
-use Rattle.std.proofs.Common.{◌≡◌, ℕ, Bool, true, false, cond, nat_le, List, [], ◌++◌, Option, None, Some, Result, Ok, Err, length, take, refl, sym, subst}
-use Rattle.std.specs.Prelude.{All}
+use Rattle.std.proofs.Common.{◌≡◌, ℕ, Bool, true, false, cond, nat_le, List, ◌++◌, Option, None, Some, Result, Ok, Err, length, take, refl, sym, subst}
+use Rattle.std.specs.Prelude.{All, []}
 use Rattle.std.proofs.lemmas.Bool.{leb-true, leb-false}
 use Rattle.std.proofs.lemmas.List.Elements.{All-nil, All-cons, All-append}
 use Rattle.cacache_core.specs.declared.errors.Fault.{Fault}
@@ -12,7 +12,7 @@ use Rattle.cacache_store.specs.Plain.{PlainStep, PlainAnswer}
 use Rattle.cacache_disk.specs.declared.luck.Luck.{Luck}
 use Rattle.cacache_disk.specs.Tree.{Tree}
 use Rattle.cacache_disk.specs.Apply.{apply}
-use Rattle.cacache_entry.specs.Entry.{Entry, line_of}
+use Rattle.cacache_entry.specs.Entry.{Entry, line_of, closed_line}
 use Rattle.cacache_entry.specs.Bucket.{entries_of}
 use Rattle.cacache_entry.specs.FittingEntries.{IsEntry}
 use Rattle.cacache_value.specs.Kinds.{is_path_of}
@@ -20,7 +20,7 @@ use Rattle.cacache_value.specs.Value.{Value, wide_value}
 use Rattle.cacache_value.specs.Acts.{Act, Nothing, PutBytes, PutLink, AddEntries, Drop, MakeFolders, DropFolder, act_at, act_with, act_if_done, folders_left, amount_left, act_of, change, list_of}
 use Rattle.cacache_value.specs.Placed.{IsEntryLine, Placed, Proper}
 use Rattle.cacache_value.specs.OpeningTrees.{IsOpening}
-use Rattle.cacache_value.proofs.AppendedLines.{whole_line, torn_line}
+use Rattle.cacache_value.proofs.AppendedLines.{whole_closed, torn_closed}
 use Rattle.cacache_value.proofs.Traces.{steps_act}
 
 abbrev pub Formed : (List ℕ → Option (List Entry)) → Type 0
@@ -62,11 +62,11 @@ done_formed : (a : PlainAnswer) (act : Act) → AddsFormed act → AddsFormed (a
 done_formed answers.Done act h = h
 done_formed other act h = tt
 
-left_formed : (e : Entry) (bytes : List ℕ) (line : IsEntryLine bytes) (count : ℕ) (b : Bool) → nat_le (length (line_of line.entry)) count ≡ b → All IsEntry (entries_of (take count (line_of line.entry)))
+left_formed : (e : Entry) (bytes : List ℕ) (line : IsEntryLine bytes) (count : ℕ) (b : Bool) → nat_le (length (line_of line.entry)) count ≡ b → All IsEntry (entries_of (take count (closed_line line.durable line.entry)))
 left_formed e bytes line count true is =
-    subst (All IsEntry) (sym (whole_line line.entry count line.formed line.fits (leb-true _ _ is))) (All-cons IsEntry line.entry [] line.formed (All-nil IsEntry))
+    subst (All IsEntry) (sym (whole_closed line.durable line.entry count line.formed line.fits (leb-true _ _ is))) (All-cons IsEntry line.entry [] line.formed (All-nil IsEntry))
 left_formed e bytes line count false is =
-    subst (All IsEntry) (sym (torn_line line.entry count line.formed line.fits (leb-false _ _ is))) (All-nil IsEntry)
+    subst (All IsEntry) (sym (torn_closed line.durable line.entry count line.formed line.fits (leb-false _ _ is))) (All-nil IsEntry)
 
 line_formed : (bytes : List ℕ) → IsEntryLine bytes → (count : ℕ) → All IsEntry (entries_of (take count bytes))
 line_formed bytes line count =
@@ -92,6 +92,9 @@ proper_formed home (steps.Copy p q) luck a proper = tt
 proper_formed home (steps.Reflink p q) luck a proper = tt
 proper_formed home (steps.HardLink p q) luck a proper = tt
 proper_formed home (steps.ReadDir p) luck a proper = tt
+proper_formed home (steps.SyncTemp f) luck a proper = tt
+proper_formed home (steps.SyncFile p) luck a proper = tt
+proper_formed home (steps.SyncDir p) luck a proper = tt
 
 -- ---- trees
 

@@ -1,11 +1,11 @@
 -- A step makes no bucket but that of a key.
-use Rattle.std.proofs.Common.{◌≡◌, ◌-◌, ◌==◌, ℕ, Bool, true, false, cond, List, [], ◌∷◌, ◌++◌, Option, None, Some, Result, Ok, Err, take, refl, sym, ap, subst, ◌∙◌, codes, bytes_eq, append_assoc}
-use Rattle.std.specs.Prelude.{IfOk}
+use Rattle.std.proofs.Common.{◌≡◌, ◌-◌, ◌==◌, ℕ, Bool, true, false, cond, List, ◌∷◌, ◌++◌, Option, None, Some, Result, Ok, Err, take, refl, sym, ap, subst, ◌∙◌, codes, bytes_eq, append_assoc}
+use Rattle.std.specs.Prelude.{IfOk, []}
 use Rattle.cacache_core.specs.declared.errors.Fault.{Fault}
 use Rattle.cacache_core.specs.declared.errors.Fault.TheVariants.{NotFound, IsADirectory, InvalidInput}
 use Rattle.cacache_core.specs.PathNames.{Names, names_of, names_below}
 use Rattle.cacache_core.specs.Paths.{bucket_names}
-use Rattle.cacache_store.specs.declared.store.step.Step.TheVariants.{MakeDirs, CreateTemp, Write, Persist, Append, ReadAll, Open, Read, Size, Exists, Symlink, Copy, Reflink, HardLink, ReadDir, RemoveFile, RemoveDir}
+use Rattle.cacache_store.specs.declared.store.step.Step.TheVariants.{MakeDirs, CreateTemp, Write, Persist, Append, ReadAll, Open, Read, Size, Exists, Symlink, Copy, Reflink, HardLink, ReadDir, RemoveFile, RemoveDir, SyncTemp, SyncFile, SyncDir}
 use Rattle.cacache_store.specs.Plain.{PlainStep, PlainAnswer}
 use Rattle.cacache_disk.specs.declared.luck.Luck.{Luck}
 use Rattle.cacache_disk.specs.declared.node.Node.{Node}
@@ -140,6 +140,9 @@ module _ (home : Option Names) (t : Tree) (placed : Placed home t) (h : BucketsH
   step_keyed (Size p) luck is to = any_luck (Size p) luck (λ most. asked (file_at t p IsADirectory) _)
   step_keyed (Exists p) luck is to = any_luck (Exists p) luck (λ most. h)
   step_keyed (ReadDir p) luck is to = any_luck (ReadDir p) luck (λ most. asked (folder t p) _)
+  step_keyed (SyncTemp f) luck is to = any_luck (SyncTemp f) luck (λ most. h)
+  step_keyed (SyncFile p) luck is to = any_luck (SyncFile p) luck (λ most. asked (file_at t p IsADirectory) _)
+  step_keyed (SyncDir p) luck is to = any_luck (SyncDir p) luck (λ most. asked (folder t p) _)
 
 -- ---- the beginning
 

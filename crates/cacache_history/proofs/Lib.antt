@@ -2,6 +2,7 @@ pub mod Digests
 pub mod Proper
 pub mod Spelled
 pub mod Formed
+pub mod Syncing
 pub mod Carrying
 pub mod Holding
 pub mod Values

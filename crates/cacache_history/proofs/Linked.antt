@@ -24,11 +24,12 @@ use Rattle.cacache_table.specs.Linking.{link_target, with_size, after_size, comm
 use Rattle.cacache_table.specs.StepPaths.{temp_path, temp_folder, content_path}
 use Rattle.cacache_table.specs.Runs.{Moves, Runs}
 use Rattle.cacache_table.specs.State.{State, persisting, linking, confirming, sizing, opening_file, hashing, over, Site, Commit, Target, to_link}
-use Rattle.cacache_table.specs.Storing.{placed, persist, link, write_rest}
+use Rattle.cacache_table.specs.Storing.{persist, link, write_rest, settled, moved}
 use Rattle.cacache_table.specs.Table.{piece, opening}
 use Rattle.cacache_table.specs.Verifying.{Gives, ReadsWhole}
 use Rattle.cacache_table.proofs.Effects.{puts_commit}
 use Rattle.cacache_history.specs.Commits.{ReadsTarget}
+use Rattle.cacache_history.proofs.Syncing.{moves_on}
 
 -- ---- from the link on, a call goes as a put
 
@@ -46,7 +47,7 @@ module _ (r : Reply) (c : Commit) (target : List ℕ) (file : PlainTemp) where
       let same : a ≡ steps.Symlink target (content_path c.cache c.computed) = sym (same_Some _ _ run.0) in
       rw same (by_answer t (subst (λ x. Fits x t) same run.1) run.2)
     where
-      by_answer : (t : PlainAnswer) → Fits (steps.Symlink target (content_path c.cache c.computed)) t → Runs (go_on (done_in t) (confirming c) (λ _. placed c)) moves r
+      by_answer : (t : PlainAnswer) → Fits (steps.Symlink target (content_path c.cache c.computed)) t → Runs (go_on (done_in t) (confirming c) (λ _. settled c)) moves r
           → Twin (persisting c file) ((steps.Symlink target (content_path c.cache c.computed), t) ∷ moves) r
       by_answer answers.Done fits run =
           record { twin = (steps.Persist file (content_path c.cache c.computed), answers.Done) ∷ moves; runs = (refl, tt, run); same = refl }
@@ -56,8 +57,13 @@ module _ (r : Reply) (c : Commit) (target : List ℕ) (file : PlainTemp) where
           record { twin = (steps.Persist file (content_path c.cache c.computed), answers.NoMemory (steps.Persist file (content_path c.cache c.computed))) ∷ moves; runs = (refl, refl, run); same = refl }
       by_answer t fits run = absurd fits
 
-  made : (a : Result (Unit {0}) Refusal) (moves : Moves) → Runs (go_on a fails (λ _. linking c target)) moves r → Twin (go_on a fails (λ _. persisting c file)) moves r
-  made (Ok done) moves run = linked moves run
+  -- where the put is durable, its file is synced first
+  first_synced : (moves : Moves) → Twin (persisting c file) moves r → Twin (moved c file) moves r
+  first_synced moves x =
+      moves_on (λ s. Twin s moves r) c file (record { twin = (steps.SyncTemp file, answers.Synced file) ∷ x.twin; runs = (refl, refl, x.runs); same = x.same }) x
+
+  made : (a : Result (Unit {0}) Refusal) (moves : Moves) → Runs (go_on a fails (λ _. linking c target)) moves r → Twin (go_on a fails (λ _. moved c file)) moves r
+  made (Ok done) moves run = first_synced moves (linked moves run)
   made (Err refusal) moves run = record { twin = moves; runs = run; same = refl }
 
   into_folder : (moves : Moves) → Runs (link c target) moves r → Twin (persist c file) moves r
@@ -95,7 +101,7 @@ written r c file (b ∷ bs) moves run = record {
 }
 
 abbrev put_of : Target → List ℕ → Put
-put_of t bytes = record { key = t.key; «data» = bytes; moment = t.moment; options = t.options }
+put_of t bytes = record { key = t.key; «data» = bytes; moment = t.moment; options = record t.options { durable = false } }
 
 abbrev put_site : Target → Site
 put_site t = record { cache = t.cache; base = []; number = 0 }

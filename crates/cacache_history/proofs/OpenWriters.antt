@@ -1,5 +1,5 @@
 -- What the opening of a writer leaves in a cache.
-use Rattle.std.proofs.Common.{◌≡◌, ◌⊎◌, inl, inr, ℕ, List, [], ◌∷◌, ◌++◌, Option, None, Some, option_map, Result, Ok, Err, map, refl, sym, ap, subst, ◌∙◌, append-nil}
+use Rattle.std.proofs.Common.{◌≡◌, ◌⊎◌, inl, inr, ℕ, false, List, [], ◌∷◌, ◌++◌, Option, None, Some, option_map, Result, Ok, Err, map, refl, sym, ap, subst, ◌∙◌, append-nil}
 use Rattle.serde_json.specs.Data.{null}
 use Rattle.cacache_core.specs.declared.errors.Error.{Error}
 use Rattle.cacache_core.specs.declared.errors.Error.TheVariants.{EntryNotFound, SizeMismatch, IoError, SerdeError, IntegrityError, OutOfMemory}
@@ -102,6 +102,7 @@ put_nothing = record {
     integrity = None;
     metadata = null;
     raw_metadata = None;
+    durable = false;
   };
 }
 

@@ -1,6 +1,6 @@
 -- A content that was opened and read to its end gave the bytes that the cache held when it was opened.
-use Rattle.std.proofs.Common.{◌≡◌, ◌==◌, ◌<◌, ℕ, zero, suc, Bool, true, false, cond, List, [], ◌∷◌, ◌++◌, Option, None, Some, length, take, drop, take-append-drop, refl, sym, ap, subst, ◌∙◌, arith}
-use Rattle.std.specs.Prelude.{max}
+use Rattle.std.proofs.Common.{◌≡◌, ◌==◌, ◌<◌, ℕ, zero, suc, Bool, true, false, cond, List, ◌∷◌, ◌++◌, Option, None, Some, length, take, drop, take-append-drop, refl, sym, ap, subst, ◌∙◌, arith}
+use Rattle.std.specs.Prelude.{max, []}
 use Rattle.cacache_core.specs.declared.errors.Fault.TheVariants as faults
 use Rattle.cacache_store.specs.declared.store.plain.PlainFile.{PlainFile}
 use Rattle.cacache_store.specs.declared.store.step.Step.TheVariants as steps
@@ -9,7 +9,7 @@ use Rattle.cacache_store.specs.Plain.{PlainStep, PlainAnswer}
 use Rattle.cacache_disk.specs.declared.luck.Luck.{Luck}
 use Rattle.cacache_disk.specs.Tree.{Tree}
 use Rattle.cacache_disk.specs.Apply.{apply, given, readable, rest_of}
-use Rattle.cacache_table.specs.State.{State, doing, creating, writing, persisting, linking, confirming, appending, looking, reading, asking, sizing, opening_file, hashing, copying, walking, over, Errand, make_folder, remove, reflink, hard_link, Visit, enter, read_bucket, remove_file, remove_folder}
+use Rattle.cacache_table.specs.State.{State, doing, creating, writing, syncing, persisting, linking, confirming, appending, looking, reading, asking, sizing, opening_file, hashing, copying, walking, over, Errand, make_folder, remove, reflink, hard_link, sync_file, sync_dir, Visit, enter, read_bucket, remove_file, remove_folder}
 use Rattle.cacache_table.specs.Common.{errand_step}
 use Rattle.cacache_table.specs.Runs.{Moves, Runs}
 use Rattle.cacache_table.specs.Table.{piece, wants, after}
@@ -29,6 +29,8 @@ errand_asks (make_folder path) = tt
 errand_asks (remove path) = tt
 errand_asks (reflink from to) = tt
 errand_asks (hard_link from to) = tt
+errand_asks (sync_file path) = tt
+errand_asks (sync_dir path) = tt
 
 visit_asks : (v : Visit) → AsksPiece (visit_step v)
 visit_asks (enter p level) = tt
@@ -40,6 +42,7 @@ state_asks : (s : State) (step : PlainStep) → wants s ≡ Some step → AsksPi
 state_asks (doing errand s) step w = some_is AsksPiece _ step w (errand_asks errand)
 state_asks (creating number c rest) step w = some_is AsksPiece _ step w tt
 state_asks (writing c file rest) step w = some_is AsksPiece (steps.Write file rest) step w tt
+state_asks (syncing c file) step w = some_is AsksPiece (steps.SyncTemp file) step w tt
 state_asks (persisting c file) step w = some_is AsksPiece _ step w tt
 state_asks (linking c target) step w = some_is AsksPiece _ step w tt
 state_asks (confirming c fault) step w = some_is AsksPiece _ step w tt

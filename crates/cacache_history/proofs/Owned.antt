@@ -1,6 +1,6 @@
 -- The entries of a bucket are those of its own keys.
-use Rattle.std.proofs.Common.{◌≡◌, ℕ, Bool, true, false, cond, nat_le, List, [], ◌∷◌, ◌++◌, Option, None, Some, option_map, fold, filter_map, map, Result, Ok, Err, bytes_eq, length, take, refl, sym, ap, subst, ◌∙◌}
-use Rattle.std.specs.Prelude.{All, IfSome, unwrap_or}
+use Rattle.std.proofs.Common.{◌≡◌, ℕ, Bool, true, false, cond, nat_le, List, ◌∷◌, ◌++◌, Option, None, Some, option_map, fold, filter_map, map, Result, Ok, Err, bytes_eq, length, take, refl, sym, ap, subst, ◌∙◌}
+use Rattle.std.specs.Prelude.{All, IfSome, unwrap_or, []}
 use Rattle.std.specs.List.{cons_option, list_any}
 use Rattle.std.proofs.lemmas.Bool.{leb-true, leb-false}
 use Rattle.std.proofs.lemmas.List.{append_cancel_left}
@@ -21,7 +21,7 @@ use Rattle.cacache_disk.specs.declared.luck.Luck.{Luck}
 use Rattle.cacache_disk.specs.Tree.{Tree}
 use Rattle.cacache_disk.specs.Apply.{apply}
 use Rattle.cacache_disk.proofs.Maps.{same_path-true}
-use Rattle.cacache_entry.specs.Entry.{Entry, line_of}
+use Rattle.cacache_entry.specs.Entry.{Entry, line_of, closed_line}
 use Rattle.cacache_entry.specs.Bucket.{entries_of}
 use Rattle.cacache_entry.specs.FittingEntries.{IsEntry, IsWritable}
 use Rattle.cacache_entry.specs.Latest.{Found, found_of, answer_of_integrity, answer_of, after_entry, latest}
@@ -34,7 +34,7 @@ use Rattle.cacache_value.specs.Value.{Value, wide_value}
 use Rattle.cacache_value.specs.Acts.{Act, Nothing, PutBytes, PutLink, AddEntries, Drop, MakeFolders, DropFolder, act_at, act_with, act_if_done, folders_left, amount_left, act_of, change, list_of}
 use Rattle.cacache_value.specs.Placed.{Placed, Proper}
 use Rattle.cacache_value.specs.OpeningTrees.{IsOpening}
-use Rattle.cacache_value.proofs.AppendedLines.{whole_line, torn_line}
+use Rattle.cacache_value.proofs.AppendedLines.{whole_closed, torn_closed}
 use Rattle.cacache_value.proofs.Traces.{steps_act}
 use Rattle.cacache_history.specs.Setup.{Setup}
 use Rattle.cacache_history.specs.History.{Turn}
@@ -77,7 +77,8 @@ pub record OwnLine (home : Option Names) (path bytes : List ℕ) : Type 0 where
   pub entry : Entry
   pub formed : IsEntry entry
   pub fits : IsWritable entry
-  pub same : bytes ≡ line_of entry
+  pub durable : Bool
+  pub same : bytes ≡ closed_line durable entry
   pub here : names_of path ≡ names_below home (bucket_names entry.key)
 
 abbrev pub AppendsOwn : Option Names → PlainStep → Type 0
@@ -92,9 +93,9 @@ one_bucket cache (Some folder) a key names e is =
     let same = append_cancel_left folder (bucket_names key) (bucket_names a) (same_path-true (folder ++ bucket_names key) names is ∙ sym there) in
     (paths_differ.buckets cache (sha1 a) (sha1 key) (keys_have_digests a) (keys_have_digests key)).0 (ap (joined cache) (sym same))
 
-left_own : (P : Entry → Type 0) (e : Entry) (count : ℕ) (b : Bool) → IsEntry e → IsWritable e → P e → nat_le (length (line_of e)) count ≡ b → All P (entries_of (take count (line_of e)))
-left_own P e count true formed fits own is = subst (All P) (sym (whole_line e count formed fits (leb-true _ _ is))) (All-cons P e [] own (All-nil P))
-left_own P e count false formed fits own is = subst (All P) (sym (torn_line e count formed fits (leb-false _ _ is))) (All-nil P)
+left_own : (P : Entry → Type 0) (durable : Bool) (e : Entry) (count : ℕ) (b : Bool) → IsEntry e → IsWritable e → P e → nat_le (length (line_of e)) count ≡ b → All P (entries_of (take count (closed_line durable e)))
+left_own P durable e count true formed fits own is = subst (All P) (sym (whole_closed durable e count formed fits (leb-true _ _ is))) (All-cons P e [] own (All-nil P))
+left_own P durable e count false formed fits own is = subst (All P) (sym (torn_closed durable e count formed fits (leb-false _ _ is))) (All-nil P)
 
 at_own : (home : Option Names) (r : Result Names Fault) (act : Names → Act) → ((names : Names) → r ≡ Ok names → AddsOwn home (act names)) → AddsOwn home (act_at r act)
 at_own home (Ok names) act h = h names refl
@@ -111,7 +112,7 @@ done_own home other act h = tt
 line_own : (home : Option Names) (p bytes : List ℕ) → OwnLine home p bytes → (names : Names) → names_of p ≡ Ok names → (count : ℕ) → AddsOwn home (AddEntries names (entries_of (take count bytes)))
 line_own home p bytes line names is count key here =
     subst (λ b. All (OfBucket key) (entries_of (take count b))) (sym line.same)
-    (left_own (OfBucket key) line.entry count (nat_le (length (line_of line.entry)) count) line.formed line.fits
+    (left_own (OfBucket key) line.durable line.entry count (nat_le (length (line_of line.entry)) count) line.formed line.fits
     (one_bucket [] home line.entry.key key names (sym line.here ∙ is) here) refl)
 
 step_adds_own : (home : Option Names) (step : PlainStep) (luck : Luck) (a : PlainAnswer) → AppendsOwn home step → AddsOwn home (act_of step luck a)
@@ -132,6 +133,9 @@ step_adds_own home (steps.Copy p q) luck a own = tt
 step_adds_own home (steps.Reflink p q) luck a own = tt
 step_adds_own home (steps.HardLink p q) luck a own = tt
 step_adds_own home (steps.ReadDir p) luck a own = tt
+step_adds_own home (steps.SyncTemp f) luck a own = tt
+step_adds_own home (steps.SyncFile p) luck a own = tt
+step_adds_own home (steps.SyncDir p) luck a own = tt
 
 -- ---- trees
 

@@ -1,6 +1,6 @@
 -- The content of a put comes to its place: nothing keeps its temporary file from it.
-use Rattle.std.proofs.Common.{◌≡◌, ◌==◌, ℕ, List, [], ◌∷◌, ◌++◌, Option, None, Some, Ok, nat_le, length, drop, refl, sym, ap, subst, ◌∙◌, arith, append_assoc}
-use Rattle.std.specs.Prelude.{All}
+use Rattle.std.proofs.Common.{◌≡◌, ◌==◌, ℕ, List, ◌∷◌, ◌++◌, Option, None, Some, Ok, nat_le, length, drop, refl, sym, ap, subst, ◌∙◌, arith, append_assoc}
+use Rattle.std.specs.Prelude.{All, []}
 use Rattle.hex.specs.Hex.{encode_lower}
 use Rattle.std.proofs.lemmas.List.Elements.{All-nil, All-cons, All-head, All-tail}
 use Rattle.cacache_core.specs.declared.errors.Fault.TheVariants as faults
@@ -18,20 +18,20 @@ use Rattle.cacache_store.specs.declared.store.answer.Answer.TheVariants as answe
 use Rattle.cacache_store.specs.Plain.{PlainStep, PlainAnswer}
 use Rattle.cacache_disk.specs.declared.luck.Luck.TheVariants.{Plain}
 use Rattle.cacache_disk.specs.Tree.{Tree}
-use Rattle.cacache_disk.specs.LedTo.{place}
+use Rattle.cacache_disk.specs.LedTo.{place, file_at, folder}
 use Rattle.cacache_disk.specs.Rooted.{Rooted}
-use Rattle.cacache_disk.specs.Apply.{apply}
+use Rattle.cacache_disk.specs.Apply.{apply, plain}
 use Rattle.cacache_disk.proofs.FoundNodes.{place_ok}
-use Rattle.cacache_disk.proofs.KeptFolders.{steps_keep_rooted}
+use Rattle.cacache_disk.proofs.KeptFolders.{steps_keep_rooted, apply_tree, unless_tree}
 use Rattle.cacache_table.specs.declared.command.Put.{Put}
 use Rattle.cacache_table.specs.declared.command.Command.TheVariants as commands
 use Rattle.cacache_table.specs.declared.reply.Reply.{Reply}
-use Rattle.cacache_table.specs.Answers.{done_in, temp_in, written_in, taken_in}
-use Rattle.cacache_table.specs.Common.{fails}
-use Rattle.cacache_table.specs.Inserting.{unless_refused, bucket_line, after_append, refused_cause}
+use Rattle.cacache_table.specs.Answers.{done_in, temp_in, written_in, synced_in, taken_in}
+use Rattle.cacache_table.specs.Common.{fails, errand_step}
+use Rattle.cacache_table.specs.Inserting.{unless_refused, bucket_line, recorded, after_append, refused_cause}
 use Rattle.cacache_table.specs.StepPaths.{content_path, content_folder, temp_path, bucket_path}
 use Rattle.cacache_table.specs.Runs.{Moves, Runs}
-use Rattle.cacache_table.specs.State.{State, doing, creating, writing, persisting, appending, over, Site, Commit, Insertion, make_folder}
+use Rattle.cacache_table.specs.State.{State, doing, creating, writing, syncing, persisting, appending, over, Site, Commit, Insertion, make_folder, sync_file, sync_dir, Errand}
 use Rattle.cacache_table.specs.Storing.{insertion_of, indexed, sized, compared, matches, write_rest, after_write, put_commit}
 use Rattle.cacache_table.specs.Table.{wants, after, opening}
 use Rattle.cacache_table.proofs.Branches.{cond_leads, go_on_leads}
@@ -45,6 +45,7 @@ use Rattle.cacache_history.specs.Commits.{Deed, finds, deeds_of_act, finds_in, d
 use Rattle.cacache_history.proofs.Digests.{digest_hash}
 use Rattle.cacache_history.specs.Sequence.{turns_on, plain_moves}
 use Rattle.cacache_history.proofs.MadeNodes.{FoldersMade, made_so, made_place, Stands, created_so, wrote_so, still_stands, persisted_so}
+use Rattle.cacache_history.proofs.Syncing.{temp_synced, moves_on, settles, records}
 
 -- ---- the path of a content and its folder
 
@@ -77,10 +78,14 @@ has_place cache p names e =
 -- the temporary file stands on its way to its place, and nothing is asked
 abbrev Ready : Tree → State → Type 0
 Ready t (doing (make_folder p) (creating number c rest)) = HasPlace c
+Ready t (doing (make_folder p) (syncing c file)) = (p ≡ content_folder c.cache c.computed) × HasPlace c × Stands t file
 Ready t (doing (make_folder p) (persisting c file)) = (p ≡ content_folder c.cache c.computed) × HasPlace c × Stands t file
 Ready t (doing (make_folder p) (appending i)) = Unit {0}
+Ready t (doing (sync_file p) s) = Ready t s
+Ready t (doing (sync_dir p) s) = Ready t s
 Ready t (creating number c rest) = HasPlace c
 Ready t (writing c file rest) = HasPlace c × Stands t file
+Ready t (syncing c file) = Stands t file × (names : Names) × (place t (content_path c.cache c.computed) ≡ Ok names)
 Ready t (persisting c file) = Stands t file × (names : Names) × (place t (content_path c.cache c.computed) ≡ Ok names)
 Ready t (appending i) = Unit {0}
 Ready t (over r) = Unit {0}
@@ -116,14 +121,14 @@ module _ (t : Tree) where
   by_integrity c (Some expected) = cond_leads (Ready t) (matches expected c.computed) _ _ (λ _. by_size c c.options.size) (λ _. tt)
 
   writes_rest : (c : Commit) (file : PlainTemp) (rest : List ℕ) → HasPlace c → Stands t file → Ready t (write_rest c file rest)
-  writes_rest c file [] place s = (refl, place, s)
+  writes_rest c file [] place s = moves_on (λ next. Ready t (doing (make_folder (content_folder c.cache c.computed)) next)) c file (refl, place, s) (refl, place, s)
   writes_rest c file (b ∷ bs) place s = (place, s)
 
   writes : (c : Commit) (rest : List ℕ) (w : PlainTemp × ℕ) → HasPlace c → Stands t w.0 → Ready t (after_write c rest w)
   writes c rest w place s = cond_leads (Ready t) (w.1 == 0) (fails faults.WriteZero) (write_rest c w.0 (drop w.1 rest)) (λ _. tt) (λ _. writes_rest c w.0 (drop w.1 rest) place s)
 
   appends : (i : Insertion) (n : ℕ) → Ready t (after_append i n)
-  appends i n = cond_leads (Ready t) (nat_le (length (bucket_line i)) n) (over i.reply) (fails faults.ShortAppend) (λ _. tt) (λ _. tt)
+  appends i n = cond_leads (Ready t) (nat_le (length (bucket_line i)) n) (recorded i) (fails faults.ShortAppend) (λ _. records (Ready t) (λ p s h. (h, h)) i tt) (λ _. tt)
 
 module _ (home : Option Names) (t : Tree) (rooted : Rooted t) (is_placed : Placed home t) where
   -- a state that is ready is so after the disk's answer to this step
@@ -140,6 +145,19 @@ module _ (home : Option Names) (t : Tree) (rooted : Rooted t) (is_placed : Place
         made_place t (apply t (steps.MakeDirs p) Plain).1 p (content_path c.cache c.computed) made.names name.0 rooted (steps_keep_rooted t (steps.MakeDirs p) Plain rooted) made name.1,
       )
 
+  into_folder : (c : Commit) (file : PlainTemp) (p : List ℕ) (next : State) → ((new : Tree) → Ready new (persisting c file) → Ready new next) → (p ≡ content_folder c.cache c.computed) × HasPlace c × Stands t file
+      → Goes (doing (make_folder p) next) (steps.MakeDirs p)
+  into_folder c file p next leads ready =
+      let new = (apply t (steps.MakeDirs p) Plain).1 in
+      go_on_leads (Ready (apply t (steps.MakeDirs p) Plain).1) (done_in (apply t (steps.MakeDirs p) Plain).0) fails (λ _. next) tt (λ fault. tt)
+      (λ u e. leads new (folder_made c file p ready.0 ready.1 ready.2 (made_so t p (done_is (apply t (steps.MakeDirs p) Plain).0 u e))))
+
+  -- a sync leaves the tree, on which the state behind it is ready
+  syncs : (errand : Errand) (s : State) → Ready t s → ((most : Option ℕ) → Ready (plain t (errand_step errand) most).1 s) → Goes (doing errand s) (errand_step errand)
+  syncs errand s ready left =
+      go_on_leads (Ready (apply t (errand_step errand) Plain).1) (done_in (apply t (errand_step errand) Plain).0) fails (λ _. s) tt (λ fault. tt)
+      (λ u e. apply_tree (λ new. Ready new s) t (errand_step errand) Plain ready left)
+
   persists : (c : Commit) (file : PlainTemp) → Ready t (persisting c file) → IsFor home Content (content_path c.cache c.computed)
       → Goes (persisting c file) (steps.Persist file (content_path c.cache c.computed))
   persists c file ready for =
@@ -148,7 +166,7 @@ module _ (home : Option Names) (t : Tree) (rooted : Rooted t) (is_placed : Place
       let kind = of_names (λ names. path_kind home names ≡ Content) path ready.1 for (place_ok t path ready.1 ready.2) in
       let done = persisted_so home t file path ready.1 ready.0 ready.2 (suits home t ready.1 Content kind is_placed) in
       subst (λ a. Ready (apply t (steps.Persist file (content_path c.cache c.computed)) Plain).1 (after (persisting c file) a)) (sym done)
-      (by_integrity new c c.options.integrity)
+      (settles (Ready new) (λ p s h. (h, h)) c (by_integrity new c c.options.integrity))
 
   goes : (s : State) (step : PlainStep) → Ready t s → wants s ≡ Some step → Proper home step → Goes s step
   goes (doing (make_folder p) (creating number c rest)) step ready want proper =
@@ -156,11 +174,24 @@ module _ (home : Option Names) (t : Tree) (rooted : Rooted t) (is_placed : Place
       go_on_leads (Ready (apply t step Plain).1) (done_in (apply t step Plain).0) fails (λ _. creating number c rest) tt (λ fault. tt) (λ u e. ready)
   goes (doing (make_folder p) (appending i)) step ready want proper =
       go_on_leads (Ready (apply t step Plain).1) (done_in (apply t step Plain).0) fails (λ _. appending i) tt (λ fault. tt) (λ u e. tt)
+  goes (doing (make_folder p) (syncing c file)) step ready want proper =
+      let same : steps.MakeDirs p ≡ step = cc in
+      subst (Goes (doing (make_folder p) (syncing c file))) same (into_folder c file p (syncing c file) (λ new h. h) ready)
   goes (doing (make_folder p) (persisting c file)) step ready want proper =
       let same : steps.MakeDirs p ≡ step = cc in
-      subst (Goes (doing (make_folder p) (persisting c file))) same
-      (go_on_leads (Ready (apply t (steps.MakeDirs p) Plain).1) (done_in (apply t (steps.MakeDirs p) Plain).0) fails (λ _. persisting c file) tt (λ fault. tt)
-      (λ u e. folder_made c file p ready.0 ready.1 ready.2 (made_so t p (done_is (apply t (steps.MakeDirs p) Plain).0 u e))))
+      subst (Goes (doing (make_folder p) (persisting c file))) same (into_folder c file p (persisting c file) (λ new h. h) ready)
+  goes (doing (sync_file p) s) step ready want proper =
+      let same : steps.SyncFile p ≡ step = cc in
+      subst (Goes (doing (sync_file p) s)) same (syncs (sync_file p) s ready (λ most. unless_tree (λ new. Ready new s) (file_at t p faults.IsADirectory) t _ ready (λ _ _. ready)))
+  goes (doing (sync_dir p) s) step ready want proper =
+      let same : steps.SyncDir p ≡ step = cc in
+      subst (Goes (doing (sync_dir p) s)) same (syncs (sync_dir p) s ready (λ most. unless_tree (λ new. Ready new s) (folder t p) t _ ready (λ _ _. ready)))
+  goes (syncing c file) step ready want proper =
+      let same : steps.SyncTemp file ≡ step = cc in
+      subst (Goes (syncing c file)) same
+      (go_on_leads (Ready (apply t (steps.SyncTemp file) Plain).1) (synced_in (apply t (steps.SyncTemp file) Plain).0) fails (persisting c) tt (λ fault. tt)
+      (λ new e. subst (λ f. Ready (apply t (steps.SyncTemp file) Plain).1 (persisting c f)) (temp_synced t file new Plain e)
+      (apply_tree (λ new. Ready new (persisting c file)) t (steps.SyncTemp file) Plain ready (λ most. ready))))
   goes (creating number c rest) step ready want proper =
       let path = temp_path c.cache number in
       let same : steps.CreateTemp (temp_path c.cache number) ≡ step = cc in
@@ -194,9 +225,12 @@ Quiet (m ∷ moves) = IsNoQuestion m.0 × Quiet moves
 
 no_question : (t : Tree) (s : State) (step : PlainStep) → Ready t s → wants s ≡ Some step → IsNoQuestion step
 no_question t (doing (make_folder p) next) step ready want = let same : steps.MakeDirs p ≡ step = cc in subst IsNoQuestion same tt
+no_question t (doing (sync_file p) next) step ready want = let same : steps.SyncFile p ≡ step = cc in subst IsNoQuestion same tt
+no_question t (doing (sync_dir p) next) step ready want = let same : steps.SyncDir p ≡ step = cc in subst IsNoQuestion same tt
 no_question t (creating number c rest) step ready want =
     let same : steps.CreateTemp (temp_path c.cache number) ≡ step = cc in subst IsNoQuestion same tt
 no_question t (writing c file rest) step ready want = let same : steps.Write file rest ≡ step = cc in subst IsNoQuestion same tt
+no_question t (syncing c file) step ready want = let same : steps.SyncTemp file ≡ step = cc in subst IsNoQuestion same tt
 no_question t (persisting c file) step ready want = let same : steps.Persist file (content_path c.cache c.computed) ≡ step = cc in subst IsNoQuestion same tt
 no_question t (appending i) step ready want =
     let same : steps.Append (bucket_path i.cache i.entry.key) (bucket_line i) ≡ step = cc in subst IsNoQuestion same tt

@@ -1,6 +1,6 @@
 -- Each step that a sound call may make is proper.
-use Rattle.std.proofs.Common.{◌≡◌, inl, inr, ℕ, Bool, true, false, ◌&&◌, ◌||◌, cond, List, [], ◌∷◌, Option, None, Some, Result, Ok, Err, bytes_eq, refl, sym, subst}
-use Rattle.std.specs.Prelude.{IfOk}
+use Rattle.std.proofs.Common.{◌≡◌, inl, inr, ℕ, Bool, true, false, ◌&&◌, ◌||◌, cond, List, ◌∷◌, Option, None, Some, Result, Ok, Err, bytes_eq, refl, sym, subst}
+use Rattle.std.specs.Prelude.{IfOk, []}
 use Rattle.cacache_core.specs.declared.errors.Fault.{Fault}
 use Rattle.cacache_core.specs.declared.integrity.algorithm.Algorithm.{Algorithm}
 use Rattle.cacache_core.specs.Digests.{digest}
@@ -107,8 +107,8 @@ module _ (s : Setup) (n : ℕ) (apart : LieApart (home s) s.outside) where
 
   line_of : (p line : List ℕ) → calls.IsLine (call_site s n) p line → IsFor (home s) Bucket p × IsEntryLine line
   line_of p line l = (
-    subst (IsFor (home s) Bucket) (sym l.3) (bucket_for s.cache l.0.key),
-    record { entry = l.0; formed = l.1; fits = Fits-no_cause l.0 l.1 l.2; same = l.4 },
+    subst (IsFor (home s) Bucket) (sym l.4) (bucket_for s.cache l.0.key),
+    record { entry = l.0; formed = l.2; fits = Fits-no_cause l.0 l.2 l.3; durable = l.1; same = l.5 },
   )
 
   allowed_proper : (step : PlainStep) → calls.Allowed (call_site s n) (may_export s) (is_outside s) step → Proper (home s) step
@@ -129,6 +129,9 @@ module _ (s : Setup) (n : ℕ) (apart : LieApart (home s) s.outside) where
   allowed_proper (steps.ReadDir p) a = tt
   allowed_proper (steps.RemoveFile p) a = tt
   allowed_proper (steps.RemoveDir p) a = tt
+  allowed_proper (steps.SyncTemp file) a = tt
+  allowed_proper (steps.SyncFile p) a = tt
+  allowed_proper (steps.SyncDir p) a = tt
 
   -- the step that a sound state wants
   pub sound_proper : (state : State) (step : PlainStep) → calls.Sound (call_site s n) (may_export s) (is_outside s) state

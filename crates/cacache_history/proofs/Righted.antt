@@ -152,6 +152,9 @@ step_right folder own (steps.Copy p q) luck a right makes = tt
 step_right folder own (steps.Reflink p q) luck a right makes = tt
 step_right folder own (steps.HardLink p q) luck a right makes = tt
 step_right folder own (steps.ReadDir p) luck a right makes = tt
+step_right folder own (steps.SyncTemp f) luck a right makes = tt
+step_right folder own (steps.SyncFile p) luck a right makes = tt
+step_right folder own (steps.SyncDir p) luck a right makes = tt
 
 -- ---- trees
 

@@ -104,6 +104,7 @@ plain_put a key bytes moment = record {
     integrity = None;
     metadata = null;
     raw_metadata = None;
+    durable = false;
   };
 }
 

@@ -1,5 +1,5 @@
 -- What an insertion does to a cache in a store in memory, in words of its caller.
-use Rattle.std.specs.Prelude.{◌≡◌, ◌<◌, ◌^◌, ℕ, List, Option, None, Some, IfSome, IsUtf8, option_map}
+use Rattle.std.specs.Prelude.{◌≡◌, ◌<◌, ◌^◌, ℕ, false, List, Option, None, Some, IfSome, IsUtf8, option_map}
 use Rattle.serde_json.specs.Data.{null}
 use Rattle.cacache_core.specs.declared.errors.Error.TheVariants.{SerdeError}
 use Rattle.cacache_core.specs.declared.integrity.algorithm.Algorithm.{Algorithm}
@@ -48,6 +48,7 @@ plain_insert a key integrity moment = record {
     integrity = integrity;
     metadata = null;
     raw_metadata = None;
+    durable = false;
   };
 }
 

@@ -7,3 +7,4 @@ pub mod Verified
 pub mod Refusing
 pub mod Matching
 pub mod WrittenCommits
+pub mod SyncedFolders

@@ -1,5 +1,5 @@
 -- A phase's bound on its steps is that of its state.
-use Rattle.std.proofs.Common.{◌≡◌, ℕ, ◌+◌, List, Some, ap, sym, ◌∙◌}
+use Rattle.std.proofs.Common.{◌≡◌, ℕ, ◌+◌, List, Some, length, ap, sym, ◌∙◌}
 use Rattle.cacache_store.specs.declared.store.plain.PlainFile.{PlainFile}
 use Rattle.cacache_store.specs.declared.store.plain.PlainTemp.{PlainTemp}
 use Rattle.cacache_store.specs.Plain.{PlainStep}
@@ -13,29 +13,38 @@ use Rattle.cacache_jobs.specs.declared.stage.Stage.{Stage}
 use Rattle.cacache_jobs.specs.declared.stage.Stage.TheVariants as stages
 use Rattle.cacache_jobs.specs.declared.phase.Phase.{Phase}
 use Rattle.cacache_jobs.specs.declared.phase.Phase.TheVariants as phases
-use Rattle.cacache_jobs.specs.JobStates.{ThenAt, StageAt, PhaseAt}
-use Rattle.cacache_jobs.specs.Effort.{then_effort, left_to_read, stage_effort, phase_effort}
+use Rattle.cacache_jobs.specs.JobStates.{commit_of, GoalAt, ThenAt, StageAt, PhaseAt}
+use Rattle.cacache_jobs.proofs.SyncedFolders.{moved_effort, sync_effort}
+use Rattle.cacache_jobs.specs.declared.syncing.Goal.{Goal}
+use Rattle.cacache_jobs.specs.declared.syncing.Goal.TheVariants as goals
+use Rattle.cacache_jobs.specs.Effort.{goal_effort, then_effort, left_to_read, stage_effort, phase_effort}
 
 module _ {T : Type 0} (temp : T → PlainTemp) where
+  goal_effort_is : (goal : Goal) (s : State) → GoalAt goal s → effort s ≡ goal_effort goal
+  goal_effort_is (goals.Place c) s e = ap effort e
+  goal_effort_is (goals.Answer i) s e = ap effort e
+
   then_effort_is : (then : Then T) (s : State) → ThenAt temp then s → effort s ≡ then_effort then
   then_effort_is (thens.Create c rest path) s e = ap effort e.2
-  then_effort_is (thens.Persist c file path) s e = ap effort e.1
+  then_effort_is (thens.Persist c file path) s e = ap effort e.1 ∙ moved_effort (commit_of c.value) (temp file)
+  then_effort_is (thens.Sync y) s e = ap effort e.2 ∙ sync_effort y.folders.items e.0 ∙ ap (λ n. length y.folders.items + n) (goal_effort_is y.goal e.0 e.1)
   then_effort_is (thens.Append i line path) s e = ap effort e.4
   then_effort_is (thens.RemoveBucket content bucket) s e = ap effort e.3
   then_effort_is (thens.Symlink c target path) s e = ap effort e.1
   then_effort_is (thens.Finish removal) s e = ap effort e
 
   -- a read's step tells how many bytes are left
-  read_effort : (h : Hashing) (file : PlainFile) (bytes : List ℕ) (step : PlainStep) (s : State) → s ≡ hashing h file bytes → wants s ≡ Some step → effort s ≡ left_to_read step + 6
+  read_effort : (h : Hashing) (file : PlainFile) (bytes : List ℕ) (step : PlainStep) (s : State) → s ≡ hashing h file bytes → wants s ≡ Some step → effort s ≡ left_to_read step + 17
   read_effort h file bytes step s e w =
       let same : Some (steps.Read file piece) ≡ Some step = ap wants (sym e) ∙ w in
       let is : steps.Read file piece ≡ step = cc in
-      ap effort e ∙ ap (λ (x : PlainStep). left_to_read x + 6) is
+      ap effort e ∙ ap (λ (x : PlainStep). left_to_read x + 17) is
 
   stage_effort_is : (stage : Stage T) (step : PlainStep) (s : State) → StageAt temp stage s → wants s ≡ Some step → effort s ≡ stage_effort stage step
   stage_effort_is (stages.Doing then) step s e w = rw e.3 (ap (λ n. n + 1) (then_effort_is then e.1 e.2))
   stage_effort_is (stages.Creating c rest) step s e w = ap effort e.1
   stage_effort_is (stages.Writing c rest) step s e w = ap effort e.1
+  stage_effort_is (stages.Syncing c path) step s e w = ap effort e.2
   stage_effort_is (stages.Persisting c) step s e w = ap effort e.1
   stage_effort_is (stages.Confirming c target fault) step s e w = ap effort e
   stage_effort_is (stages.Appending i size) step s e w = ap effort e.3

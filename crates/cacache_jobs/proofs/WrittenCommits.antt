@@ -1,9 +1,11 @@
--- Where a write leaves a commit.
-use Rattle.std.proofs.Common.{◌≡◌, ◌==◌, ℕ, List, [], ◌∷◌, true, false, length, refl, arith}
+-- Where a write leaves a commit, and what is promised from there on.
+use Rattle.std.proofs.Common.{◌≡◌, ◌==◌, ℕ, List, [], ◌∷◌, Bool, true, false, cond, length, refl, arith}
 use Rattle.std.proofs.lemmas.Bool.{eqb-true}
 use Rattle.cacache_store.specs.declared.store.plain.PlainTemp.{PlainTemp}
-use Rattle.cacache_table.specs.State.{Commit, writing}
-use Rattle.cacache_table.specs.Storing.{write_rest, persist}
+use Rattle.cacache_table.specs.declared.reply.Reply.{Reply}
+use Rattle.cacache_table.specs.State.{Commit, writing, syncing, persisting}
+use Rattle.cacache_table.specs.Storing.{write_rest, persist, moved}
+use Rattle.cacache_table.specs.Promises.{Stores, Promises}
 
 -- no bytes are left to write
 pub nothing_left : (c : Commit) (file : PlainTemp) (rest : List ℕ) → (length rest == 0) ≡ true → write_rest c file rest ≡ persist c file
@@ -15,3 +17,11 @@ nothing_left c file (b ∷ bs) e =
 pub some_left : (c : Commit) (file : PlainTemp) (rest : List ℕ) → (length rest == 0) ≡ false → write_rest c file rest ≡ writing c file rest
 some_left c file [] e = absurd cc
 some_left c file (b ∷ bs) e = refl
+
+-- a commit promises the same, durable or not
+pub moved_promise : (c : Commit) (file : PlainTemp) (r : Reply) → Promises (moved c file) r → Stores c r
+moved_promise c file r = by c.options.durable
+  where
+    by : (b : Bool) → Promises (cond b (syncing c file) (persisting c file)) r → Stores c r
+    by true h = h
+    by false h = h

@@ -1,10 +1,14 @@
 -- A bound on the steps that a call still takes.
-use Rattle.std.specs.Prelude.{ℕ, ◌+◌, ◌*◌, ◌^◌, length}
+use Rattle.std.specs.Prelude.{ℕ, ◌+◌, ◌*◌, ◌^◌, if◌then◌else◌, length}
 use Rattle.cacache_store.specs.declared.store.plain.PlainFile.{PlainFile}
 use Rattle.cacache_store.specs.declared.store.plain.PlainTemp.{PlainTemp}
 use Rattle.cacache_store.specs.Plain.{PlainStep, plain_step}
 use Rattle.cacache_store.specs.declared.store.step.Step.TheVariants as steps
-use Rattle.cacache_table.specs.Runs.{weight, weights}
+use Rattle.cacache_table.specs.Runs.{weight, weights, effort}
+use Rattle.cacache_table.specs.Storing.{placed}
+use Rattle.cacache_jobs.specs.JobStates.{commit_of}
+use Rattle.cacache_jobs.specs.declared.syncing.Goal.{Goal}
+use Rattle.cacache_jobs.specs.declared.syncing.Goal.TheVariants as goals
 use Rattle.cacache_walks.specs.WalkStates.{visit_of, pending}
 use Rattle.cacache_jobs.specs.declared.stage.Then.{Then}
 use Rattle.cacache_jobs.specs.declared.stage.Then.TheVariants as thens
@@ -13,13 +17,19 @@ use Rattle.cacache_jobs.specs.declared.stage.Stage.TheVariants as stages
 use Rattle.cacache_jobs.specs.declared.phase.Phase.{Phase}
 use Rattle.cacache_jobs.specs.declared.phase.Phase.TheVariants as phases
 
+-- of what follows syncs
+abbrev pub goal_effort : Goal → ℕ
+goal_effort (goals.Place c) = effort (placed (commit_of c.value))
+goal_effort (goals.Answer i) = 0
+
 -- of what follows an errand
 abbrev pub then_effort : {T : Type 0} → Then T → ℕ
-then_effort (thens.Create c rest path) = length rest + 7
-then_effort (thens.Persist c file path) = 4
-then_effort (thens.Append i line path) = 1
+then_effort (thens.Create c rest path) = length rest + 19
+then_effort (thens.Persist c file path) = if c.value.options.durable then 16 else 15
+then_effort (thens.Sync y) = length y.folders.items + goal_effort y.goal
+then_effort (thens.Append i line path) = 6
 then_effort (thens.RemoveBucket content bucket) = 1
-then_effort (thens.Symlink c target path) = 4
+then_effort (thens.Symlink c target path) = 15
 then_effort (thens.Finish last) = 0
 
 -- how many bytes the file of a read has left
@@ -29,20 +39,21 @@ left_to_read step = 0
 
 -- of a stage that wants this step
 abbrev pub stage_effort : {T : Type 0} → Stage T → PlainStep → ℕ
-stage_effort (stages.Doing then) step = then_effort then + 1
-stage_effort (stages.Creating c rest) step = length rest + 7
-stage_effort (stages.Writing c rest) step = length rest + 6
-stage_effort (stages.Persisting c) step = 4
-stage_effort (stages.Confirming c target fault) step = 3
-stage_effort (stages.Appending i size) step = 1
-stage_effort (stages.Looking l) step = 2 ^ 64 + 7
+stage_effort (stages.Doing follows) step = then_effort follows + 1
+stage_effort (stages.Creating c rest) step = length rest + 19
+stage_effort (stages.Writing c rest) step = length rest + 18
+stage_effort (stages.Syncing c path) step = 16
+stage_effort (stages.Persisting c) step = 15
+stage_effort (stages.Confirming c target fault) step = 14
+stage_effort (stages.Appending i size) step = 6
+stage_effort (stages.Looking l) step = 2 ^ 64 + 18
 stage_effort (stages.Reading k) step = 1
 stage_effort (stages.Asking k) step = 1
-stage_effort (stages.Sizing target) step = 2 ^ 64 + 7
-stage_effort (stages.Opening h) step = 2 ^ 64 + 6
-stage_effort (stages.Hashing h size) step = left_to_read step + 6
+stage_effort (stages.Sizing target) step = 2 ^ 64 + 18
+stage_effort (stages.Opening h) step = 2 ^ 64 + 17
+stage_effort (stages.Hashing h size) step = left_to_read step + 17
 stage_effort (stages.Copying from to verified) step = 1
-stage_effort (stages.Linking c target) step = 4
+stage_effort (stages.Linking c target) step = 15
 stage_effort (stages.Walking w v) step =
     2 * w.left + weight (visit_of v) + weights (pending w.todo.items)
 

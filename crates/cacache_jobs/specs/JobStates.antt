@@ -1,5 +1,5 @@
 -- Which state of the table a job stands in.
-use Rattle.std.specs.Prelude.{◌≡◌, ℕ, List, Option, Some, None, Result, Ok, Err, length, string_bytes, []}
+use Rattle.std.specs.Prelude.{◌≡◌, ℕ, List, [], Option, Some, None, Result, Ok, Err, length, string_bytes}
 use Rattle.cacache_core.specs.declared.errors.Error.{Error}
 use Rattle.cacache_core.specs.declared.integrity.digest.Hash.{Hash}
 use Rattle.cacache_core.specs.Hashers.{Holds, algorithm_of}
@@ -9,8 +9,10 @@ use Rattle.cacache_store.specs.declared.store.plain.PlainTemp.{PlainTemp}
 use Rattle.cacache_store.specs.Plain.{PlainStep, plain_step}
 use Rattle.cacache_table.specs.StepPaths.{content_path, bucket_path, temp_path}
 use Rattle.cacache_table.specs.State as states
-use Rattle.cacache_table.specs.State.{State, doing, creating, writing, persisting, confirming, appending, looking, reading, asking, sizing, opening_file, hashing, copying, linking, over, Errand, to_report, to_read, to_export, to_remove, to_verify, to_link}
+use Rattle.cacache_table.specs.State.{State, doing, creating, writing, syncing, persisting, confirming, appending, looking, reading, asking, sizing, opening_file, hashing, copying, linking, over, Errand, to_report, to_read, to_export, to_remove, to_verify, to_link}
 use Rattle.cacache_table.specs.Inserting.{bucket_line}
+use Rattle.cacache_table.specs.Common.{sync_up}
+use Rattle.cacache_table.specs.Storing.{placed, moved}
 use Rattle.cacache_table.specs.Removing.{remove_bucket}
 use Rattle.cacache_table.specs.Runs.{plain_reply, EndsAs}
 use Rattle.cacache_table.specs.declared.reply.Reply.{Reply}
@@ -26,6 +28,8 @@ use Rattle.cacache_jobs.specs.declared.reading.Content.{Content}
 use Rattle.cacache_jobs.specs.Targets.{target_of}
 use Rattle.cacache_jobs.specs.declared.hashing.Hashing.{Hashing}
 use Rattle.cacache_jobs.specs.declared.hashing.Hashing.TheVariants as hashings
+use Rattle.cacache_jobs.specs.declared.syncing.Goal.{Goal}
+use Rattle.cacache_jobs.specs.declared.syncing.Goal.TheVariants as goals
 use Rattle.cacache_jobs.specs.declared.stage.Then.{Then}
 use Rattle.cacache_jobs.specs.declared.stage.Then.TheVariants as thens
 use Rattle.cacache_jobs.specs.declared.stage.Stage.{Stage}
@@ -69,7 +73,8 @@ told None = Done
 -- this entry is on its way, and so is this reply
 abbrev pub IsInsertion : Insertion → states.Insertion → Type 0
 IsInsertion i j =
-    (j.cache ≡ i.cache) × (j.entry.key ≡ string_bytes i.key) × (j.reply ≡ told i.integrity)
+    (j.cache ≡ i.cache) × (j.entry.key ≡ string_bytes i.key) × (j.durable ≡ i.durable)
+    × (j.reply ≡ told i.integrity)
 
 -- a file is read for this, and these bytes of it were hashed
 abbrev pub HashesFor : Hashing → states.Hashing → List ℕ → Type 0
@@ -82,6 +87,11 @@ HashesFor (hashings.Link hasher target) h bytes =
 
 -- ---- of a stage
 
+-- what follows syncs
+abbrev pub GoalAt : Goal → State → Type 0
+GoalAt (goals.Place c) s = s ≡ placed (commit_of c.value)
+GoalAt (goals.Answer i) s = s ≡ over (told i.integrity)
+
 -- what follows an errand; the path of the next step is kept
 abbrev pub ThenAt : {T : Type 0} → (T → PlainTemp) → Then T → State → Type 0
 ThenAt temp (thens.Create c rest path) s =
@@ -89,7 +99,9 @@ ThenAt temp (thens.Create c rest path) s =
     × (s ≡ creating number (commit_of c.value) rest)
 ThenAt temp (thens.Persist c file path) s =
     (path ≡ content_path c.value.cache c.value.computed)
-    × (s ≡ persisting (commit_of c.value) (temp file))
+    × (s ≡ moved (commit_of c.value) (temp file))
+ThenAt temp (thens.Sync y) s =
+    (next : State) × GoalAt y.goal next × (s ≡ sync_up y.folders.items next)
 ThenAt temp (thens.Append i line path) s =
     (j : states.Insertion) × IsInsertion i j × (line ≡ bucket_line j)
     × (path ≡ bucket_path j.cache j.entry.key) × (s ≡ appending j)
@@ -107,6 +119,9 @@ StageAt temp (stages.Doing then) s =
     (errand : Errand) × (next : State) × ThenAt temp then next × (s ≡ doing errand next)
 StageAt temp (stages.Creating c rest) s = (number : ℕ) × (s ≡ creating number (commit_of c.value) rest)
 StageAt temp (stages.Writing c rest) s = (file : PlainTemp) × (s ≡ writing (commit_of c.value) file rest)
+StageAt temp (stages.Syncing c path) s =
+    (path ≡ content_path c.value.cache c.value.computed)
+    × (file : PlainTemp) × (s ≡ syncing (commit_of c.value) file)
 StageAt temp (stages.Persisting c) s = (file : PlainTemp) × (s ≡ persisting (commit_of c.value) file)
 StageAt temp (stages.Confirming c target fault) s = s ≡ confirming (commit_of c.value) fault
 StageAt temp (stages.Appending i size) s =

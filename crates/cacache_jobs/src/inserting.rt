@@ -2,8 +2,8 @@
 ghost use Rattle.std.specs.Prelude.{◌≡◌, None, IfOk, IfErr, OnOk, option_map, string_bytes, length};
 ghost use Rattle.cacache_core.specs.declared.errors.Error.TheVariants.{OutOfMemory};
 ghost use Rattle.cacache_table.specs.Common.{go_on, fails};
-ghost use Rattle.cacache_table.specs.Inserting.{insert as insert_of, insertion as insertion_of, deletion as deletion_of, after_append, bucket_line, refused_cause, given_or, given_text, no_integrity as without_integrity};
-ghost use Rattle.cacache_table.specs.StepPaths.{bucket_path};
+ghost use Rattle.cacache_table.specs.Inserting.{insert as insert_of, insertion as insertion_of, deletion as deletion_of, after_append, recorded, bucket_line, refused_cause, given_or, given_text, no_integrity as without_integrity};
+ghost use Rattle.cacache_table.specs.StepPaths.{bucket_path as bucket_path_of};
 ghost use Rattle.cacache_table.specs.State.{Insertion as Inserted, appending};
 ghost use Rattle.cacache_entry.specs.View.{entry_view};
 ghost use Rattle.cacache_table.specs.Runs.{EndsAs};
@@ -12,8 +12,9 @@ ghost use Rattle.cacache_jobs.specs.JobStates.{Leads, PhaseAt, IsInsertion, told
 
 use crate::messages;
 use crate::phase::{Phase, refused};
-use crate::places::bucket_place;
+use crate::places::{bucket_folders, bucket_path, bucket_place};
 use crate::stage::{Stage, Then};
+use crate::syncing::{Goal, sync_file};
 use cacache_core::bytes::Bytes;
 use cacache_core::errors::{self, Fault};
 use cacache_core::integrity::Integrity;
@@ -30,6 +31,8 @@ use std::alloc::{AllocError, Global};
 pub struct Insertion {
     pub cache: Text,
     pub key: String,
+    /// Whether the bucket is synced before the call answers.
+    pub durable: bool,
     /// What the call answers once the entry is there; None of a deletion, which answers nothing.
     pub integrity: Option<Integrity>,
 }
@@ -40,6 +43,7 @@ impl Drop for Insertion {
         let Insertion {
             cache: _cache,
             key: _key,
+            durable: _,
             integrity: _integrity,
         } = self;
     }
@@ -47,12 +51,13 @@ impl Drop for Insertion {
 
 impl Insertion {
     /// What the call answers once the entry is in its bucket.
-    fn into_reply(self) -> Reply
+    pub(crate) fn into_reply(self) -> Reply
         ensures { result ≡ told self.integrity }
     {
         let Insertion {
             cache: _cache,
             key: _key,
+            durable: _,
             integrity,
         } = self;
         match integrity {
@@ -96,19 +101,22 @@ pub(crate) fn entry_of(
     })
 }
 
-/// The line of an entry that can be written, as its bucket has it.
+/// The line of an entry that can be written, as its bucket has it; that of a durable commit is closed by a line feed.
 ///
 /// `SerdeError` where the entry can't be written.
 #[tactic(auto, using(crate::proofs::Refusing::refusal_ends), unfolding(cacache_table::specs::Inserting::bucket_line, cacache_table::specs::Inserting::refused_cause))]
-fn line_of(alloc: Global, entry: &SerializableMetadata) -> errors::Result<Bytes>
+fn line_of(alloc: Global, entry: &SerializableMetadata, durable: bool) -> errors::Result<Bytes>
     ensures line { IfOk result (λ line. (j : Inserted) → j.entry ≡ entry_view entry.now
-        → line ≡ bucket_line j) }
+        → j.durable ≡ durable → line ≡ bucket_line j) }
     ensures fits { OnOk result ((j : Inserted) → j.entry ≡ entry_view entry.now
         → refused_cause j ≡ None) }
     ensures refused { IfErr result (λ e. (j : Inserted) → j.entry ≡ entry_view entry.now
         → EndsAs e (insert_of j)) }
 {
-    let line = line(alloc, entry)?;
+    let mut line = line(alloc, entry)?;
+    if durable {
+        line.push(b'\n')?;
+    }
     Ok(Bytes::new(alloc, line)?)
 }
 
@@ -141,16 +149,19 @@ pub(crate) fn insert<F: FileHandle, T: TempHandle>(
     alloc: Global,
     cache: Text,
     entry: SerializableMetadata,
+    durable: bool,
     integrity: Option<Integrity>,
 ) -> errors::Result<Phase<F, T>>
     ensures { (j : Inserted) → j.cache ≡ cache → j.entry ≡ entry_view entry
-        → j.reply ≡ told integrity → Leads F.seen T.seen result (insert_of j) }
+        → j.durable ≡ durable → j.reply ≡ told integrity
+        → Leads F.seen T.seen result (insert_of j) }
 {
-    let line = line_of(alloc, &entry)?;
+    let line = line_of(alloc, &entry, durable)?;
     let key = key_of(entry);
     let insertion = Insertion {
         cache,
         key,
+        durable,
         integrity,
     };
     make_bucket(alloc, insertion, line)
@@ -163,10 +174,25 @@ pub(crate) fn append<F: FileHandle, T: TempHandle>(
     path: Text,
 ) -> Phase<F, T>
     ensures { (j : Inserted) → IsInsertion insertion j → line ≡ bucket_line j
-        → path ≡ bucket_path j.cache j.entry.key → PhaseAt F.seen T.seen result (appending j) }
+        → path ≡ bucket_path_of j.cache j.entry.key → PhaseAt F.seen T.seen result (appending j) }
 {
     let size = line.len();
     Phase::Wanting(Stage::Appending(insertion, size), Step::Append(path, line))
+}
+
+/// The line is in the bucket: where the insertion is durable, the bucket and the folders that lead to it are synced.
+fn record<F: FileHandle, T: TempHandle>(
+    alloc: Global,
+    insertion: Insertion,
+) -> errors::Result<Phase<F, T>>
+    ensures { (j : Inserted) → IsInsertion insertion j → Leads F.seen T.seen result (recorded j) }
+{
+    if !insertion.durable {
+        return Ok(Phase::Over(insertion.into_reply()));
+    }
+    let folders = bucket_folders(alloc, insertion.cache.as_str(), insertion.key.as_str())?;
+    let path = bucket_path(alloc, insertion.cache.as_str(), insertion.key.as_str())?;
+    sync_file(alloc, path, folders, Goal::Answer(insertion))
 }
 
 /// After the line, of this size, was to be appended; a short append is not retried.
@@ -182,7 +208,7 @@ pub(crate) fn appended<F: FileHandle, T: TempHandle>(
     let refusal = match taken {
         Ok(count) => {
             if size <= count {
-                return Ok(Phase::Over(insertion.into_reply()));
+                return record(alloc, insertion);
             }
             Refusal::Fault(Fault::ShortAppend)
         }
@@ -243,13 +269,14 @@ pub(crate) fn begin_insertion<F: FileHandle, T: TempHandle>(
         integrity,
         metadata,
         raw_metadata,
+        durable,
     } = options;
     let size = size.unwrap_or(0);
     let key = key.into_string();
     let entry = entry_of(alloc, key, text, size, moment, metadata, raw_metadata);
     let (entry, (cache, integrity)) = beside(entry, (cache, integrity))?;
     let (answered, (cache, entry)) = beside(answered(alloc, integrity), (cache, entry))?;
-    insert(alloc, cache, entry, Some(answered))
+    insert(alloc, cache, entry, durable, Some(answered))
 }
 
 /// Where a deletion begins: its entry is a tombstone.
@@ -265,5 +292,5 @@ pub(crate) fn begin_deletion<F: FileHandle, T: TempHandle>(
     let Delete { key, moment } = delete;
     let key = key.into_string();
     let entry = entry_of(alloc, key, None, 0, moment, null, None)?;
-    insert(alloc, cache, entry, None)
+    insert(alloc, cache, entry, false, None)
 }

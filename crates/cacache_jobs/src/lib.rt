@@ -21,6 +21,7 @@ mod resuming;
 mod run;
 mod stage;
 mod storing;
+mod syncing;
 mod target;
 mod walking;
 

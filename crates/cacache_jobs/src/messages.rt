@@ -71,6 +71,11 @@ pub(crate) fn arriving(
     }
 }
 
+/// The file or folder at the path wasn't synced.
+pub(crate) fn syncing(alloc: Global, path: &Text) -> Result<Text, AllocError> {
+    at(alloc, "Failed to sync cache at ", path)
+}
+
 /// The folder of a key's bucket wasn't made.
 pub fn making_bucket(alloc: Global, cache: &str, key: &str) -> Result<Text, AllocError> {
     let place = bucket_place(alloc, cache, key)?;

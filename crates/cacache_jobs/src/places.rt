@@ -1,6 +1,6 @@
 //! The paths that a call's steps name.
 ghost use Rattle.std.specs.Prelude.{◌≡◌, IfOk};
-ghost use Rattle.cacache_table.specs.StepPaths.{temp_path as temp_path_of, temp_folder as temp_folder_of, content_path as content_path_of, content_folder as content_folder_of, bucket_path as bucket_path_of, bucket_folder as bucket_folder_of};
+ghost use Rattle.cacache_table.specs.StepPaths.{temp_path as temp_path_of, temp_folder as temp_folder_of, content_path as content_path_of, content_folder as content_folder_of, bucket_path as bucket_path_of, bucket_folder as bucket_folder_of, content_folders as content_folders_of, bucket_folders as bucket_folders_of};
 
 use cacache_core::integrity::Integrity;
 use cacache_core::paths::{self, Place};
@@ -56,6 +56,20 @@ pub(crate) fn content_place(
     paths::content_place(alloc, cache, integrity)
 }
 
+/// The folders that lead to an integrity's content, the cache's own first.
+#[tactic(auto, unfolding(cacache_table::specs::StepPaths::content_folders))]
+pub(crate) fn content_folders(
+    alloc: Global,
+    cache: &str,
+    integrity: &Integrity,
+) -> Result<Vec<Text>, AllocError>
+    ensures { IfOk result
+        (λ folders. folders.items ≡ content_folders_of cache.now integrity.now) }
+{
+    let _address = integrity.address();
+    paths::content_folders(alloc, cache, integrity)
+}
+
 /// The path of a key's bucket.
 #[tactic(auto, unfolding(cacache_table::specs::StepPaths::bucket_path))]
 pub fn bucket_path(alloc: Global, cache: &str, key: &str) -> Result<Text, AllocError>
@@ -71,4 +85,13 @@ pub fn bucket_place(alloc: Global, cache: &str, key: &str) -> Result<Place, Allo
     ensures path { IfOk result (λ place. place.path ≡ bucket_path_of cache.now key.now) }
 {
     paths::bucket_place(alloc, cache, key)
+}
+
+/// The folders that lead to a key's bucket, the cache's own first.
+#[tactic(auto, unfolding(cacache_table::specs::StepPaths::bucket_folders))]
+pub(crate) fn bucket_folders(alloc: Global, cache: &str, key: &str) -> Result<Vec<Text>, AllocError>
+    ensures { IfOk result
+        (λ folders. folders.items ≡ bucket_folders_of cache.now key.now) }
+{
+    paths::bucket_folders(alloc, cache, key)
 }

@@ -11,6 +11,7 @@ use crate::looking::Lookup;
 use crate::phase::{Phase, refused};
 use crate::reading::Content;
 use crate::storing::Commit;
+use crate::syncing::Syncing;
 use crate::target::Target;
 use crate::{
     exporting, hashing, inserting, linking, looking, messages, reading, removing, storing, walking,
@@ -21,7 +22,8 @@ use cacache_core::keeping::let_go;
 use cacache_core::text::Text;
 use cacache_store::store::{Answer, FileHandle, TempHandle};
 use cacache_table::answers::{
-    bytes_of, done_of, file_of, got_of, length_of, taken_of, temp_of, there_of, written_of,
+    bytes_of, done_of, file_of, got_of, length_of, synced_of, taken_of, temp_of, there_of,
+    written_of,
 };
 use cacache_table::{Refusal, Reply};
 use cacache_walks::{Visit, Walk};
@@ -38,14 +40,16 @@ pub enum Last {
     HardLink(Text, Text),
 }
 
-/// What a call does once its errand is done: a folder was made, or a file removed. It moves with every step, so what is
+/// What a call does once its errand is done: a folder was made, a file removed, or one of both synced. It moves with every step, so what is
 /// large is boxed.
 #[derive(Drop)]
 pub enum Then<T> {
     /// Makes the temporary file at this path; the bytes are still to write.
     Create(Box<Commit>, Bytes, Text),
-    /// Moves the temporary file to the content's path.
+    /// Moves the temporary file to the content's path, or syncs it first.
     Persist(Box<Commit>, T, Text),
+    /// Syncs the next folder, or goes on where all are synced.
+    Sync(Syncing),
     /// Appends the line to the bucket at this path.
     Append(Insertion, Bytes, Text),
     /// The content at the first path is removed; removes the bucket at the second.
@@ -62,6 +66,7 @@ impl<T: TempHandle> Then<T> {
         match self {
             Then::Create(commit, _, _) => messages::making_temps(alloc, commit.cache.as_str()),
             Then::Persist(commit, _, _) => messages::making_contents(alloc, commit),
+            Then::Sync(syncing) => syncing.message(alloc),
             Then::Append(insertion, _, _) => {
                 messages::making_bucket(alloc, insertion.cache.as_str(), insertion.key.as_str())
             }
@@ -77,7 +82,8 @@ impl<T: TempHandle> Then<T> {
     {
         match self {
             Then::Create(commit, rest, path) => Ok(storing::create(commit, rest, path)),
-            Then::Persist(commit, file, path) => Ok(storing::persist(commit, file, path)),
+            Then::Persist(commit, file, path) => Ok(storing::move_in(commit, file, path)),
+            Then::Sync(syncing) => syncing.next(alloc),
             Then::Append(insertion, line, path) => Ok(inserting::append(insertion, line, path)),
             Then::RemoveBucket(_content, bucket) => removing::remove_bucket(bucket),
             Then::Symlink(commit, target, path) => linking::symlink(commit, target, path),
@@ -109,12 +115,14 @@ impl<T: TempHandle> Then<T> {
 /// It moves with every step, so what is large is boxed.
 #[derive(Drop)]
 pub enum Stage<T> {
-    /// A folder is made, or a file removed.
+    /// A folder is made, a file removed, or one of both synced.
     Doing(Then<T>),
     /// The temporary file is made; the bytes are still to write.
     Creating(Box<Commit>, Bytes),
     /// These bytes are written.
     Writing(Box<Commit>, Bytes),
+    /// The temporary file is synced; then it goes to this path.
+    Syncing(Box<Commit>, Text),
     /// The temporary file becomes the content.
     Persisting(Box<Commit>),
     /// That, or the link to this target, failed so; a content that is there all the same will do.
@@ -157,6 +165,7 @@ impl<T: TempHandle> Stage<T> {
             Stage::Writing(commit, rest) => {
                 storing::written(alloc, commit, rest, written_of(answer))
             }
+            Stage::Syncing(commit, path) => storing::synced(alloc, commit, path, synced_of(answer)),
             Stage::Persisting(commit) => storing::arrived(alloc, commit, None, done_of(answer)),
             Stage::Confirming(commit, target, fault) => {
                 storing::confirmed(alloc, commit, target, fault, there_of(answer))

@@ -4,8 +4,8 @@ ghost use Rattle.cacache_core.specs.Integrity.{integrity_under};
 ghost use Rattle.cacache_core.specs.declared.errors.Error.TheVariants.{OutOfMemory};
 ghost use Rattle.cacache_table.specs.Common.{go_on, fails};
 ghost use Rattle.cacache_table.specs.StepPaths.{content_path as content_path_of, temp_path as temp_path_of};
-ghost use Rattle.cacache_table.specs.State.{Site, creating, persisting, confirming};
-ghost use Rattle.cacache_table.specs.Storing.{persist as persist_of, write_rest as write_rest_of, placed as placed_of, indexed, after_write, after_confirm, put_commit, store as store_of};
+ghost use Rattle.cacache_table.specs.State.{Site, creating, syncing, persisting, confirming};
+ghost use Rattle.cacache_table.specs.Storing.{persist as persist_of, write_rest as write_rest_of, placed as placed_of, settled as settled_of, resettled as resettled_of, moved, indexed, after_write, after_confirm, put_commit, store as store_of};
 ghost use Rattle.cacache_table.specs.Seen.{seen_by, written_as};
 ghost use Rattle.cacache_jobs.specs.JobStates.{Leads, PhaseAt, commit_of};
 
@@ -13,8 +13,9 @@ use crate::comparing::{compare_integrity, compare_size};
 use crate::inserting::{entry_of, insert};
 use crate::messages;
 use crate::phase::{Phase, refused};
-use crate::places::{content_path, content_place, temp_place};
+use crate::places::{content_folders, content_path, content_place, temp_place};
 use crate::stage::{Stage, Then};
+use crate::syncing::{Goal, sync_file, sync_up};
 use cacache_core::bytes::Bytes;
 use cacache_core::errors::{self, Error, Fault};
 use cacache_core::hasher::Hasher;
@@ -214,16 +215,81 @@ pub(crate) fn written<F: FileHandle, T: TempHandle>(
     Err(refused(refusal, messages::writing(alloc, &commit)))
 }
 
-/// The content's folder is there: moves the temporary file to the content's path.
-pub(crate) fn persist<F: FileHandle, T: TempHandle>(
+/// Moves the temporary file to the content's path.
+fn persist<F: FileHandle, T: TempHandle>(commit: Box<Commit>, file: T, path: Text) -> Phase<F, T>
+    ensures { path ≡ content_path_of commit.value.cache commit.value.computed
+        → PhaseAt F.seen T.seen result (persisting (commit_of commit.value) (T.seen file)) }
+{
+    Phase::Wanting(Stage::Persisting(commit), Step::Persist(file, path))
+}
+
+/// Syncs the temporary file, before it goes to the content's path.
+fn sync_temp<F: FileHandle, T: TempHandle>(commit: Box<Commit>, file: T, path: Text) -> Phase<F, T>
+    ensures { path ≡ content_path_of commit.value.cache commit.value.computed
+        → PhaseAt F.seen T.seen result (syncing (commit_of commit.value) (T.seen file)) }
+{
+    Phase::Wanting(Stage::Syncing(commit, path), Step::SyncTemp(file))
+}
+
+/// The content's folder is there: moves the temporary file to the content's path, or syncs it first.
+pub(crate) fn move_in<F: FileHandle, T: TempHandle>(
     commit: Box<Commit>,
     file: T,
     path: Text,
 ) -> Phase<F, T>
     ensures { path ≡ content_path_of commit.value.cache commit.value.computed
-        → PhaseAt F.seen T.seen result (persisting (commit_of commit.value) (T.seen file)) }
+        → PhaseAt F.seen T.seen result (moved (commit_of commit.value) (T.seen file)) }
 {
-    Phase::Wanting(Stage::Persisting(commit), Step::Persist(file, path))
+    if commit.options.durable {
+        return sync_temp(commit, file, path);
+    }
+    persist(commit, file, path)
+}
+
+/// After the temporary file was to be synced: moves it to the content's path.
+pub(crate) fn synced<F: FileHandle, T: TempHandle>(
+    alloc: Global,
+    commit: Box<Commit>,
+    path: Text,
+    synced: Result<T, Refusal>,
+) -> errors::Result<Phase<F, T>>
+    ensures { path ≡ content_path_of commit.value.cache commit.value.computed
+        → Leads F.seen T.seen result
+        (go_on (seen_by T.seen synced) fails (persisting (commit_of commit.value))) }
+{
+    match synced {
+        Ok(file) => Ok(persist(commit, file, path)),
+        Err(refusal) => Err(refused(refusal, messages::syncing(alloc, &path))),
+    }
+}
+
+/// The content arrived: where the commit is durable, the folders that lead to it are synced.
+fn settle<F: FileHandle, T: TempHandle>(
+    alloc: Global,
+    commit: Box<Commit>,
+) -> errors::Result<Phase<F, T>>
+    ensures { Leads F.seen T.seen result (settled_of (commit_of commit.value)) }
+{
+    if !commit.options.durable {
+        return placed(alloc, commit);
+    }
+    let folders = content_folders(alloc, commit.cache.as_str(), &commit.computed)?;
+    sync_up(alloc, folders, Goal::Place(commit))
+}
+
+/// The content was found: where the commit is durable, it is synced as well.
+fn resettle<F: FileHandle, T: TempHandle>(
+    alloc: Global,
+    commit: Box<Commit>,
+) -> errors::Result<Phase<F, T>>
+    ensures { Leads F.seen T.seen result (resettled_of (commit_of commit.value)) }
+{
+    if !commit.options.durable {
+        return placed(alloc, commit);
+    }
+    let folders = content_folders(alloc, commit.cache.as_str(), &commit.computed)?;
+    let path = content_path(alloc, commit.cache.as_str(), &commit.computed)?;
+    sync_file(alloc, path, folders, Goal::Place(commit))
 }
 
 /// After the content was to arrive at its place: the temporary file itself, or a link to the target.
@@ -234,10 +300,10 @@ pub(crate) fn arrived<F: FileHandle, T: TempHandle>(
     done: Result<(), Refusal>,
 ) -> errors::Result<Phase<F, T>>
     ensures { Leads F.seen T.seen result
-        (go_on done (confirming (commit_of commit.value)) (λ _. placed_of (commit_of commit.value))) }
+        (go_on done (confirming (commit_of commit.value)) (λ _. settled_of (commit_of commit.value))) }
 {
     match done {
-        Ok(()) => placed(alloc, commit),
+        Ok(()) => settle(alloc, commit),
         Err(Refusal::Fault(fault)) => {
             let path = content_path(alloc, commit.cache.as_str(), &commit.computed)?;
             Ok(Phase::Wanting(Stage::Confirming(commit, target, fault), Step::Exists(path)))
@@ -258,7 +324,7 @@ pub(crate) fn confirmed<F: FileHandle, T: TempHandle>(
         (go_on there (λ _. fails fault) (after_confirm (commit_of commit.value) fault)) }
 {
     let refusal = match there {
-        Ok(true) => return placed(alloc, commit),
+        Ok(true) => return resettle(alloc, commit),
         Ok(false) | Err(Refusal::Fault(_)) => Refusal::Fault(fault),
         Err(Refusal::Memory) => Refusal::Memory,
     };
@@ -284,6 +350,7 @@ impl Commit {
             integrity: expected,
             metadata,
             raw_metadata,
+            durable,
         } = options;
         let Some(key) = key else {
             let_go((cache, expected, metadata, raw_metadata));
@@ -304,7 +371,7 @@ impl Commit {
             metadata,
             raw_metadata,
         )?;
-        insert(alloc, cache, entry, Some(integrity))
+        insert(alloc, cache, entry, durable, Some(integrity))
     }
 }
 

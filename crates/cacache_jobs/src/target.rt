@@ -109,7 +109,8 @@ impl<M: Drop> Target<M> {
 }
 
 impl Target<u128> {
-    /// The commit of a link to the target, with the integrity and the size that were read, and the target's path.
+    /// The commit of a link to the target, with the integrity and the size that were read, and the target's path. It is
+    /// never durable.
     pub fn into_commit(self, computed: Integrity, count: usize) -> (Commit, Text)
         ensures commit { (bytes : List ℕ)
             → computed ≡ integrity_under self.options.algorithm bytes → count ≡ length bytes
@@ -121,8 +122,9 @@ impl Target<u128> {
             key,
             path,
             moment,
-            options,
+            mut options,
         } = self;
+        options.durable = false;
         let commit = Commit {
             cache,
             key,

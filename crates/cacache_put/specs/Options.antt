@@ -1,5 +1,5 @@
 -- What the options of a writer say.
-use Rattle.std.specs.Prelude.{ℕ, List, Option, None}
+use Rattle.std.specs.Prelude.{ℕ, Bool, false, List, Option, None}
 use Rattle.serde_json.specs.Data.{Data, null}
 use Rattle.cacache_core.specs.declared.integrity.algorithm.Algorithm.{Algorithm}
 use Rattle.cacache_core.specs.declared.integrity.algorithm.Algorithm.TheVariants.{Sha256}
@@ -13,6 +13,7 @@ pub record Said : Type 0 where
   pub integrity : Option (List Hash)
   pub metadata : Data
   pub raw_metadata : Option (List ℕ)
+  pub durable : Bool
   -- the entry's time; the clock is asked where none was set
   pub time : Option ℕ
 
@@ -24,6 +25,7 @@ nothing_said = record {
   integrity = None;
   metadata = null;
   raw_metadata = None;
+  durable = false;
   time = None;
 }
 
@@ -35,4 +37,5 @@ options_of s = record {
   integrity = s.integrity;
   metadata = s.metadata;
   raw_metadata = s.raw_metadata;
+  durable = s.durable;
 }

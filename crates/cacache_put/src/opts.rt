@@ -25,6 +25,7 @@ pub struct WriteOpts {
     integrity: Option<Integrity>,
     metadata: Json,
     raw_metadata: Option<Vec<u8>>,
+    durable: bool,
     time: Option<u128>,
 }
 
@@ -44,6 +45,7 @@ impl Model for WriteOpts {
       integrity = o.integrity;
       metadata = o.metadata;
       raw_metadata = option_map (λ v. v.items) o.raw_metadata;
+      durable = o.durable;
       time = o.time;
     } };
 }
@@ -69,6 +71,7 @@ impl WriteOpts {
             integrity: None,
             metadata: Json::new(Value::Null),
             raw_metadata: None,
+            durable: false,
             time: None,
         }
     }
@@ -106,6 +109,16 @@ impl WriteOpts {
     {
         let mut opts = self;
         opts.raw_metadata = Some(metadata);
+        opts
+    }
+
+    /// Whether the commit, or the insertion, waits until a loss of power would leave it whole: it syncs the content, the
+    /// bucket and the folders that lead to them, and answers only then. Linkers ignore it. Blank options say no.
+    pub fn durable(self, yes: bool) -> WriteOpts
+        ensures { result ≡ record self { durable = yes } }
+    {
+        let mut opts = self;
+        opts.durable = yes;
         opts
     }
 
@@ -177,6 +190,7 @@ impl WriteOpts {
             integrity,
             metadata,
             raw_metadata,
+            durable,
             time: _,
         } = self;
         let kept = (integrity, metadata);
@@ -187,6 +201,7 @@ impl WriteOpts {
             integrity,
             metadata,
             raw_metadata,
+            durable,
         })
     }
 }
@@ -213,6 +228,7 @@ impl Clone for WriteOpts {
             integrity,
             metadata,
             raw_metadata,
+            durable: self.durable,
             time: self.time,
         })
     }

@@ -15,6 +15,8 @@ use Rattle.cacache_jobs.specs.contracts.stage.Last as Last
 use Rattle.cacache_jobs.specs.contracts.stage.Stage as Stage
 use Rattle.cacache_jobs.specs.contracts.stage.Then as Then
 use Rattle.cacache_jobs.specs.contracts.storing.Commit as Commit
+use Rattle.cacache_jobs.specs.contracts.syncing.Goal as Goal
+use Rattle.cacache_jobs.specs.contracts.syncing.Syncing as Syncing
 use Rattle.cacache_jobs.specs.contracts.target.Target as Target
 use Rattle.cacache_send.proofs.Steps.{Step-send}
 use Rattle.cacache_send.proofs.Commands.{Export-send, Options-send, Reply-send}
@@ -37,6 +39,12 @@ module _ (M : RattleType) (m : IsSend M) where
 Insertion-send : IsSend (Insertion.the_field).row
 Insertion-send = search (crosses_core, crosses, sendable) depth 30 fits 20000
 
+Goal-send : IsSend (Goal.the_field).row
+Goal-send = search (Commit-send, Insertion-send, crosses_core, crosses, sendable) depth 30 fits 20000
+
+Syncing-send : IsSend (Syncing.the_field).row
+Syncing-send = search (Goal-send, crosses_core, crosses, sendable) depth 30 fits 20000
+
 Lookup-send : IsSend (Lookup.the_field).row
 Lookup-send = search (Export-send, crosses_core, crosses, sendable) depth 30 fits 20000
 
@@ -49,7 +57,7 @@ Hashing-send = search (Checker-send, Hasher-send, Target-send, Export-send, cros
 Last-send : IsSend (Last.the_field).row
 Last-send = search (crosses_core, crosses, sendable) depth 30 fits 20000
 
-ruleset parts = (Commit-send, Target-send, Insertion-send, Lookup-send, Content-send, Hashing-send, Last-send, Visit-send, Walk-send)
+ruleset parts = (Commit-send, Target-send, Insertion-send, Syncing-send, Lookup-send, Content-send, Hashing-send, Last-send, Visit-send, Walk-send)
 
 module _ (T : RattleType) (t : IsSend T) where
   Then-send : IsSend (Then.the_field T).row

@@ -29,10 +29,10 @@ Listing-sync = search (crosses_core, crosses, sendable) depth 30
 
 module _ (F T : RattleType) where
   pub Step-send : IsSend F → IsSend T → IsSend (Step.the_field F T).row
-  Step-send f t = search (f, t, crosses_core, crosses, sendable) depth 30
+  Step-send f t = search (f, t, crosses_core, crosses, sendable) depth 30 fits 20000
 
   pub Step-sync : IsSync F → IsSync T → IsSync (Step.the_field F T).row
-  Step-sync f t = search (f, t, crosses_core, crosses, sendable) depth 30
+  Step-sync f t = search (f, t, crosses_core, crosses, sendable) depth 30 fits 20000
 
   pub Answer-send : IsSend F → IsSend T → IsSend (Answer.the_field F T).row
   Answer-send f t = search (f, t, Step-send, Listing-send, crosses_core, crosses, sendable) depth 30 fits 20000

@@ -22,6 +22,9 @@ plain_step_same (steps.HardLink p q) = refl
 plain_step_same (steps.ReadDir p) = refl
 plain_step_same (steps.RemoveFile p) = refl
 plain_step_same (steps.RemoveDir p) = refl
+plain_step_same (steps.SyncTemp t) = refl
+plain_step_same (steps.SyncFile p) = refl
+plain_step_same (steps.SyncDir p) = refl
 
 pub plain_answer_same : (answer : PlainAnswer)
     → plain_answer (λ file. file) (λ temp. temp) answer ≡ answer
@@ -35,5 +38,6 @@ plain_answer_same (answers.Got f b) = refl
 plain_answer_same (answers.There n) = refl
 plain_answer_same (answers.Length n) = refl
 plain_answer_same (answers.Names l) = refl
+plain_answer_same (answers.Synced t) = refl
 plain_answer_same (answers.Failed e) = refl
 plain_answer_same (answers.NoMemory s) = ap answers.NoMemory (plain_step_same s)

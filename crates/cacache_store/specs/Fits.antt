@@ -1,8 +1,8 @@
 -- Which answers fit a step, and what a log gains.
 use Rattle.std.specs.Prelude.{◌≡◌, ◌+◌, ◌^◌, ◌≤◌, ◌<◌, Bool, true, false, if◌then◌else◌, List, [], ◌∷◌, ◌++◌, Option, All, length, option_map}
 use Rattle.cacache_core.specs.PathNames.{IsProperName}
-use Rattle.cacache_store.specs.declared.store.step.Step.TheVariants.{MakeDirs, CreateTemp, Write, Persist, Append, ReadAll, Open, Read, Exists, Size, Symlink, Copy, Reflink, HardLink, ReadDir, RemoveFile, RemoveDir}
-use Rattle.cacache_store.specs.declared.store.answer.Answer.TheVariants.{Done, Temp, Wrote, Took, Bytes, File, Got, There, Length, Names, Failed, NoMemory}
+use Rattle.cacache_store.specs.declared.store.step.Step.TheVariants.{MakeDirs, CreateTemp, Write, Persist, Append, ReadAll, Open, Read, Exists, Size, Symlink, Copy, Reflink, HardLink, ReadDir, RemoveFile, RemoveDir, SyncTemp, SyncFile, SyncDir}
+use Rattle.cacache_store.specs.declared.store.answer.Answer.TheVariants.{Done, Temp, Wrote, Took, Bytes, File, Got, There, Length, Names, Synced, Failed, NoMemory}
 use Rattle.cacache_store.specs.declared.store.answer.Name.{Name}
 use Rattle.cacache_store.specs.declared.store.log.LogItem.{LogItem}
 use Rattle.cacache_store.specs.declared.store.log.LogItem.TheVariants.{Made}
@@ -33,6 +33,9 @@ Fits (HardLink p q) Done = Unit {0}
 Fits (ReadDir p) (Names names) = AreProperNames names
 Fits (RemoveFile p) Done = Unit {0}
 Fits (RemoveDir p) Done = Unit {0}
+Fits (SyncTemp t) (Synced u) = u ≡ t
+Fits (SyncFile p) Done = Unit {0}
+Fits (SyncDir p) Done = Unit {0}
 Fits _ _ = ⊥
 
 -- memory was refused, and the step came back

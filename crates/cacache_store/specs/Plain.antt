@@ -34,6 +34,9 @@ module _ {F T : Type 0} (file : F → PlainFile) (temp : T → PlainTemp) where
   plain_step (steps.ReadDir p) = steps.ReadDir p
   plain_step (steps.RemoveFile p) = steps.RemoveFile p
   plain_step (steps.RemoveDir p) = steps.RemoveDir p
+  plain_step (steps.SyncTemp t) = steps.SyncTemp (temp t)
+  plain_step (steps.SyncFile p) = steps.SyncFile p
+  plain_step (steps.SyncDir p) = steps.SyncDir p
 
   -- the answer with its file as it is seen
   abbrev pub plain_answer : Answer F T → PlainAnswer
@@ -47,5 +50,6 @@ module _ {F T : Type 0} (file : F → PlainFile) (temp : T → PlainTemp) where
   plain_answer (answers.There n) = answers.There n
   plain_answer (answers.Length n) = answers.Length n
   plain_answer (answers.Names l) = answers.Names l
+  plain_answer (answers.Synced t) = answers.Synced (temp t)
   plain_answer (answers.Failed e) = answers.Failed e
   plain_answer (answers.NoMemory s) = answers.NoMemory (plain_step s)

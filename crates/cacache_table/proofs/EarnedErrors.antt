@@ -29,13 +29,13 @@ use Rattle.cacache_table.specs.declared.command.How.{How}
 use Rattle.cacache_table.specs.declared.command.How.TheVariants.{Copy, Reflink, HardLink}
 use Rattle.cacache_table.specs.declared.reply.Reply.{Reply}
 use Rattle.cacache_table.specs.declared.reply.Reply.TheVariants.{Stored, Read, LookedUp, Exists, Copied, Listed, Done, Refused}
-use Rattle.cacache_table.specs.Answers.{done_in, temp_in, written_in, there_in, taken_in, bytes_in, file_in, got_in, length_in, names_in}
+use Rattle.cacache_table.specs.Answers.{done_in, temp_in, written_in, synced_in, there_in, taken_in, bytes_in, file_in, got_in, length_in, names_in}
 use Rattle.cacache_core.specs.Meeting.{meets}
-use Rattle.cacache_table.specs.StepPaths.{temp_path, content_path, bucket_path}
-use Rattle.cacache_table.specs.State.{State, doing, creating, writing, persisting, linking, confirming, appending, looking, reading, asking, sizing, opening_file, hashing, copying, walking, over, Site, Commit, Insertion, Aim, to_report, to_read, to_export, to_remove, Lookup, Content, Hashing, to_verify, to_link, Errand, make_folder, remove, reflink, hard_link, Item, Visit, enter, read_bucket, remove_file, remove_folder, Task, visit, stumble, Walk}
-use Rattle.cacache_table.specs.Common.{ends_with, fails, go_on, errand_step}
-use Rattle.cacache_table.specs.Inserting.{insertion, deletion, unless_refused, refused_cause, bucket_line, after_append}
-use Rattle.cacache_table.specs.Storing.{insertion_of, indexed, sized, matches, compared, placed, write_rest, after_write, after_confirm}
+use Rattle.cacache_table.specs.StepPaths.{temp_path, content_path, content_folders, bucket_path, bucket_folders}
+use Rattle.cacache_table.specs.State.{State, doing, creating, writing, syncing, persisting, linking, confirming, appending, looking, reading, asking, sizing, opening_file, hashing, copying, walking, over, Site, Commit, Insertion, Aim, to_report, to_read, to_export, to_remove, Lookup, Content, Hashing, to_verify, to_link, Errand, make_folder, remove, reflink, hard_link, sync_file, sync_dir, Item, Visit, enter, read_bucket, remove_file, remove_folder, Task, visit, stumble, Walk}
+use Rattle.cacache_table.specs.Common.{ends_with, fails, go_on, errand_step, sync_up}
+use Rattle.cacache_table.specs.Inserting.{insertion, deletion, unless_refused, refused_cause, bucket_line, recorded, after_append}
+use Rattle.cacache_table.specs.Storing.{insertion_of, indexed, sized, matches, compared, placed, settled, resettled, moved, write_rest, after_write, after_confirm}
 use Rattle.cacache_table.specs.ContentReads.{checked, is_there, is_absent}
 use Rattle.cacache_table.specs.Exporting.{export_from, export_content, export, counted}
 use Rattle.cacache_table.specs.Linking.{after_size, hashed_path, hashed, after_read}
@@ -56,6 +56,8 @@ errand_faults (make_folder p) t f fits k = absurd fits
 errand_faults (remove p) t f fits k = absurd fits
 errand_faults (reflink q p) t f fits k = absurd fits
 errand_faults (hard_link q p) t f fits k = absurd fits
+errand_faults (sync_file p) t f fits k = absurd fits
+errand_faults (sync_dir p) t f fits k = absurd fits
 
 persist_faults : (file : PlainTemp) (p : List ℕ) (t : PlainAnswer) (f : Fault) → Fits (steps.Persist file p) t → done_in t ≡ Err (refusals.Fault f) → Faults (steps.Persist file p) t f
 persist_faults file p (answers.Failed g) f fits e = cc
@@ -83,6 +85,12 @@ temp_faults p (answers.Failed g) f fits e = cc
 temp_faults p (answers.NoMemory b) f fits e = absurd cc
 temp_faults p (answers.Temp g) f fits e = absurd cc
 temp_faults p t f fits e = absurd fits
+
+synced_faults : (file : PlainTemp) (t : PlainAnswer) (f : Fault) → Fits (steps.SyncTemp file) t → synced_in t ≡ Err (refusals.Fault f) → Faults (steps.SyncTemp file) t f
+synced_faults file (answers.Failed g) f fits e = cc
+synced_faults file (answers.NoMemory x) f fits e = absurd cc
+synced_faults file (answers.Synced g) f fits e = absurd cc
+synced_faults file t f fits e = absurd fits
 
 written_faults : (file : PlainTemp) (b : List ℕ) (t : PlainAnswer) (f : Fault) → Fits (steps.Write file b) t → written_in t ≡ Err (refusals.Fault f) → Faults (steps.Write file b) t f
 written_faults file b (answers.Failed g) f fits e = cc
@@ -165,6 +173,39 @@ abbrev Causes : State → Moves → Reply → Type 0
 Causes (over reply) moves r = (r ≡ reply) ⊎ (r ≡ Refused OutOfMemory)
 Causes s moves r = Sound s → HasCause (own s) moves r
 
+-- ---- states that hold no fault
+
+abbrev IsClean : State → Type 0
+IsClean s = Sound s × ((f : Fault) → own s f → ⊥)
+
+clean_insert : (i : Insertion) (cause : Option SerdeCause) → HasCause (λ _. ⊥) [] i.reply → IsClean (unless_refused i cause)
+clean_insert i None k = (k, λ f x. x)
+clean_insert i (Some cause) k = (tt, λ f x. x)
+
+clean_index : (c : Commit) (key : Option (List ℕ)) → IsClean (indexed c key)
+clean_index c None = (tt, λ f x. x)
+clean_index c (Some key) = clean_insert (insertion_of c key) (refused_cause (insertion_of c key)) tt
+
+clean_size : (c : Commit) (size : Option ℕ) → IsClean (sized c size)
+clean_size c None = clean_index c c.key
+clean_size c (Some n) = cond_leads IsClean (n == c.count) (indexed c c.key) (ends_with (SizeMismatch n c.count)) (λ _. clean_index c c.key) (λ _. (tt, λ f x. x))
+
+clean_integrity : (c : Commit) (i : Option (List Hash)) → IsClean (compared c i)
+clean_integrity c None = clean_size c c.options.size
+clean_integrity c (Some i) = cond_leads IsClean (matches i c.computed) (sized c c.options.size) (ends_with (IntegrityError (Check i c.computed))) (λ _. clean_size c c.options.size) (λ _. (tt, λ f x. x))
+
+clean_syncs : (folders : List (List ℕ)) (s : State) → IsClean s → IsClean (sync_up folders s)
+clean_syncs [] s h = h
+clean_syncs (p ∷ ps) s h = clean_syncs ps (doing (sync_dir p) s) h
+
+clean_settled : (c : Commit) → IsClean (settled c)
+clean_settled c =
+    cond_leads IsClean c.options.durable (sync_up (content_folders c.cache c.computed) (placed c)) (placed c)
+    (λ _. clean_syncs (content_folders c.cache c.computed) (placed c) (clean_integrity c c.options.integrity)) (λ _. clean_integrity c c.options.integrity)
+
+clean_moved : (c : Commit) (file : PlainTemp) → IsClean (moved c file)
+clean_moved c file = cond_leads IsClean c.options.durable (syncing c file) (persisting c file) (λ _. (tt, λ f x. x)) (λ _. (tt, λ f x. x))
+
 module _ (O : Fault → Type 0) (a : PlainStep) (t : PlainAnswer) (moves : Moves) (r : Reply) where
   abbrev Now : Type 0
   Now = HasCause O ((a, t) ∷ moves) r
@@ -216,8 +257,32 @@ module _ (O : Fault → Type 0) (a : PlainStep) (t : PlainAnswer) (moves : Moves
   places : (c : Commit) → Causes (placed c) moves r → Now
   places c h = by_integrity c c.options.integrity h
 
+  -- what follows an errand before a clean state
+  clean_now : (s : State) → IsClean s → (Sound s → HasCause (own s) moves r) → Now
+  clean_now s k h = later (own s) (λ f x. absurd (k.1 f x)) (h k.0)
+
+  syncs : (folders : List (List ℕ)) (s : State) → IsClean s → (Causes s moves r → Now) → Causes (sync_up folders s) moves r → Now
+  syncs [] s k g h = g h
+  syncs (p ∷ ps) s k g h = syncs ps (doing (sync_dir p) s) k (clean_now s k) h
+
+  settles : (c : Commit) → Causes (settled c) moves r → Now
+  settles c h =
+      cond_leads (λ s. Causes s moves r → Now) c.options.durable (sync_up (content_folders c.cache c.computed) (placed c)) (placed c)
+      (λ _. syncs (content_folders c.cache c.computed) (placed c) (clean_integrity c c.options.integrity) (places c)) (λ _. places c) h
+
+  resettles : (c : Commit) → Causes (resettled c) moves r → Now
+  resettles c h =
+      cond_leads (λ s. Causes s moves r → Now) c.options.durable (doing (sync_file (content_path c.cache c.computed)) (settled c)) (settled c)
+      (λ _. clean_now (settled c) (clean_settled c)) (λ _. settles c) h
+
+  records : (i : Insertion) → HasCause O ((a, t) ∷ moves) i.reply → HasCause (λ _. ⊥) [] i.reply → Causes (recorded i) moves r → Now
+  records i now k h =
+      cond_leads (λ s. Causes s moves r → Now) i.durable (doing (sync_file (bucket_path i.cache i.entry.key)) (sync_up (bucket_folders i.cache i.entry.key) (over i.reply))) (over i.reply)
+      (λ _. clean_now (sync_up (bucket_folders i.cache i.entry.key) (over i.reply)) (clean_syncs (bucket_folders i.cache i.entry.key) (over i.reply) (k, λ f x. x)))
+      (λ _. over_now i.reply now) h
+
   writes_rest : (c : Commit) (file : PlainTemp) (rest : List ℕ) → Causes (write_rest c file rest) moves r → Now
-  writes_rest c file [] h = holds_none (h tt)
+  writes_rest c file [] h = clean_now (moved c file) (clean_moved c file) h
   writes_rest c file (b ∷ bs) h = holds_none (h tt)
 
   exports_from : (how : How) (from to : List ℕ) (count : Option ℕ) → Causes (export_from how from to count) moves r → Now
@@ -387,20 +452,21 @@ wrote c file rest t moves r w e h =
 sent : (i : Insertion) (t : PlainAnswer) (moves : Moves) (r : Reply) (n : ℕ) → taken_in t ≡ Ok n → HasCause (λ _. ⊥) [] i.reply → Causes (after_append i n) moves r → HasCause (λ _. ⊥) ((steps.Append (bucket_path i.cache i.entry.key) (bucket_line i), t) ∷ moves) r
 sent i t moves r n e k h =
     let a : PlainStep = steps.Append (bucket_path i.cache i.entry.key) (bucket_line i) in
-    cond_leads (λ s. Causes s moves r → HasCause (λ _. ⊥) ((a, t) ∷ moves) r) (nat_le (length (bucket_line i)) n) (over i.reply) (fails faults.ShortAppend)
-    (λ _. over_now (λ _. ⊥) a t moves r i.reply (no_fault (λ _. ⊥) ((a, t) ∷ moves) i.reply k))
+    cond_leads (λ s. Causes s moves r → HasCause (λ _. ⊥) ((a, t) ∷ moves) r) (nat_le (length (bucket_line i)) n) (recorded i) (fails faults.ShortAppend)
+    (λ _. records (λ _. ⊥) a t moves r i (no_fault (λ _. ⊥) ((a, t) ∷ moves) i.reply k) k)
     (λ short. fails_now (λ _. ⊥) a t moves r faults.ShortAppend (inr (short_faults (bucket_path i.cache i.entry.key) (bucket_line i) t n e (leb-false (length (bucket_line i)) n short)))) h
 
 confirms : (c : Commit) (fault : Fault) (a : PlainStep) (t : PlainAnswer) (moves : Moves) (r : Reply) (there : Bool) → Causes (after_confirm c fault there) moves r → HasCause (λ f. f ≡ fault) ((a, t) ∷ moves) r
-confirms c fault a t moves r true h = places (λ f. f ≡ fault) a t moves r c h
+confirms c fault a t moves r true h = resettles (λ f. f ≡ fault) a t moves r c h
 confirms c fault a t moves r false h = fails_now (λ f. f ≡ fault) a t moves r fault (inl refl) h
 
 causes_step : (s : State) (t : PlainAnswer) (moves : Moves) (r : Reply) → FitsWanted (wants s) t → Causes (after s t) moves r → Causes s (with_item (wants s) t moves) r
 causes_step (doing errand s) t moves r fits h = λ k. goes_or_fails (own s) (errand_step errand) t moves r (done_in t) (λ _. s) (λ f e. errand_faults errand t f fits e) (λ _ _. carries s (errand_step errand) t moves r k) h
 causes_step (creating number c rest) t moves r fits h = λ k. goes_or_fails (λ _. ⊥) (steps.CreateTemp (temp_path c.cache number)) t moves r (temp_in t) (λ file. write_rest c file rest) (λ f e. temp_faults (temp_path c.cache number) t f fits e) (λ file _. writes_rest (λ _. ⊥) (steps.CreateTemp (temp_path c.cache number)) t moves r c file rest) h
 causes_step (writing c file rest) t moves r fits h = λ k. goes_or_fails (λ _. ⊥) (steps.Write file rest) t moves r (written_in t) (after_write c rest) (λ f e. written_faults file rest t f fits e) (λ w e. wrote c file rest t moves r w e) h
-causes_step (persisting c file) t moves r fits h = λ k. goes (λ _. ⊥) (steps.Persist file (content_path c.cache c.computed)) t moves r (done_in t) (confirming c) (λ _. placed c) (λ f e g. later (λ _. ⊥) (steps.Persist file (content_path c.cache c.computed)) t moves r (λ x. x ≡ f) (λ x same. inr (rw same (persist_faults file (content_path c.cache c.computed) t f fits e))) (g tt)) (λ _ _. places (λ _. ⊥) (steps.Persist file (content_path c.cache c.computed)) t moves r c) h
-causes_step (linking c target) t moves r fits h = λ k. goes (λ _. ⊥) (steps.Symlink target (content_path c.cache c.computed)) t moves r (done_in t) (confirming c) (λ _. placed c) (λ f e g. later (λ _. ⊥) (steps.Symlink target (content_path c.cache c.computed)) t moves r (λ x. x ≡ f) (λ x same. inr (rw same (symlink_faults target (content_path c.cache c.computed) t f fits e))) (g tt)) (λ _ _. places (λ _. ⊥) (steps.Symlink target (content_path c.cache c.computed)) t moves r c) h
+causes_step (syncing c file) t moves r fits h = λ k. goes_or_fails (λ _. ⊥) (steps.SyncTemp file) t moves r (synced_in t) (persisting c) (λ f e. synced_faults file t f fits e) (λ g _ q. holds_none (λ _. ⊥) (steps.SyncTemp file) t moves r (q tt)) h
+causes_step (persisting c file) t moves r fits h = λ k. goes (λ _. ⊥) (steps.Persist file (content_path c.cache c.computed)) t moves r (done_in t) (confirming c) (λ _. settled c) (λ f e g. later (λ _. ⊥) (steps.Persist file (content_path c.cache c.computed)) t moves r (λ x. x ≡ f) (λ x same. inr (rw same (persist_faults file (content_path c.cache c.computed) t f fits e))) (g tt)) (λ _ _. settles (λ _. ⊥) (steps.Persist file (content_path c.cache c.computed)) t moves r c) h
+causes_step (linking c target) t moves r fits h = λ k. goes (λ _. ⊥) (steps.Symlink target (content_path c.cache c.computed)) t moves r (done_in t) (confirming c) (λ _. settled c) (λ f e g. later (λ _. ⊥) (steps.Symlink target (content_path c.cache c.computed)) t moves r (λ x. x ≡ f) (λ x same. inr (rw same (symlink_faults target (content_path c.cache c.computed) t f fits e))) (g tt)) (λ _ _. settles (λ _. ⊥) (steps.Symlink target (content_path c.cache c.computed)) t moves r c) h
 causes_step (confirming c fault) t moves r fits h = λ k. goes (λ f. f ≡ fault) (steps.Exists (content_path c.cache c.computed)) t moves r (there_in t) (λ _. fails fault) (after_confirm c fault) (λ f e. fails_now (λ f. f ≡ fault) (steps.Exists (content_path c.cache c.computed)) t moves r fault (inl refl)) (λ there _. confirms c fault (steps.Exists (content_path c.cache c.computed)) t moves r there) h
 causes_step (appending i) t moves r fits h = λ k. goes_or_fails (λ _. ⊥) (steps.Append (bucket_path i.cache i.entry.key) (bucket_line i)) t moves r (taken_in t) (after_append i) (λ f e. append_faults _ _ t f fits e) (λ n e. sent i t moves r n e k) h
 causes_step (looking l) t moves r fits h = λ k. goes (λ _. ⊥) (steps.ReadAll (bucket_path l.cache l.key)) t moves r (bytes_in t) (no_bucket l) (after_bucket l) (λ f e. unreads (λ _. ⊥) (steps.ReadAll (bucket_path l.cache l.key)) t moves r l f (bytes_faults _ t f fits e)) (λ bytes _. founds (λ _. ⊥) (steps.ReadAll (bucket_path l.cache l.key)) t moves r l l.aim (found_in l.key bytes)) h

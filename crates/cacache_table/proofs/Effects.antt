@@ -23,12 +23,12 @@ use Rattle.cacache_table.specs.declared.command.Insert.{Insert}
 use Rattle.cacache_table.specs.declared.command.Delete.{Delete}
 use Rattle.cacache_table.specs.declared.reply.Reply.{Reply}
 use Rattle.cacache_table.specs.declared.reply.Reply.TheVariants.{Refused}
-use Rattle.cacache_table.specs.Answers.{done_in, temp_in, written_in, there_in, taken_in, file_in, got_in, length_in}
-use Rattle.cacache_table.specs.StepPaths.{content_path, bucket_path}
-use Rattle.cacache_table.specs.State.{State, doing, creating, writing, persisting, linking, confirming, appending, sizing, opening_file, hashing, over, Site, Commit, Insertion, Target, to_link, Errand, make_folder, remove, reflink, hard_link}
-use Rattle.cacache_table.specs.Common.{ends_with, fails, go_on, errand_step}
-use Rattle.cacache_table.specs.Inserting.{insertion, deletion, unless_refused, refused_cause, bucket_line, after_append}
-use Rattle.cacache_table.specs.Storing.{insertion_of, indexed, sized, matches, compared, placed, write_rest, after_write, after_confirm, put_commit}
+use Rattle.cacache_table.specs.Answers.{done_in, temp_in, written_in, synced_in, there_in, taken_in, file_in, got_in, length_in}
+use Rattle.cacache_table.specs.StepPaths.{content_path, content_folders, bucket_path, bucket_folders}
+use Rattle.cacache_table.specs.State.{State, doing, creating, writing, syncing, persisting, linking, confirming, appending, sizing, opening_file, hashing, over, Site, Commit, Insertion, Target, to_link, Errand, make_folder, remove, reflink, hard_link, sync_file, sync_dir}
+use Rattle.cacache_table.specs.Common.{ends_with, fails, go_on, errand_step, sync_up}
+use Rattle.cacache_table.specs.Inserting.{insertion, deletion, unless_refused, refused_cause, bucket_line, recorded, after_append}
+use Rattle.cacache_table.specs.Storing.{insertion_of, indexed, sized, matches, compared, placed, settled, resettled, moved, write_rest, after_write, after_confirm, put_commit}
 use Rattle.cacache_table.specs.Linking.{link_target, after_size, after_read}
 use Rattle.cacache_table.specs.Table.{piece, wants, after, opening}
 use Rattle.cacache_table.specs.Runs.{Moves, Runs}
@@ -38,8 +38,11 @@ use Rattle.cacache_table.specs.Effects.{Effect, stored, sent, if_done, if_there,
 -- what the effects of a run from a state are
 abbrev Does : State → List Effect → Reply → Type 0
 Does (doing (make_folder path) s) effects r = (DoesNothing effects r) ⊎ Does s effects r
+Does (doing (sync_file path) s) effects r = (DoesNothing effects r) ⊎ Does s effects r
+Does (doing (sync_dir path) s) effects r = (DoesNothing effects r) ⊎ Does s effects r
 Does (creating number c rest) effects r = Commits c effects r
 Does (writing c file rest) effects r = Commits c effects r
+Does (syncing c file) effects r = Commits c effects r
 Does (persisting c file) effects r = Commits c effects r
 Does (linking c target) effects r = Commits c effects r
 Does (confirming c fault) effects r = Commits c effects r
@@ -55,7 +58,17 @@ Does s effects r = Unit {0}
 refused : (e : Error) (effects : List Effect) (r : Reply) → Does (ends_with e) effects r → DoesNothing effects r
 refused e effects r h = (h.0, elim h.1 [ inl same ↦ rw same tt | inr same ↦ rw same tt ])
 
+-- a sync that fails leaves no effect
+synced : (effects : List Effect) (r : Reply) (X : Type 0) (folders : List (List ℕ)) (s : State) → (DoesNothing effects r → X) → (Does s effects r → X) → Does (sync_up folders s) effects r → X
+synced effects r X [] s n k h = k h
+synced effects r X (p ∷ ps) s n k h = synced effects r X ps (doing (sync_dir p) s) n (λ d. elim d [ inl a ↦ n a | inr b ↦ k b ]) h
+
 module _ (c : Commit) (effects : List Effect) (r : Reply) where
+  -- a commit that ends before its entry
+  ends_before : (key : Option (List ℕ)) → DoesNothing effects r → Indexes c key effects r
+  ends_before None h = h.0
+  ends_before (Some key) h = inl h
+
   unindexed : (key : Option (List ℕ)) (e : Error) → Does (ends_with e) effects r → Indexes c key effects r
   unindexed None e h = h.0
   unindexed (Some key) e h = inl (refused e effects r h)
@@ -85,6 +98,16 @@ module _ (c : Commit) (effects : List Effect) (r : Reply) where
   places : Does (placed c) effects r → Indexes c c.key effects r
   places h = by_integrity c.options.integrity h
 
+  settles : Does (settled c) effects r → Indexes c c.key effects r
+  settles h =
+      cond_leads (λ s. Does s effects r → Indexes c c.key effects r) c.options.durable (sync_up (content_folders c.cache c.computed) (placed c)) (placed c)
+      (λ _. synced effects r (Indexes c c.key effects r) (content_folders c.cache c.computed) (placed c) (ends_before c.key) places) (λ _. places) h
+
+  resettles : Does (resettled c) effects r → Indexes c c.key effects r
+  resettles h =
+      cond_leads (λ s. Does s effects r → Indexes c c.key effects r) c.options.durable (doing (sync_file (content_path c.cache c.computed)) (settled c)) (settled c)
+      (λ _ d. elim d [ inl a ↦ ends_before c.key a | inr b ↦ settles b ]) (λ _. settles) h
+
   -- ---- before
 
   fails_first : (fault : Fault) → Does (fails fault) effects r → Commits c effects r
@@ -93,20 +116,23 @@ module _ (c : Commit) (effects : List Effect) (r : Reply) where
   no_memory : Does (ends_with OutOfMemory) effects r → Commits c effects r
   no_memory h = inl (refused OutOfMemory effects r h)
 
-  puts : (a : Result (Unit {0}) Refusal) → Does (go_on a (confirming c) (λ _. placed c)) effects r → Commits c (if_done a (stored (content_path c.cache c.computed)) effects) r
-  puts (Ok done) h = inr (effects, refl, places h)
+  puts : (a : Result (Unit {0}) Refusal) → Does (go_on a (confirming c) (λ _. settled c)) effects r → Commits c (if_done a (stored (content_path c.cache c.computed)) effects) r
+  puts (Ok done) h = inr (effects, refl, settles h)
   puts (Err (refusals.Fault fault)) h = h
   puts (Err refusals.Memory) h = no_memory h
 
   confirms : (fault : Fault) (a : Result Bool Refusal) → Does (go_on a (λ _. fails fault) (after_confirm c fault)) effects r → Commits c (if_there a (stored (content_path c.cache c.computed)) effects) r
-  confirms fault (Ok true) h = inr (effects, refl, places h)
+  confirms fault (Ok true) h = inr (effects, refl, resettles h)
   confirms fault (Ok false) h = fails_first fault h
   confirms fault (Err (refusals.Fault other)) h = fails_first fault h
   confirms fault (Err refusals.Memory) h = no_memory h
 
+  moves : (file : PlainTemp) → Does (moved c file) effects r → Commits c effects r
+  moves file h = cond_leads (λ s. Does s effects r → Commits c effects r) c.options.durable (syncing c file) (persisting c file) (λ _ g. g) (λ _ g. g) h
+
   writes_rest : (file : PlainTemp) (rest : List ℕ) → Does (write_rest c file rest) effects r → Commits c effects r
   writes_rest file [] (inl h) = inl h
-  writes_rest file [] (inr h) = h
+  writes_rest file [] (inr h) = moves file h
   writes_rest file (b ∷ bs) h = h
 
   writes : (rest : List ℕ) (w : PlainTemp × ℕ) → Does (after_write c rest w) effects r → Commits c effects r
@@ -115,10 +141,17 @@ module _ (c : Commit) (effects : List Effect) (r : Reply) where
 
 -- ---- the entry
 
+-- the entry is there
+records : (i : Insertion) (effects : List Effect) (r : Reply) (P : Type 0) → P → Does (recorded i) effects r → (effects ≡ []) × (IsRefused r ⊎ P)
+records i effects r P p h =
+    cond_leads (λ s. Does s effects r → (effects ≡ []) × (IsRefused r ⊎ P)) i.durable (doing (sync_file (bucket_path i.cache i.entry.key)) (sync_up (bucket_folders i.cache i.entry.key) (over i.reply))) (over i.reply)
+    (λ _ d. elim d [ inl a ↦ (a.0, inl a.1) | inr b ↦ synced effects r ((effects ≡ []) × (IsRefused r ⊎ P)) (bucket_folders i.cache i.entry.key) (over i.reply) (λ a. (a.0, inl a.1)) (λ o. (o.0, inr p)) b ])
+    (λ _ o. (o.0, inr p)) h
+
 took : (i : Insertion) (n : ℕ) (effects : List Effect) (r : Reply) → Does (after_append i n) effects r → (effects ≡ []) × (IsRefused r ⊎ TookAll (bucket_line i) (answers.Took n))
 took i n effects r h =
-    cond_leads (λ s. Does s effects r → (effects ≡ []) × (IsRefused r ⊎ TookAll (bucket_line i) (answers.Took n))) (nat_le (length (bucket_line i)) n) (over i.reply) (fails faults.ShortAppend)
-    (λ e g. (g.0, inr (leb-true (length (bucket_line i)) n e))) (λ _ g. let k = refused (IoError faults.ShortAppend []) effects r g in (k.0, inl k.1)) h
+    cond_leads (λ s. Does s effects r → (effects ≡ []) × (IsRefused r ⊎ TookAll (bucket_line i) (answers.Took n))) (nat_le (length (bucket_line i)) n) (recorded i) (fails faults.ShortAppend)
+    (λ e g. records i effects r (TookAll (bucket_line i) (answers.Took n)) (leb-true (length (bucket_line i)) n e) g) (λ _ g. let k = refused (IoError faults.ShortAppend []) effects r g in (k.0, inl k.1)) h
 
 appends : (i : Insertion) (t : PlainAnswer) (effects : List Effect) (r : Reply) → Does (go_on (taken_in t) fails (after_append i)) effects r → (effects ≡ []) × (IsRefused r ⊎ TookAll (bucket_line i) t)
 appends i (answers.Took n) effects r h = took i n effects r h
@@ -156,8 +189,11 @@ module _ (t : Target) (effects : List Effect) (r : Reply) where
 -- want of memory leaves no effect
 memory_does : (s : State) → Does s [] (Refused OutOfMemory)
 memory_does (doing (make_folder path) s) = inl (refl, tt)
+memory_does (doing (sync_file path) s) = inl (refl, tt)
+memory_does (doing (sync_dir path) s) = inl (refl, tt)
 memory_does (creating number c rest) = inl (refl, tt)
 memory_does (writing c file rest) = inl (refl, tt)
+memory_does (syncing c file) = inl (refl, tt)
 memory_does (persisting c file) = inl (refl, tt)
 memory_does (linking c target) = inl (refl, tt)
 memory_does (confirming c fault) = inl (refl, tt)
@@ -191,8 +227,11 @@ FitsWanted (Some step) t = Fits step t
 
 effects_before : (s : State) (t : PlainAnswer) (effects : List Effect) (r : Reply) → FitsWanted (wants s) t → Does (after s t) effects r → Does s (with_effect (wants s) t effects) r
 effects_before (doing (make_folder path) s) t effects r fits = made s (done_in t) effects r
+effects_before (doing (sync_file path) s) t effects r fits = made s (done_in t) effects r
+effects_before (doing (sync_dir path) s) t effects r fits = made s (done_in t) effects r
 effects_before (creating number c rest) t effects r fits = commits_go_on c effects r (temp_in t) (λ file. write_rest c file rest) (λ file. writes_rest c effects r file rest)
 effects_before (writing c file rest) t effects r fits = commits_go_on c effects r (written_in t) (after_write c rest) (writes c effects r rest)
+effects_before (syncing c file) t effects r fits = commits_go_on c effects r (synced_in t) (persisting c) (λ file h. h)
 effects_before (persisting c file) t effects r fits = puts c effects r (done_in t)
 effects_before (linking c target) t effects r fits = puts c effects r (done_in t)
 effects_before (confirming c fault) t effects r fits = confirms c effects r fault (there_in t)
@@ -242,3 +281,5 @@ errands_only_change (make_folder path) t = tt
 errands_only_change (remove path) t = tt
 errands_only_change (reflink from to) t = tt
 errands_only_change (hard_link from to) t = tt
+errands_only_change (sync_file path) t = tt
+errands_only_change (sync_dir path) t = tt

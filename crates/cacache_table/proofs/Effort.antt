@@ -8,7 +8,8 @@ use Rattle.cacache_core.specs.declared.errors.IntegrityFault.TheVariants.{Check}
 use Rattle.cacache_core.specs.declared.errors.Error.TheVariants.{SizeMismatch, IntegrityError}
 use Rattle.cacache_core.specs.declared.integrity.digest.Hash.{Hash}
 use Rattle.cacache_core.specs.Integrity.{actual}
-use Rattle.cacache_core.specs.Paths.{join}
+use Rattle.cacache_core.specs.Integrity.{address}
+use Rattle.cacache_core.specs.Paths.{join, folders_to, content_names}
 use Rattle.cacache_store.specs.declared.store.plain.PlainTemp.{PlainTemp}
 use Rattle.cacache_store.specs.declared.store.plain.PlainFile.{PlainFile}
 use Rattle.cacache_store.specs.declared.store.answer.Kind.{Kind}
@@ -23,13 +24,13 @@ use Rattle.cacache_table.specs.declared.command.Export.{Export}
 use Rattle.cacache_table.specs.declared.command.How.{How}
 use Rattle.cacache_table.specs.declared.command.How.TheVariants.{Copy, Reflink, HardLink}
 use Rattle.cacache_table.specs.declared.reply.Reply.TheVariants.{Read, Exists, Copied, Listed, Done}
-use Rattle.cacache_table.specs.Answers.{done_in, temp_in, written_in, there_in, taken_in, bytes_in, file_in, got_in, length_in, names_in}
+use Rattle.cacache_table.specs.Answers.{done_in, temp_in, written_in, synced_in, there_in, taken_in, bytes_in, file_in, got_in, length_in, names_in}
 use Rattle.cacache_core.specs.Meeting.{meets}
-use Rattle.cacache_table.specs.StepPaths.{content_path}
-use Rattle.cacache_table.specs.State.{State, doing, creating, writing, persisting, linking, confirming, appending, looking, reading, asking, sizing, opening_file, hashing, copying, walking, over, Commit, Insertion, Aim, to_report, to_read, to_export, to_remove, Lookup, Content, Hashing, to_verify, to_link, Item, Visit, enter, read_bucket, remove_file, remove_folder, Task, visit, stumble, Walk}
-use Rattle.cacache_table.specs.Common.{ends_with, fails}
-use Rattle.cacache_table.specs.Inserting.{unless_refused, refused_cause, bucket_line, after_append}
-use Rattle.cacache_table.specs.Storing.{insertion_of, indexed, sized, matches, compared, placed, write_rest, after_write, after_confirm}
+use Rattle.cacache_table.specs.StepPaths.{content_path, addressed, content_folders, bucket_path, bucket_folders}
+use Rattle.cacache_table.specs.State.{State, doing, creating, writing, syncing, persisting, linking, confirming, appending, looking, reading, asking, sizing, opening_file, hashing, copying, walking, over, Commit, Insertion, Aim, to_report, to_read, to_export, to_remove, Lookup, Content, Hashing, to_verify, to_link, Item, Visit, enter, read_bucket, remove_file, remove_folder, Task, visit, stumble, Walk, sync_file, sync_dir}
+use Rattle.cacache_table.specs.Common.{ends_with, fails, sync_up}
+use Rattle.cacache_table.specs.Inserting.{unless_refused, refused_cause, bucket_line, recorded, after_append}
+use Rattle.cacache_table.specs.Storing.{insertion_of, indexed, sized, matches, compared, placed, settled, resettled, moved, write_rest, after_write, after_confirm}
 use Rattle.cacache_table.specs.ContentReads.{checked}
 use Rattle.cacache_table.specs.Exporting.{export_from, export, counted}
 use Rattle.cacache_table.specs.Linking.{after_size, hashed_path, hashed, after_read}
@@ -42,48 +43,87 @@ use Rattle.cacache_table.proofs.Branches.{cond_leads, go_on_leads}
 abbrev Below : ℕ → State → Type 0
 Below n s = effort s < n
 
+-- ---- syncs of folders
+
+-- one step for each folder
+synced_below : (folders : List (List ℕ)) (s : State) (n : ℕ) → effort s + length folders < n → Below n (sync_up folders s)
+synced_below [] s n h = omega (arith, h)
+synced_below (p ∷ ps) s n h = synced_below ps (doing (sync_dir p) s) n (omega (arith, h))
+
+-- five lead to a content
+content_count : (cache : List ℕ) (i : List Hash) → length (content_folders cache i) ≤ 5
+unfolding content_folders
+content_count cache i = by_address (address i)
+  where
+    by_address : (o : Option Hash) → length (addressed (λ h. folders_to cache (content_names h)) o) ≤ 5
+    by_address None = omega arith
+    by_address (Some h) = omega arith
+
+-- and four to a bucket
+bucket_count : (cache key : List ℕ) → length (bucket_folders cache key) ≤ 4
+unfolding bucket_folders
+bucket_count cache key = omega arith
+
 -- ---- commits
 
-inserts_below : (i : Insertion) (cause : Option SerdeCause) → Below 3 (unless_refused i cause)
+inserts_below : (i : Insertion) (cause : Option SerdeCause) → Below 8 (unless_refused i cause)
 inserts_below i None = omega arith
 inserts_below i (Some cause) = omega arith
 
-indexed_below : (c : Commit) (key : Option (List ℕ)) → Below 3 (indexed c key)
+indexed_below : (c : Commit) (key : Option (List ℕ)) → Below 8 (indexed c key)
 indexed_below c None = omega arith
 indexed_below c (Some key) = inserts_below (insertion_of c key) (refused_cause (insertion_of c key))
 
-sized_below : (c : Commit) (size : Option ℕ) → Below 3 (sized c size)
+sized_below : (c : Commit) (size : Option ℕ) → Below 8 (sized c size)
 sized_below c None = indexed_below c c.key
-sized_below c (Some wanted) = cond_leads (Below 3) (wanted == c.count) (indexed c c.key) (ends_with (SizeMismatch wanted c.count)) (λ _. indexed_below c c.key) (λ _. omega arith)
+sized_below c (Some wanted) = cond_leads (Below 8) (wanted == c.count) (indexed c c.key) (ends_with (SizeMismatch wanted c.count)) (λ _. indexed_below c c.key) (λ _. omega arith)
 
-compared_below : (c : Commit) (expected : Option (List Hash)) → Below 3 (compared c expected)
+compared_below : (c : Commit) (expected : Option (List Hash)) → Below 8 (compared c expected)
 compared_below c None = sized_below c c.options.size
-compared_below c (Some expected) = cond_leads (Below 3) (matches expected c.computed) (sized c c.options.size) (ends_with (IntegrityError (Check expected c.computed))) (λ _. sized_below c c.options.size) (λ _. omega arith)
+compared_below c (Some expected) = cond_leads (Below 8) (matches expected c.computed) (sized c c.options.size) (ends_with (IntegrityError (Check expected c.computed))) (λ _. sized_below c c.options.size) (λ _. omega arith)
 
-placed_below : (c : Commit) → Below 3 (placed c)
+placed_below : (c : Commit) → Below 8 (placed c)
 placed_below c = compared_below c c.options.integrity
 
-rest_below : (c : Commit) (file : PlainTemp) (rest : List ℕ) → Below (length rest + 7) (write_rest c file rest)
-rest_below c file [] = omega arith
+settled_below : (c : Commit) → Below 13 (settled c)
+settled_below c =
+    cond_leads (Below 13) c.options.durable (sync_up (content_folders c.cache c.computed) (placed c)) (placed c)
+    (λ _. synced_below (content_folders c.cache c.computed) (placed c) 13 (omega (arith, placed_below c, content_count c.cache c.computed))) (λ _. omega (arith, placed_below c))
+
+resettled_below : (c : Commit) → Below 14 (resettled c)
+resettled_below c =
+    cond_leads (Below 14) c.options.durable (doing (sync_file (content_path c.cache c.computed)) (settled c)) (settled c)
+    (λ _. omega (arith, settled_below c)) (λ _. omega (arith, settled_below c))
+
+moved_below : (c : Commit) (file : PlainTemp) → Below 17 (moved c file)
+moved_below c file = cond_leads (Below 17) c.options.durable (syncing c file) (persisting c file) (λ _. omega arith) (λ _. omega arith)
+
+rest_below : (c : Commit) (file : PlainTemp) (rest : List ℕ) → Below (length rest + 19) (write_rest c file rest)
+rest_below c file [] = omega (arith, moved_below c file)
 rest_below c file (b ∷ bs) = omega arith
 
 -- a write that took something leaves less
-less_below : (c : Commit) (file : PlainTemp) (rest : List ℕ) (n : ℕ) → 0 < n → Below (length rest + 6) (write_rest c file (drop n rest))
+less_below : (c : Commit) (file : PlainTemp) (rest : List ℕ) (n : ℕ) → 0 < n → Below (length rest + 18) (write_rest c file (drop n rest))
 less_below c file rest zero h = absurd (omega arith)
-less_below c file [] (suc n) h = omega arith
+less_below c file [] (suc n) h = omega (arith, moved_below c file)
 less_below c file (b ∷ bs) (suc n) h = omega (arith, rest_below c file (drop (suc n) (b ∷ bs)), length-drop (suc n) (b ∷ bs))
 
-wrote_below : (c : Commit) (rest : List ℕ) (w : PlainTemp × ℕ) → Below (length rest + 6) (after_write c rest w)
+wrote_below : (c : Commit) (rest : List ℕ) (w : PlainTemp × ℕ) → Below (length rest + 18) (after_write c rest w)
 wrote_below c rest w =
-    cond_leads (Below (length rest + 6)) (w.1 == 0) (fails faults.WriteZero) (write_rest c w.0 (drop w.1 rest)) (λ _. omega arith)
+    cond_leads (Below (length rest + 18)) (w.1 == 0) (fails faults.WriteZero) (write_rest c w.0 (drop w.1 rest)) (λ _. omega arith)
     (λ e. less_below c w.0 rest w.1 (omega (arith, eqb-false w.1 0 e)))
 
-confirmed_below : (c : Commit) (fault : Fault) (there : Bool) → Below 3 (after_confirm c fault there)
-confirmed_below c fault true = placed_below c
+confirmed_below : (c : Commit) (fault : Fault) (there : Bool) → Below 14 (after_confirm c fault there)
+confirmed_below c fault true = resettled_below c
 confirmed_below c fault false = omega arith
 
-appended_below : (i : Insertion) (n : ℕ) → Below 1 (after_append i n)
-appended_below i n = cond_leads (Below 1) (nat_le (length (bucket_line i)) n) (over i.reply) (fails faults.ShortAppend) (λ _. omega arith) (λ _. omega arith)
+recorded_below : (i : Insertion) → Below 6 (recorded i)
+recorded_below i =
+    cond_leads (Below 6) i.durable (doing (sync_file (bucket_path i.cache i.entry.key)) (sync_up (bucket_folders i.cache i.entry.key) (over i.reply))) (over i.reply)
+    (λ _. omega (arith, synced_below (bucket_folders i.cache i.entry.key) (over i.reply) 5 (omega (arith, bucket_count i.cache i.entry.key)))) (λ _. omega arith)
+
+appended_below : (i : Insertion) (n : ℕ) → Below 6 (after_append i n)
+appended_below i n = cond_leads (Below 6) (nat_le (length (bucket_line i)) n) (recorded i) (fails faults.ShortAppend) (λ _. recorded_below i) (λ _. omega arith)
 
 -- ---- files that are read to their end
 
@@ -92,18 +132,18 @@ exports_below Copy from to count = omega arith
 exports_below Reflink from to count = omega arith
 exports_below HardLink from to count = omega arith
 
-export_below : (k : Content) (e : Export) → Below (2 ^ 64 + 7) (export k e)
+export_below : (k : Content) (e : Export) → Below (2 ^ 64 + 18) (export k e)
 export_below k e =
-    cond_leads (Below (2 ^ 64 + 7)) e.checked (opening_file (to_verify k e)) (export_from e.how (content_path k.cache k.integrity) e.to None)
+    cond_leads (Below (2 ^ 64 + 18)) e.checked (opening_file (to_verify k e)) (export_from e.how (content_path k.cache k.integrity) e.to None)
     (λ _. omega arith) (λ _. omega (arith, exports_below e.how (content_path k.cache k.integrity) e.to None))
 
-heard_below : (h : Hashing) (bytes : List ℕ) → Below 6 (hashed h bytes)
+heard_below : (h : Hashing) (bytes : List ℕ) → Below 17 (hashed h bytes)
 heard_below (to_verify k e) bytes =
-    cond_leads (Below 6) (meets k.integrity bytes) (export_from e.how (content_path k.cache k.integrity) e.to (Some (length bytes))) (ends_with (IntegrityError (Check k.integrity (actual k.integrity bytes))))
+    cond_leads (Below 17) (meets k.integrity bytes) (export_from e.how (content_path k.cache k.integrity) e.to (Some (length bytes))) (ends_with (IntegrityError (Check k.integrity (actual k.integrity bytes))))
     (λ _. omega (arith, exports_below e.how (content_path k.cache k.integrity) e.to (Some (length bytes)))) (λ _. omega arith)
 heard_below (to_link t) bytes = omega arith
 
-read_below : (h : Hashing) (bytes : List ℕ) (left : ℕ) (file : PlainFile) (more : List ℕ) → file.left + length more ≡ left → Below (left + 6) (after_read h bytes (file, more))
+read_below : (h : Hashing) (bytes : List ℕ) (left : ℕ) (file : PlainFile) (more : List ℕ) → file.left + length more ≡ left → Below (left + 17) (after_read h bytes (file, more))
 read_below h bytes left file [] e = omega (arith, heard_below h bytes)
 read_below h bytes left file (b ∷ bs) e = omega arith
 
@@ -118,7 +158,7 @@ left_after old t x fits e = absurd cc
 
 -- ---- lookups
 
-found_below : (l : Lookup) (aim : Aim) (found : Option Found) → Below (2 ^ 64 + 7) (found_for l aim found)
+found_below : (l : Lookup) (aim : Aim) (found : Option Found) → Below (2 ^ 64 + 18) (found_for l aim found)
 found_below l to_report found = omega arith
 found_below l to_read (Some f) = omega arith
 found_below l to_read None = omega arith
@@ -127,7 +167,7 @@ found_below l (to_export e) None = omega arith
 found_below l to_remove (Some f) = omega arith
 found_below l to_remove None = omega arith
 
-unread_below : (l : Lookup) (fault : Fault) → Below (2 ^ 64 + 7) (no_bucket l fault)
+unread_below : (l : Lookup) (fault : Fault) → Below (2 ^ 64 + 18) (no_bucket l fault)
 unread_below l faults.NotFound = found_below l l.aim None
 unread_below l fault = omega arith
 
@@ -227,19 +267,20 @@ visit_below w (remove_folder p) todo t =
 
 pub falls : (s : State) (a : PlainStep) (t : PlainAnswer) → wants s ≡ Some a → Fits a t → effort (after s t) < effort s
 falls (doing errand s) a t e fits = go_on_leads (Below (effort s + 1)) (done_in t) fails (λ _. s) (omega arith) (λ _. omega arith) (λ _ _. omega arith)
-falls (creating number c rest) a t e fits = go_on_leads (Below (length rest + 7)) (temp_in t) fails (λ file. write_rest c file rest) (omega arith) (λ _. omega arith) (λ file _. rest_below c file rest)
-falls (writing c file rest) a t e fits = go_on_leads (Below (length rest + 6)) (written_in t) fails (after_write c rest) (omega arith) (λ _. omega arith) (λ w _. wrote_below c rest w)
-falls (persisting c file) a t e fits = go_on_leads (Below 4) (done_in t) (confirming c) (λ _. placed c) (omega arith) (λ _. omega arith) (λ _ _. omega (arith, placed_below c))
-falls (linking c target) a t e fits = go_on_leads (Below 4) (done_in t) (confirming c) (λ _. placed c) (omega arith) (λ _. omega arith) (λ _ _. omega (arith, placed_below c))
-falls (confirming c fault) a t e fits = go_on_leads (Below 3) (there_in t) (λ _. fails fault) (after_confirm c fault) (omega arith) (λ _. omega arith) (λ there _. confirmed_below c fault there)
-falls (appending i) a t e fits = go_on_leads (Below 1) (taken_in t) fails (after_append i) (omega arith) (λ _. omega arith) (λ n _. appended_below i n)
-falls (looking l) a t e fits = go_on_leads (Below (2 ^ 64 + 7)) (bytes_in t) (no_bucket l) (after_bucket l) (omega arith) (unread_below l) (λ bytes _. found_below l l.aim (found_in l.key bytes))
+falls (creating number c rest) a t e fits = go_on_leads (Below (length rest + 19)) (temp_in t) fails (λ file. write_rest c file rest) (omega arith) (λ _. omega arith) (λ file _. rest_below c file rest)
+falls (writing c file rest) a t e fits = go_on_leads (Below (length rest + 18)) (written_in t) fails (after_write c rest) (omega arith) (λ _. omega arith) (λ w _. wrote_below c rest w)
+falls (syncing c file) a t e fits = go_on_leads (Below 16) (synced_in t) fails (persisting c) (omega arith) (λ _. omega arith) (λ _ _. omega arith)
+falls (persisting c file) a t e fits = go_on_leads (Below 15) (done_in t) (confirming c) (λ _. settled c) (omega arith) (λ _. omega arith) (λ _ _. omega (arith, settled_below c))
+falls (linking c target) a t e fits = go_on_leads (Below 15) (done_in t) (confirming c) (λ _. settled c) (omega arith) (λ _. omega arith) (λ _ _. omega (arith, settled_below c))
+falls (confirming c fault) a t e fits = go_on_leads (Below 14) (there_in t) (λ _. fails fault) (after_confirm c fault) (omega arith) (λ _. omega arith) (λ there _. confirmed_below c fault there)
+falls (appending i) a t e fits = go_on_leads (Below 6) (taken_in t) fails (after_append i) (omega arith) (λ _. omega arith) (λ n _. appended_below i n)
+falls (looking l) a t e fits = go_on_leads (Below (2 ^ 64 + 18)) (bytes_in t) (no_bucket l) (after_bucket l) (omega arith) (unread_below l) (λ bytes _. found_below l l.aim (found_in l.key bytes))
 falls (reading k) a t e fits = go_on_leads (Below 1) (bytes_in t) fails (checked k) (omega arith) (λ _. omega arith) (λ bytes _. checked_below k bytes)
-falls (sizing target) a t e fits = go_on_leads (Below (2 ^ 64 + 7)) (length_in t) fails (after_size target) (omega arith) (λ _. omega arith) (λ n _. omega arith)
+falls (sizing target) a t e fits = go_on_leads (Below (2 ^ 64 + 18)) (length_in t) fails (after_size target) (omega arith) (λ _. omega arith) (λ n _. omega arith)
 falls (opening_file h) a t e fits =
-    go_on_leads (Below (2 ^ 64 + 6)) (file_in t) fails (λ file. hashing h file []) (omega arith) (λ _. omega arith) (λ file k. omega (arith, opened (hashed_path h) t file (let same : steps.Open (hashed_path h) ≡ a = cc in rw same fits) k))
+    go_on_leads (Below (2 ^ 64 + 17)) (file_in t) fails (λ file. hashing h file []) (omega arith) (λ _. omega arith) (λ file k. omega (arith, opened (hashed_path h) t file (let same : steps.Open (hashed_path h) ≡ a = cc in rw same fits) k))
 falls (hashing h file bytes) a t e fits =
-    go_on_leads (Below (file.left + 6)) (got_in t) fails (after_read h bytes) (omega arith) (λ _. omega arith)
+    go_on_leads (Below (file.left + 17)) (got_in t) fails (after_read h bytes) (omega arith) (λ _. omega arith)
     (λ x k. read_below h bytes file.left x.0 x.1 (left_after file t x (let same : steps.Read file piece ≡ a = cc in rw same fits) k))
 falls (asking k) a t e fits = go_on_leads (Below 1) (there_in t) (λ _. over (Exists false)) (λ there. over (Exists there)) (omega arith) (λ _. omega arith) (λ _ _. omega arith)
 falls (copying from to count) a t e fits = go_on_leads (Below 1) (taken_in t) fails (λ n. over (Copied (counted count n))) (omega arith) (λ _. omega arith) (λ _ _. omega arith)

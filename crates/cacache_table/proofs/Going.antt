@@ -30,6 +30,7 @@ answer_cases (answers.Got f b) = inr refl
 answer_cases (answers.There there) = inr refl
 answer_cases (answers.Length n) = inr refl
 answer_cases (answers.Names names) = inr refl
+answer_cases (answers.Synced t) = inr refl
 answer_cases (answers.Failed fault) = inr refl
 
 -- a log gains one move more

@@ -23,13 +23,13 @@ use Rattle.cacache_table.specs.declared.command.How.{How}
 use Rattle.cacache_table.specs.declared.command.How.TheVariants.{Copy, Reflink, HardLink}
 use Rattle.cacache_table.specs.declared.reply.Reply.{Reply}
 use Rattle.cacache_table.specs.declared.reply.Reply.TheVariants.{Stored, Read, LookedUp, Exists, Copied, Listed, Done, Refused}
-use Rattle.cacache_table.specs.Answers.{done_in, temp_in, written_in, there_in, taken_in, bytes_in, file_in, got_in, length_in, names_in}
+use Rattle.cacache_table.specs.Answers.{done_in, temp_in, written_in, synced_in, there_in, taken_in, bytes_in, file_in, got_in, length_in, names_in}
 use Rattle.cacache_core.specs.Meeting.{meets}
-use Rattle.cacache_table.specs.StepPaths.{content_path}
-use Rattle.cacache_table.specs.State.{State, doing, creating, writing, persisting, linking, confirming, appending, looking, reading, asking, sizing, opening_file, hashing, copying, walking, over, Site, Commit, Insertion, Aim, to_report, to_read, to_export, to_remove, Lookup, Content, Target, Hashing, to_verify, to_link, Item, Visit, enter, read_bucket, remove_file, remove_folder, Task, visit, stumble, Walk}
-use Rattle.cacache_table.specs.Common.{ends_with, fails, go_on}
-use Rattle.cacache_table.specs.Inserting.{insertion, deletion, unless_refused, refused_cause, bucket_line, after_append}
-use Rattle.cacache_table.specs.Storing.{insertion_of, indexed, sized, matches, compared, placed, write_rest, after_write, after_confirm}
+use Rattle.cacache_table.specs.StepPaths.{content_path, content_folders, bucket_path, bucket_folders}
+use Rattle.cacache_table.specs.State.{State, doing, creating, writing, syncing, persisting, linking, confirming, appending, looking, reading, asking, sizing, opening_file, hashing, copying, walking, over, Site, Commit, Insertion, Aim, to_report, to_read, to_export, to_remove, Lookup, Content, Target, Hashing, to_verify, to_link, Item, Visit, enter, read_bucket, remove_file, remove_folder, Task, visit, stumble, Walk, sync_file, sync_dir}
+use Rattle.cacache_table.specs.Common.{ends_with, fails, go_on, sync_up}
+use Rattle.cacache_table.specs.Inserting.{insertion, deletion, unless_refused, refused_cause, bucket_line, after_append, recorded}
+use Rattle.cacache_table.specs.Storing.{insertion_of, indexed, sized, matches, compared, placed, settled, resettled, moved, write_rest, after_write, after_confirm}
 use Rattle.cacache_table.specs.ContentReads.{checked, is_there, is_absent}
 use Rattle.cacache_table.specs.Exporting.{export_from, export_content, export, verified, counted}
 use Rattle.cacache_table.specs.Linking.{with_size, after_size, commit_for, hashed, after_read}
@@ -150,8 +150,30 @@ module _ (r : Reply) where
   places : (c : Commit) → Promises (placed c) r → Stores c r
   places c h = by_integrity c c.options.integrity refl h
 
+  -- what is promised after syncs is promised before them
+  synced : (folders : List (List ℕ)) (s : State) → Promises (sync_up folders s) r → Promises s r
+  synced [] s h = h
+  synced (p ∷ ps) s h = synced ps (doing (sync_dir p) s) h
+
+  settles : (c : Commit) → Promises (settled c) r → Stores c r
+  settles c h =
+      cond_leads (Keeps (Stores c) (λ _. tt) r) c.options.durable (sync_up (content_folders c.cache c.computed) (placed c)) (placed c)
+      (λ _ g. places c (synced (content_folders c.cache c.computed) (placed c) g)) (λ _. places c) h
+
+  resettles : (c : Commit) → Promises (resettled c) r → Stores c r
+  resettles c h =
+      cond_leads (Keeps (Stores c) (λ _. tt) r) c.options.durable (doing (sync_file (content_path c.cache c.computed)) (settled c)) (settled c) (λ _. settles c) (λ _. settles c) h
+
+  moves : (c : Commit) (file : PlainTemp) → Promises (moved c file) r → Stores c r
+  moves c file h = cond_leads (Keeps (Stores c) (λ _. tt) r) c.options.durable (syncing c file) (persisting c file) (λ _ g. g) (λ _ g. g) h
+
+  records : (i : Insertion) → Promises (recorded i) r → Only i.reply r
+  records i h =
+      cond_leads (Keeps (Only i.reply) (λ _. tt) r) i.durable (doing (sync_file (bucket_path i.cache i.entry.key)) (sync_up (bucket_folders i.cache i.entry.key) (over i.reply))) (over i.reply)
+      (λ _ g. synced (bucket_folders i.cache i.entry.key) (over i.reply) g) (λ _ g. g) h
+
   writes_rest : (c : Commit) (file : PlainTemp) (rest : List ℕ) → Promises (write_rest c file rest) r → Stores c r
-  writes_rest c file [] h = h
+  writes_rest c file [] h = moves c file h
   writes_rest c file (b ∷ bs) h = h
 
   writes : (c : Commit) (rest : List ℕ) (w : PlainTemp × ℕ) → Promises (after_write c rest w) r → Stores c r
@@ -159,11 +181,11 @@ module _ (r : Reply) where
       cond_leads (Keeps (Stores c) (λ _. tt) r) (w.1 == 0) (fails faults.WriteZero) (write_rest c w.0 (drop w.1 rest)) (λ _. fails_keeps (Stores c) (λ _. tt) r faults.WriteZero) (λ _. writes_rest c w.0 (drop w.1 rest)) h
 
   confirms : (c : Commit) (fault : Fault) (there : Bool) → Promises (after_confirm c fault there) r → Stores c r
-  confirms c fault true h = places c h
+  confirms c fault true h = resettles c h
   confirms c fault false h = fails_keeps (Stores c) (λ _. tt) r fault h
 
   appends : (i : Insertion) (n : ℕ) → Promises (after_append i n) r → Only i.reply r
-  appends i n h = cond_leads (Keeps (Only i.reply) (λ _. tt) r) (nat_le (length (bucket_line i)) n) (over i.reply) (fails faults.ShortAppend) (λ _ k. k) (λ _. fails_keeps (Only i.reply) (λ _. tt) r faults.ShortAppend) h
+  appends i n h = cond_leads (Keeps (Only i.reply) (λ _. tt) r) (nat_le (length (bucket_line i)) n) (recorded i) (fails faults.ShortAppend) (λ _ k. records i k) (λ _. fails_keeps (Only i.reply) (λ _. tt) r faults.ShortAppend) h
 
   -- ---- files that are read to their end
 
@@ -385,8 +407,9 @@ module _ (r : Reply) where
   kept_before (doing errand s) t = go_on_or_fails (Promises s) (refused_kept s) r (done_in t) (λ _. s) (λ _ h. h)
   kept_before (creating number c rest) t = go_on_or_fails (Stores c) (λ _. tt) r (temp_in t) (λ file. write_rest c file rest) (λ file. writes_rest c file rest)
   kept_before (writing c file rest) t = go_on_or_fails (Stores c) (λ _. tt) r (written_in t) (after_write c rest) (writes c rest)
-  kept_before (persisting c file) t = go_on_keeps (Stores c) (λ _. tt) r (done_in t) (confirming c) (λ _. placed c) (λ _ h. h) (λ _. places c)
-  kept_before (linking c target) t = go_on_keeps (Stores c) (λ _. tt) r (done_in t) (confirming c) (λ _. placed c) (λ _ h. h) (λ _. places c)
+  kept_before (syncing c file) t = go_on_or_fails (Stores c) (λ _. tt) r (synced_in t) (persisting c) (λ _ h. h)
+  kept_before (persisting c file) t = go_on_keeps (Stores c) (λ _. tt) r (done_in t) (confirming c) (λ _. settled c) (λ _ h. h) (λ _. settles c)
+  kept_before (linking c target) t = go_on_keeps (Stores c) (λ _. tt) r (done_in t) (confirming c) (λ _. settled c) (λ _ h. h) (λ _. settles c)
   kept_before (confirming c fault) t = go_on_keeps (Stores c) (λ _. tt) r (there_in t) (λ _. fails fault) (after_confirm c fault) (λ _. fails_keeps (Stores c) (λ _. tt) r fault) (confirms c fault)
   kept_before (appending i) t = go_on_or_fails (Only i.reply) (λ _. tt) r (taken_in t) (after_append i) (appends i)
   kept_before (looking l) t = go_on_keeps (Aims l.aim) (aims_refused l.aim) r (bytes_in t) (no_bucket l) (after_bucket l) (unreads l) (λ bytes. founds l l.aim (found_in l.key bytes))

@@ -2,15 +2,19 @@
 use Rattle.std.proofs.Common.{◌≡◌, ℕ, true, nat_le, refl}
 use Rattle.std.proofs.lemmas.Bool.{le-leb}
 use Rattle.std.proofs.Math.Nat.{le_refl}
+use Rattle.cacache_table.specs.StepPaths.{content_folders, bucket_folders}
 use Rattle.cacache_table.specs.Rows.{Rows}
 
 whole : (n : ℕ) → nat_le n n ≡ true
 whole n = le-leb n n (le_refl n)
 
 pub rows : Rows
+unfolding content_folders bucket_folders
 rows = record {
   put = λ site b t u. refl;
   keyed_put = λ site key b t u fits. rw (fits, whole) refl;
+  durable_put = λ site b t u. refl;
+  durable_keyed_put = λ site key b t u fits. rw (fits, whole) refl;
   get = λ site key bucket bytes f finds met. rw (finds, met) refl;
   exists = λ site i. refl;
   copy = λ site key bucket to f b n finds met. rw (finds, met) refl;

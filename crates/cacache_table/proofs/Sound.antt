@@ -27,13 +27,13 @@ use Rattle.cacache_table.specs.declared.command.Export.{Export}
 use Rattle.cacache_table.specs.declared.command.How.{How}
 use Rattle.cacache_table.specs.declared.command.How.TheVariants.{Copy, Reflink, HardLink}
 use Rattle.cacache_table.specs.declared.reply.Reply.TheVariants.{Read, Copied, Listed, Done}
-use Rattle.cacache_table.specs.Answers.{done_in, temp_in, written_in, there_in, taken_in, bytes_in, file_in, got_in, length_in, names_in}
+use Rattle.cacache_table.specs.Answers.{done_in, temp_in, written_in, synced_in, there_in, taken_in, bytes_in, file_in, got_in, length_in, names_in}
 use Rattle.cacache_core.specs.Meeting.{meets}
-use Rattle.cacache_table.specs.StepPaths.{temp_path, content_path, content_folder, bucket_path, bucket_folder}
-use Rattle.cacache_table.specs.State.{State, doing, creating, writing, persisting, linking, confirming, appending, looking, reading, asking, sizing, opening_file, hashing, copying, walking, over, Site, Commit, Insertion, Aim, to_report, to_read, to_export, to_remove, Lookup, Content, Target, Hashing, to_verify, to_link, Item, Visit, enter, read_bucket, remove_file, remove_folder, Task, visit, stumble, Walk}
-use Rattle.cacache_table.specs.Common.{ends_with, fails}
-use Rattle.cacache_table.specs.Inserting.{insertion, deletion, unless_refused, refused_cause, bucket_line, after_append}
-use Rattle.cacache_table.specs.Storing.{insertion_of, indexed, sized, matches, compared, placed, write_rest, after_write, after_confirm}
+use Rattle.cacache_table.specs.StepPaths.{temp_path, content_path, content_folder, bucket_path, bucket_folder, content_folders, bucket_folders}
+use Rattle.cacache_table.specs.State.{State, doing, creating, writing, syncing, persisting, linking, confirming, appending, looking, reading, asking, sizing, opening_file, hashing, copying, walking, over, Site, Commit, Insertion, Aim, to_report, to_read, to_export, to_remove, Lookup, Content, Target, Hashing, to_verify, to_link, Item, Visit, enter, read_bucket, remove_file, remove_folder, Task, visit, stumble, Walk, sync_dir, sync_file}
+use Rattle.cacache_table.specs.Common.{ends_with, fails, sync_up}
+use Rattle.cacache_table.specs.Inserting.{insertion, deletion, unless_refused, refused_cause, bucket_line, recorded, after_append}
+use Rattle.cacache_table.specs.Storing.{insertion_of, indexed, sized, matches, compared, placed, settled, resettled, moved, write_rest, after_write, after_confirm}
 use Rattle.cacache_table.specs.Removing.{remove_found}
 use Rattle.cacache_table.specs.ContentReads.{checked, is_there, is_absent}
 use Rattle.cacache_table.specs.Exporting.{export_from, export_content, export, counted}
@@ -85,15 +85,36 @@ module _ (site : Site) (apart outside : List ℕ → Bool) where
   places : (c : Commit) → SoundCommit site c → Is (placed c)
   places c h = by_integrity c c.options.integrity h
 
+  syncs : (folders : List (List ℕ)) (s : State) → Is s → Is (sync_up folders s)
+  syncs [] s h = h
+  syncs (p ∷ ps) s h = syncs ps (doing (sync_dir p) s) (tt, h)
+
+  settles : (c : Commit) → SoundCommit site c → Is (settled c)
+  settles c h =
+      cond_leads Is c.options.durable (sync_up (content_folders c.cache c.computed) (placed c)) (placed c)
+      (λ _. syncs (content_folders c.cache c.computed) (placed c) (places c h)) (λ _. places c h)
+
+  resettles : (c : Commit) → SoundCommit site c → Is (resettled c)
+  resettles c h =
+      cond_leads Is c.options.durable (doing (sync_file (content_path c.cache c.computed)) (settled c)) (settled c) (λ _. (tt, settles c h)) (λ _. settles c h)
+
+  moves : (c : Commit) (file : PlainTemp) → SoundCommit site c → IsTemp site file → Is (moved c file)
+  moves c file h t = cond_leads Is c.options.durable (syncing c file) (persisting c file) (λ _. (h, t)) (λ _. (h, t))
+
+  records : (i : Insertion) → Is (recorded i)
+  records i =
+      cond_leads Is i.durable (doing (sync_file (bucket_path i.cache i.entry.key)) (sync_up (bucket_folders i.cache i.entry.key) (over i.reply))) (over i.reply)
+      (λ _. (tt, syncs (bucket_folders i.cache i.entry.key) (over i.reply) tt)) (λ _. tt)
+
   rests : (c : Commit) (file : PlainTemp) (rest : List ℕ) → SoundCommit site c → IsTemp site file → Is (write_rest c file rest)
-  rests c file [] h t = (folder_at c h, (h, t))
+  rests c file [] h t = (folder_at c h, moves c file h t)
   rests c file (b ∷ bs) h t = (h, t)
 
   writes : (c : Commit) (rest : List ℕ) (w : PlainTemp × ℕ) → SoundCommit site c → IsTemp site w.0 → Is (after_write c rest w)
   writes c rest w h t = cond_leads Is (w.1 == 0) (fails faults.WriteZero) (write_rest c w.0 (drop w.1 rest)) (λ _. tt) (λ _. rests c w.0 (drop w.1 rest) h t)
 
   confirms : (c : Commit) (fault : Fault) (there : Bool) → SoundCommit site c → Is (after_confirm c fault there)
-  confirms c fault true h = places c h
+  confirms c fault true h = resettles c h
   confirms c fault false h = tt
 
   -- the temporary file that an answer gives
@@ -104,6 +125,10 @@ module _ (site : Site) (apart outside : List ℕ → Bool) where
   written_temp : (old : PlainTemp) (bytes : List ℕ) (t : PlainAnswer) (w : PlainTemp × ℕ) → Fits (steps.Write old bytes) t → written_in t ≡ Ok w → w.0.path ≡ old.path
   written_temp old bytes (answers.Wrote g n) w fits e = let same : (g, n) ≡ w = cc in rw (← same) fits.1
   written_temp old bytes t w fits e = absurd cc
+
+  synced_temp : (old : PlainTemp) (t : PlainAnswer) (file : PlainTemp) → Fits (steps.SyncTemp old) t → synced_in t ≡ Ok file → file.path ≡ old.path
+  synced_temp old (answers.Synced g) file fits e = let same : g ≡ file = cc in ap (λ (f : PlainTemp). f.path) (sym same ∙ fits)
+  synced_temp old t file fits e = absurd cc
 
   -- ---- exports and links
 
@@ -263,12 +288,13 @@ module _ (site : Site) (apart outside : List ℕ → Bool) where
 
   line_at : (i : Insertion) → SoundInsertion site i → refused_cause i ≡ None → IsLine site (bucket_path i.cache i.entry.key) (bucket_line i)
   unfolding bucket_line refused_cause
-  line_at i h none = (i.entry, h.formed none, none, ap (λ c. bucket_path c i.entry.key) h.here, refl)
+  line_at i h none = (i.entry, i.durable, h.formed none, none, ap (λ c. bucket_path c i.entry.key) h.here, refl)
 
   pub steps_allowed : (s : State) (step : PlainStep) → Is s → wants s ≡ Some step → Allowed site apart outside step
   steps_allowed (doing errand s) step h e = some_is (Allowed site apart outside) _ step e h.0
   steps_allowed (creating number c rest) step h e = some_is (Allowed site apart outside) _ step e (ap₂ temp_path h.1.here h.0)
   steps_allowed (writing c file rest) step h e = some_is (Allowed site apart outside) _ step e h.1
+  steps_allowed (syncing c file) step h e = some_is (Allowed site apart outside) _ step e h.1
   steps_allowed (persisting c file) step h e = some_is (Allowed site apart outside) _ step e (h.1, content_at c h.0)
   steps_allowed (linking c target) step h e = some_is (Allowed site apart outside) _ step e (h.1, content_at c h.0)
   steps_allowed (confirming c fault) step h e = some_is (Allowed site apart outside) _ step e tt
@@ -293,10 +319,13 @@ module _ (site : Site) (apart outside : List ℕ → Bool) where
   stays_sound (writing c file rest) step t h e f =
       go_on_leads Is (written_in t) fails (after_write c rest) tt (λ _. tt)
       (λ w k. writes c rest w h.0 (written_temp file rest t w (from_some (λ a. Fits a t) _ step e f) k ∙ h.1))
-  stays_sound (persisting c file) step t h e f = go_on_leads Is (done_in t) (confirming c) (λ _. placed c) tt (λ _. h.0) (λ _ _. places c h.0)
-  stays_sound (linking c target) step t h e f = go_on_leads Is (done_in t) (confirming c) (λ _. placed c) tt (λ _. h.0) (λ _ _. places c h.0)
+  stays_sound (syncing c file) step t h e f =
+      go_on_leads Is (synced_in t) fails (persisting c) tt (λ _. tt)
+      (λ g k. (h.0, synced_temp file t g (from_some (λ a. Fits a t) _ step e f) k ∙ h.1))
+  stays_sound (persisting c file) step t h e f = go_on_leads Is (done_in t) (confirming c) (λ _. settled c) tt (λ _. h.0) (λ _ _. settles c h.0)
+  stays_sound (linking c target) step t h e f = go_on_leads Is (done_in t) (confirming c) (λ _. settled c) tt (λ _. h.0) (λ _ _. settles c h.0)
   stays_sound (confirming c fault) step t h e f = go_on_leads Is (there_in t) (λ _. fails fault) (after_confirm c fault) tt (λ _. tt) (λ there _. confirms c fault there h)
-  stays_sound (appending i) step t h e f = go_on_leads Is (taken_in t) fails (after_append i) tt (λ _. tt) (λ n _. cond_leads Is (nat_le (length (bucket_line i)) n) (over i.reply) (fails faults.ShortAppend) (λ _. tt) (λ _. tt))
+  stays_sound (appending i) step t h e f = go_on_leads Is (taken_in t) fails (after_append i) tt (λ _. tt) (λ n _. cond_leads Is (nat_le (length (bucket_line i)) n) (recorded i) (fails faults.ShortAppend) (λ _. records i) (λ _. tt))
   stays_sound (looking l) step t h e f = go_on_leads Is (bytes_in t) (no_bucket l) (after_bucket l) tt (λ fault. unreads l fault h.0 h.1) (λ bytes _. founds l l.aim (found_in l.key bytes) h.0 h.1)
   stays_sound (reading k) step t h e f = go_on_leads Is (bytes_in t) fails (checked k) tt (λ _. tt) (λ bytes _. cond_leads Is (meets k.integrity bytes) (over (Read bytes)) (ends_with (IntegrityError (Check k.integrity (actual k.integrity bytes)))) (λ _. tt) (λ _. tt))
   stays_sound (asking k) step t h e f = go_on_leads Is (there_in t) is_absent is_there tt (λ _. tt) (λ _ _. tt)

@@ -30,6 +30,11 @@ abbrev pub written_in : PlainAnswer → Result (PlainTemp × ℕ) Refusal
 written_in (answers.Wrote file count) = Ok (file, count)
 written_in answer = Err (refusal_in answer)
 
+-- a temporary file whose bytes were synced
+abbrev pub synced_in : PlainAnswer → Result PlainTemp Refusal
+synced_in (answers.Synced file) = Ok file
+synced_in answer = Err (refusal_in answer)
+
 -- how many bytes were appended or copied
 abbrev pub taken_in : PlainAnswer → Result ℕ Refusal
 taken_in (answers.Took count) = Ok count

@@ -1,5 +1,5 @@
 -- Options of which nothing was said.
-use Rattle.std.specs.Prelude.{None}
+use Rattle.std.specs.Prelude.{None, false}
 use Rattle.serde_json.specs.Data.{null}
 use Rattle.cacache_core.specs.declared.integrity.algorithm.Algorithm.{Algorithm}
 use Rattle.cacache_table.specs.declared.command.Options.{Options}
@@ -12,4 +12,5 @@ blank a = record {
   integrity = None;
   metadata = null;
   raw_metadata = None;
+  durable = false;
 }

@@ -1,5 +1,5 @@
 -- Where an answer takes a call, in the words that all calls share. An error's message is left out.
-use Rattle.std.specs.Prelude.{[], Result, Ok, Err}
+use Rattle.std.specs.Prelude.{ℕ, List, [], ◌∷◌, Result, Ok, Err}
 use Rattle.cacache_core.specs.declared.errors.Fault.{Fault}
 use Rattle.cacache_core.specs.declared.errors.Error.{Error}
 use Rattle.cacache_core.specs.declared.errors.Error.TheVariants.{IoError, OutOfMemory}
@@ -8,7 +8,7 @@ use Rattle.cacache_store.specs.Plain.{PlainStep}
 use Rattle.cacache_table.specs.declared.answers.Refusal.{Refusal}
 use Rattle.cacache_table.specs.declared.answers.Refusal.TheVariants as refusals
 use Rattle.cacache_table.specs.declared.reply.Reply.TheVariants.{Refused}
-use Rattle.cacache_table.specs.State.{State, over, Errand, make_folder, remove, reflink, hard_link}
+use Rattle.cacache_table.specs.State.{State, doing, over, Errand, make_folder, remove, reflink, hard_link, sync_file, sync_dir}
 
 -- the call is over with this error
 abbrev pub ends_with : Error → State
@@ -34,3 +34,10 @@ errand_step (make_folder path) = steps.MakeDirs path
 errand_step (remove path) = steps.RemoveFile path
 errand_step (reflink from to) = steps.Reflink from to
 errand_step (hard_link from to) = steps.HardLink from to
+errand_step (sync_file path) = steps.SyncFile path
+errand_step (sync_dir path) = steps.SyncDir path
+
+-- folders that lead down from the cache's own are synced from the last one up
+abbrev pub sync_up : List (List ℕ) → State → State
+sync_up [] s = s
+sync_up (folder ∷ deeper) s = sync_up deeper (doing (sync_dir folder) s)

@@ -44,7 +44,7 @@ if_there (Ok true) effect effects = effect ∷ effects
 if_there (Ok false) effect effects = effects
 if_there (Err refusal) effect effects = effects
 
--- the effect of a step, before those of later steps; folders, temporary files and reads have none
+-- the effect of a step, before later ones; folders, temporary files, reads and syncs have none
 abbrev pub effect : PlainStep → PlainAnswer → List Effect → List Effect
 effect (steps.Persist file path) t later = if_done (done_in t) (stored path) later
 effect (steps.Symlink target path) t later = if_done (done_in t) (stored path) later

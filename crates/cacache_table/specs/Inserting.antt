@@ -1,5 +1,5 @@
 -- Insertions: the test of the entry, the bucket's folder, one append.
-use Rattle.std.specs.Prelude.{ℕ, List, [], ◌∷◌, Option, None, Some, if◌then◌else◌, nat_le, length}
+use Rattle.std.specs.Prelude.{ℕ, List, [], ◌∷◌, Option, None, Some, false, if◌then◌else◌, nat_le, length}
 use Rattle.serde_json.specs.Data.{null}
 use Rattle.cacache_core.specs.declared.errors.Fault.TheVariants as faults
 use Rattle.cacache_core.specs.declared.errors.SerdeCause.{SerdeCause}
@@ -8,19 +8,19 @@ use Rattle.cacache_core.specs.declared.integrity.digest.Hash.{Hash}
 use Rattle.cacache_core.specs.declared.integrity.algorithm.Algorithm.TheVariants.{Sha1}
 use Rattle.cacache_core.specs.Integrity.{hash_of}
 use Rattle.cacache_core.specs.Texts.{integrity_text}
-use Rattle.cacache_entry.specs.Entry.{Entry, line_of}
+use Rattle.cacache_entry.specs.Entry.{Entry, closed_line}
 use Rattle.cacache_entry.specs.FittingEntries.{cause_of}
 use Rattle.cacache_table.specs.declared.command.Options.{Options}
 use Rattle.cacache_table.specs.declared.command.Insert.{Insert}
 use Rattle.cacache_table.specs.declared.command.Delete.{Delete}
 use Rattle.cacache_table.specs.declared.reply.Reply.TheVariants.{Stored, Done}
-use Rattle.cacache_table.specs.StepPaths.{bucket_folder}
-use Rattle.cacache_table.specs.State.{State, doing, appending, over, Insertion, make_folder}
-use Rattle.cacache_table.specs.Common.{ends_with, fails}
+use Rattle.cacache_table.specs.StepPaths.{bucket_path, bucket_folder, bucket_folders}
+use Rattle.cacache_table.specs.State.{State, doing, appending, over, Insertion, make_folder, sync_file}
+use Rattle.cacache_table.specs.Common.{ends_with, fails, sync_up}
 
--- the line that is appended, and why it can't be written, if so
+-- the line that is appended; a durable one is closed
 unfoldable pub bucket_line : Insertion → List ℕ
-bucket_line i = line_of i.entry
+bucket_line i = closed_line i.durable i.entry
 
 -- why the entry can't be written, if so
 unfoldable pub refused_cause : Insertion → Option SerdeCause
@@ -35,10 +35,17 @@ unless_refused i (Some cause) = ends_with (SerdeError cause [])
 abbrev pub insert : Insertion → State
 insert i = unless_refused i (refused_cause i)
 
+-- a durable insertion syncs its bucket, and the folders that lead to it
+abbrev pub recorded : Insertion → State
+recorded i =
+    if i.durable then doing (sync_file (bucket_path i.cache i.entry.key))
+    (sync_up (bucket_folders i.cache i.entry.key) (over i.reply))
+    else over i.reply
+
 -- an append that took less than the line isn't continued
 abbrev pub after_append : Insertion → ℕ → State
 after_append i n =
-    if nat_le (length (bucket_line i)) n then over i.reply else fails faults.ShortAppend
+    if nat_le (length (bucket_line i)) n then recorded i else fails faults.ShortAppend
 
 -- ---- where the calls begin
 
@@ -79,6 +86,7 @@ insertion cache i =
     record {
       cache = cache;
       entry = entry_of i.key (given_text o.integrity) (given_size o.size) i.moment o;
+      durable = o.durable;
       reply = Stored (given_or no_integrity o.integrity);
     }
 
@@ -94,5 +102,6 @@ deletion cache d = record {
     metadata = null;
     raw_metadata = None;
   };
+  durable = false;
   reply = Done;
 }

@@ -1,5 +1,5 @@
 -- Links: the target is read to its end, and a link to it becomes the content.
-use Rattle.std.specs.Prelude.{ℕ, ◌==◌, List, [], ◌∷◌, ◌++◌, Some, if◌then◌else◌, length}
+use Rattle.std.specs.Prelude.{ℕ, ◌==◌, List, [], ◌∷◌, ◌++◌, Some, false, if◌then◌else◌, length}
 use Rattle.cacache_core.specs.Integrity.{integrity_under}
 use Rattle.cacache_core.specs.Paths.{join}
 use Rattle.cacache_store.specs.declared.store.plain.PlainFile.{PlainFile}
@@ -32,7 +32,7 @@ with_size t n = record t { options = record t.options { size = Some n } }
 abbrev pub after_size : Target → ℕ → State
 after_size t n = opening_file (to_link (with_size t n))
 
--- the content is what was read from the target
+-- the content is what was read from the target; links are never durable
 abbrev pub commit_for : Target → List ℕ → Commit
 commit_for t bytes = record {
   cache = t.cache;
@@ -40,7 +40,7 @@ commit_for t bytes = record {
   computed = integrity_under t.options.algorithm bytes;
   count = length bytes;
   moment = t.moment;
-  options = t.options;
+  options = record t.options { durable = false };
 }
 
 -- ---- a file that is read to its end, to be verified or to be linked to

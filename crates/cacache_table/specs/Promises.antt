@@ -9,7 +9,7 @@ use Rattle.cacache_table.specs.declared.command.How.{How}
 use Rattle.cacache_table.specs.declared.command.How.TheVariants.{Copy, Reflink, HardLink}
 use Rattle.cacache_table.specs.declared.reply.Reply.{Reply}
 use Rattle.cacache_table.specs.declared.reply.Reply.TheVariants.{Stored, Read, LookedUp, Exists, Copied, Listed, Done, Refused}
-use Rattle.cacache_table.specs.State.{State, doing, creating, writing, persisting, linking, confirming, appending, looking, reading, asking, sizing, opening_file, hashing, copying, walking, over, Site, Commit, Aim, to_report, to_read, to_export, to_remove, Target, Hashing, to_verify, to_link}
+use Rattle.cacache_table.specs.State.{State, doing, creating, writing, syncing, persisting, linking, confirming, appending, looking, reading, asking, sizing, opening_file, hashing, copying, walking, over, Site, Commit, Aim, to_report, to_read, to_export, to_remove, Target, Hashing, to_verify, to_link}
 use Rattle.cacache_table.specs.Inserting.{given_or, no_integrity}
 use Rattle.cacache_table.specs.Storing.{matches, put_commit}
 use Rattle.cacache_table.specs.Linking.{commit_for, with_size, link_target}
@@ -144,6 +144,7 @@ abbrev pub Promises : State → Reply → Type 0
 Promises (doing errand s) r = Promises s r
 Promises (creating number c rest) r = Stores c r
 Promises (writing c file rest) r = Stores c r
+Promises (syncing c file) r = Stores c r
 Promises (persisting c file) r = Stores c r
 Promises (linking c target) r = Stores c r
 Promises (confirming c fault) r = Stores c r

@@ -57,11 +57,16 @@ no_options = record {
   integrity = None;
   metadata = null;
   raw_metadata = None;
+  durable = false;
 }
 
 -- one byte under a key, or under none
 abbrev pub put_of : Option (List ℕ) → ℕ → Put
 put_of key b = record { key = key; «data» = b ∷ []; moment = 0; options = no_options }
+
+-- the same in a durable way
+abbrev pub durable_put_of : Option (List ℕ) → ℕ → Put
+durable_put_of key b = record (put_of key b) { options = record no_options { durable = true } }
 
 -- a link to this target, under a key or under none
 abbrev pub link_of : Option (List ℕ) → List ℕ → Link
@@ -98,6 +103,22 @@ abbrev pub stored : PlainTemp → PlainTemp → List PlainAnswer → List PlainA
 stored t u later =
     answers.Done ∷ answers.Temp t ∷ answers.Wrote u 1 ∷ answers.Done ∷ answers.Done ∷ later
 
+-- so many steps with this answer
+abbrev pub times : ℕ → PlainAnswer → List PlainAnswer → List PlainAnswer
+times zero t later = later
+times (suc n) t later = t ∷ times n t later
+
+-- the same with the temporary file synced, and five folders after the persist
+abbrev pub stored_durably : PlainTemp → PlainTemp → List PlainAnswer → List PlainAnswer
+stored_durably t u later =
+    answers.Done ∷ answers.Temp t ∷ answers.Wrote u 1 ∷ answers.Done ∷ answers.Synced u
+    ∷ answers.Done ∷ times 5 answers.Done later
+
+-- a folder is made, the whole line is appended, the bucket and four folders are synced
+abbrev pub appended_durably : Insertion → List PlainAnswer
+appended_durably i =
+    answers.Done ∷ answers.Took (length (bucket_line i)) ∷ times 5 answers.Done []
+
 -- the size, three steps that read the file, and its folder
 abbrev pub read_target : ℕ → List PlainAnswer → List PlainAnswer
 read_target b later = answers.Length 1 ∷ one_byte b (answers.Done ∷ later)
@@ -119,6 +140,22 @@ KeyedPutRow =
     refused_cause i ≡ None
     → Replies site (commands.Put (put_of (Some key) b)) (stored t u (appended i))
     (Stored (integrity_under Sha256 (b ∷ [])))
+
+-- a durable put without a key takes eleven
+abbrev pub DurablePutRow : Type 0
+DurablePutRow =
+    (site : Site) (b : ℕ) (t u : PlainTemp)
+    → Replies site (commands.Put (durable_put_of None b)) (stored_durably t u [])
+    (Stored (integrity_under Sha256 (b ∷ [])))
+
+-- with a key eighteen
+abbrev pub DurableKeyedPutRow : Type 0
+DurableKeyedPutRow =
+    (site : Site) (key : List ℕ) (b : ℕ) (t u : PlainTemp)
+    → let i = insertion_of (put_commit site.cache (durable_put_of (Some key) b)) key in
+    refused_cause i ≡ None
+    → Replies site (commands.Put (durable_put_of (Some key) b))
+    (stored_durably t u (appended_durably i)) (Stored (integrity_under Sha256 (b ∷ [])))
 
 -- a get takes two
 abbrev pub GetRow : Type 0
@@ -205,11 +242,6 @@ cache_names =
     name (codes "tmp") Folder ∷ name (codes "content-v2") Folder
     ∷ name (codes "index-v5") Folder ∷ []
 
--- so many steps with this answer
-abbrev pub times : ℕ → PlainAnswer → List PlainAnswer → List PlainAnswer
-times zero t later = later
-times (suc n) t later = t ∷ times n t later
-
 -- such a cache is cleared by 19 steps
 abbrev pub ClearRow : Type 0
 ClearRow =
@@ -238,6 +270,8 @@ DeepRow =
 pub record Rows : Type 0 where
   pub put : PutRow
   pub keyed_put : KeyedPutRow
+  pub durable_put : DurablePutRow
+  pub durable_keyed_put : DurableKeyedPutRow
   pub get : GetRow
   pub exists : ExistsRow
   pub copy : CopyRow

@@ -9,7 +9,7 @@ use Rattle.cacache_store.specs.Plain.{PlainStep, PlainAnswer}
 use Rattle.cacache_store.specs.Fits.{Fits}
 use Rattle.cacache_table.specs.declared.reply.Reply.{Reply}
 use Rattle.cacache_table.specs.declared.reply.Reply.TheVariants.{Listed, Refused}
-use Rattle.cacache_table.specs.State.{State, doing, creating, writing, persisting, linking, confirming, appending, looking, reading, asking, sizing, opening_file, hashing, copying, walking, over, Item, Visit, enter, read_bucket, remove_file, remove_folder, Task, visit, stumble}
+use Rattle.cacache_table.specs.State.{State, doing, creating, writing, syncing, persisting, linking, confirming, appending, looking, reading, asking, sizing, opening_file, hashing, copying, walking, over, Item, Visit, enter, read_bucket, remove_file, remove_folder, Task, visit, stumble}
 use Rattle.cacache_table.specs.Common.{ends_with}
 use Rattle.cacache_table.specs.Table.{wants, after}
 
@@ -86,18 +86,19 @@ weights (stumble fault ∷ todo) = weights todo
 -- how many steps a call takes at most from this state on
 abbrev pub effort : State → ℕ
 effort (doing errand s) = effort s + 1
-effort (creating number c rest) = length rest + 7
-effort (writing c file rest) = length rest + 6
-effort (persisting c file) = 4
-effort (linking c target) = 4
-effort (confirming c fault) = 3
-effort (appending i) = 1
-effort (looking l) = 2 ^ 64 + 7
+effort (creating number c rest) = length rest + 19
+effort (writing c file rest) = length rest + 18
+effort (syncing c file) = 16
+effort (persisting c file) = 15
+effort (linking c target) = 15
+effort (confirming c fault) = 14
+effort (appending i) = 6
+effort (looking l) = 2 ^ 64 + 18
 effort (reading k) = 1
 effort (asking k) = 1
-effort (sizing target) = 2 ^ 64 + 7
-effort (opening_file h) = 2 ^ 64 + 6
-effort (hashing h file bytes) = file.left + 6
+effort (sizing target) = 2 ^ 64 + 18
+effort (opening_file h) = 2 ^ 64 + 17
+effort (hashing h file bytes) = file.left + 17
 effort (copying from to verified) = 1
 effort (walking w v todo) = 2 * w.left + weight v + weights todo
 effort (over reply) = 0

@@ -9,12 +9,12 @@ use Rattle.cacache_store.specs.declared.store.plain.PlainTemp.{PlainTemp}
 use Rattle.cacache_store.specs.declared.store.step.Step.TheVariants as steps
 use Rattle.cacache_store.specs.Plain.{PlainStep, PlainAnswer}
 use Rattle.cacache_store.specs.Fits.{Fits}
-use Rattle.cacache_entry.specs.Entry.{Entry, line_of}
+use Rattle.cacache_entry.specs.Entry.{Entry, closed_line}
 use Rattle.cacache_entry.specs.FittingEntries.{IsEntry, cause_of}
 use Rattle.cacache_table.specs.declared.command.Command.{Command}
 use Rattle.cacache_table.specs.declared.command.Command.TheVariants as commands
 use Rattle.cacache_table.specs.StepPaths.{temp_path, temp_folder, content_path, content_folder, bucket_path, bucket_folder}
-use Rattle.cacache_table.specs.State.{State, doing, creating, writing, persisting, linking, confirming, appending, looking, reading, asking, sizing, opening_file, hashing, copying, walking, over, Site, Commit, Insertion, Aim, to_export, Target, Hashing, to_verify, to_link, Visit, enter, read_bucket, remove_file, remove_folder, Task, visit, stumble}
+use Rattle.cacache_table.specs.State.{State, doing, creating, writing, syncing, persisting, linking, confirming, appending, looking, reading, asking, sizing, opening_file, hashing, copying, walking, over, Site, Commit, Insertion, Aim, to_export, Target, Hashing, to_verify, to_link, Visit, enter, read_bucket, remove_file, remove_folder, Task, visit, stumble}
 use Rattle.cacache_table.specs.Common.{errand_step}
 use Rattle.cacache_table.specs.Inserting.{insertion, deletion, refused_cause}
 use Rattle.cacache_table.specs.Storing.{insertion_of, put_commit}
@@ -72,11 +72,11 @@ IsBucketFolder site p = (key : List ℕ) × (p ≡ bucket_folder site.cache key)
 abbrev pub IsFolder : Site → List ℕ → Type 0
 IsFolder site p = (p ≡ temp_folder site.cache) ⊎ (IsContentFolder site p ⊎ IsBucketFolder site p)
 
--- the line of a well-formed entry that can be written, and its bucket
+-- the line of a well-formed entry that can be written, durable or not, and its bucket
 abbrev pub IsLine : Site → List ℕ → List ℕ → Type 0
 IsLine site p line =
-    (e : Entry) × IsEntry e × (cause_of e ≡ None)
-    × (p ≡ bucket_path site.cache e.key) × (line ≡ line_of e)
+    (e : Entry) × (durable : Bool) × IsEntry e × (cause_of e ≡ None)
+    × (p ≡ bucket_path site.cache e.key) × (line ≡ closed_line durable e)
 
 -- a content, a bucket or anything below the cache folder
 abbrev pub IsRemovable : Site → List ℕ → Type 0
@@ -112,6 +112,7 @@ module _ (site : Site) (apart outside : List ℕ → Bool) where
   Allowed (steps.HardLink p q) = apart q ≡ true
   Allowed (steps.RemoveFile p) = IsRemovable site p
   Allowed (steps.RemoveDir p) = IsBelow site p
+  Allowed (steps.SyncTemp file) = IsTemp site file
   Allowed step = Unit {0}
 
   -- an export that a lookup is for goes apart
@@ -129,6 +130,7 @@ module _ (site : Site) (apart outside : List ℕ → Bool) where
   Sound (doing errand s) = Allowed (errand_step errand) × Sound s
   Sound (creating number c rest) = (number ≡ site.number) × SoundCommit site c
   Sound (writing c file rest) = SoundCommit site c × IsTemp site file
+  Sound (syncing c file) = SoundCommit site c × IsTemp site file
   Sound (persisting c file) = SoundCommit site c × IsTemp site file
   Sound (linking c target) = SoundCommit site c × (outside target ≡ true)
   Sound (confirming c fault) = SoundCommit site c

@@ -32,6 +32,7 @@ pub record Commit : Type 0 where
 pub record Insertion : Type 0 where
   pub cache : List ℕ
   pub entry : Entry
+  pub durable : Bool
   pub reply : Reply
 
 -- what a key is looked up for
@@ -71,6 +72,8 @@ pub data Errand : Type 0 where
   remove : List ℕ → Errand
   reflink : List ℕ → List ℕ → Errand
   hard_link : List ℕ → List ℕ → Errand
+  sync_file : List ℕ → Errand
+  sync_dir : List ℕ → Errand
 
 -- an item of a listing: an entry, or why one couldn't be read
 abbrev pub Item : Type 0
@@ -101,6 +104,8 @@ pub data State : Type 0 where
   -- a commit, by the number of its temporary file, with the bytes still to write
   creating : ℕ → Commit → List ℕ → State
   writing : Commit → PlainTemp → List ℕ → State
+  -- its temporary file is synced, where the commit is durable
+  syncing : Commit → PlainTemp → State
   -- its temporary file, or a link to this target, becomes the content
   persisting : Commit → PlainTemp → State
   linking : Commit → List ℕ → State

@@ -2,7 +2,7 @@
 use Rattle.std.specs.Prelude.{ℕ, List, [], Option, None, Some}
 use Rattle.cacache_core.specs.declared.integrity.digest.Hash.{Hash}
 use Rattle.cacache_core.specs.Integrity.{address}
-use Rattle.cacache_core.specs.Paths.{joined, content_names, bucket_names, temp_names, folder_names}
+use Rattle.cacache_core.specs.Paths.{joined, content_names, bucket_names, temp_names, folder_names, folders_to}
 
 -- where a temporary file lies, and its folder
 unfoldable pub temp_path : List ℕ → ℕ → List ℕ
@@ -12,10 +12,10 @@ temp_path cache number = joined cache (temp_names number)
 unfoldable pub temp_folder : List ℕ → List ℕ
 temp_folder cache = joined cache (folder_names (temp_names 0))
 
--- the path of names that an address gives
-abbrev pub addressed : (Hash → List ℕ) → Option Hash → List ℕ
-addressed path None = []
-addressed path (Some h) = path h
+-- what an address gives, nothing where there is none
+abbrev pub addressed : {A : Type 0} → (Hash → List A) → Option Hash → List A
+addressed given None = []
+addressed given (Some h) = given h
 
 -- where the content of an integrity lies, by its address, and its folder
 unfoldable pub content_path : List ℕ → List Hash → List ℕ
@@ -25,6 +25,10 @@ content_path cache i = addressed (λ h. joined cache (content_names h)) (address
 unfoldable pub content_folder : List ℕ → List Hash → List ℕ
 content_folder cache i = addressed (λ h. joined cache (folder_names (content_names h))) (address i)
 
+-- the folders that lead to the content of an integrity, the cache's own first
+unfoldable pub content_folders : List ℕ → List Hash → List (List ℕ)
+content_folders cache i = addressed (λ h. folders_to cache (content_names h)) (address i)
+
 -- where the bucket of a key lies, and its folder
 unfoldable pub bucket_path : List ℕ → List ℕ → List ℕ
 bucket_path cache key = joined cache (bucket_names key)
@@ -32,3 +36,7 @@ bucket_path cache key = joined cache (bucket_names key)
 -- the folder that the bucket of a key lies in
 unfoldable pub bucket_folder : List ℕ → List ℕ → List ℕ
 bucket_folder cache key = joined cache (folder_names (bucket_names key))
+
+-- the folders that lead to the bucket of a key, the cache's own first
+unfoldable pub bucket_folders : List ℕ → List ℕ → List (List ℕ)
+bucket_folders cache key = folders_to cache (bucket_names key)

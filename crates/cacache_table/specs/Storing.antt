@@ -11,9 +11,9 @@ use Rattle.cacache_store.specs.declared.store.plain.PlainTemp.{PlainTemp}
 use Rattle.cacache_table.specs.declared.command.Put.{Put}
 use Rattle.cacache_table.specs.declared.reply.Reply.TheVariants.{Stored}
 use Rattle.cacache_core.specs.Meeting.{matching}
-use Rattle.cacache_table.specs.StepPaths.{temp_folder, content_folder}
-use Rattle.cacache_table.specs.State.{State, doing, creating, writing, persisting, linking, over, Site, Commit, Insertion, make_folder}
-use Rattle.cacache_table.specs.Common.{ends_with, fails}
+use Rattle.cacache_table.specs.StepPaths.{temp_folder, content_path, content_folder, content_folders}
+use Rattle.cacache_table.specs.State.{State, doing, creating, writing, syncing, persisting, linking, over, Site, Commit, Insertion, make_folder, sync_file}
+use Rattle.cacache_table.specs.Common.{ends_with, fails, sync_up}
 use Rattle.cacache_table.specs.Inserting.{insert, entry_of, given_or}
 
 -- ---- once the content is there: the integrity, then the size, then the entry
@@ -25,6 +25,7 @@ insertion_of c key =
     record {
       cache = c.cache;
       entry = entry_of key (Some (integrity_text i)) c.count c.moment c.options;
+      durable = c.options.durable;
       reply = Stored i;
     }
 
@@ -54,15 +55,31 @@ compared c (Some expected) =
 abbrev pub placed : Commit → State
 placed c = compared c c.options.integrity
 
+-- where the commit is durable, the folders that lead to the content are synced first
+abbrev pub settled : Commit → State
+settled c =
+    if c.options.durable then sync_up (content_folders c.cache c.computed) (placed c)
+    else placed c
+
+-- and before them the content itself, where it was found there
+abbrev pub resettled : Commit → State
+resettled c =
+    if c.options.durable then doing (sync_file (content_path c.cache c.computed)) (settled c)
+    else settled c
+
 -- ---- before
 
 -- the content's folder is made first
 abbrev pub into_folder : Commit → State → State
 into_folder c s = doing (make_folder (content_folder c.cache c.computed)) s
 
--- a temporary file becomes the content
+-- a temporary file becomes the content; where the commit is durable, it is synced first
+abbrev pub moved : Commit → PlainTemp → State
+moved c file = if c.options.durable then syncing c file else persisting c file
+
+-- the same once the content's folder is made
 abbrev pub persist : Commit → PlainTemp → State
-persist c file = into_folder c (persisting c file)
+persist c file = into_folder c (moved c file)
 
 -- a link to the target becomes the content
 abbrev pub link : Commit → List ℕ → State
@@ -80,7 +97,7 @@ after_write c rest (file, n) =
 
 -- without a yes, the first fault is answered
 abbrev pub after_confirm : Commit → Fault → Bool → State
-after_confirm c fault there = if there then placed c else fails fault
+after_confirm c fault there = if there then resettled c else fails fault
 
 -- the integrity of a put's bytes is known before its first step
 abbrev pub put_commit : List ℕ → Put → Commit

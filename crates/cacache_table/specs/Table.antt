@@ -1,5 +1,5 @@
 -- All calls as one table: the one step that each state wants, where an answer takes it, and where each call begins.
-use Rattle.std.specs.Prelude.{ℕ, [], Option, None, Some, true, false, codes}
+use Rattle.std.specs.Prelude.{ℕ, Option, None, Some, true, false, codes, []}
 use Rattle.cacache_core.specs.Paths.{join}
 use Rattle.cacache_store.specs.declared.store.step.Step.TheVariants as steps
 use Rattle.cacache_store.specs.Plain.{PlainStep, PlainAnswer}
@@ -7,12 +7,12 @@ use Rattle.cacache_table.specs.declared.command.Command.{Command}
 use Rattle.cacache_table.specs.declared.command.Command.TheVariants as commands
 use Rattle.cacache_table.specs.declared.command.Source.TheVariants as sources
 use Rattle.cacache_table.specs.declared.reply.Reply.TheVariants.{Copied, Done}
-use Rattle.cacache_table.specs.Answers.{done_in, temp_in, written_in, there_in, taken_in, bytes_in, file_in, got_in, length_in}
+use Rattle.cacache_table.specs.Answers.{done_in, temp_in, written_in, synced_in, there_in, taken_in, bytes_in, file_in, got_in, length_in}
 use Rattle.cacache_table.specs.StepPaths.{temp_path, content_path, bucket_path}
-use Rattle.cacache_table.specs.State.{State, doing, creating, writing, persisting, linking, confirming, appending, looking, reading, asking, sizing, opening_file, hashing, copying, walking, over, Site, to_report, to_read, to_export, to_remove}
+use Rattle.cacache_table.specs.State.{State, doing, creating, writing, syncing, persisting, linking, confirming, appending, looking, reading, asking, sizing, opening_file, hashing, copying, walking, over, Site, to_report, to_read, to_export, to_remove}
 use Rattle.cacache_table.specs.Common.{fails, go_on, errand_step}
 use Rattle.cacache_table.specs.Inserting.{insert, insertion, deletion, bucket_line, after_append}
-use Rattle.cacache_table.specs.Storing.{placed, write_rest, after_write, after_confirm, store}
+use Rattle.cacache_table.specs.Storing.{settled, write_rest, after_write, after_confirm, store}
 use Rattle.cacache_table.specs.Looking.{after_bucket, no_bucket}
 use Rattle.cacache_table.specs.ContentReads.{checked, is_there, is_absent}
 use Rattle.cacache_table.specs.Exporting.{export, counted}
@@ -29,6 +29,7 @@ abbrev pub wants : State → Option PlainStep
 wants (doing errand s) = Some (errand_step errand)
 wants (creating number c rest) = Some (steps.CreateTemp (temp_path c.cache number))
 wants (writing c file rest) = Some (steps.Write file rest)
+wants (syncing c file) = Some (steps.SyncTemp file)
 wants (persisting c file) = Some (steps.Persist file (content_path c.cache c.computed))
 wants (linking c target) = Some (steps.Symlink target (content_path c.cache c.computed))
 wants (confirming c fault) = Some (steps.Exists (content_path c.cache c.computed))
@@ -49,8 +50,9 @@ abbrev pub after : State → PlainAnswer → State
 after (doing errand s) t = go_on (done_in t) fails (λ _. s)
 after (creating number c rest) t = go_on (temp_in t) fails (λ file. write_rest c file rest)
 after (writing c file rest) t = go_on (written_in t) fails (after_write c rest)
-after (persisting c file) t = go_on (done_in t) (confirming c) (λ _. placed c)
-after (linking c target) t = go_on (done_in t) (confirming c) (λ _. placed c)
+after (syncing c file) t = go_on (synced_in t) fails (persisting c)
+after (persisting c file) t = go_on (done_in t) (confirming c) (λ _. settled c)
+after (linking c target) t = go_on (done_in t) (confirming c) (λ _. settled c)
 after (confirming c fault) t = go_on (there_in t) (λ _. fails fault) (after_confirm c fault)
 after (appending i) t = go_on (taken_in t) fails (after_append i)
 after (looking l) t = go_on (bytes_in t) (no_bucket l) (after_bucket l)

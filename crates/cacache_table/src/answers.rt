@@ -1,7 +1,7 @@
 //! What an answer says to a step of one kind, or why the step brought nothing.
 ghost use Rattle.std.specs.Prelude.{◌≡◌, Result, Ok, Err};
 ghost use Rattle.cacache_store.specs.Plain.{plain_answer};
-ghost use Rattle.cacache_table.specs.Answers.{refusal_in, done_in, temp_in, written_in, taken_in, bytes_in, there_in, file_in, got_in, length_in, names_in};
+ghost use Rattle.cacache_table.specs.Answers.{refusal_in, done_in, temp_in, written_in, synced_in, taken_in, bytes_in, there_in, file_in, got_in, length_in, names_in};
 ghost use Rattle.cacache_table.specs.Seen.{seen_by, written_as, got_as};
 
 use cacache_core::bytes::Bytes;
@@ -78,6 +78,16 @@ pub fn written_of<F: FileHandle, T: TempHandle>(answer: Answer<F, T>) -> Result<
 {
     match answer {
         Answer::Wrote(file, count) => Ok(Written { file, count }),
+        other => Err(refusal_of(other)),
+    }
+}
+
+/// The temporary file whose bytes were synced.
+pub fn synced_of<F: FileHandle, T: TempHandle>(answer: Answer<F, T>) -> Result<T, Refusal>
+    ensures { seen_by T.seen result ≡ synced_in (plain_answer F.seen T.seen answer) }
+{
+    match answer {
+        Answer::Synced(file) => Ok(file),
         other => Err(refusal_of(other)),
     }
 }

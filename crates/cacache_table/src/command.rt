@@ -22,6 +22,8 @@ pub struct Options {
     pub metadata: Json,
     /// Any bytes beside the content.
     pub raw_metadata: Option<Bytes>,
+    /// Whether the commit waits until a loss of power would leave it whole. Links ignore it.
+    pub durable: bool,
 }
 
 /// Stores bytes as a content; with a key, its entry follows.
@@ -155,6 +157,7 @@ impl Options {
             integrity: None,
             metadata: Json::new(Value::Null),
             raw_metadata: None,
+            durable: false,
         }
     }
 
@@ -168,6 +171,7 @@ impl Options {
             integrity: copy_integrity(&self.integrity)?,
             metadata: self.metadata.clone()?,
             raw_metadata: share_bytes(&self.raw_metadata)?,
+            durable: self.durable,
         })
     }
 
@@ -181,6 +185,7 @@ impl Options {
             integrity,
             metadata,
             raw_metadata,
+            durable,
         } = self;
         Options {
             algorithm,
@@ -188,6 +193,7 @@ impl Options {
             integrity,
             metadata,
             raw_metadata,
+            durable,
         }
     }
 }

@@ -1,7 +1,8 @@
 -- What an append leaves of a bucket.
-use Rattle.std.proofs.Common.{◌≡◌, ◌≤◌, ◌<◌, length, ℕ, zero, suc, List, [], ◌∷◌, ◌++◌, Option, None, Some, Ok, Err, take, refl, sym, ap, ◌∙◌, append-nil}
-use Rattle.std.proofs.lemmas.List.{take_all}
-use Rattle.std.specs.Prelude.{Result}
+use Rattle.std.proofs.Common.{◌≡◌, ◌≤◌, ◌<◌, ◌+◌, length, ℕ, zero, suc, Bool, true, false, nat_le, arith, length-append, List, ◌∷◌, ◌++◌, Option, None, Some, Ok, Err, take, refl, sym, ap, ◌∙◌, append-nil}
+use Rattle.std.proofs.lemmas.List.{take_all, take-append-le}
+use Rattle.std.proofs.lemmas.Bool.{leb-true, leb-false}
+use Rattle.std.specs.Prelude.{Result, []}
 use Rattle.cacache_core.specs.declared.errors.Fault.{Fault}
 use Rattle.cacache_core.specs.PathNames.{Names, names_of}
 use Rattle.cacache_store.specs.declared.store.step.Step.TheVariants.{Append}
@@ -10,7 +11,7 @@ use Rattle.cacache_disk.specs.declared.luck.Luck.{Luck}
 use Rattle.cacache_disk.specs.declared.node.Node.{Node}
 use Rattle.cacache_disk.specs.declared.node.Node.TheVariants.{Folder, File, Link}
 use Rattle.cacache_disk.specs.Tree.{bytes_of}
-use Rattle.cacache_entry.specs.Entry.{Entry, line_of}
+use Rattle.cacache_entry.specs.Entry.{Entry, line_of, closing, closed_line}
 use Rattle.cacache_entry.specs.FittingEntries.{IsEntry, IsWritable}
 use Rattle.cacache_entry.specs.Bucket.{entries_of}
 use Rattle.cacache_entry.proofs.Pieces.{entries_split}
@@ -41,6 +42,30 @@ whole_line e n formed fits long =
 pub torn_line : (e : Entry) (n : ℕ) → IsEntry e → IsWritable e → n < length (line_of e) → entries_of (take n (line_of e)) ≡ []
 torn_line e n formed fits short = torn_lines_add_nothing [] e n formed fits short ∙ empty_holds_nothing
 
+-- a line feed behind a line closes it and adds nothing
+closed : (e : Entry) → IsEntry e → IsWritable e → entries_of (line_of e ++ 10 ∷ []) ≡ e ∷ []
+closed e formed fits =
+    entries_split (line_of e) []
+    ∙ ap (λ es. es ++ entries_of []) (ap entries_of (sym (take_all (length (line_of e)) (line_of e) (omega arith))) ∙ whole_line e (length (line_of e)) formed fits (omega arith))
+    ∙ ap (λ es. e ∷ es) empty_holds_nothing
+
+-- the same of a line as a commit appends it
+pub whole_closed : (durable : Bool) (e : Entry) (n : ℕ) → IsEntry e → IsWritable e → length (line_of e) ≤ n → entries_of (take n (closed_line durable e)) ≡ e ∷ []
+whole_closed false e n formed fits long = ap (λ (line : List ℕ). entries_of (take n line)) (append-nil (line_of e)) ∙ whole_line e n formed fits long
+whole_closed true e n formed fits long = by (nat_le (length (line_of e) + 1) n) refl
+  where
+    by : (b : Bool) → nat_le (length (line_of e) + 1) n ≡ b → entries_of (take n (line_of e ++ 10 ∷ [])) ≡ e ∷ []
+    by true is =
+        ap entries_of (take_all n (line_of e ++ 10 ∷ []) (omega (arith, length-append (line_of e) (10 ∷ []), leb-true (length (line_of e) + 1) n is)))
+        ∙ closed e formed fits
+    by false is =
+        ap entries_of (take-append-le n (line_of e) (10 ∷ []) (omega (arith, leb-false (length (line_of e) + 1) n is)))
+        ∙ whole_line e n formed fits long
+
+pub torn_closed : (durable : Bool) (e : Entry) (n : ℕ) → IsEntry e → IsWritable e → n < length (line_of e) → entries_of (take n (closed_line durable e)) ≡ []
+torn_closed durable e n formed fits short =
+    ap entries_of (take-append-le n (line_of e) (closing durable) (omega (arith, short))) ∙ torn_line e n formed fits short
+
 -- the act of an append that left so much
 pub append_act : (path : List ℕ) (names : Names) (bytes : List ℕ) (luck : Luck) (answer : PlainAnswer) (n : ℕ) → names_of path ≡ Ok names
     → amount_left luck answer ≡ Some n → act_of (Append path bytes) luck answer ≡ AddEntries names (entries_of (take n bytes))
@@ -49,12 +74,12 @@ append_act path names bytes luck answer n is left =
     ∙ ap (λ o. act_with o (λ count. AddEntries names (entries_of (take count bytes)))) left
 
 pub whole_lines_add : WholeLinesAdd
-whole_lines_add e n formed fits long path names luck answer is left =
-    append_act path names (line_of e) luck answer n is left ∙ ap (AddEntries names) (whole_line e n formed fits long)
+whole_lines_add e n formed fits long durable path names luck answer is left =
+    append_act path names (closed_line durable e) luck answer n is left ∙ ap (AddEntries names) (whole_closed durable e n formed fits long)
 
 pub torn_lines_add_none : TornLinesAddNone
-torn_lines_add_none e n formed fits short path names luck answer is left =
-    append_act path names (line_of e) luck answer n is left ∙ ap (AddEntries names) (torn_line e n formed fits short)
+torn_lines_add_none e n formed fits short durable path names luck answer is left =
+    append_act path names (closed_line durable e) luck answer n is left ∙ ap (AddEntries names) (torn_closed durable e n formed fits short)
 
 nothing_at : (r : Result Names Fault) (names : Names → ℕ → Act) → act_at r (λ n. act_with None (names n)) ≡ Nothing
 nothing_at (Ok n) names = refl

@@ -6,7 +6,7 @@ use Rattle.cacache_core.specs.declared.errors.Fault.TheVariants.{NotFound, IsADi
 use Rattle.cacache_core.specs.declared.integrity.digest.Hash.{Hash}
 use Rattle.cacache_core.specs.Paths.{content_names, bucket_names_of}
 use Rattle.cacache_store.specs.declared.store.step.Step.TheVariants.{ReadAll, Open, Size, Exists}
-use Rattle.cacache_store.specs.declared.store.answer.Answer.TheVariants.{Done, Temp, Wrote, Took, Bytes, File as Opened, Got, There, Length, Names as Listed, Failed, NoMemory}
+use Rattle.cacache_store.specs.declared.store.answer.Answer.TheVariants.{Done, Temp, Wrote, Took, Bytes, File as Opened, Got, There, Length, Names as Listed, Synced, Failed, NoMemory}
 use Rattle.cacache_store.specs.Plain.{PlainStep, PlainAnswer}
 use Rattle.cacache_disk.specs.declared.luck.Luck.{Luck}
 use Rattle.cacache_disk.specs.declared.luck.Luck.TheVariants.{Plain, Fail, Take}
@@ -40,6 +40,7 @@ failed_is (Got f b) own e = absurd cc
 failed_is (There b) own e = absurd cc
 failed_is (Length n) own e = absurd cc
 failed_is (Listed l) own e = absurd cc
+failed_is (Synced f) own e = absurd cc
 failed_is (Failed f) own e = cc
 failed_is (NoMemory s) own e = absurd cc
 

@@ -5,7 +5,7 @@ use Rattle.std.specs.Prelude.{Result, IfOk}
 use Rattle.cacache_core.specs.declared.errors.Fault.{Fault}
 use Rattle.cacache_core.specs.declared.errors.Fault.TheVariants.{NotFound, IsADirectory, InvalidInput}
 use Rattle.cacache_store.specs.declared.store.plain.PlainTemp.{PlainTemp}
-use Rattle.cacache_store.specs.declared.store.step.Step.TheVariants.{MakeDirs, CreateTemp, Write, Persist, Append, ReadAll, Open, Read, Size, Exists, Symlink, Copy, Reflink, HardLink, ReadDir, RemoveFile, RemoveDir}
+use Rattle.cacache_store.specs.declared.store.step.Step.TheVariants.{MakeDirs, CreateTemp, Write, Persist, Append, ReadAll, Open, Read, Size, Exists, Symlink, Copy, Reflink, HardLink, ReadDir, RemoveFile, RemoveDir, SyncTemp, SyncFile, SyncDir}
 use Rattle.cacache_store.specs.declared.store.answer.Answer.TheVariants.{Done, Took, Failed}
 use Rattle.cacache_store.specs.Plain.{PlainStep, PlainAnswer}
 use Rattle.cacache_disk.specs.declared.luck.Luck.{Luck}
@@ -17,7 +17,7 @@ use Rattle.cacache_disk.specs.Tree.{Tree, Names, look, put, cut, bytes_of}
 use Rattle.cacache_disk.specs.Rooted.{is_folder}
 use Rattle.cacache_disk.specs.LedTo.{dirs, free, known, kept, replaceable, writable, file_at, linked, removable, emptied, folder}
 use Rattle.cacache_disk.specs.Apply.{apply, plain, unless, taken, made_up, making, make_some}
-use Rattle.cacache_entry.specs.Entry.{piece_of}
+use Rattle.cacache_entry.specs.Entry.{piece_of, closing}
 use Rattle.cacache_entry.specs.Bucket.{entries_of}
 use Rattle.cacache_value.specs.Kinds.{PathKind, Content, Bucket, Temporary, Way, Elsewhere, path_kind, IsFor}
 use Rattle.cacache_value.specs.Value.{InFile, wide_value}
@@ -265,7 +265,7 @@ module _ (home : Option Names) (t : Tree) (placed : Placed home t) where
   step_kept (Persist f p) luck is = (persist_placed f p luck is.1, persist_acted f p luck is.0 is.1)
   step_kept (Append p bytes) luck is =
       subst (λ b. Placed home (apply t (Append p b) luck).1 × Acted home t (Append p b) luck (apply t (Append p b) luck)) (sym is.1.same)
-      (append_kept p (piece_of is.1.entry) luck (names_of p) refl is.0)
+      (append_kept p (piece_of is.1.entry ++ closing is.1.durable) luck (names_of p) refl is.0)
   step_kept (ReadAll p) luck is = quiet (ReadAll p) luck (λ most. asked_only (file_at t p IsADirectory) _)
   step_kept (Open p) luck is = quiet (Open p) luck (λ most. asked_only (file_at t p IsADirectory) _)
   step_kept (Read f size) luck is = quiet (Read f size) luck (λ most. (placed, refl))
@@ -278,3 +278,6 @@ module _ (home : Option Names) (t : Tree) (placed : Placed home t) where
   step_kept (ReadDir p) luck is = quiet (ReadDir p) luck (λ most. asked_only (folder t p) _)
   step_kept (RemoveFile p) luck is = (drop_placed p luck, drop_acted p luck)
   step_kept (RemoveDir p) luck is = (drop_folder_placed p luck, drop_folder_acted p luck)
+  step_kept (SyncTemp f) luck is = quiet (SyncTemp f) luck (λ most. (placed, refl))
+  step_kept (SyncFile p) luck is = quiet (SyncFile p) luck (λ most. asked_only (file_at t p IsADirectory) _)
+  step_kept (SyncDir p) luck is = quiet (SyncDir p) luck (λ most. asked_only (folder t p) _)

@@ -1,12 +1,12 @@
 -- Which trees a cache's steps lead to, and which steps its calls make.
-use Rattle.std.specs.Prelude.{◌≡◌, ℕ, List, Option, None, Some}
+use Rattle.std.specs.Prelude.{◌≡◌, ℕ, Bool, List, Option, None, Some}
 use Rattle.cacache_store.specs.declared.store.step.Step.TheVariants.{MakeDirs, CreateTemp, Persist, Append, Symlink, Copy, Reflink, HardLink}
 use Rattle.cacache_store.specs.Plain.{PlainStep}
 use Rattle.cacache_core.specs.PathNames.{Names}
 use Rattle.cacache_disk.specs.declared.node.Node.{Node}
 use Rattle.cacache_disk.specs.declared.node.Node.TheVariants.{Folder, File, Link}
 use Rattle.cacache_disk.specs.Tree.{Tree, look}
-use Rattle.cacache_entry.specs.Entry.{Entry, line_of}
+use Rattle.cacache_entry.specs.Entry.{Entry, closed_line}
 use Rattle.cacache_entry.specs.FittingEntries.{IsEntry, IsWritable}
 use Rattle.cacache_value.specs.Kinds.{PathKind, Content, Bucket, Temporary, Way, Stray, Elsewhere, path_kind, IsFor}
 
@@ -27,12 +27,13 @@ MayStand home (Some (Link target)) other = ⊥
 abbrev pub Placed : Option Names → Tree → Type 0
 Placed home t = (names : Names) → MayStand home (look t names) (path_kind home names)
 
--- the line of an entry that can be written
+-- the line of an entry that can be written, as a commit appends it
 pub record IsEntryLine (bytes : List ℕ) : Type 0 where
   pub entry : Entry
   pub formed : IsEntry entry
   pub fits : IsWritable entry
-  pub same : bytes ≡ line_of entry
+  pub durable : Bool
+  pub same : bytes ≡ closed_line durable entry
 
 -- a step that a call of the cache may make: it puts things where they belong, and exports elsewhere
 abbrev pub Proper : Option Names → PlainStep → Type 0

@@ -1,12 +1,12 @@
 -- The laws of the cache's value.
-use Rattle.std.specs.Prelude.{◌≡◌, ◌≤◌, ◌<◌, ℕ, false, List, [], ◌∷◌, ◌++◌, Option, None, Some, Ok, length}
+use Rattle.std.specs.Prelude.{◌≡◌, ◌≤◌, ◌<◌, ℕ, Bool, false, List, [], ◌∷◌, ◌++◌, Option, None, Some, Ok, length}
 use Rattle.cacache_core.specs.PathNames.{Names, names_of}
 use Rattle.cacache_store.specs.declared.store.step.Step.TheVariants.{Append}
 use Rattle.cacache_store.specs.Plain.{PlainStep, PlainAnswer}
 use Rattle.cacache_disk.specs.declared.luck.Luck.{Luck}
 use Rattle.cacache_disk.specs.Tree.{Tree, bare}
 use Rattle.cacache_disk.specs.Apply.{apply}
-use Rattle.cacache_entry.specs.Entry.{Entry, line_of}
+use Rattle.cacache_entry.specs.Entry.{Entry, line_of, closed_line}
 use Rattle.cacache_entry.specs.FittingEntries.{IsEntry, IsWritable}
 use Rattle.cacache_core.specs.Paths.{bucket_names_of}
 use Rattle.cacache_value.specs.Kinds.{is_path_of}
@@ -46,14 +46,14 @@ TreesShow = (home : Option Names) (t : Tree) → Placed home t → Rooted t → 
 
 -- ---- appends
 
--- an append of an entry's line of which n bytes were left adds these entries
+-- an append of an entry's line, durable or not, of which n bytes were left adds these entries
 abbrev pub LineAdds : Entry → ℕ → List Entry → Type 0
 LineAdds e n entries =
-    (path : List ℕ) (names : Names) (luck : Luck) (answer : PlainAnswer)
+    (durable : Bool) (path : List ℕ) (names : Names) (luck : Luck) (answer : PlainAnswer)
     → names_of path ≡ Ok names → amount_left luck answer ≡ Some n
-    → act_of (Append path (line_of e)) luck answer ≡ AddEntries names entries
+    → act_of (Append path (closed_line durable e)) luck answer ≡ AddEntries names entries
 
--- where all of the line was left, its entry
+-- where all of the line was left, its entry; the LF that closes it may be missing
 abbrev pub WholeLinesAdd : Type 0
 WholeLinesAdd =
     (e : Entry) (n : ℕ) → IsEntry e → IsWritable e → length (line_of e) ≤ n → LineAdds e n (e ∷ [])

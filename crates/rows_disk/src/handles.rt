@@ -27,6 +27,7 @@ pub(crate) fn handle_in(answer: PlainAnswer) -> Option<Handle> {
         }
         Answer::Temp(temp) => Some(Handle::Temp(temp)),
         Answer::Wrote(temp, _) => Some(Handle::Temp(temp)),
+        Answer::Synced(temp) => Some(Handle::Temp(temp)),
         other => {
             let_go(other);
             None

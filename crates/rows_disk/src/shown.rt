@@ -74,6 +74,7 @@ pub(crate) fn shown_answer(alloc: Global, answer: &PlainAnswer) -> Result<String
         Answer::There(is) => named(alloc, "There", if *is { "yes" } else { "no" }),
         Answer::Length(count) => format!(in alloc; "Length {count}"),
         Answer::Names(listing) => shown_names(alloc, listing),
+        Answer::Synced(temp) => named(alloc, "Synced", shown_temp(alloc, temp)?.as_str()),
         Answer::Failed(fault) => format!(in alloc; "Failed {fault:?}"),
         Answer::NoMemory(_) => String::from_str(alloc, "NoMemory"),
     }

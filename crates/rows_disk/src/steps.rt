@@ -20,6 +20,8 @@ fn one_path(alloc: Global, kind: &str, path: &str) -> Result<PlainStep, Flaw> {
         "ReadDir" => Ok(Step::ReadDir(path)),
         "RemoveFile" => Ok(Step::RemoveFile(path)),
         "RemoveDir" => Ok(Step::RemoveDir(path)),
+        "SyncFile" => Ok(Step::SyncFile(path)),
+        "SyncDir" => Ok(Step::SyncDir(path)),
         _ => Err(Flaw::NotRead),
     }
 }
@@ -47,6 +49,12 @@ fn writing(
     let bytes = bytes_of(alloc, bytes)?;
     let temp = temp_of(alloc, held, temp)?;
     Ok(Step::Write(temp, bytes))
+}
+
+/// A sync of a temporary file, by its word.
+fn syncing(alloc: Global, held: &mut Option<Handle>, temp: &str) -> Result<PlainStep, Flaw> {
+    let temp = temp_of(alloc, held, temp)?;
+    Ok(Step::SyncTemp(temp))
 }
 
 /// A move of a temporary file, by words.
@@ -92,7 +100,10 @@ pub(crate) fn step_of(
         second,
     } = words;
     let Some(second) = second else {
-        return one_path(alloc, kind, first);
+        return match kind {
+            "SyncTemp" => syncing(alloc, held, first),
+            _ => one_path(alloc, kind, first),
+        };
     };
     match kind {
         "Write" => writing(alloc, held, first, second),

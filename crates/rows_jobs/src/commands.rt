@@ -40,10 +40,11 @@ fn expected_of(alloc: Global, word: &str) -> Result<Option<Integrity>, Flaw> {
     Ok(Some(integrity_of(alloc, word)?))
 }
 
-/// The options that a size and an integrity make.
+/// The options that a size and an integrity make, and perhaps `durable`.
 fn options_of(alloc: Global, words: &str) -> Result<Options, Flaw> {
     let (size, integrity) = cut(words);
     let size = size_of(size)?;
+    let (integrity, durable) = cut(integrity);
     let integrity = expected_of(alloc, integrity)?;
     Ok(Options {
         algorithm: Algorithm::Sha256,
@@ -51,6 +52,7 @@ fn options_of(alloc: Global, words: &str) -> Result<Options, Flaw> {
         integrity,
         metadata: Json::new(Value::Null),
         raw_metadata: None,
+        durable: durable == "durable",
     })
 }
 

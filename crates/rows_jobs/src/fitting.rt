@@ -113,6 +113,42 @@ fn created(path: &Text, words: &str) -> Result<Told, Flaw>
     })
 }
 
+/// A copy of bytes that may be known, with one owner more.
+fn known_again(bytes: &Option<Bytes>) -> Result<Option<Bytes>, AllocError>
+    ensures { IfOk result (λ again. again ≡ bytes.now) }
+{
+    match bytes {
+        None => Ok(None),
+        Some(bytes) => Ok(Some(bytes.share()?)),
+    }
+}
+
+/// The same temporary file once more.
+fn temp_again(temp: &PlainTemp) -> Result<PlainTemp, AllocError>
+    ensures { IfOk result (λ again. again ≡ temp.now) }
+{
+    let path = temp.path.clone()?;
+    Ok(PlainTemp {
+        path,
+        bytes: known_again(&temp.bytes)?,
+    })
+}
+
+/// The answer to a sync of the temporary file.
+fn synced(temp: &PlainTemp, words: &str) -> Result<Told, Flaw>
+    ensures fits { IfOk result (λ told. Fits (Step.SyncTemp temp.now) told.answer) }
+    ensures copy { IfOk result (λ told. told.copy ≡ told.answer) }
+    ensures made { IfOk result (λ told. is_no_memory told.answer ≡ false) }
+{
+    let _none = behind("Synced", words)?;
+    let first = temp_again(temp)?;
+    let second = temp_again(temp)?;
+    Ok(Told {
+        answer: Answer::Synced(first),
+        copy: Answer::Synced(second),
+    })
+}
+
 /// The answer to a read of at most so many bytes.
 fn got(alloc: Global, file: &PlainFile, max: usize, words: &str) -> Result<Told, Flaw>
     ensures fits { IfOk result (λ told. Fits (Step.Read file.now max) told.answer) }
@@ -148,6 +184,7 @@ fn on_bytes(alloc: Global, step: &PlainStep, words: &str) -> Result<Told, Flaw>
             })
         }
         Step::Read(file, max) => got(alloc, file, *max, words),
+        Step::SyncTemp(temp) => synced(temp, words),
         Step::ReadAll(_) => {
             let (bytes, again) = two_of(alloc, "Bytes", words)?;
             Ok(Told {
@@ -200,7 +237,9 @@ fn on_done(alloc: Global, step: &PlainStep, words: &str) -> Result<Told, Flaw>
         | Step::Reflink(_, _)
         | Step::HardLink(_, _)
         | Step::RemoveFile(_)
-        | Step::RemoveDir(_) => {
+        | Step::RemoveDir(_)
+        | Step::SyncFile(_)
+        | Step::SyncDir(_) => {
             let _none = behind("Done", words)?;
             Ok(Told {
                 answer: Answer::Done,

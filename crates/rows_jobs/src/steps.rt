@@ -17,6 +17,8 @@ fn on_path(step: &PlainStep) -> Option<(&'static str, &Text)> {
         Step::ReadDir(path) => Some(("ReadDir", path)),
         Step::RemoveFile(path) => Some(("RemoveFile", path)),
         Step::RemoveDir(path) => Some(("RemoveDir", path)),
+        Step::SyncFile(path) => Some(("SyncFile", path)),
+        Step::SyncDir(path) => Some(("SyncDir", path)),
         _ => None,
     }
 }
@@ -46,6 +48,7 @@ pub(crate) fn shown_step(alloc: Global, step: &PlainStep) -> Result<String, Allo
             let line = word_of(bytes.as_slice());
             format!(in alloc; "Append {path} {line}")
         }
+        Step::SyncTemp(_) => String::from_str(alloc, "SyncTemp"),
         Step::Read(_, most) => format!(in alloc; "Read {most}"),
         _ => String::from_str(alloc, "another step"),
     }

@@ -1,5 +1,5 @@
 //! Options of a row: words as `size=5`, `time=7`, `algorithm=sha1`, `integrity=..`, `metadata=..`, `nested=126` for so
-//! many arrays, one in another, and `raw=0,255` for bytes.
+//! many arrays, one in another, `raw=0,255` for bytes, and `durable`.
 use crate::calls::{algorithm_of, integrity_of};
 use cacache::{Algorithm, Integrity, Value, WriteOpts};
 use cacache_core::keeping::let_go;
@@ -53,14 +53,16 @@ enum Setting {
     Integrity(Integrity),
     Metadata(Value),
     Raw(Vec<u8>),
+    Durable,
 }
 
-/// What a word of metadata or of raw metadata sets.
+/// What a word of metadata or of raw metadata sets, or `durable`.
 fn metadata_setting(alloc: Global, name: &str, text: &str) -> Result<Setting, Flaw> {
     match name {
         "metadata" => Ok(Setting::Metadata(metadata_of(alloc, text)?)),
         "nested" => Ok(Setting::Metadata(nested(alloc, number_of(text)?)?)),
         "raw" => Ok(Setting::Raw(raw_of(alloc, text)?)),
+        "durable" => Ok(Setting::Durable),
         _ => Err(Flaw::NotRead),
     }
 }
@@ -86,6 +88,7 @@ fn with(opts: WriteOpts, setting: Setting) -> WriteOpts {
         Setting::Integrity(integrity) => opts.integrity(integrity),
         Setting::Metadata(value) => opts.metadata(value),
         Setting::Raw(bytes) => opts.raw_metadata(bytes),
+        Setting::Durable => opts.durable(true),
     }
 }
 

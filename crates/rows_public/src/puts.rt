@@ -25,6 +25,7 @@ fn put_with(key: Text, data: Bytes, size: Option<usize>, integrity: Option<Integ
             integrity,
             metadata: Json::new(Value::Null),
             raw_metadata: None,
+            durable: false,
         },
     })
 }

@@ -36,15 +36,16 @@ pub(crate) const CONTENTS: [Sample; 3] = [
 ];
 
 /// The kinds of calls; some come more often.
-const KINDS: [&str; 43] = [
+const KINDS: [&str; 44] = [
     "put",
     "put",
     "put",
-    "put",
-    "put",
+    "put_durable",
+    "put_durable",
     "put_hash",
     "insert",
     "insert_raw",
+    "insert_durable",
     "delete",
     "find",
     "find",
@@ -128,6 +129,7 @@ fn options_of(
     algorithm: Algorithm,
     integrity: Option<Integrity>,
     raw_metadata: Option<Bytes>,
+    durable: bool,
 ) -> Options {
     Options {
         algorithm,
@@ -135,10 +137,11 @@ fn options_of(
         integrity,
         metadata: Json::new(Value::Null),
         raw_metadata,
+        durable,
     }
 }
 
-/// A link to a random target.
+/// A link to a random target. It asks to be durable, which links ignore.
 fn link_of(
     alloc: Global,
     random: &mut Random,
@@ -150,7 +153,7 @@ fn link_of(
         key,
         target: random_target(alloc, random)?,
         moment,
-        options: options_of(algorithm, None, None),
+        options: options_of(algorithm, None, None, true),
     }))
 }
 
@@ -165,7 +168,7 @@ pub(crate) fn random_kind(random: &mut Random) -> &'static str {
 /// A random content, mostly the first where it isn't put.
 fn random_content(random: &mut Random, kind: &str) -> Sample {
     let count = match kind {
-        "put" | "put_hash" => 3,
+        "put" | "put_durable" | "put_hash" => 3,
         _ => 6,
     };
     CONTENTS.get(random.below(count)).copied().unwrap_or(HELLO)
@@ -210,7 +213,7 @@ fn export_of(
     Ok(Command::Export(source, export))
 }
 
-/// A put of this content, under the key or under none.
+/// A put of this content, under the key or under none, durable or not.
 fn put_of(
     alloc: Global,
     kind: &str,
@@ -219,17 +222,17 @@ fn put_of(
     moment: u128,
 ) -> Result<Command, AllocError> {
     let (text, algorithm, _) = sample;
-    let key = if kind == "put" {
-        Some(Text::from_str(alloc, name)?)
-    } else {
+    let key = if kind == "put_hash" {
         None
+    } else {
+        Some(Text::from_str(alloc, name)?)
     };
     let data = Bytes::new(alloc, Vec::from_slice(alloc, text.as_bytes())?)?;
     Ok(Command::Put(Put {
         key,
         data,
         moment,
-        options: options_of(algorithm, None, None),
+        options: options_of(algorithm, None, None, kind == "put_durable"),
     }))
 }
 
@@ -252,7 +255,7 @@ fn insert_of(
     Ok(Command::Insert(Insert {
         key,
         moment,
-        options: options_of(algorithm, Some(integrity), raw),
+        options: options_of(algorithm, Some(integrity), raw, kind == "insert_durable"),
     }))
 }
 
@@ -280,7 +283,7 @@ pub(crate) fn random_command(
             let (_, algorithm, _) = sample;
             link_of(alloc, random, key, algorithm, moment)
         }
-        "insert" | "insert_raw" => insert_of(alloc, kind, name, sample, moment),
+        "insert" | "insert_raw" | "insert_durable" => insert_of(alloc, kind, name, sample, moment),
         _ => put_of(alloc, kind, name, sample, moment),
     }
 }

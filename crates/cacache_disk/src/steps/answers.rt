@@ -40,7 +40,7 @@ fn copy_of_file(file: &PlainFile) -> Result<PlainFile, AllocError>
 }
 
 /// A copy of a temporary file, its bytes shared.
-fn copy_of_temp(temp: &PlainTemp) -> Result<PlainTemp, AllocError>
+pub(crate) fn copy_of_temp(temp: &PlainTemp) -> Result<PlainTemp, AllocError>
     ensures { IfOk result (λ copy. copy ≡ temp.now) }
 {
     let path = temp.path.clone()?;
@@ -80,6 +80,7 @@ pub(crate) fn copy_of(
         Answer::There(is) => Ok(Answer::There(*is)),
         Answer::Length(count) => Ok(Answer::Length(*count)),
         Answer::Names(names) => Ok(Answer::Names(names.copy(alloc)?)),
+        Answer::Synced(temp) => Ok(Answer::Synced(copy_of_temp(temp)?)),
         Answer::Failed(fault) => Ok(Answer::Failed(*fault)),
         Answer::NoMemory(_) => unreachable!(),
     }

@@ -11,6 +11,7 @@ use cacache_core::bytes::Bytes;
 use cacache_core::text::Text;
 use cacache_store::store::{Answer, FileHandle, Step, TempFile, TempHandle};
 use std::alloc::Global;
+use std::fs::OpenFile;
 use std::io;
 use std::io::{Read, Write};
 
@@ -44,6 +45,21 @@ pub(crate) fn written<F: FileHandle, W: Write + Drop>(
     match temp.write_some(bytes.as_slice()) {
         Ok(count) => Answer::Wrote(temp, count),
         Err(error) => refused(error, Step::Write(temp, bytes)),
+    }
+}
+
+/// Does a `SyncTemp` and answers it.
+pub(crate) fn synced<F: FileHandle, W: Write + OpenFile + Drop>(
+    temp: FolderTemp<W>,
+) -> Answer<F, FolderTemp<W>>
+    ensures fits { Fits (plain_step F.seen seen_temp (Step.SyncTemp temp))
+        (plain_answer F.seen seen_temp result) }
+    ensures whole { HandsBackWhole (plain_step F.seen seen_temp (Step.SyncTemp temp))
+        (plain_answer F.seen seen_temp result) }
+{
+    match temp.sync() {
+        Ok(()) => Answer::Synced(temp),
+        Err(error) => refused(error, Step::SyncTemp(temp)),
     }
 }
 

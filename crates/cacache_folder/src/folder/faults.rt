@@ -11,13 +11,19 @@ use std::io;
 use std::io::ErrorKind;
 
 /// Whether the step may change something and then fail: it makes some of the folders, the empty file, the file or a
-/// part of its line, or a part of a copy.
+/// part of its line, or a part of a copy; or it syncs, and the system may have lost what it was to sync.
 fn may_do_a_part<F: FileHandle, T: TempHandle>(step: &Step<F, T>) -> bool
     ensures { result ≡ does_a_part (plain_step F.seen T.seen step.now) }
 {
     matches!(
         step,
-        Step::MakeDirs(_) | Step::CreateTemp(_) | Step::Append(_, _) | Step::Copy(_, _)
+        Step::MakeDirs(_)
+            | Step::CreateTemp(_)
+            | Step::Append(_, _)
+            | Step::Copy(_, _)
+            | Step::SyncTemp(_)
+            | Step::SyncFile(_)
+            | Step::SyncDir(_)
     )
 }
 

@@ -5,6 +5,7 @@ use crate::folder::again::write_again;
 use cacache_core::keeping::let_go;
 use cacache_core::text::Text;
 use cacache_store::store::{TempFile, TempHandle};
+use std::fs::OpenFile;
 use std::io;
 use std::io::Write;
 use std::rt::Files;
@@ -29,6 +30,14 @@ impl<F: Write + Drop> FolderTemp<F> {
         ensures { result.now ≡ self.now.path }
     {
         self.path.as_str()
+    }
+
+    /// Syncs the bytes that were written so far.
+    pub(crate) fn sync(&self) -> io::Result<()>
+    where
+        F: OpenFile,
+    {
+        self.file.sync_all()
     }
 
     /// Closes the file and removes it. The error says why it wasn't removed.

@@ -117,6 +117,8 @@ pub enum Answer<F, T> {
     Length(u64),
     /// What is in a folder.
     Names(Listing),
+    /// The temporary file, whose bytes would outlast a loss of power.
+    Synced(T),
     /// Why the step failed. A file that the step was given is dropped.
     Failed(Fault),
     /// Memory was refused and nothing changed: the step, handed back.

@@ -39,4 +39,10 @@ pub enum Step<F, T> {
     RemoveFile(Text),
     /// Removes an empty folder.
     RemoveDir(Text),
+    /// Waits until the temporary file's bytes would outlast a loss of power.
+    SyncTemp(T),
+    /// The same for the bytes of the file at the path.
+    SyncFile(Text),
+    /// The same for the names in a folder.
+    SyncDir(Text),
 }
