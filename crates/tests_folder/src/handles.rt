@@ -1,4 +1,4 @@
-//! Temporary files that are moved.
+//! Temporary files that are moved, and synced.
 use crate::common::{below, bytes_of, fresh};
 use crate::steps::end_of;
 use cacache_core::bytes::Bytes;
@@ -62,6 +62,19 @@ pub fn persisted<S: Store>(
     let target = below(alloc, root, target)?;
     match newer(alloc, root, store, path)? {
         Some(temp) => moved(alloc, store, temp, target),
+        None => String::from_str(alloc, "no file"),
+    }
+}
+
+/// Makes a temporary file with the bytes `newer` and syncs it. Returns how the line of the sync ends.
+pub fn synced<S: Store>(
+    alloc: Global,
+    root: &str,
+    store: &mut S,
+    path: &str,
+) -> Result<String, AllocError> {
+    match newer(alloc, root, store, path)? {
+        Some(temp) => end_of(alloc, store.step(Step::SyncTemp(temp))),
         None => String::from_str(alloc, "no file"),
     }
 }

@@ -48,6 +48,11 @@ RemoveFile /a: Failed IsADirectory
 RemoveDir /none: Failed NotFound
 RemoveDir /a: Failed NotEmpty
 RemoveDir /file: Failed NotADirectory
+SyncFile /none: Failed NotFound
+SyncFile /a: Failed IsADirectory
+SyncFile /file/f: Failed NotADirectory
+SyncDir /none: Failed NotFound
+SyncDir /file: Failed NotADirectory
 ReadAll /file: Bytes whole";
 
 const COPIED: &str = "\
@@ -104,6 +109,17 @@ Persist /temp2 /new/file: Failed NotADirectory
 Persist /temp3 /folder: Failed IsADirectory
 ReadAll /file: Bytes newer
 ReadAll /new: Bytes newer";
+
+const SYNCED: &str = "\
+MakeDirs /a: Done
+Append /a/file one: Took 3
+Symlink /a/file /link: Done
+SyncFile /a/file: Done
+SyncFile /link: Done
+SyncDir /a: Done
+SyncDir /: Done
+SyncTemp /temp: Synced
+ReadAll /a/file: Bytes one";
 
 const OPENED: &str = "\
 Append /file hello world: Took 11
@@ -162,6 +178,11 @@ fn links_are_followed_where_files_are_asked_for(rt: HostRuntime) -> Result<(), F
 #[test]
 fn a_temporary_file_replaces_a_file(rt: HostRuntime) -> Result<(), Fail> {
     all_come(rt, "moved", MOVED)
+}
+
+#[test]
+fn what_is_synced_stays_as_it_is(rt: HostRuntime) -> Result<(), Fail> {
+    all_come(rt, "synced", SYNCED)
 }
 
 #[test]

@@ -1,6 +1,6 @@
 //! Steps as lines of text: `Append /file one: Took 3` is a step, its paths below a folder, and its answer.
 use crate::common::{below, bytes_of};
-use crate::handles::persisted;
+use crate::handles::{persisted, synced};
 use crate::pieces::{given, pieces};
 use cacache_core::keeping::let_go;
 use cacache_core::text::Text;
@@ -19,6 +19,8 @@ fn short_step<F, T>(ask: &str, path: Text) -> Option<Step<F, T>> {
         "ReadDir" => Step::ReadDir(path),
         "RemoveFile" => Step::RemoveFile(path),
         "RemoveDir" => Step::RemoveDir(path),
+        "SyncFile" => Step::SyncFile(path),
+        "SyncDir" => Step::SyncDir(path),
         _ => return None,
     })
 }
@@ -74,6 +76,7 @@ fn shown<F, T>(alloc: Global, answer: &Answer<F, T>) -> Result<String, AllocErro
         Answer::Done => String::from_str(alloc, "Done"),
         Answer::NoMemory(_) => String::from_str(alloc, "NoMemory"),
         Answer::Temp(_) => String::from_str(alloc, "Temp"),
+        Answer::Synced(_) => String::from_str(alloc, "Synced"),
         Answer::File(_) => String::from_str(alloc, "File"),
         Answer::Took(count) => format!(in alloc; "Took {count}"),
         Answer::There(is) => format!(in alloc; "There {is}"),
@@ -125,6 +128,7 @@ pub fn end_after<S: Store>(
     let (ask, path, other) = split(words);
     match ask {
         "Persist" => persisted(alloc, root, store, path, other),
+        "SyncTemp" => synced(alloc, root, store, path),
         "Pieces" => pieces(alloc, store, below(alloc, root, path)?, other),
         "Gives" => given(alloc, store, below(alloc, root, path)?),
         _ => stepped(alloc, root, store, (ask, path, other)),

@@ -127,7 +127,10 @@ impl OpenFile for WatchedFile {
 
     fn sync_all(&self) -> io::Result<()> {
         note(&self.notes, "sync_all")?;
-        self.file.sync_all()
+        match self.ways.fault {
+            Some(kind) => Err(io::Error::from(kind)),
+            None => self.file.sync_all(),
+        }
     }
 
     fn sync_data(&self) -> io::Result<()> {

@@ -13,7 +13,7 @@ use std::{fs, io};
 /// The ways of an open file.
 #[derive(Clone, Copy)]
 pub struct Ways {
-    /// Why each read and write fails, and the question what kind of thing an entry of a folder is.
+    /// Why each read, write and sync fails, and the question what kind of thing an entry of a folder is.
     pub fault: Option<ErrorKind>,
     /// How many reads and writes are interrupted, before one goes through.
     pub interruptions: u32,
@@ -86,10 +86,13 @@ const CREATE: &str =
 /// A step with its answer, how it opens a file, and what else it asks for.
 type Row = (Ways, &'static str, &'static str, &'static str);
 
-const ASKED: [Row; 10] = [
+const ASKED: [Row; 13] = [
     (PLAIN, "Append /file one: Took 3", APPEND, "write;"),
     (PLAIN, "Append /file two: Took 3", APPEND, "write;"),
     (PLAIN, "ReadAll /file: Bytes onetwo", READ, "read;read;"),
+    (PLAIN, "SyncFile /file: Done", READ, "sync_all;"),
+    (PLAIN, "SyncDir /: Done", READ, "sync_all;"),
+    (PLAIN, "SyncTemp /synced: Synced", CREATE, "write;sync_all;"),
     (PLAIN, "Exists /file: There true", "", "metadata;"),
     (PLAIN, "CreateTemp /temp: Temp", CREATE, ""),
     (PLAIN, "CreateTemp /temp: Failed AlreadyExists", CREATE, ""),
@@ -141,7 +144,7 @@ const INTERRUPTED: [Row; 9] = [
     ),
 ];
 
-const FAILED: [Row; 4] = [
+const FAILED: [Row; 6] = [
     (PLAIN, "Append /file hello: Took 5", APPEND, "write;"),
     (
         BROKEN,
@@ -151,15 +154,29 @@ const FAILED: [Row; 4] = [
     ),
     (BROKEN, "ReadAll /file: Failed NotADirectory", READ, ""),
     (BROKEN, "ReadDir /: Names 1 0 0", "", "symlink_metadata;"),
+    (
+        BROKEN,
+        "SyncFile /file: Failed NotADirectory",
+        READ,
+        "sync_all;",
+    ),
+    (
+        BROKEN,
+        "SyncDir /: Failed NotADirectory",
+        READ,
+        "sync_all;",
+    ),
 ];
 
-const REFUSED: [Row; 7] = [
+const REFUSED: [Row; 9] = [
     (PLAIN, "Append /file hello: Took 5", APPEND, "write;"),
     (PLAIN, "CreateTemp /full: Failed Device", CREATE, ""),
     (PLAIN, "Append /full one: Failed Device", APPEND, ""),
     (PLAIN, "ReadAll /full: NoMemory", READ, ""),
     (FULL, "Append /file more: Failed Device", APPEND, ""),
     (FULL, "ReadAll /file: NoMemory", READ, ""),
+    (FULL, "SyncFile /file: Failed Device", READ, "sync_all;"),
+    (FULL, "SyncDir /: Failed Device", READ, "sync_all;"),
     (FULL, "ReadDir /: NoMemory", "", "symlink_metadata;"),
 ];
 
