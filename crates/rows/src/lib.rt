@@ -4,6 +4,7 @@
 
 mod flaw;
 mod names;
+pub mod random;
 mod report;
 mod tally;
 mod trial;

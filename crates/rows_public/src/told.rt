@@ -13,6 +13,9 @@ fn asked(alloc: Global, step: &PlainStep) -> Result<String, AllocError> {
         Step::CreateTemp(path) => ("CreateTemp", path, None),
         Step::ReadDir(path) => ("ReadDir", path, None),
         Step::ReadAll(path) => ("ReadAll", path, None),
+        Step::SyncTemp(file) => ("SyncTemp", &file.path, None),
+        Step::SyncFile(path) => ("SyncFile", path, None),
+        Step::SyncDir(path) => ("SyncDir", path, None),
         Step::Append(path, bytes) => ("Append", path, Some(bytes.len())),
         Step::Write(file, bytes) => ("Write", &file.path, Some(bytes.len())),
         Step::Persist(file, path) => return format!(in alloc; "Persist {} {path}", file.path),
@@ -33,6 +36,7 @@ fn answered(alloc: Global, answer: &PlainAnswer) -> Result<String, AllocError> {
         Answer::Took(count) => format!(in alloc; "took {count}"),
         Answer::Bytes(bytes) => format!(in alloc; "{} bytes", bytes.len()),
         Answer::Names(names) => format!(in alloc; "{} names", names.as_slice().len()),
+        Answer::Synced(_) => String::from_str(alloc, "synced"),
         Answer::Failed(fault) => format!(in alloc; "{fault:?}"),
         _ => String::from_str(alloc, "another answer"),
     }

@@ -22,7 +22,6 @@ mod outcomes;
 mod outside;
 mod pieces;
 mod play;
-mod random;
 mod replies;
 mod row;
 mod story;
@@ -30,8 +29,8 @@ mod tally;
 mod value;
 
 use play::{Counts, played};
-use random::Random;
 use row::{Row, row_of};
+use rows::random::Random;
 use std::alloc::Global;
 use std::io;
 use std::process::ExitCode;

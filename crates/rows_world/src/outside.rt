@@ -1,8 +1,8 @@
 //! What lies outside the cache: the files that links may lead to, and where exports go.
-use crate::random::Random;
 use cacache_core::bytes::Bytes;
 use cacache_core::text::Text;
 use cacache_table::{Command, Export, How};
+use rows::random::Random;
 use std::alloc::{AllocError, Global};
 
 /// The folder of all that lies outside, which always stands.

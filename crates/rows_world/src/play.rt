@@ -1,7 +1,6 @@
 //! A list of random events in a world, and what the model says of its history.
 use crate::commands::{random_command, random_kind, random_luck};
 use crate::outside::{may_begin, outside_files};
-use crate::random::Random;
 use crate::replies::shown_reply;
 use crate::row::Row;
 use crate::story::Story;
@@ -13,6 +12,7 @@ use cacache_disk::Luck;
 use cacache_store::store::{Answer, PlainAnswer, PlainStep, Step};
 use cacache_table::Reply;
 use cacache_world::{Record, World, WorldFault};
+use rows::random::Random;
 use rows::words::cut;
 use std::alloc::{AllocError, Global};
 

@@ -2,13 +2,13 @@
 
 /// A source of numbers, which gives the same ones for the same seed: splitmix64.
 #[derive(Drop)]
-pub(crate) struct Random {
+pub struct Random {
     state: u64,
 }
 
 impl Random {
     /// The source of this seed.
-    pub(crate) fn new(seed: u64) -> Random {
+    pub fn new(seed: u64) -> Random {
         Random { state: seed }
     }
 
@@ -22,7 +22,7 @@ impl Random {
     }
 
     /// A number below this one; 0 where there is none.
-    pub(crate) fn below(&mut self, count: usize) -> usize {
+    pub fn below(&mut self, count: usize) -> usize {
         match self.next().checked_rem(count as u64) {
             Some(number) => number as usize,
             None => 0,
@@ -30,7 +30,7 @@ impl Random {
     }
 
     /// One of these; None where there is none.
-    pub(crate) fn pick<'a, T>(&mut self, items: &'a [T]) -> Option<&'a T> {
+    pub fn pick<'a, T>(&mut self, items: &'a [T]) -> Option<&'a T> {
         items.get(self.below(items.len()))
     }
 }
