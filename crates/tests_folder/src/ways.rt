@@ -160,12 +160,7 @@ const FAILED: [Row; 6] = [
         READ,
         "sync_all;",
     ),
-    (
-        BROKEN,
-        "SyncDir /: Failed NotADirectory",
-        READ,
-        "sync_all;",
-    ),
+    (BROKEN, "SyncDir /: Failed NotADirectory", READ, "sync_all;"),
 ];
 
 const REFUSED: [Row; 9] = [
