@@ -1,0 +1,12 @@
+pub mod StepCases
+pub mod UnchangedPaths
+pub mod KeptPaths
+pub mod SyncedFolders
+pub mod LostTrees
+pub mod Contents
+pub mod Buckets
+pub mod Commits
+pub mod SparedTemps
+pub mod CommitFolders
+pub mod LostValues
+pub mod LossCases

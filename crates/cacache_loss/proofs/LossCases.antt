@@ -1,0 +1,29 @@
+-- The single cases.
+use Rattle.std.proofs.Common.{◌≡◌, ℕ, Bool, true, false, cond, List, [], None, refl, ap, ◌∙◌}
+use Rattle.cacache_store.specs.declared.store.step.Step.TheVariants.{Persist, SyncTemp, SyncFile, SyncDir}
+use Rattle.cacache_store.specs.declared.store.answer.Answer.TheVariants.{Done}
+use Rattle.cacache_disk.proofs.Roots.{same_self}
+use Rattle.cacache_loss.specs.Fixing.{Place, fixed_after, place_now}
+use Rattle.cacache_loss.specs.Loss.{lead_folders, left_at, node_left}
+use Rattle.cacache_loss.specs.LossCases.{FailedSyncsFixNothing, LossRows, UndonePutsGo}
+
+pub loss_rows : LossRows
+loss_rows = record { durable = refl; not_durable = refl; two_lines = refl }
+
+gone : (b : Bool) (place : Place) (tail : List ℕ) → place.node ≡ None → cond b (node_left place.fixing tail place.node) None ≡ None
+gone true place tail e = rw e refl
+gone false place tail e = refl
+
+pub undone_puts_go : UndonePutsGo
+undone_puts_go home t new fixed f p from c loss is to free fixed_there undone own =
+    let left : left_at home new (fixed_after fixed t new (Persist f p) Done) loss c ≡ place_now t fixed c
+    = rw (undone, own, is, to, same_self c, fixed_there) refl in
+    gone (lead_folders (left_at home new (fixed_after fixed t new (Persist f p) Done) loss) [] c)
+    (left_at home new (fixed_after fixed t new (Persist f p) Done) loss c) (loss.tail c)
+    (ap (λ (place : Place). place.node) left ∙ free)
+
+pub failed_syncs_fix_nothing : FailedSyncsFixNothing
+failed_syncs_fix_nothing fixed t new (SyncTemp f) fault is = refl
+failed_syncs_fix_nothing fixed t new (SyncFile p) fault is = refl
+failed_syncs_fix_nothing fixed t new (SyncDir p) fault is = refl
+failed_syncs_fix_nothing fixed t new step fault is = absurd cc

@@ -1,0 +1,164 @@
+-- What a calm step does to a path of the cache.
+use Rattle.std.proofs.Common.{◌≡◌, ◌-◌, ◌==◌, ℕ, Bool, true, false, cond, List, [], ◌∷◌, ◌++◌, Option, None, Some, Ok, Err, take, refl, sym, ap, ◌∙◌}
+use Rattle.std.specs.Prelude.{Result, IfOk}
+use Rattle.cacache_core.specs.declared.errors.Fault.{Fault}
+use Rattle.cacache_core.specs.PathNames.{Names, names_of}
+use Rattle.cacache_store.specs.declared.store.plain.PlainTemp.{PlainTemp}
+use Rattle.cacache_store.specs.declared.store.step.Step.TheVariants.{MakeDirs, CreateTemp, Persist, Append}
+use Rattle.cacache_store.specs.declared.store.answer.Answer.TheVariants.{Done, Took, Failed}
+use Rattle.cacache_store.specs.Plain.{PlainStep, PlainAnswer}
+use Rattle.cacache_disk.specs.declared.luck.Luck.{Luck}
+use Rattle.cacache_disk.specs.declared.luck.Luck.TheVariants.{Plain, Fail, Take}
+use Rattle.cacache_disk.specs.declared.node.Node.{Node}
+use Rattle.cacache_disk.specs.declared.node.Node.TheVariants.{Folder, File}
+use Rattle.cacache_disk.specs.Tree.{Tree, look, put, cut, same_path, bytes_of}
+use Rattle.cacache_disk.specs.LedTo.{dirs, free, known, kept, replaceable, writable, or_fault, dirs_fault}
+use Rattle.cacache_disk.specs.Apply.{apply, plain, unless, making, make_some, if_missing, fails, fault_told}
+use Rattle.cacache_disk.proofs.Maps.{same_path-true}
+use Rattle.cacache_disk.proofs.PutNodes.{look-put, look-cut}
+use Rattle.cacache_disk.proofs.FoundNodes.{free_ok, kept_ok, replaceable_ok, and_then_ok, or_fault_none}
+use Rattle.cacache_disk.proofs.KeptFolders.{apply_tree, unless_tree}
+use Rattle.cacache_value.specs.Kinds.{Bucket, path_kind, IsFor, PathKind, Way}
+use Rattle.cacache_value.specs.Placed.{Placed}
+use Rattle.cacache_value.proofs.KindsApart.{not_true, further, way_here}
+use Rattle.cacache_value.proofs.FoundPaths.{Reaches, found, missing, bucket_reached, unreachable}
+
+-- what stands at another path stays
+pub put_misses : (t : Tree) (p q : Names) (node : Node) → same_path q p ≡ false → look (put t p node) q ≡ look t q
+put_misses t p q node misses = look-put t p node q ∙ ap (λ b. cond b (Some node) (look t q)) misses
+
+pub cut_misses : (t : Tree) (p q : Names) → same_path q p ≡ false → look (cut t p) q ≡ look t q
+cut_misses t p q misses = look-cut t p q ∙ ap (λ b. cond b None (look t q)) misses
+
+-- ---- folders that are made leave what stands
+
+make_one : (t : Tree) (p q : Names) (here : Option Node) (node : Node) (b c : Bool) → look t p ≡ here → look t q ≡ Some node → same_path q p ≡ c
+    → look (if_missing here (cond b t (put t p Folder)) t) q ≡ Some node
+make_one t p q None node true c is e same = e
+make_one t p q None node false true is e same = let none : None ≡ Some node = sym is ∙ ap (look t) (sym (same_path-true q p same)) ∙ e in absurd cc
+make_one t p q None node false false is e same = look-put t p Folder q ∙ ap (λ b. cond b (Some Folder) (look t q)) same ∙ e
+make_one t p q (Some n) node b c is e same = e
+
+pub make_keeps : (t : Tree) (above rest q : Names) (node : Node) (count : ℕ) → look t q ≡ Some node → look (make_some t above rest count) q ≡ Some node
+make_keeps t above [] q node count e = e
+make_keeps t above (name ∷ rest) q node count e =
+    make_keeps (if_missing (look t (above ++ name ∷ [])) (cond (count == 0) t (put t (above ++ name ∷ []) Folder)) t)
+    (above ++ name ∷ []) rest q node (if_missing (look t (above ++ name ∷ [])) (count - 1) count) (make_one t (above ++ name ∷ []) q (look t (above ++ name ∷ [])) node (count == 0) (same_path q (above ++ name ∷ [])) refl e refl)
+
+-- no folder is made at a path that isn't on the way
+apart_one : (t : Tree) (p q : Names) (here : Option Node) (b : Bool) → same_path q p ≡ false → look (if_missing here (cond b t (put t p Folder)) t) q ≡ look t q
+apart_one t p q None true misses = refl
+apart_one t p q None false misses = put_misses t p q Folder misses
+apart_one t p q (Some node) b misses = refl
+
+pub make_apart : (home : Option Names) (l : PathKind) (t : Tree) (above rest q : Names) (count : ℕ) → path_kind home q ≡ l → (l ≡ Way → ⊥) → path_kind home (above ++ rest) ≡ Way
+    → look (make_some t above rest count) q ≡ look t q
+make_apart home l t above [] q count at apart way = refl
+make_apart home l t above (name ∷ rest) q count at apart way =
+    let here = way_here home above rest name way in
+    make_apart home l (if_missing (look t (above ++ name ∷ [])) (cond (count == 0) t (put t (above ++ name ∷ []) Folder)) t)
+    (above ++ name ∷ []) rest q (if_missing (look t (above ++ name ∷ [])) (count - 1) count) at apart (further home Way above rest name way)
+    ∙ apart_one t (above ++ name ∷ []) q (look t (above ++ name ∷ [])) (count == 0)
+    (not_true (same_path q (above ++ name ∷ [])) (λ e. apart (sym at ∙ ap (path_kind home) (same_path-true q (above ++ name ∷ []) e) ∙ here)))
+
+dirs_ok : (t : Tree) (p : List ℕ) (names : Names) → dirs t p ≡ Ok names → names_of p ≡ Ok names
+unfolding dirs
+dirs_ok t p names e =
+    let f = and_then_ok (names_of p) (λ names. or_fault (dirs_fault t [] names) names) names e in
+    f.1 ∙ ap Ok (or_fault_none (dirs_fault t [] f.0) f.0 names f.2).1
+
+-- ---- what becomes of a file that moves
+
+unless_case : {A : Type 0} (P : PlainAnswer × Tree → Type 0) (t : Tree) (r : Result A Fault) (go : A → PlainAnswer × Tree)
+    → ((fault : Fault) → P (Failed fault, t)) → ((a : A) → r ≡ Ok a → P (go a)) → P (unless r t go)
+unless_case P t (Ok a) go h k = k a refl
+unless_case P t (Err fault) go h k = h fault
+
+fails_case : (P : PlainAnswer × Tree → Type 0) (t left : Tree) (own : Option Fault) (fault : Fault)
+    → ((fault : Fault) → P (Failed fault, t)) → ((fault : Fault) → P (Failed fault, left)) → P (fails own fault t left)
+fails_case P t left None fault h k = k _
+fails_case P t left (Some own) fault h k = h own
+
+known_ok : (o : Option (List ℕ)) (bytes : List ℕ) → known o ≡ Ok bytes → o ≡ Some bytes
+known_ok None bytes e = absurd cc
+known_ok (Some old) bytes e = cc
+
+pub data PersistCase (t : Tree) (f : PlainTemp) (p : List ℕ) (o : PlainAnswer × Tree) : Type 0 where
+  refused : (fault : Fault) → o ≡ (Failed fault, t) → PersistCase t f p o
+  moved : (bytes : List ℕ) (old new : Names) → f.bytes ≡ Some bytes → names_of f.path ≡ Ok old → names_of p ≡ Ok new
+      → o ≡ (Done, put (cut t old) new (File bytes)) → PersistCase t f p o
+
+persist_plain : (t : Tree) (f : PlainTemp) (p : List ℕ) → PersistCase t f p (plain t (Persist f p) None)
+persist_plain t f p =
+    unless_case (PersistCase t f p) t (known f.bytes) _ (λ fault. refused fault refl) (λ bytes has.
+    unless_case (PersistCase t f p) t (kept t f.path) _ (λ fault. refused fault refl) (λ old there.
+    unless_case (PersistCase t f p) t (replaceable t p) _ (λ fault. refused fault refl) (λ new found.
+    moved bytes old new (known_ok f.bytes bytes has) (kept_ok t f.path old there).0 (replaceable_ok t p new found).0 refl)))
+
+pub persist_case : (t : Tree) (f : PlainTemp) (p : List ℕ) (luck : Luck) → PersistCase t f p (apply t (Persist f p) luck)
+unfolding apply
+persist_case t f p Plain = persist_plain t f p
+persist_case t f p (Take most) = persist_plain t f p
+persist_case t f p (Fail fault None) = fails_case (PersistCase t f p) t t (fault_told (plain t (Persist f p) None).0) fault (λ e. refused e refl) (λ e. refused e refl)
+persist_case t f p (Fail fault (Some n)) = fails_case (PersistCase t f p) t t (fault_told (plain t (Persist f p) None).0) fault (λ e. refused e refl) (λ e. refused e refl)
+
+-- ---- what becomes of a bucket
+
+abbrev pub grown : Tree → Names → List ℕ → ℕ → Tree
+grown t names bytes n = put t names (File (bytes_of (look t names) ++ take n bytes))
+
+pub data AppendCase (t : Tree) (p bytes : List ℕ) (o : PlainAnswer × Tree) : Type 0 where
+  unsent : (fault : Fault) → o ≡ (Failed fault, t) → AppendCase t p bytes o
+  took : (names : Names) (n : ℕ) → names_of p ≡ Ok names → o ≡ (Took n, grown t names bytes n) → AppendCase t p bytes o
+  torn : (names : Names) (fault : Fault) (n : ℕ) → names_of p ≡ Ok names → o ≡ (Failed fault, grown t names bytes n) → AppendCase t p bytes o
+
+append_reached : (t : Tree) (p bytes : List ℕ) (names : Names) (luck : Luck) → names_of p ≡ Ok names → Reaches names (writable t p)
+    → AppendCase t p bytes (apply t (Append p bytes) luck)
+unfolding apply
+append_reached t p bytes names Plain is (found w) = rw w (took names _ is refl)
+append_reached t p bytes names (Take most) is (found w) = rw w (took names _ is refl)
+append_reached t p bytes names (Fail fault None) is (found w) = rw w (unsent _ refl)
+append_reached t p bytes names (Fail fault (Some n)) is (found w) = rw w (torn names _ _ is refl)
+append_reached t p bytes names Plain is (missing w) = rw w (unsent _ refl)
+append_reached t p bytes names (Take most) is (missing w) = rw w (unsent _ refl)
+append_reached t p bytes names (Fail fault None) is (missing w) = rw w (unsent _ refl)
+append_reached t p bytes names (Fail fault (Some n)) is (missing w) = rw w (unsent _ refl)
+
+append_nowhere : (t : Tree) (p bytes : List ℕ) (fault : Fault) (luck : Luck) → writable t p ≡ Err fault → AppendCase t p bytes (apply t (Append p bytes) luck)
+unfolding apply
+append_nowhere t p bytes fault Plain w = rw w (unsent _ refl)
+append_nowhere t p bytes fault (Take most) w = rw w (unsent _ refl)
+append_nowhere t p bytes fault (Fail f None) w = rw w (unsent _ refl)
+append_nowhere t p bytes fault (Fail f (Some n)) w = rw w (unsent _ refl)
+
+append_at : (home : Option Names) (t : Tree) (p bytes : List ℕ) (luck : Luck) (r : Result Names Fault) → Placed home t → names_of p ≡ r
+    → IfOk r (λ n. path_kind home n ≡ Bucket) → AppendCase t p bytes (apply t (Append p bytes) luck)
+append_at home t p bytes luck (Ok names) placed is k = append_reached t p bytes names luck is (bucket_reached home t p names placed is k)
+append_at home t p bytes luck (Err fault) placed is k = append_nowhere t p bytes fault luck (unreachable t p fault is)
+
+pub append_case : (home : Option Names) (t : Tree) (p bytes : List ℕ) (luck : Luck) → Placed home t → IsFor home Bucket p → AppendCase t p bytes (apply t (Append p bytes) luck)
+append_case home t p bytes luck placed is = append_at home t p bytes luck (names_of p) placed refl is
+
+-- ---- what stands stays
+
+module _ (t : Tree) (q : Names) (here : Option Node) (there : look t q ≡ here) where
+  -- what a step leaves at the path
+  abbrev Same : Tree → Type 0
+  Same new = look new q ≡ here
+
+  -- a step keeps it that does so however much of it is done
+  pub step_keeps : (step : PlainStep) (luck : Luck) → ((most : Option ℕ) → Same (plain t step most).1) → Same (apply t step luck).1
+  step_keeps step luck h = apply_tree Same t step luck there h
+
+  -- what only asks keeps it
+  pub asked_keeps : {A : Type 0} (r : Result A Fault) (answer : A → PlainAnswer) → Same (unless r t (λ a. (answer a, t))).1
+  asked_keeps r answer = unless_tree Same r t (λ a. (answer a, t)) there (λ a is. there)
+
+  pub dirs_keep : (p : List ℕ) (luck : Luck) → ((names : Names) (count : ℕ) → names_of p ≡ Ok names → Same (make_some t [] names count)) → Same (apply t (MakeDirs p) luck).1
+  dirs_keep p luck made =
+      step_keeps (MakeDirs p) luck (λ most. unless_tree Same (dirs t p) t _ there (λ names found. made names (making most names) (dirs_ok t p names found)))
+
+  pub temp_keeps : (p : List ℕ) (luck : Luck) → ((names : Names) → names_of p ≡ Ok names → same_path q names ≡ false) → Same (apply t (CreateTemp p) luck).1
+  temp_keeps p luck misses =
+      step_keeps (CreateTemp p) luck (λ most. unless_tree Same (free t p) t _ there (λ names found.
+      put_misses t names q (File []) (misses names (free_ok t p names found).0) ∙ there))

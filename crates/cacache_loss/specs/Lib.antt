@@ -1,0 +1,10 @@
+pub mod Fixing
+pub mod Loss
+pub mod Moments
+pub mod LostTrees
+pub mod CalmMoves
+pub mod Syncs
+pub mod CommitFolders
+pub mod LossLaws
+pub mod LostValues
+pub mod LossCases
