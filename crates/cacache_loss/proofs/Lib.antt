@@ -3,6 +3,7 @@ pub mod UnchangedPaths
 pub mod KeptPaths
 pub mod SyncedFolders
 pub mod LostTrees
+pub mod ChangedNames
 pub mod Contents
 pub mod Buckets
 pub mod Commits

@@ -10,7 +10,8 @@ use Rattle.cacache_loss.specs.LossCases.{FailedSyncsFixNothing, LossRows, Undone
 pub loss_rows : LossRows
 loss_rows = record { durable = refl; not_durable = refl; two_lines = refl }
 
-gone : (b : Bool) (place : Place) (tail : List ℕ) → place.node ≡ None → cond b (node_left place.fixing tail place.node) None ≡ None
+-- nothing is left of a place with nothing
+pub gone : (b : Bool) (place : Place) (tail : List ℕ) → place.node ≡ None → cond b (node_left place.fixing tail place.node) None ≡ None
 gone true place tail e = rw e refl
 gone false place tail e = refl
 

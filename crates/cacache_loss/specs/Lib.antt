@@ -2,6 +2,7 @@ pub mod Fixing
 pub mod Loss
 pub mod Moments
 pub mod LostTrees
+pub mod ChangedNames
 pub mod CalmMoves
 pub mod Syncs
 pub mod CommitFolders

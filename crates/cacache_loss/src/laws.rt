@@ -4,6 +4,8 @@ ghost use Rattle.cacache_loss.specs.LossLaws.{SparedTempsAreLeft, BucketsSurvive
 ghost use Rattle.cacache_loss.specs.LossLaws.{EntriesSurvive, LookupsSurvive};
 ghost use Rattle.cacache_loss.specs.LostTrees.{MomentsFollowTrees, OpeningsStandWell};
 ghost use Rattle.cacache_loss.specs.LostTrees.{MovesKeepMoments, LossesLeaveTrees, FixedTreesStay};
+ghost use Rattle.cacache_loss.specs.ChangedNames.{OpeningsChangedNone, MovesChangeFew};
+ghost use Rattle.cacache_loss.specs.ChangedNames.{LossesLeaveOneTree, HistoriesLeaveCaches};
 ghost use Rattle.cacache_loss.specs.CommitFolders.{OwnFoldersAreEnough};
 ghost use Rattle.cacache_loss.specs.CommitFolders.{FiveForContents, FourForBuckets};
 ghost use Rattle.cacache_loss.specs.LostValues.{ContentsAreHeld, EntriesAreHeld};
@@ -29,6 +31,15 @@ pub fn tree_laws()
     ensures moments { MovesKeepMoments }
     ensures losses { LossesLeaveTrees }
     ensures fixed { FixedTreesStay }
+{}
+
+/// A loss leaves one tree, since finitely many names change: at each moment of a history that
+/// begins with a cache's tree, it is one of a cache, and reading steps show what that holds.
+pub fn history_laws()
+    ensures none { OpeningsChangedNone }
+    ensures few { MovesChangeFew }
+    ensures one { LossesLeaveOneTree }
+    ensures caches { HistoriesLeaveCaches }
 {}
 
 /// Which folders a durable commit has to sync: five for its content, four for its bucket.

@@ -4,4 +4,4 @@
 
 mod laws;
 
-pub use laws::{folder_laws, loss_cases, loss_laws, tree_laws, value_laws};
+pub use laws::{folder_laws, history_laws, loss_cases, loss_laws, tree_laws, value_laws};
