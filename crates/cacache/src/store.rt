@@ -1,5 +1,5 @@
 //! What a cache lies on: real folders, or a disk in memory.
-pub use cacache_disk::{Disk, Luck};
+pub use cacache_disk::{Disk, Luck, TreeItem, TreeNode};
 pub use cacache_folder::{FolderFile, FolderStore, FolderTemp};
 pub use cacache_memory::MemStore;
 pub use cacache_store::store::{

@@ -11,3 +11,5 @@ pub mod Roots
 pub mod Standing
 pub mod NeverMemory
 pub mod PathFolders
+pub mod PathTexts
+pub mod ToldNodes

@@ -5,3 +5,4 @@ pub mod Stops
 pub mod Plans
 pub mod Rooted
 pub mod Deepest
+pub mod AllStanding

@@ -9,7 +9,7 @@ use std::sync::Arc;
 
 /// All bytes of a file, which several owners may share. Contracts see the list of the bytes.
 #[derive(Debug, Drop)]
-pub(crate) struct Contents {
+pub struct Contents {
     shared: Arc<Vec<u8>, Global>,
 }
 
@@ -33,7 +33,7 @@ impl Contents {
     }
 
     /// These bytes. They are shared where they are all of a vector, and else copied.
-    pub(crate) fn of(bytes: Bytes) -> Result<Contents, AllocError>
+    pub fn of(bytes: Bytes) -> Result<Contents, AllocError>
         ensures { IfOk result (λ contents. contents ≡ bytes) }
     {
         Ok(Contents {
@@ -42,10 +42,17 @@ impl Contents {
     }
 
     /// How many bytes there are.
-    pub(crate) fn len(&self) -> usize
+    pub fn len(&self) -> usize
         ensures { result ≡ length self.now }
     {
         self.shared.len()
+    }
+
+    /// The bytes as a slice.
+    pub fn as_slice(&self) -> &[u8]
+        ensures { result.now ≡ self.now }
+    {
+        self.shared.as_slice()
     }
 
     /// The shared vector of the bytes.
@@ -56,7 +63,7 @@ impl Contents {
     }
 
     /// The same bytes with one owner more.
-    pub(crate) fn share(&self) -> Result<Contents, AllocError>
+    pub fn share(&self) -> Result<Contents, AllocError>
         ensures { IfOk result (λ contents. contents ≡ self.now) }
     {
         Ok(Contents {
@@ -65,7 +72,7 @@ impl Contents {
     }
 
     /// The same bytes with one owner more, as bytes to read.
-    pub(crate) fn bytes(&self) -> Result<Bytes, AllocError>
+    pub fn bytes(&self) -> Result<Bytes, AllocError>
         ensures { IfOk result (λ bytes. bytes ≡ self.now) }
     {
         let count = self.len();

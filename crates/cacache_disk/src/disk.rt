@@ -66,8 +66,16 @@ impl Disk {
         Ok(Disk { nodes })
     }
 
+    /// The disk with these nodes, each of which stands in a folder.
+    pub fn of(nodes: Nodes) -> Disk
+        requires { Rooted nodes }
+        ensures { result ≡ nodes }
+    {
+        Disk { nodes }
+    }
+
     /// The nodes by their paths.
-    pub(crate) fn nodes(&self) -> &Nodes
+    pub fn nodes(&self) -> &Nodes
         ensures same { result.now ≡ self.now }
         ensures rooted { Rooted self.now }
     {

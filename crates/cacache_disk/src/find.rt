@@ -1,7 +1,7 @@
 //! What a path leads to, or why it leads nowhere.
 ghost use Rattle.std.specs.Prelude.{◌≡◌, [], None, Ok, IfOk, IfErr, option_copied};
 ghost use Rattle.cacache_disk.specs.Tree.{look};
-ghost use Rattle.cacache_disk.specs.LedTo.{place, followed, leads, at, end_at, misfit, suited, file_at, kept, linked, emptied, dirs_fault};
+ghost use Rattle.cacache_disk.specs.LedTo.{place, followed, leads, writable, at, end_at, misfit, suited, file_at, kept, linked, emptied, dirs_fault};
 ghost use Rattle.cacache_disk.specs.Deepest.{MakesFrom};
 ghost use Rattle.cacache_disk.specs.Stops.{Stops, Blocks};
 
@@ -124,7 +124,7 @@ impl Disk {
 
     /// Where a path leads, and what stands there.
     #[tactic(auto, unfolding(crate::specs::LedTo::leads))]
-    fn leads(&self, path: &str) -> Result<(Path, Option<&Node>), Stop>
+    pub fn leads(&self, path: &str) -> Result<(Path, Option<&Node>), Stop>
         ensures ok { IfOk result (λ r. leads self.now path.now ≡ Ok r.0) }
         ensures node { IfOk result (λ r. option_copied r.1 ≡ look self.now r.0) }
         ensures err { IfErr result (λ stop. Stops stop (leads self.now path.now)) }
@@ -142,6 +142,15 @@ impl Disk {
     {
         let (names, node) = self.leads(path)?;
         suited(wanted, node, names)
+    }
+
+    /// The names of the file that a path leads to, or where it could be made.
+    #[tactic(auto, unfolding(crate::specs::LedTo::writable))]
+    pub fn writable(&self, path: &str) -> Result<Path, Stop>
+        ensures ok { IfOk result (λ names. writable self.now path.now ≡ Ok names) }
+        ensures err { IfErr result (λ stop. Stops stop (writable self.now path.now)) }
+    {
+        self.end_at(path, Wanted::NoFolder)
     }
 
     /// The bytes of the file that a path leads to. A folder there is the given fault.

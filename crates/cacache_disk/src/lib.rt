@@ -15,5 +15,11 @@ mod steps;
 mod stop;
 mod walk;
 
+pub use contents::Contents;
 pub use disk::Disk;
 pub use luck::Luck;
+pub use node::Node;
+pub use nodes::Nodes;
+pub use nodes::standing::{TreeItem, TreeNode};
+pub use path::Path;
+pub use stop::Stop;

@@ -11,10 +11,12 @@ use std::alloc::AllocError;
 
 /// What stands at a path of a disk.
 #[derive(Debug, Drop)]
-pub(crate) enum Node {
+pub enum Node {
+    /// A folder, whose names are paths of their own.
     Folder,
+    /// A file with its bytes.
     File(Contents),
-    /// The text of the path that it leads to.
+    /// A link: the text of the path that it leads to.
     Link(Text),
 }
 

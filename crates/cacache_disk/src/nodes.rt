@@ -6,6 +6,8 @@ ghost use Rattle.cacache_store.specs.Fits.{AreProperNames};
 ghost use Rattle.cacache_disk.specs.Tree.{look, put, cut, listing};
 ghost use Rattle.cacache_disk.specs.Apply.{lengthened};
 
+pub(crate) mod standing;
+
 use crate::contents::Contents;
 use crate::name::ProperNames;
 use crate::node::Node;
@@ -18,7 +20,7 @@ use std::marker::Model;
 
 /// The nodes of a disk, by their paths. Contracts see the tree: the node at each path.
 #[derive(Debug, Drop)]
-pub(crate) struct Nodes {
+pub struct Nodes {
     alloc: Global,
     nodes: BTreeMap<Path, Node>,
 }
@@ -39,7 +41,7 @@ impl Model for Nodes {
 
 impl Nodes {
     /// No nodes.
-    pub(crate) fn new(alloc: Global) -> Nodes
+    pub fn new(alloc: Global) -> Nodes
         ensures { result ≡ map.empty }
     {
         Nodes {
@@ -49,19 +51,19 @@ impl Nodes {
     }
 
     /// Where its memory comes from.
-    pub(crate) fn alloc(&self) -> Global {
+    pub fn alloc(&self) -> Global {
         self.alloc
     }
 
     /// What stands at the path.
-    pub(crate) fn node(&self, path: &Path) -> Option<&Node>
+    pub fn node(&self, path: &Path) -> Option<&Node>
         ensures { option_copied result ≡ look self.now path.now }
     {
         self.nodes.get(path)
     }
 
     /// Puts the node at the path, in place of what stands there.
-    pub(crate) fn put(&mut self, path: Path, node: Node) -> Result<(), AllocError>
+    pub fn put(&mut self, path: Path, node: Node) -> Result<(), AllocError>
         ensures ok { OnOk result (self.new ≡ put self.old path node) }
         ensures err { OnErr result (self.new ≡ self.old) }
     {
@@ -113,6 +115,17 @@ impl Nodes {
             }
         }
         Ok(names.into_listing())
+    }
+
+    /// The paths at which something stands, in their order.
+    pub fn paths(&self) -> Result<Vec<Path>, AllocError>
+        ensures { IfOk result (λ paths. paths.items ≡ map.keys self.now) }
+    {
+        let mut paths = Vec::new(self.alloc);
+        for path in self.nodes.keys() {
+            paths.push(path.clone()?)?;
+        }
+        Ok(paths)
     }
 
     /// Whether a folder has no names.

@@ -21,7 +21,7 @@ use std::marker::Model;
 
 /// The names of a path. Contracts see their list.
 #[derive(Debug, Drop)]
-pub(crate) struct Path {
+pub struct Path {
     names: Vec<ProperName>,
 }
 
@@ -35,7 +35,7 @@ impl Model for Path {
 
 impl Path {
     /// The top folder, which takes no memory.
-    pub(crate) fn top(alloc: Global) -> Path
+    pub fn top(alloc: Global) -> Path
         ensures { result ≡ [] }
     {
         Path {
@@ -44,7 +44,7 @@ impl Path {
     }
 
     /// The names of a path's text.
-    pub(crate) fn of(alloc: Global, text: &str) -> Result<Path, Stop>
+    pub fn of(alloc: Global, text: &str) -> Result<Path, Stop>
         ensures ok { IfOk result (λ names. names_of text.now ≡ Ok names) }
         ensures err { IfErr result (λ stop. Stops stop (names_of text.now)) }
     {
@@ -66,7 +66,8 @@ impl Path {
         Ok(names)
     }
 
-    pub(crate) fn len(&self) -> usize
+    /// How many names it has.
+    pub fn len(&self) -> usize
         ensures { result ≡ length self.now }
     {
         self.names.len()
@@ -79,7 +80,7 @@ impl Path {
     }
 
     /// Whether it has one name more than the folder, behind the folder's names.
-    pub(crate) fn is_in(&self, folder: &Path) -> bool
+    pub fn is_in(&self, folder: &Path) -> bool
         ensures same { result ≡ is_child folder.now self.now }
         ensures longer { OnTrue result (length self.now ≡ length folder.now + 1) }
     {
@@ -120,7 +121,7 @@ impl Path {
     }
 
     /// The first `count` names.
-    pub(crate) fn front(&self, alloc: Global, count: usize) -> Result<Path, AllocError>
+    pub fn front(&self, alloc: Global, count: usize) -> Result<Path, AllocError>
         requires { count ≤ length self.now }
         ensures { IfOk result (λ p. p ≡ take count self.now) }
     {

@@ -1,3 +1,6 @@
 mod LogSteps
 mod PlainLuck
 mod LoggedSteps
+mod PutItems
+mod ForeignLogs
+mod Receiving

@@ -1,3 +1,4 @@
 pub mod Replay
+pub mod ForeignLog
 pub mod PlantRefusals
 pub mod StoreKept

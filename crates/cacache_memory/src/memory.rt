@@ -2,13 +2,14 @@
 ghost use Rattle.std.specs.Prelude.{◌≡◌, ◌∷◌, ◌++◌, [], ◌<◌, Some, IfOk, IfErr, IfNone, OnOk, OnErr, OnSome, option_map, vec_len, vec_capacity};
 ghost use Rattle.std.specs.Result.{result_err};
 ghost use Rattle.cacache_core.specs.declared.errors.Error.TheVariants.{OutOfMemory};
-ghost use Rattle.cacache_store.specs.declared.store.log.LogItem.TheVariants.{Foreign, ForeignFolder};
-ghost use Rattle.cacache_store.specs.declared.store.step.Step.TheVariants.{MakeDirs};
+ghost use Rattle.cacache_store.specs.declared.store.log.LogItem.TheVariants.{Made, Foreign, ForeignFolder};
+ghost use Rattle.cacache_store.specs.declared.store.step.Step.TheVariants.{MakeDirs, Symlink};
 ghost use Rattle.cacache_store.specs.declared.store.answer.Answer.TheVariants.{Done};
 ghost use Rattle.cacache_store.specs.Fits.{Fits, Logs};
 ghost use Rattle.cacache_disk.specs.declared.luck.Luck.TheVariants.{Plain};
 ghost use Rattle.cacache_disk.specs.Apply.{apply, planted, fault_told};
-ghost use Rattle.cacache_memory.specs.Replay.{tree_of, IsLog, shown, AnsweredByDisk};
+ghost use Rattle.cacache_memory.specs.ForeignLog.{logged, foreign_log};
+ghost use Rattle.cacache_memory.specs.Replay.{tree_of, HappensOn, IsLog, shown, AnsweredByDisk};
 ghost use Rattle.cacache_memory.specs.PlantRefusals.{IsDueTo, IsEarned};
 
 use cacache_core::bytes::Bytes;
@@ -16,7 +17,7 @@ use cacache_core::errors;
 use cacache_core::errors::{Error, Fault};
 use cacache_core::keeping::let_go;
 use cacache_core::text::Text;
-use cacache_disk::{Disk, Luck};
+use cacache_disk::{Disk, Luck, TreeItem, TreeNode};
 use cacache_store::store::{Answer, LogItem, PlainFile, PlainTemp, Step, Store};
 use std::alloc::{AllocError, Global};
 use std::marker::Model;
@@ -110,6 +111,21 @@ impl MemStore {
         })
     }
 
+    /// A store that begins with all that stands on a disk, say one that a loss of power left. Its
+    /// log tells each folder and file as somebody else's, and each link as a step, in the order of
+    /// paths. No byte of a file is copied. The only error is `OutOfMemory`.
+    pub fn of(alloc: Global, disk: &Disk) -> errors::Result<MemStore>
+        ensures log { IfOk result (λ store. store ≡ foreign_log disk.now) }
+        ensures tree { IfOk result (λ store. tree_of store ≡ disk.now) }
+        ensures memory { IfErr result (λ error. error ≡ OutOfMemory) }
+    {
+        let mut store = MemStore::new(alloc)?;
+        for item in disk.standing()? {
+            store.receive(item)?;
+        }
+        Ok(store)
+    }
+
     /// All that happened so far, oldest first. Each item is what a disk did that had nothing but
     /// the top folder at first.
     pub fn log(&self) -> &[LogItem]
@@ -131,6 +147,15 @@ impl MemStore {
     {
         let path = Text::from_str(self.alloc, path)?;
         let bytes = Bytes::new(self.alloc, Vec::from_slice(self.alloc, bytes)?)?;
+        self.plant_shared(path, bytes)
+    }
+
+    /// Puts a file at the path as `plant` does, and shares its bytes.
+    fn plant_shared(&mut self, path: Text, bytes: Bytes) -> errors::Result<()>
+        ensures ok { OnOk result (self.new ≡ self.old ++ Foreign path bytes ∷ []) }
+        ensures err { OnErr result (self.new ≡ self.old) }
+        ensures earned { IsEarned (result_err (planted (tree_of self.old) path bytes)) result }
+    {
         make_room(&mut self.log)?;
         match self.disk.plant(path.as_str(), &bytes)? {
             Err(fault) => Err(refused(self.alloc, fault, "file", &path)),
@@ -158,6 +183,37 @@ impl MemStore {
                 note(&mut self.log, LogItem::ForeignFolder(path));
                 Ok(())
             }
+        }
+    }
+
+    /// Makes a link at the path, which is a step as any other.
+    fn link(&mut self, target: Text, path: Text) -> errors::Result<()>
+        ensures ok { OnOk result (self.new ≡ self.old ++ Made (Symlink target path) Done ∷ []) }
+        ensures earned { IsEarned
+            (fault_told (apply (tree_of self.old) (Symlink target path) Plain).0) result }
+    {
+        let at = path.clone()?;
+        match self.step(Step::Symlink(target, path)) {
+            Answer::Done => Ok(()),
+            Answer::Failed(fault) => Err(refused(self.alloc, fault, "link", &at)),
+            other => {
+                let_go(other);
+                Err(Error::OutOfMemory)
+            }
+        }
+    }
+
+    /// Puts what stands at a path of a disk at the same path.
+    fn receive(&mut self, item: TreeItem) -> errors::Result<()>
+        ensures ok { OnOk result (self.new ≡ self.old ++ logged item ∷ []) }
+        ensures err { HappensOn (tree_of self.old) (logged item)
+            → IfErr result (λ error. error ≡ OutOfMemory) }
+    {
+        let TreeItem { path, node } = item;
+        match node {
+            TreeNode::Folder => self.plant_folder(path.as_str()),
+            TreeNode::File(bytes) => self.plant_shared(path, bytes),
+            TreeNode::Link(target) => self.link(target, path),
         }
     }
 

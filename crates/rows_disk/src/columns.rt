@@ -5,7 +5,8 @@ use rows::words::column;
 /// The five columns of a row.
 #[derive(Clone, Copy)]
 pub(crate) struct Row<'a> {
-    /// A new disk with this, a new `store`, or `then`: what the row before left.
+    /// A new disk with this, a new `store`, one that begins with what the words after `of` say, or
+    /// `then`: what the row before left.
     pub(crate) before: &'a str,
     pub(crate) luck: &'a str,
     pub(crate) step: &'a str,

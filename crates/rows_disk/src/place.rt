@@ -126,11 +126,25 @@ fn found<E: Drop>(alloc: Global, bytes: Result<Option<Vec<u8>>, E>) -> Result<St
     String::from_str(alloc, word)
 }
 
+/// A store that begins with what a disk holds.
+fn store_of(alloc: Global, disk: &Disk) -> Result<Place, Flaw> {
+    match MemStore::of(alloc, disk) {
+        Ok(store) => Ok(Place::Store(store)),
+        Err(error) => {
+            let_go(error);
+            Err(Flaw::NoMemory)
+        }
+    }
+}
+
 impl Place {
     /// A new place with this.
     pub(crate) fn new(alloc: Global, before: &str) -> Result<Place, Flaw> {
         if before == "store" {
             return Ok(Place::Store(MemStore::new(alloc)?));
+        }
+        if let Some(words) = before.strip_prefix("of ") {
+            return store_of(alloc, &disk_of(alloc, words)?);
         }
         Ok(Place::Disk(disk_of(alloc, before)?))
     }

@@ -108,6 +108,7 @@ fn wanted(alloc: Global, row: Row<'_>, before: &str) -> Result<String, AllocErro
     let before = match row.before {
         "then" => before,
         "store" => "logged 0",
+        words if words.starts_with("of ") => before,
         words => words,
     };
     let answer = row.answer;

@@ -1,0 +1,25 @@
+-- The log of a store that begins with all that stands on a disk.
+use Rattle.std.specs.Prelude.{ℕ, List, map as each}
+use Rattle.cacache_store.specs.declared.store.step.Step.TheVariants.{Symlink}
+use Rattle.cacache_store.specs.declared.store.answer.Answer.TheVariants.{Done}
+use Rattle.cacache_store.specs.declared.store.log.LogItem.{LogItem}
+use Rattle.cacache_store.specs.declared.store.log.LogItem.TheVariants.{Made, Foreign, ForeignFolder}
+use Rattle.cacache_disk.specs.declared.nodes.standing.TreeItem.{TreeItem}
+use Rattle.cacache_disk.specs.declared.nodes.standing.TreeNode.{TreeNode}
+use Rattle.cacache_disk.specs.declared.nodes.standing.TreeNode.TheVariants.{Folder, File, Link}
+use Rattle.cacache_disk.specs.Tree.{Tree}
+use Rattle.cacache_disk.specs.AllStanding.{all_standing}
+
+-- a folder or file is somebody else's; a link is a step that was done, since no item is a foreign link
+abbrev pub logged_at : List ℕ → TreeNode → LogItem
+logged_at path Folder = ForeignFolder path
+logged_at path (File bytes) = Foreign path bytes
+logged_at path (Link target) = Made (Symlink target path) Done
+
+-- what stands at a path, as an item of a log
+abbrev pub logged : TreeItem → LogItem
+logged item = logged_at item.path item.node
+
+-- one item for each that stands, in the order of paths
+unfoldable pub foreign_log : Tree → List LogItem
+foreign_log t = each logged (all_standing t)
