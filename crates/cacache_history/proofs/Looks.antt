@@ -177,7 +177,7 @@ looks_after s a q = absurd q
 
 -- ---- runs
 
-run_keeps : (t : Tree) (s : State) (moves : Moves) (r : Reply) → Looks s → Runs s moves r → tree_on t moves ≡ t
+pub run_keeps : (t : Tree) (s : State) (moves : Moves) (r : Reply) → Looks s → Runs s moves r → tree_on t moves ≡ t
 run_keeps t s [] r looks run = refl
 run_keeps t s (m ∷ moves) r looks run =
     ap (λ x. tree_on x moves) (step_leaves s m.0 looks run.0 t) ∙ run_keeps t (after s m.1) moves r (looks_after s m.1 looks) run.2

@@ -28,7 +28,7 @@ neither : (b c : Bool) → (b || c) ≡ false → (b ≡ false) × (c ≡ false)
 neither true c e = absurd cc
 neither false c e = (refl, e)
 
-not_among : (q : Names) (paths more : List Names) → is_among q (paths ++ more) ≡ false → (is_among q paths ≡ false) × (is_among q more ≡ false)
+pub not_among : (q : Names) (paths more : List Names) → is_among q (paths ++ more) ≡ false → (is_among q paths ≡ false) × (is_among q more ≡ false)
 not_among q paths more e = neither (is_among q paths) (is_among q more) (sym (list_any-append (same_path q) paths more) ∙ e)
 
 nothing : (here : Option Node) → is_some here ≡ false → here ≡ None
@@ -36,7 +36,7 @@ nothing None e = refl
 nothing (Some node) e = absurd cc
 
 -- something stands only at a tree's keys
-not_there : (t : Tree) (q : Names) → is_among q (map.keys t) ≡ false → look t q ≡ None
+pub not_there : (t : Tree) (q : Names) → is_among q (map.keys t) ≡ false → look t q ≡ None
 not_there t q e = nothing (look t q) (sym (sym e ∙ sym (map.contains_key-keys t q)))
 
 -- ---- names that change
@@ -122,7 +122,7 @@ left_none true (Some place) now same free = absurd cc
 left_none false before now same free = free
 
 -- a loss leaves nothing where nothing stands and stood
-none_left_at : (home : Option Names) (w : Moment) (loss : Loss) (q : Names) → look w.tree q ≡ None → w.fixed.names q ≡ None → lost_then home w loss q ≡ None
+pub none_left_at : (home : Option Names) (w : Moment) (loss : Loss) (q : Names) → look w.tree q ≡ None → w.fixed.names q ≡ None → lost_then home w loss q ≡ None
 none_left_at home w loss q free same =
     gone (lead_folders (left_at home w.tree w.fixed loss) [] q) (left_at home w.tree w.fixed loss q) (loss.tail q)
     (left_none (loss.undone q && not (stays home q)) (w.fixed.names q) (place_now w.tree w.fixed q) same free)

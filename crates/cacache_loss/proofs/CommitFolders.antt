@@ -28,7 +28,7 @@ own_folders_are_enough home rest moves s = from_top home [] home rest moves refl
 -- ---- the texts of folders
 
 -- a text that names something names the cache's folder
-named_home : (cache : List ℕ) (home : Names) (empty bad : Bool) → (length cache == 0) ≡ empty → is_bad cache ≡ bad → names_of cache ≡ Ok home → home_of cache ≡ Some home
+pub named_home : (cache : List ℕ) (home : Names) (empty bad : Bool) → (length cache == 0) ≡ empty → is_bad cache ≡ bad → names_of cache ≡ Ok home → home_of cache ≡ Some home
 unfolding names_of home_of
 named_home cache home true bad e b is = absurd cc
 named_home cache home false true e b is = absurd cc

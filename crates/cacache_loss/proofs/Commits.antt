@@ -80,7 +80,7 @@ module _ (Good : List ℕ → Type 0) (t : Tree) (fixed : Fixed) (f : PlainTemp)
         rw (done, from, to, same_self c) whole,
       )
 
-  put_safe : (step : PlainStep) (luck : Luck) (answer : PlainAnswer) → answer ≡ (apply t step luck).0 → IsPut f c step answer
+  pub put_safe : (step : PlainStep) (luck : Luck) (answer : PlainAnswer) → answer ≡ (apply t step luck).0 → IsPut f c step answer
       → IsSafe Good (place_now (apply t step luck).1 (fixed_after fixed t (apply t step luck).1 step answer) c)
   put_safe (Persist g p) luck answer told is =
       subst (λ g. answer ≡ (apply t (Persist g p) luck).0 → IsSafe Good (place_now (apply t (Persist g p) luck).1 (changed fixed t (apply t (Persist g p) luck).1 (Persist g p) answer) c)) (sym is.0)

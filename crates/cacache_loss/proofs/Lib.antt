@@ -11,3 +11,8 @@ pub mod SparedTemps
 pub mod CommitFolders
 pub mod LostValues
 pub mod LossCases
+pub mod PathMaps
+pub mod Reaching
+pub mod RunningDisks
+pub mod ChosenLosses
+pub mod LeftNodes

@@ -61,7 +61,7 @@ make_apart home l t above (name ∷ rest) q count at apart way =
     ∙ apart_one t (above ++ name ∷ []) q (look t (above ++ name ∷ [])) (count == 0)
     (not_true (same_path q (above ++ name ∷ [])) (λ e. apart (sym at ∙ ap (path_kind home) (same_path-true q (above ++ name ∷ []) e) ∙ here)))
 
-dirs_ok : (t : Tree) (p : List ℕ) (names : Names) → dirs t p ≡ Ok names → names_of p ≡ Ok names
+pub dirs_ok : (t : Tree) (p : List ℕ) (names : Names) → dirs t p ≡ Ok names → names_of p ≡ Ok names
 unfolding dirs
 dirs_ok t p names e =
     let f = and_then_ok (names_of p) (λ names. or_fault (dirs_fault t [] names) names) names e in

@@ -10,13 +10,8 @@ use Rattle.cacache_disk.specs.declared.node.Node.{Node}
 use Rattle.cacache_disk.specs.declared.node.Node.TheVariants.{Folder, File, Link}
 use Rattle.cacache_disk.specs.Tree.{Tree, look, same_path, is_child, bytes_of}
 use Rattle.cacache_disk.specs.LedTo.{leads, writable}
-
--- how far a file is fixed
-pub record Fixing : Type 0 where
-  -- how many of its first bytes are
-  pub kept : ℕ
-  -- whether all are: nothing was written since it was synced
-  pub whole : Bool
+pub use Rattle.cacache_loss.specs.declared.fixing.Fixing.{Fixing}
+pub use Rattle.cacache_loss.specs.declared.fixing.Place.{Place}
 
 -- a file that was never synced
 abbrev pub unsynced : Fixing
@@ -25,11 +20,6 @@ unsynced = record { kept = 0; whole = false }
 -- a file that is synced with all of these bytes
 abbrev pub synced : List ℕ → Fixing
 synced bytes = record { kept = length bytes; whole = true }
-
--- what stands at a path, and how far it is fixed
-pub record Place : Type 0 where
-  pub node : Option Node
-  pub fixing : Fixing
 
 -- what is fixed of each path
 pub record Fixed : Type 0 where

@@ -1,6 +1,10 @@
 pub mod Fixing
 pub mod Loss
 pub mod Moments
+pub mod Reached
+pub mod Running
+pub mod Chosen
+pub mod Losing
 pub mod LostTrees
 pub mod ChangedNames
 pub mod CalmMoves

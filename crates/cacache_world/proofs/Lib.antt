@@ -4,3 +4,4 @@ pub mod MayBegin
 pub mod Played
 pub mod NamesOfPaths
 pub mod Files
+pub mod Losses

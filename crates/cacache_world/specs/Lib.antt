@@ -3,3 +3,4 @@ pub mod WorldKept
 pub mod Admitted
 pub mod Faults
 pub mod Played
+pub mod Losses

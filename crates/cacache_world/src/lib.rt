@@ -6,6 +6,7 @@ mod admitting;
 mod callers;
 mod entries;
 mod event;
+mod losing;
 mod names;
 mod outside;
 mod playing;

@@ -1,5 +1,7 @@
 //! Events in their order.
 ghost use Rattle.std.specs.Prelude.{◌≡◌, OnOk, OnErr, IfErr};
+ghost use Rattle.cacache_durable.specs.FewCalls.{FewCalls};
+ghost use Rattle.cacache_durable.specs.Outlasting.{Outlives};
 ghost use Rattle.cacache_history.specs.Headline.{Headline};
 ghost use Rattle.cacache_world.specs.Played.{Happens, HappenAll, CantBe, StopAt};
 
@@ -27,7 +29,8 @@ impl World {
     }
 
     /// Makes the events in their order, up to the first that can't be. The claim as a whole holds
-    /// of what happened: see `Headline`.
+    /// of what happened: see `Headline`. What its durable commits stored outlasts each later loss of
+    /// power: see `Outlives`.
     ///
     /// # Errors
     ///
@@ -36,6 +39,8 @@ impl World {
         ensures all { OnOk result (HappenAll events.now self.old self.new) }
         ensures until { IfErr result (λ fault. StopAt events.now self.old self.new fault) }
         ensures headline { Headline self.new }
+        ensures durable { Outlives self.new }
+        ensures few { FewCalls self.new }
     {
         let outcome = self.run(events);
         self.stands();

@@ -1,12 +1,18 @@
 //! Callers whose calls take turns on one disk.
 ghost use Rattle.std.specs.Prelude.{◌≡◌, IfOk, IfErr, OnOk, OnErr, []};
+ghost use Rattle.cacache_durable.specs.FewCalls.{FewCalls};
+ghost use Rattle.cacache_durable.specs.Outlasting.{Outlives};
 ghost use Rattle.cacache_history.specs.Headline.{Headline};
+ghost use Rattle.cacache_history.specs.History.{IsLegal};
 ghost use Rattle.cacache_history.specs.declared.record.Record.TheVariants.{Began, Stopped};
 ghost use Rattle.cacache_world.specs.WorldKept.{setup_of, history_of, last, FilesAreApart, AddsRecord, MovesOn};
+ghost use Rattle.cacache_world.specs.declared.event.WorldFault.TheVariants.{OutOfMemory};
+ghost use Rattle.cacache_world.specs.Losses.{LeftBy};
 ghost use Rattle.cacache_world.specs.Faults.{CantMove, CantBegin, CantOpen};
 
 use crate::callers::{held, idle, lift, make_room, note, place};
 use crate::event::{Move, WorldFault};
+use crate::losing::nodes_left;
 use crate::outside::planted;
 use crate::starting::prepared;
 use crate::turn::{Call, Turn, advance, parted};
@@ -15,6 +21,7 @@ use cacache_core::keeping::let_go;
 use cacache_core::text::Text;
 use cacache_disk::{Disk, Luck};
 use cacache_history::Record;
+use cacache_loss::Loss;
 use cacache_table::Command;
 use std::alloc::Global;
 use std::marker::Model;
@@ -84,11 +91,22 @@ impl World {
         })
     }
 
-    /// The claim as a whole holds of every world: see `Headline`. Nothing is done.
+    /// How many calls began in its history, which is legal.
+    fn begun(&self) -> u64
+        ensures legal { IsLegal self.now }
+        ensures count { result ≡ (last self.now).begun }
+    {
+        self.begun
+    }
+
+    /// The claim as a whole holds of every world: see `Headline`. What its durable commits stored
+    /// outlasts each loss of power: see `Outlives`. Nothing is done.
     pub fn stands(&self)
         ensures headline { Headline self.now }
+        ensures durable { Outlives self.now }
+        ensures few { FewCalls self.now }
     {
-        let _records = &self.records;
+        let _count = self.begun();
     }
 
     /// A caller without a call begins one.
@@ -204,6 +222,23 @@ impl World {
         ensures { result.now ≡ (last self.now).tree }
     {
         &self.disk
+    }
+
+    /// The disk that is left where the power goes now. The world goes on as if it hadn't.
+    ///
+    /// # Errors
+    ///
+    /// `OutOfMemory` where memory is refused.
+    pub fn lose(&self, loss: &Loss) -> Result<Disk, WorldFault>
+        ensures lost { IfOk result (λ disk. LeftBy self.now loss.now disk) }
+        ensures memory { IfErr result (λ fault. fault ≡ OutOfMemory) }
+    {
+        let cache = self.cache.as_str();
+        let outside = self.outside.as_slice();
+        match nodes_left(self.alloc, cache, outside, self.records.as_slice(), loss) {
+            Ok(nodes) => Ok(Disk::of(nodes)),
+            Err(_) => Err(WorldFault::OutOfMemory),
+        }
     }
 
     /// What happened, oldest first.

@@ -37,6 +37,19 @@ impl Loss {
         Ok(())
     }
 
+    /// Whether the name of the place with this number stands as it did before.
+    pub(crate) fn is_undone(&self, number: usize) -> bool {
+        self.undone.get(number).copied().unwrap_or(false)
+    }
+
+    /// What follows the fixed bytes of the file at the place with this number.
+    pub(crate) fn tail(&self, number: usize) -> &str {
+        match self.tails.get(number) {
+            Some(tail) => tail.as_str(),
+            None => "",
+        }
+    }
+
     /// The loss of this name, or of all names, with tails at some paths.
     pub(crate) fn of(
         places: &Places,
@@ -78,13 +91,9 @@ impl Places {
         path: &str,
     ) -> Option<(&'a Node, &'a str)> {
         let number = self.number_of(path)?;
-        let undone = path != home && loss.undone.get(number).copied().unwrap_or(false);
+        let undone = path != home && loss.is_undone(number);
         let node = self.all.get(number)?.after(undone)?;
-        let tail = match loss.tails.get(number) {
-            Some(tail) => tail.as_str(),
-            None => "",
-        };
-        Some((node, tail))
+        Some((node, loss.tail(number)))
     }
 
     /// Whether a folder stands at each name above a path after a loss.

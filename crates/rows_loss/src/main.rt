@@ -21,6 +21,7 @@ mod places;
 mod promised;
 mod steps;
 mod trial;
+mod worlds;
 
 use rows::run;
 use std::process::ExitCode;

@@ -2,6 +2,7 @@
 use crate::history::{HOME, play, put_of, world_of};
 use crate::loss::Loss;
 use crate::promised::{Story, looked_up, path_of_content};
+use crate::worlds::differs;
 use cacache_core::keeping::let_go;
 use cacache_disk::Luck;
 use cacache_jobs::bucket_path;
@@ -43,6 +44,9 @@ fn lost_in(
         story.follow(record)?;
     }
     let loss = Loss::random(&story.places, random)?;
+    if let Some(text) = differs(world, &story.places, &loss)? {
+        return Ok(Some(text));
+    }
     let contents = story.lost_contents(&loss)?;
     let lookups = story.lost_lookups(&loss)?;
     count.contents = count.contents.saturating_add(contents);
@@ -150,6 +154,9 @@ fn case(alloc: Global, acts: &str, loss: &str) -> Result<String, Flaw> {
         (bucket, bucket_tail.as_str()),
     ];
     let loss = Loss::of(&story.places, undone, &tails)?;
+    if let Some(text) = differs(&world, &story.places, &loss)? {
+        return Ok(text);
+    }
     Ok(seen(alloc, &story, &loss)?)
 }
 

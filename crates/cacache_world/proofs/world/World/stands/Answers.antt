@@ -1,7 +1,13 @@
-use Rattle.std.proofs.Common.{subst}
-use Rattle.cacache_history.specs.Headline.{Headline}
+use Rattle.std.proofs.Common.{◌≤◌, ◌^◌, ℕ, subst, arith}
 use Rattle.cacache_history.proofs.Headline.{headline}
+use Rattle.cacache_durable.proofs.Outlasting.{histories_outlive}
 use Rattle.cacache_world.proofs.world.World.stands.Goals as goal
 
 pub returns : goal.returns
-returns c = record { headline = subst Headline c.self.view_is (headline _ c.self.invariant.legal) }
+returns c = record {
+  headline = headline c.args.self.now c.begun-count.ensures.legal;
+  durable = histories_outlive c.args.self.now c.begun-count.ensures.legal;
+  few =
+      let below = c.begun-count.type_inv in
+      subst (λ (n : ℕ). n ≤ 2 ^ 64) c.begun-count.ensures.count (omega arith);
+}

@@ -1,0 +1,157 @@
+-- Calls that are on their way have numbers that differ, and so have their temporary files.
+use Rattle.std.proofs.Common.{◌≡◌, ◌<◌, ◌≤◌, ◌^◌, ◌+◌, ◌==◌, ℕ, Bool, true, false, cond, List, [], ◌∷◌, ◌++◌, Option, None, Some, Ok, option_map, refl, sym, ap, subst, ◌∙◌, arith, eqb-true}
+use Rattle.std.proofs.lemmas.List.{append_cancel_left}
+use Rattle.cacache_core.specs.PathNames.{Names, home_of, names_below, names_of}
+use Rattle.cacache_core.specs.Paths.{joined, temp_names}
+use Rattle.cacache_core.proofs.JoinedNames.{joined_texts_name}
+use Rattle.cacache_core.proofs.PathTexts.{paths_differ}
+use Rattle.cacache_core.proofs.ProperNames.{names_are_proper}
+use Rattle.cacache_disk.specs.declared.luck.Luck.{Luck}
+use Rattle.cacache_disk.specs.Tree.{Tree, same_path}
+use Rattle.cacache_disk.proofs.Maps.{same_path-true}
+use Rattle.cacache_table.specs.declared.reply.Reply.{Reply}
+use Rattle.cacache_table.specs.StepPaths.{temp_path}
+use Rattle.cacache_value.proofs.KindsApart.{not_true}
+use Rattle.cacache_history.specs.declared.record.Record.{Record}
+use Rattle.cacache_history.specs.declared.record.Record.TheVariants.{Began, Moved, Stopped}
+use Rattle.cacache_history.specs.Setup.{Setup}
+use Rattle.cacache_history.specs.History.{Call, Made, Now, begins, first, moved, next, replayed, unless_over}
+use Rattle.cacache_loss.specs.Fixing.{is_at}
+
+-- ---- paths of temporary files
+
+temps_named : (cache : List ℕ) (n : ℕ) → names_of (temp_path cache n) ≡ names_below (home_of cache) (temp_names n)
+unfolding temp_path
+temps_named cache n = joined_texts_name cache (temp_names n) (names_are_proper.temporaries n) (omega arith)
+
+same_number : (cache : List ℕ) (folder : Names) (n m : ℕ) → n < 2 ^ 64 → m < 2 ^ 64 → folder ++ temp_names n ≡ folder ++ temp_names m → n ≡ m
+same_number cache folder n m few less e =
+    (paths_differ.temporaries cache n m few less).0 (ap (joined cache) (append_cancel_left folder (temp_names n) (temp_names m) e))
+
+apart_below : (cache : List ℕ) (home : Option Names) (n m : ℕ) (q : Names) → n < 2 ^ 64 → m < 2 ^ 64 → (n ≡ m → ⊥) → names_below home (temp_names n) ≡ Ok q
+    → is_at (names_below home (temp_names m)) q ≡ false
+apart_below cache None n m q few less apart e = absurd cc
+apart_below cache (Some folder) n m q few less apart e =
+    let here : folder ++ temp_names n ≡ q = cc in
+    not_true (same_path q (folder ++ temp_names m)) (λ s. apart (same_number cache folder n m few less (here ∙ same_path-true q (folder ++ temp_names m) s)))
+
+-- those of two numbers name two paths
+pub temps_apart : (cache : List ℕ) (n m : ℕ) (p r : List ℕ) (q : Names) → n < 2 ^ 64 → m < 2 ^ 64 → (n ≡ m → ⊥) → p ≡ temp_path cache n → r ≡ temp_path cache m
+    → names_of p ≡ Ok q → is_at (names_of r) q ≡ false
+temps_apart cache n m p r q few less apart from to e =
+    ap (λ x. is_at x q) (ap names_of to ∙ temps_named cache m)
+    ∙ apart_below cache (home_of cache) n m q few less apart (sym (ap names_of from ∙ temps_named cache n) ∙ e)
+
+-- ---- numbers
+
+abbrev number_of : Option Call → Option ℕ
+number_of None = None
+number_of (Some call) = Some call.number
+
+abbrev IsBelow : ℕ → Option ℕ → Type 0
+IsBelow begun None = Unit {0}
+IsBelow begun (Some n) = n < begun
+
+abbrev AreApart : Option ℕ → Option ℕ → Type 0
+AreApart None b = Unit {0}
+AreApart (Some n) None = Unit {0}
+AreApart (Some n) (Some m) = n ≡ m → ⊥
+
+-- each number was given out, and no two calls have one
+pub record Numbered (w : Now) : Type 0 where
+  pub below : (k : ℕ) → IsBelow w.begun (number_of (w.calls k))
+  pub apart : (j k : ℕ) → (j ≡ k → ⊥) → AreApart (number_of (w.calls j)) (number_of (w.calls k))
+
+-- a caller has the same number, or none
+abbrev Keeps : Option ℕ → Option ℕ → Type 0
+Keeps None old = Unit {0}
+Keeps (Some n) old = old ≡ Some n
+
+keeps_below : (begun : ℕ) (new old : Option ℕ) → Keeps new old → IsBelow begun old → IsBelow begun new
+keeps_below begun None old keeps h = tt
+keeps_below begun (Some n) old keeps h = subst (IsBelow begun) keeps h
+
+keeps_apart : (new old other before : Option ℕ) → Keeps new old → Keeps other before → AreApart old before → AreApart new other
+keeps_apart None old other before keeps same h = tt
+keeps_apart (Some n) old None before keeps same h = tt
+keeps_apart (Some n) old (Some m) before keeps same h = subst (λ o. AreApart (Some n) o) same (subst (λ o. AreApart o before) keeps h)
+
+kept_numbered : (w new : Now) → new.begun ≡ w.begun → ((k : ℕ) → Keeps (number_of (new.calls k)) (number_of (w.calls k))) → Numbered w → Numbered new
+kept_numbered w new same keeps h = record {
+  below = λ k. subst (λ n. IsBelow n (number_of (new.calls k))) (sym same) (keeps_below w.begun (number_of (new.calls k)) (number_of (w.calls k)) (keeps k) (h.below k));
+  apart = λ j k differ. keeps_apart (number_of (new.calls j)) (number_of (w.calls j)) (number_of (new.calls k)) (number_of (w.calls k)) (keeps j) (keeps k) (h.apart j k differ);
+}
+
+keeps_self : (o : Option ℕ) → Keeps o o
+keeps_self None = tt
+keeps_self (Some n) = refl
+
+set_keeps : (calls : ℕ → Option Call) (caller k : ℕ) (b : Bool) (call : Option Call) → (k == caller) ≡ b → Keeps (number_of call) (number_of (calls caller))
+    → Keeps (number_of (cond b call (calls k))) (number_of (calls k))
+set_keeps calls caller k true call is keeps = subst (λ j. Keeps (number_of call) (number_of (calls j))) (sym (eqb-true k caller is)) keeps
+set_keeps calls caller k false call is keeps = keeps_self (number_of (calls k))
+
+moved_number : (t : Tree) (luck : Luck) (made : Option Made) (reply : Option Reply) (o : Option Call) → Keeps (number_of (unless_over reply (option_map (moved t luck made) o))) (number_of o)
+moved_number t luck made (Some reply) o = tt
+moved_number t luck made None None = tt
+moved_number t luck None None (Some call) = refl
+moved_number t luck (Some made) None (Some call) = refl
+
+-- ---- a call that begins
+
+more_below : (begun : ℕ) (o : Option ℕ) → IsBelow begun o → IsBelow (begun + 1) o
+more_below begun None h = tt
+more_below begun (Some n) h = omega (arith, h)
+
+apart_new : (begun : ℕ) (o : Option ℕ) → IsBelow begun o → AreApart (Some begun) o
+apart_new begun None h = tt
+apart_new begun (Some n) h = λ e. omega (arith, h, e)
+
+new_apart : (begun : ℕ) (o : Option ℕ) → IsBelow begun o → AreApart o (Some begun)
+new_apart begun None h = tt
+new_apart begun (Some n) h = λ e. omega (arith, h, e)
+
+module _ (w : Now) (caller : ℕ) (call : Call) (is : call.number ≡ w.begun) (h : Numbered w) where
+  began_below : (k : ℕ) (b : Bool) → IsBelow (w.begun + 1) (number_of (cond b (Some call) (w.calls k)))
+  began_below k true = omega (arith, is)
+  began_below k false = more_below w.begun (number_of (w.calls k)) (h.below k)
+
+  began_apart : (j k : ℕ) (a b : Bool) → (j ≡ k → ⊥) → (j == caller) ≡ a → (k == caller) ≡ b
+      → AreApart (number_of (cond a (Some call) (w.calls j))) (number_of (cond b (Some call) (w.calls k)))
+  began_apart j k true true differ e f = absurd (differ (eqb-true j caller e ∙ sym (eqb-true k caller f)))
+  began_apart j k true false differ e f = subst (λ n. AreApart (Some n) (number_of (w.calls k))) (sym is) (apart_new w.begun (number_of (w.calls k)) (h.below k))
+  began_apart j k false true differ e f = subst (λ n. AreApart (number_of (w.calls j)) (Some n)) (sym is) (new_apart w.begun (number_of (w.calls j)) (h.below j))
+  began_apart j k false false differ e f = h.apart j k differ
+
+-- ---- places of a history
+
+pub next_numbered : (s : Setup) (w : Now) (r : Record) → Numbered w → Numbered (next s w r)
+next_numbered s w (Began caller command) h = record {
+  below = λ k. began_below w caller (begins s w.begun command) refl h k (k == caller);
+  apart = λ j k differ. began_apart w caller (begins s w.begun command) refl h j k (j == caller) (k == caller) differ refl refl;
+}
+next_numbered s w (Moved caller luck made reply) h =
+    kept_numbered w (next s w (Moved caller luck made reply)) refl
+    (λ k. set_keeps w.calls caller k (k == caller) _ refl (moved_number w.tree luck made reply (w.calls caller))) h
+next_numbered s w (Stopped caller) h =
+    kept_numbered w (next s w (Stopped caller)) refl (λ k. set_keeps w.calls caller k (k == caller) None refl tt) h
+
+-- no fewer calls began after more records
+pub more_begun : (s : Setup) (w : Now) (records : List Record) → w.begun ≤ (replayed s w records).begun
+more_begun s w [] = omega arith
+more_begun s w (Began caller command ∷ records) = omega (arith, more_begun s (next s w (Began caller command)) records)
+more_begun s w (Moved caller luck made reply ∷ records) = more_begun s (next s w (Moved caller luck made reply)) records
+more_begun s w (Stopped caller ∷ records) = more_begun s (next s w (Stopped caller)) records
+
+-- ---- calls by their callers
+
+pub first_numbered : (s : Setup) → Numbered (first s)
+first_numbered s = record { below = λ k. tt; apart = λ j k differ. tt }
+
+module _ (w : Now) (h : Numbered w) where
+  pub number_below : (k : ℕ) (a : Call) → w.calls k ≡ Some a → a.number < w.begun
+  number_below k a is = subst (λ o. IsBelow w.begun (number_of o)) is (h.below k)
+
+  pub numbers_apart : (j k : ℕ) (a b : Call) → (j ≡ k → ⊥) → w.calls j ≡ Some a → w.calls k ≡ Some b → a.number ≡ b.number → ⊥
+  numbers_apart j k a b differ is here =
+      subst (λ o. AreApart (Some a.number) (number_of o)) here (subst (λ o. AreApart (number_of o) (number_of (w.calls k))) is (h.apart j k differ))

@@ -1,0 +1,152 @@
+-- A content that a durable put stored outlasts a loss, once its folders are synced.
+use Rattle.std.proofs.Common.{◌≡◌, ℕ, true, List, [], ◌∷◌, ◌++◌, Option, None, Some, Ok, refl, sym, ap, subst, ◌∙◌, arith}
+use Rattle.std.specs.Prelude.{IfOk}
+use Rattle.cacache_core.specs.declared.integrity.digest.Hash.{Hash}
+use Rattle.cacache_core.specs.Integrity.{IsHash}
+use Rattle.cacache_core.specs.PathNames.{Names, names_below, names_of}
+use Rattle.cacache_core.specs.Paths.{content_names, folders_to, joined}
+use Rattle.cacache_core.proofs.JoinedNames.{joined_texts_name}
+use Rattle.cacache_core.proofs.ProperNames.{names_are_proper}
+use Rattle.cacache_store.specs.declared.store.plain.PlainTemp.{PlainTemp}
+use Rattle.cacache_store.specs.declared.store.step.Step.TheVariants as steps
+use Rattle.cacache_store.specs.declared.store.answer.Answer.TheVariants as answers
+use Rattle.cacache_store.specs.Plain.{PlainAnswer}
+use Rattle.cacache_disk.specs.declared.node.Node.{Node}
+use Rattle.cacache_disk.specs.declared.node.Node.TheVariants.{Folder, File, Link}
+use Rattle.cacache_disk.specs.Tree.{Tree, look}
+use Rattle.cacache_disk.specs.Apply.{apply}
+use Rattle.cacache_table.specs.Runs.{Moves}
+use Rattle.cacache_value.specs.Kinds.{Content, node_below, path_kind}
+use Rattle.cacache_value.specs.Placed.{MayStand}
+use Rattle.cacache_value.specs.Traces.{Move}
+use Rattle.cacache_value.specs.Value.{blob_in}
+use Rattle.cacache_value.proofs.FoundPaths.{suits}
+use Rattle.cacache_value.proofs.KindsApart.{kind-below}
+use Rattle.cacache_history.specs.declared.record.Record.{Record}
+use Rattle.cacache_history.specs.Setup.{home}
+use Rattle.cacache_history.specs.History.{History, Made, now_at}
+use Rattle.cacache_history.specs.Values.{steps_of, value_at}
+use Rattle.cacache_history.proofs.Values.{contents_are_right}
+use Rattle.cacache_loss.specs.CalmMoves.{IsCalm, OfBytes, PutWell, PutsMove, PutsStep}
+use Rattle.cacache_loss.specs.Fixing.{place_now}
+use Rattle.cacache_loss.specs.Loss.{Loss}
+use Rattle.cacache_loss.specs.LossLaws.{GoodNode, HasDigest, IsSafe}
+use Rattle.cacache_loss.specs.Moments.{Moment, lost_then, next}
+use Rattle.cacache_loss.specs.Syncs.{IsFileSync, IsPut, SyncsFolders}
+use Rattle.cacache_loss.proofs.CommitFolders.{five_for_contents}
+use Rattle.cacache_loss.proofs.Commits.{found_survive, put_safe}
+use Rattle.cacache_loss.proofs.Contents.{contents_survive}
+use Rattle.cacache_loss.proofs.KeptPaths.{cache_next}
+use Rattle.cacache_loss.proofs.StepCases.{PersistCase, moved, persist_case, refused}
+use Rattle.cacache_durable.specs.Outlasting.{IsNoLink, moment_at}
+use Rattle.cacache_durable.proofs.AtMoves.{QuietPlace, after_own, cache_here, cache_text, calm_later, calm_move, calm_rest, here, leads_to_end, own_move, own_record, split, texts_here}
+use Rattle.cacache_durable.proofs.CommitMoves.{HasDirs}
+use Rattle.cacache_durable.proofs.DoneSyncs.{none_synced}
+use Rattle.cacache_durable.proofs.NoLinks.{NoLink, links_stay_none}
+use Rattle.cacache_durable.proofs.Traces.{tree_at}
+
+-- ---- a file that is put
+
+module _ (home : Option Names) (Good : List ℕ → Type 0) (path : Names) (text : List ℕ) (named : names_of text ≡ Ok path) (now : Moment) (m : Move) (f : PlainTemp)
+    (step : m.step ≡ steps.Persist f text) (done : m.answer ≡ answers.Done) (calm : IsCalm home now m) (puts : PutsMove Good path now m) where
+  puts_well : OfBytes Good f.bytes × IfOk (names_of f.path) (λ from. (now.fixed.files from).whole ≡ true)
+  puts_well =
+      let all : PutsStep Good path now (steps.Persist f text) m.answer = subst (λ step. PutsStep Good path now step m.answer) step puts in
+      all done named
+
+  is_put : IsPut f path m.step m.answer
+  is_put = subst (λ step. IsPut f path step m.answer) (sym step) (refl, named, done)
+
+  put_case : PersistCase now.tree f text (apply now.tree (steps.Persist f text) m.luck)
+      → IsSafe Good (place_now (next now m).tree (next now m).fixed path)
+  put_case (refused fault e) =
+      let told : answers.Failed fault ≡ answers.Done
+      = ap (λ (o : PlainAnswer × Tree). o.0) (sym e) ∙ ap (λ step. (apply now.tree step m.luck).0) (sym step) ∙ sym calm.2 ∙ done in
+      absurd cc
+  put_case (moved bytes from to has there at e) =
+      put_safe Good now.tree now.fixed f from path bytes there has (subst (OfBytes Good) has puts_well.0)
+      (subst (λ r. IfOk r (λ from. (now.fixed.files from).whole ≡ true)) there puts_well.1)
+      m.step m.luck m.answer calm.2 is_put
+
+  -- it is there, with good bytes, all of them synced
+  pub safe_put : IsSafe Good (place_now (next now m).tree (next now m).fixed path)
+  safe_put = put_case (persist_case now.tree f text m.luck)
+
+-- ---- in a history
+
+-- where the content of an address lies
+pub content_named : (h : History) (folder : Names) (a : Hash) → IsHash a → home h.setup ≡ Some folder → names_of (joined h.setup.cache (content_names a)) ≡ Ok (folder ++ content_names a)
+content_named h folder a is_hash home_is =
+    joined_texts_name h.setup.cache (content_names a) (names_are_proper.contents a is_hash) (omega arith) ∙ ap (λ o. names_below o (content_names a)) home_is
+
+module _ {h : History} {folder : Names} {before rest : List Record} {caller : ℕ} {made : Made} {more : Moves} (a : Hash) (is_hash : IsHash a)
+    (q : QuietPlace h folder (folder ++ content_names a) before rest caller made more)
+    (well : PutWell (HasDigest a) (folder ++ content_names a) (moment_at h (here q)) (own_move q ∷ steps_of q.place.later))
+    (dirs : HasDirs (folders_to h.setup.cache (content_names a)) more) (loss : Loss) where
+  abbrev path : Names
+  path = folder ++ content_names a
+
+  abbrev text : List ℕ
+  text = joined h.setup.cache (content_names a)
+
+  abbrev now : Moment
+  now = moment_at h (here q)
+
+  named : names_of text ≡ Ok path
+  named = content_named h folder a is_hash q.home_is
+
+  at : path_kind (Some folder) path ≡ Content
+  at = kind-below folder (content_names a)
+
+  -- the content's folders are synced
+  way : SyncsFolders (Some folder) [] path (steps_of q.place.later)
+  way =
+      (five_for_contents h.setup.cache folder a (cache_text q dirs.0) is_hash).enough (steps_of q.place.later)
+      (texts_here q (folders_to h.setup.cache (content_names a)) dirs)
+
+  at_end : GoodNode (HasDigest a) (lost_then (Some folder) (after_own q) loss path) → GoodNode (HasDigest a) (lost_then (Some folder) (moment_at h h.records) loss path)
+  at_end = subst (λ w. GoodNode (HasDigest a) (lost_then (Some folder) w loss path)) (sym (leads_to_end q))
+
+  -- a content that was put
+  pub put_outlasts : (f : PlainTemp) → made ≡ (steps.Persist f text, answers.Done) → GoodNode (HasDigest a) (lost_then (Some folder) (moment_at h h.records) loss path)
+  put_outlasts f e =
+      at_end
+      (contents_survive (Some folder) a path (next now (own_move q)) (steps_of q.place.later) loss at
+      (cache_next (Some folder) now (own_move q) (cache_here q) (calm_move q).1)
+      (safe_put (Some folder) (HasDigest a) path text named now (own_move q) f (ap (λ (m : Made). m.0) e) (ap (λ (m : Made). m.1) e) (calm_move q) well.0)
+      (calm_later q) well.1 way)
+
+  -- ---- a content that was found there
+
+  there : (value_at h (here q)).contents a ≡ blob_in (look now.tree path)
+  there =
+      ap (λ home. blob_in (node_below home (now_at h (here q)).tree (content_names a))) q.home_is
+      ∙ ap (λ t. blob_in (look t path)) (sym (tree_at h (here q)))
+
+  right_node : (node : Option Node) → look now.tree path ≡ node → MayStand (Some folder) node Content → NoLink (blob_in node) → (node ≡ None → ⊥) → GoodNode (HasDigest a) node
+  right_node None e stands none some = absurd (some refl)
+  right_node (Some Folder) e stands none some = absurd stands
+  right_node (Some (Link target)) e stands none some = absurd none
+  right_node (Some (File bytes)) e stands none some =
+      contents_are_right h q.legal (here q) (own_record q ∷ q.place.later) (split q) a is_hash bytes (there ∙ ap blob_in e)
+
+  module _ (e : made ≡ (steps.SyncFile text, answers.Done)) (no_link : IsNoLink a (value_at h before)) where
+    sync_done : (apply now.tree (steps.SyncFile text) q.place.luck).0 ≡ answers.Done
+    sync_done = let calm = calm_move q in ap (λ step. (apply now.tree step q.place.luck).0) (sym (ap (λ (m : Made). m.0) e)) ∙ sym calm.2 ∙ ap (λ (m : Made). m.1) e
+
+    no_link_here : NoLink (blob_in (look now.tree path))
+    no_link_here = subst NoLink there (links_stay_none h q.legal before q.place.between (own_record q ∷ q.place.later) a (q.is ∙ ap (λ records. before ++ records) q.place.is) (calm_rest q) no_link)
+
+    right_here : GoodNode (HasDigest a) (look now.tree path)
+    right_here =
+        let cache = cache_here q in
+        right_node (look now.tree path) refl (suits (Some folder) now.tree path Content at cache.0) no_link_here
+        (λ none. none_synced now.tree text path named none q.place.luck sync_done)
+
+    is_sync : IsFileSync path made.0 made.1
+    is_sync = subst (λ (m : Made). IsFileSync path m.0 m.1) (sym e) (named, refl)
+
+    pub found_outlasts : GoodNode (HasDigest a) (lost_then (Some folder) (moment_at h h.records) loss path)
+    found_outlasts =
+        at_end
+        (found_survive (Some folder) a path now (own_move q) (steps_of q.place.later) loss at (cache_here q) right_here is_sync (calm_later q) well.1 way)

@@ -1,0 +1,110 @@
+-- The states of a durable put: it moves its temporary file right after the sync of it.
+use Rattle.std.proofs.Common.{◌≡◌, ◌⊎◌, inl, inr, ◌==◌, ℕ, true, false, List, [], ◌∷◌, Option, Some, Ok, length, drop, nat_le, sym, subst, ◌∙◌}
+use Rattle.cacache_core.specs.declared.errors.Fault.TheVariants as faults
+use Rattle.cacache_store.specs.declared.store.plain.PlainTemp.{PlainTemp}
+use Rattle.cacache_store.specs.declared.store.step.Step.TheVariants as steps
+use Rattle.cacache_store.specs.Plain.{PlainStep, PlainAnswer}
+use Rattle.cacache_table.specs.Answers.{done_in, temp_in, written_in, synced_in, there_in, taken_in}
+use Rattle.cacache_table.specs.Common.{fails}
+use Rattle.cacache_table.specs.Inserting.{bucket_line, recorded, after_append}
+use Rattle.cacache_table.specs.State.{State, doing, creating, writing, syncing, persisting, confirming, appending, over, Commit, make_folder, sync_file, sync_dir}
+use Rattle.cacache_table.specs.StepPaths.{content_path, temp_path, bucket_path}
+use Rattle.cacache_table.specs.Storing.{placed, settled, resettled, moved, write_rest, after_write, after_confirm}
+use Rattle.cacache_table.specs.Table.{wants, after}
+use Rattle.cacache_table.proofs.Branches.{cond_leads, go_on_leads}
+use Rattle.cacache_table.proofs.Sound.{some_is}
+use Rattle.cacache_history.proofs.Syncing.{settles, resettles, records}
+use Rattle.cacache_durable.proofs.PlacedContents.{places}
+
+-- the temporary file isn't moved before it is synced
+abbrev pub Waits : State → Type 0
+Waits (doing (make_folder p) s) = Waits s
+Waits (doing (sync_file p) s) = Waits s
+Waits (doing (sync_dir p) s) = Waits s
+Waits (creating number c rest) = c.options.durable ≡ true
+Waits (writing c file rest) = c.options.durable ≡ true
+Waits (syncing c file) = Unit {0}
+Waits (confirming c fault) = Unit {0}
+Waits (appending i) = Unit {0}
+Waits (over reply) = Unit {0}
+Waits s = ⊥
+
+-- it is moved next, and this is so of it
+abbrev pub Moves : (PlainTemp → Type 0) → State → Type 0
+Moves Ready (persisting c file) = Ready file
+Moves Ready s = ⊥
+
+abbrev pub IsDurable : (PlainTemp → Type 0) → State → Type 0
+IsDurable Ready s = Waits s ⊎ Moves Ready s
+
+moved_waits : (c : Commit) (file : PlainTemp) → c.options.durable ≡ true → Waits (moved c file)
+moved_waits c file durable =
+    cond_leads Waits c.options.durable (syncing c file) (persisting c file) (λ _. tt) (λ no. let differ : true ≡ false = sym durable ∙ no in absurd cc)
+
+rests : (c : Commit) (file : PlainTemp) (rest : List ℕ) → c.options.durable ≡ true → Waits (write_rest c file rest)
+rests c file [] durable = moved_waits c file durable
+rests c file (b ∷ bs) durable = durable
+
+places_wait : (c : Commit) → Waits (placed c)
+places_wait c = places Waits (λ reply. tt) (λ folder i. tt) c
+
+settled_waits : (c : Commit) → Waits (settled c)
+settled_waits c = settles Waits (λ p s h. (h, h)) c (places_wait c)
+
+module _ (Ready Later : PlainTemp → Type 0) (step : PlainStep) (a : PlainAnswer)
+    (synced : (f new : PlainTemp) → Some (steps.SyncTemp f) ≡ Some step → synced_in a ≡ Ok new → Later new) where
+  waits_on : (s : State) → Waits s → wants s ≡ Some step → IsDurable Later (after s a)
+  waits_on (doing (make_folder p) s) h w = inl (go_on_leads Waits (done_in a) fails (λ _. s) tt (λ fault. tt) (λ x e. h))
+  waits_on (doing (sync_file p) s) h w = inl (go_on_leads Waits (done_in a) fails (λ _. s) tt (λ fault. tt) (λ x e. h))
+  waits_on (doing (sync_dir p) s) h w = inl (go_on_leads Waits (done_in a) fails (λ _. s) tt (λ fault. tt) (λ x e. h))
+  waits_on (creating number c rest) h w = inl (go_on_leads Waits (temp_in a) fails (λ file. write_rest c file rest) tt (λ fault. tt) (λ file e. rests c file rest h))
+  waits_on (writing c file rest) h w =
+      inl (go_on_leads Waits (written_in a) fails (after_write c rest) tt (λ fault. tt)
+      (λ x e. cond_leads Waits (x.1 == 0) (fails faults.WriteZero) (write_rest c x.0 (drop x.1 rest)) (λ _. tt) (λ _. rests c x.0 (drop x.1 rest) h)))
+  waits_on (syncing c file) h w =
+      go_on_leads (IsDurable Later) (synced_in a) fails (persisting c) (inl tt) (λ fault. inl tt) (λ new e. inr (synced file new w e))
+  waits_on (confirming c fault) h w =
+      inl (go_on_leads Waits (there_in a) (λ _. fails fault) (after_confirm c fault) tt (λ other. tt)
+      (λ there e. cond_leads Waits there (resettled c) (fails fault) (λ _. resettles Waits (λ p s h. (h, h)) c (places_wait c)) (λ _. tt)))
+  waits_on (appending i) h w =
+      inl (go_on_leads Waits (taken_in a) fails (after_append i) tt (λ fault. tt)
+      (λ n e. cond_leads Waits (nat_le (length (bucket_line i)) n) (recorded i) (fails faults.ShortAppend) (λ _. records Waits (λ p s h. (h, h)) i tt) (λ _. tt)))
+  waits_on (over reply) h w = absurd cc
+  waits_on s h w = absurd h
+
+  moves_on : (s : State) → Moves Ready s → IsDurable Later (after s a)
+  moves_on (persisting c file) h = inl (go_on_leads Waits (done_in a) (confirming c) (λ _. settled c) tt (λ fault. tt) (λ x e. settled_waits c))
+  moves_on s h = absurd h
+
+  -- a step leads to such a state again
+  pub stays_durable : (s : State) → IsDurable Ready s → wants s ≡ Some step → IsDurable Later (after s a)
+  stays_durable s h w = elim h [ inl waits ↦ waits_on s waits w | inr moves ↦ moves_on s moves ]
+
+-- ---- the file that is moved
+
+abbrev MovesNone : PlainStep → Type 0
+MovesNone (steps.Persist f to) = ⊥
+MovesNone step = Unit {0}
+
+waits_none : (s : State) (step : PlainStep) → Waits s → wants s ≡ Some step → MovesNone step
+waits_none (doing (make_folder p) s) step h w = some_is MovesNone (steps.MakeDirs p) step w tt
+waits_none (doing (sync_file p) s) step h w = some_is MovesNone (steps.SyncFile p) step w tt
+waits_none (doing (sync_dir p) s) step h w = some_is MovesNone (steps.SyncDir p) step w tt
+waits_none (creating number c rest) step h w = some_is MovesNone (steps.CreateTemp (temp_path c.cache number)) step w tt
+waits_none (writing c file rest) step h w = some_is MovesNone (steps.Write file rest) step w tt
+waits_none (syncing c file) step h w = some_is MovesNone (steps.SyncTemp file) step w tt
+waits_none (confirming c fault) step h w = some_is MovesNone (steps.Exists (content_path c.cache c.computed)) step w tt
+waits_none (appending i) step h w = some_is MovesNone (steps.Append (bucket_path i.cache i.entry.key) (bucket_line i)) step w tt
+waits_none (over reply) step h w = absurd cc
+waits_none s step h w = absurd h
+
+same_file : (Ready : PlainTemp → Type 0) (file f : PlainTemp) (path to : List ℕ) → ◌≡◌ {A = Option PlainStep} (Some (steps.Persist file path)) (Some (steps.Persist f to)) → Ready file → Ready f
+same_file Ready file f path to e h = let same : file ≡ f = cc in subst Ready same h
+
+ready_moves : (Ready : PlainTemp → Type 0) (s : State) (f : PlainTemp) (to : List ℕ) → Moves Ready s → wants s ≡ Some (steps.Persist f to) → Ready f
+ready_moves Ready (persisting c file) f to h w = same_file Ready file f (content_path c.cache c.computed) to w h
+ready_moves Ready s f to h w = absurd h
+
+-- where such a state wants to move a file, this is so of it
+pub ready_file : (Ready : PlainTemp → Type 0) (s : State) (f : PlainTemp) (to : List ℕ) → IsDurable Ready s → wants s ≡ Some (steps.Persist f to) → Ready f
+ready_file Ready s f to h w = elim h [ inl waits ↦ absurd (waits_none s (steps.Persist f to) waits w) | inr moves ↦ ready_moves Ready s f to moves w ]

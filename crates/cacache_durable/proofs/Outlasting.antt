@@ -1,0 +1,166 @@
+-- What durable commits stored outlasts each later loss of power.
+use Rattle.std.proofs.Common.{◌≡◌, inl, inr, ℕ, true, List, [], ◌∷◌, ◌++◌, Option, None, Some, Ok, length, refl, sym, ap, subst, ◌∙◌, append_assoc}
+use Rattle.sha1.specs.Sha1.{sha1}
+use Rattle.cacache_core.specs.declared.integrity.digest.Hash.{Hash}
+use Rattle.cacache_core.specs.Integrity.{IsHash}
+use Rattle.cacache_core.specs.PathNames.{Names, names_of}
+use Rattle.cacache_core.specs.Paths.{bucket_names_of, content_names, folders_to, joined}
+use Rattle.cacache_store.specs.declared.store.step.Step.TheVariants as steps
+use Rattle.cacache_store.specs.declared.store.answer.Answer.TheVariants as answers
+use Rattle.cacache_disk.specs.Tree.{Tree}
+use Rattle.cacache_table.specs.declared.command.Command.{Command}
+use Rattle.cacache_table.specs.declared.command.Command.TheVariants as commands
+use Rattle.cacache_table.specs.declared.command.Insert.{Insert}
+use Rattle.cacache_table.specs.declared.command.Put.{Put}
+use Rattle.cacache_table.specs.declared.reply.Reply.{Reply}
+use Rattle.cacache_table.specs.declared.reply.Reply.TheVariants.{Stored}
+use Rattle.cacache_table.specs.Inserting.{insertion}
+use Rattle.cacache_table.specs.Runs.{Moves}
+use Rattle.cacache_table.specs.State.{Commit}
+use Rattle.cacache_table.specs.StepPaths.{bucket_path, content_folders, content_path}
+use Rattle.cacache_table.specs.Storing.{insertion_of, put_commit}
+use Rattle.cacache_value.specs.Value.{value_of_tree}
+use Rattle.cacache_history.specs.declared.record.Record.{Record}
+use Rattle.cacache_history.specs.AddedEntries.{address_of_put}
+use Rattle.cacache_history.specs.History.{History, IsLegal, Made, now_at}
+use Rattle.cacache_history.specs.Setup.{home}
+use Rattle.cacache_history.proofs.Digests.{digest_hash}
+use Rattle.cacache_loss.specs.Loss.{Loss}
+use Rattle.cacache_loss.specs.LossLaws.{GoodNode, HasDigest}
+use Rattle.cacache_loss.specs.LostValues.{HoldsContent, LeftOf}
+use Rattle.cacache_loss.specs.Moments.{lost_then}
+use Rattle.cacache_loss.proofs.LostValues.{contents_are_held}
+use Rattle.cacache_durable.specs.Ending.{EndsFrom, EndsWith}
+use Rattle.cacache_durable.specs.FewCalls.{FewCalls}
+use Rattle.cacache_durable.specs.Outlasting.{DurablePut, EntryOutlasts, HistoriesOutlive, InsertsOutlast, KeyOutlasts, PutsOutlast, moment_at}
+use Rattle.cacache_durable.specs.QuietMoves.{AreQuiet}
+use Rattle.cacache_durable.proofs.AtMoves.{QuietPlace, here, own_record, quiet_here, split}
+use Rattle.cacache_durable.proofs.CommitMoves.{HasDirs}
+use Rattle.cacache_durable.proofs.PutMoves.{Adds, settles}
+use Rattle.cacache_durable.proofs.CommitPlaces.{Settles, insert_appends, insert_formed, line_is, own, place_in, put_formed, put_settles, written_fits}
+use Rattle.cacache_durable.proofs.DurableContents.{content_named, found_outlasts, put_outlasts}
+use Rattle.cacache_durable.proofs.DurableEntries.{bucket_named, entry_outlasts, whole_append}
+use Rattle.cacache_durable.proofs.SyncedTemps.{put_well_at}
+use Rattle.cacache_durable.proofs.Traces.{losses_leave_caches}
+
+module _ (h : History) (legal : IsLegal h) (folder : Names) (home_is : home h.setup ≡ Some folder) where
+  -- a move of a call, from a place on where all others are quiet
+  quiet_place : (before rest : List Record) (is : h.records ≡ before ++ rest) (path : Names) → AreQuiet h.setup path (now_at h before) rest
+      → (i : List Hash) (command : Command) (ends : EndsFrom h before rest command (Stored i)) (front : Moves) (made : Made) (more : Moves)
+      → own h legal before rest is i command ends ≡ front ++ made ∷ more → QuietPlace h folder path before rest ends.caller made more
+  quiet_place before rest is path quiet i command ends front made more e = record {
+    legal = legal;
+    home_is = home_is;
+    is = is;
+    quiet = quiet;
+    reply = Stored i;
+    call = ends.call;
+    place = place_in h legal before rest is i command ends front made more e;
+  }
+
+  -- ---- a put
+
+  module _ (few : FewCalls h) (p : Put) (put : DurablePut h folder p) where
+    abbrev a : Hash
+    a = address_of_put p
+
+    abbrev commit : Commit
+    commit = put_commit h.setup.cache p
+
+    abbrev path : Names
+    path = folder ++ content_names a
+
+    is_hash : IsHash a
+    is_hash = digest_hash p.options.algorithm p.data
+
+    text_is : content_path commit.cache commit.computed ≡ joined h.setup.cache (content_names a)
+    unfolding content_path
+    text_is = refl
+
+    folders_are : content_folders commit.cache commit.computed ≡ folders_to h.setup.cache (content_names a)
+    unfolding content_folders
+    folders_are = refl
+
+    text_named : names_of (content_path commit.cache commit.computed) ≡ Ok path
+    text_named = ap names_of text_is ∙ content_named h folder a is_hash home_is
+
+    abbrev moves : Moves
+    moves = own h legal put.before put.rest put.is put.reply (commands.Put p) put.call
+
+    found : Settles put.reply commit moves
+    found = put_settles h legal put.before put.rest put.is put.reply p put.durable path put.call text_named
+
+    after_found : HasDirs (content_folders commit.cache commit.computed) found.more × Adds put.reply commit p.key found.more
+    after_found = settles put.reply commit put.durable found.more found.runs
+
+    content_place : QuietPlace h folder path put.before put.rest put.call.caller found.made found.more
+    content_place = quiet_place put.before put.rest put.is path put.quiet put.reply (commands.Put p) put.call found.front found.made found.more found.is
+
+    -- the content
+    content_left : (loss : Loss) → GoodNode (HasDigest a) (lost_then (Some folder) (moment_at h h.records) loss path)
+    content_left loss =
+        let q = content_place in
+        let puts = put_well_at h legal few (here q) (own_record q ∷ q.place.later) (split q) folder home_is a is_hash (quiet_here q) in
+        let dirs = subst (λ folders. HasDirs folders found.more) folders_are after_found.0 in
+        elim found.puts [
+          | inl f ↦ put_outlasts a is_hash q puts dirs loss f.0 (f.1 ∙ ap (λ text. (steps.Persist f.0 text, answers.Done)) text_is)
+          | inr e ↦ found_outlasts a is_hash q puts dirs loss (e ∙ ap (λ text. (steps.SyncFile text, answers.Done)) text_is) put.no_link
+        ]
+
+    module _ (loss : Loss) (left : Tree) (left_of : LeftOf folder (moment_at h h.records) loss left) where
+      -- and its entry
+      key_left : (key : Option (List ℕ)) → p.key ≡ key → Adds put.reply commit key found.more → KeyOutlasts h put.before put.rest put.call.caller p key (value_of_tree (Some folder) left)
+      key_left None e adds = tt
+      key_left (Some key) e adds =
+          let formed = put_formed h legal put.before put.rest put.is put.reply p put.durable path put.call text_named key e adds.written in
+          entry_outlasts (insertion_of commit key).entry
+          (quiet_place put.before put.rest put.is path put.quiet put.reply (commands.Put p) put.call (found.front ++ found.made ∷ adds.front) (whole_append h.setup.cache (insertion_of commit key).entry) adds.more
+          (found.is
+          ∙ ap (λ more. found.front ++ found.made ∷ more)
+          (adds.is ∙ ap (λ line. adds.front ++ (steps.Append (bucket_path h.setup.cache key) line, answers.Took (length line)) ∷ adds.more) (line_is (insertion_of commit key) put.durable))
+          ∙ sym (append_assoc found.front (found.made ∷ adds.front) (whole_append h.setup.cache (insertion_of commit key).entry ∷ adds.more))))
+          formed (written_fits (insertion_of commit key) formed adds.written) adds.file adds.dirs loss left left_of
+
+      put_left : HoldsContent a (value_of_tree (Some folder) left) × KeyOutlasts h put.before put.rest put.call.caller p p.key (value_of_tree (Some folder) left)
+      put_left = (contents_are_held folder a (moment_at h h.records) loss left left_of (content_left loss), key_left p.key refl after_found.1)
+
+  -- ---- an insertion
+
+  module _ (n : Insert) (before rest : List Record) (is : h.records ≡ before ++ rest) (durable : n.options.durable ≡ true) (quiet : AreQuiet h.setup [] (now_at h before) rest)
+      (i : List Hash) (ends : EndsFrom h before rest (commands.Insert n) (Stored i)) (loss : Loss) (left : Tree) (left_of : LeftOf folder (moment_at h h.records) loss left) where
+    insert_left : EntryOutlasts h before rest ends.caller n.key (insertion h.setup.cache n).entry (value_of_tree (Some folder) left)
+    insert_left =
+        let adds = insert_appends h legal before rest is i n durable (folder ++ bucket_names_of (sha1 n.key)) ends (bucket_named n.key h folder home_is) in
+        let formed = insert_formed h legal before rest is i n durable (folder ++ bucket_names_of (sha1 n.key)) ends adds.written in
+        entry_outlasts (insertion h.setup.cache n).entry
+        (quiet_place before rest is [] quiet i (commands.Insert n) ends adds.front (whole_append h.setup.cache (insertion h.setup.cache n).entry) adds.more
+        (adds.is ∙ ap (λ line. adds.front ++ (steps.Append (bucket_path h.setup.cache n.key) line, answers.Took (length line)) ∷ adds.more) (line_is (insertion h.setup.cache n) durable)))
+        formed (written_fits (insertion h.setup.cache n) formed adds.written) adds.file adds.dirs loss left left_of
+
+-- ---- the laws
+
+-- a call that ends with a reply, by that reply's own words
+abbrev by_reply : (h : History) (before rest : List Record) (command : Command) (reply other : Reply) → reply ≡ other → EndsFrom h before rest command reply → EndsFrom h before rest command other
+by_reply h before rest command reply other same ends = record {
+  caller = ends.caller;
+  call = ends.call;
+  is = ends.is;
+  command_is = ends.command_is;
+  nothing = ends.nothing;
+  ends = subst (λ reply. EndsWith ends.caller reply rest) same ends.ends;
+}
+
+puts_outlast : (h : History) → IsLegal h → FewCalls h → PutsOutlast h
+puts_outlast h legal few folder p loss left home_is put left_of = put_left h legal folder home_is few p put loss left left_of
+
+inserts_outlast : (h : History) → IsLegal h → InsertsOutlast h
+inserts_outlast h legal folder n loss left home_is put left_of =
+    insert_left h legal folder home_is n put.before put.rest put.is put.durable put.quiet put.stored.0
+    (by_reply h put.before put.rest (commands.Insert n) put.reply (Stored put.stored.0) put.stored.1 put.call) loss left left_of
+
+pub histories_outlive : HistoriesOutlive
+histories_outlive h legal = record {
+  caches = losses_leave_caches h legal;
+  puts = puts_outlast h legal;
+  inserts = inserts_outlast h legal;
+}

@@ -1,0 +1,4 @@
+pub mod QuietMoves
+pub mod FewCalls
+pub mod Ending
+pub mod Outlasting

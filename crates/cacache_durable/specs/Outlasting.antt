@@ -1,0 +1,138 @@
+-- What durable commits leave after a loss of power.
+use Rattle.std.specs.Prelude.{◌≡◌, ℕ, List, [], ◌∷◌, ◌++◌, Option, None, Some, true, fold, length}
+use Rattle.sha1.specs.Sha1.{sha1}
+use Rattle.cacache_core.specs.declared.integrity.digest.Hash.{Hash}
+use Rattle.cacache_core.specs.PathNames.{Names}
+use Rattle.cacache_core.specs.Paths.{content_names}
+use Rattle.cacache_store.specs.declared.store.step.Step.TheVariants as steps
+use Rattle.cacache_store.specs.declared.store.answer.Answer.TheVariants as answers
+use Rattle.cacache_disk.specs.Tree.{Tree}
+use Rattle.cacache_entry.specs.Entry.{Entry, closed_line}
+use Rattle.cacache_entry.specs.Latest.{Found, answer_to, after_entry, latest}
+use Rattle.cacache_table.specs.declared.command.Command.TheVariants as commands
+use Rattle.cacache_table.specs.declared.command.Insert.{Insert}
+use Rattle.cacache_table.specs.declared.command.Put.{Put}
+use Rattle.cacache_table.specs.declared.reply.Reply.{Reply}
+use Rattle.cacache_table.specs.declared.reply.Reply.TheVariants.{Stored}
+use Rattle.cacache_table.specs.Inserting.{insertion}
+use Rattle.cacache_table.specs.StepPaths.{bucket_path}
+use Rattle.cacache_table.specs.Storing.{insertion_of, put_commit}
+use Rattle.cacache_value.specs.Value.{AtLink, Value, value_of_tree}
+use Rattle.cacache_history.specs.declared.record.Record.{Record}
+use Rattle.cacache_history.specs.declared.record.Record.TheVariants.{Moved}
+use Rattle.cacache_history.specs.AddedEntries.{address_of_put}
+use Rattle.cacache_history.specs.History.{History, IsLegal, first, now_at}
+use Rattle.cacache_history.specs.Setup.{home}
+use Rattle.cacache_history.specs.Values.{bucket_at, steps_of, value_at}
+use Rattle.cacache_loss.specs.ChangedNames.{LeavesCache, opening}
+use Rattle.cacache_loss.specs.Loss.{Loss}
+use Rattle.cacache_loss.specs.LostValues.{HoldsContent, LeftOf}
+use Rattle.cacache_loss.specs.Moments.{Moment, after}
+use Rattle.cacache_durable.specs.Ending.{EndsFrom}
+use Rattle.cacache_durable.specs.FewCalls.{FewCalls}
+use Rattle.cacache_durable.specs.QuietMoves.{AreQuiet}
+
+-- the tree after the first records of a history, and what of it is fixed
+abbrev pub moment_at : History → List Record → Moment
+moment_at h before = after (opening (first h.setup).tree) (steps_of before)
+
+-- ---- what is left
+
+-- a bucket of this key holds these entries and this one behind them; where this one answers a
+-- lookup of the key, the lookup finds it or a later one
+pub record Outlasts (key : List ℕ) (old : List Entry) (entry : Entry) (v : Value) : Type 0 where
+  pub more : List Entry
+  pub bucket : v.buckets (sha1 key) ≡ Some (old ++ entry ∷ more)
+  pub finds : (found : Option Found) → answer_to key entry ≡ Some found
+      → latest key (old ++ entry ∷ more) ≡ fold (after_entry key) found more
+
+-- the caller's append of the entry's whole line, all of which was taken
+abbrev pub IsAppendOf : ℕ → List ℕ → List ℕ → Entry → Record → Type 0
+IsAppendOf caller cache key entry (Moved other luck (Some made) told) =
+    (other ≡ caller) × (made.0 ≡ steps.Append (bucket_path cache key) (closed_line true entry))
+    × (made.1 ≡ answers.Took (length (closed_line true entry)))
+IsAppendOf caller cache key entry r = ⊥
+
+-- the entry outlasts a loss, behind what its bucket held at the place of the caller's append
+pub record EntryOutlasts (h : History) (before rest : List Record) (caller : ℕ) (key : List ℕ)
+    (entry : Entry) (v : Value) : Type 0 where
+  pub between : List Record
+  pub append : Record
+  pub later : List Record
+  pub is : rest ≡ between ++ append ∷ later
+  pub is_append : IsAppendOf caller h.setup.cache key entry append
+  pub outlasts : Outlasts key (bucket_at h (before ++ between) (sha1 key)) entry v
+
+-- with a key a put has an entry, which outlasts the loss too
+abbrev pub KeyOutlasts : History → List Record → List Record → ℕ → Put → Option (List ℕ) → Value
+    → Type 0
+KeyOutlasts h before rest caller p None v = Unit {0}
+KeyOutlasts h before rest caller p (Some key) v =
+    EntryOutlasts h before rest caller key (insertion_of (put_commit h.setup.cache p) key).entry v
+
+-- ---- which commits
+
+-- there is no link at this address
+abbrev pub IsNoLink : Hash → Value → Type 0
+IsNoLink address v = (target : List ℕ) → v.contents address ≡ Some (AtLink target) → ⊥
+
+-- a durable put that answers, from a place on where it had put nothing: from there on others remove,
+-- link and export nothing, put its content durably, and at its address stood no link
+pub record DurablePut (h : History) (folder : Names) (p : Put) : Type 0 where
+  pub before : List Record
+  pub rest : List Record
+  pub is : h.records ≡ before ++ rest
+  pub durable : p.options.durable ≡ true
+  pub reply : List Hash
+  pub call : EndsFrom h before rest (commands.Put p) (Stored reply)
+  pub quiet :
+      AreQuiet h.setup (folder ++ content_names (address_of_put p)) (now_at h before) rest
+  pub no_link : IsNoLink (address_of_put p) (value_at h before)
+
+-- a durable insertion that answers, from a place on where its entry wasn't added: from there on
+-- others remove, link and export nothing
+pub record DurableInsert (h : History) (i : Insert) : Type 0 where
+  pub before : List Record
+  pub rest : List Record
+  pub is : h.records ≡ before ++ rest
+  pub durable : i.options.durable ≡ true
+  pub reply : Reply
+  pub call : EndsFrom h before rest (commands.Insert i) reply
+  pub stored : (hashes : List Hash) × (reply ≡ Stored hashes)
+  pub quiet : AreQuiet h.setup [] (now_at h before) rest
+
+-- ---- the laws
+
+-- what a durable put stored is there after each later loss: its content, and with a key its entry
+abbrev pub PutsOutlast : History → Type 0
+PutsOutlast h =
+    (folder : Names) (p : Put) (loss : Loss) (left : Tree) → home h.setup ≡ Some folder
+    → (put : DurablePut h folder p) → LeftOf folder (moment_at h h.records) loss left
+    → HoldsContent (address_of_put p) (value_of_tree (Some folder) left)
+    × KeyOutlasts h put.before put.rest put.call.caller p p.key (value_of_tree (Some folder) left)
+
+-- so is the entry of a durable insertion
+abbrev pub InsertsOutlast : History → Type 0
+InsertsOutlast h =
+    (folder : Names) (i : Insert) (loss : Loss) (left : Tree) → home h.setup ≡ Some folder
+    → (put : DurableInsert h i) → LeftOf folder (moment_at h h.records) loss left
+    → EntryOutlasts h put.before put.rest put.call.caller i.key (insertion h.setup.cache i).entry
+    (value_of_tree (Some folder) left)
+
+-- each loss leaves one tree, that of a cache, on which reading steps show what it holds
+abbrev pub LossesLeaveCaches : History → Type 0
+LossesLeaveCaches h =
+    (loss : Loss) → LeavesCache (home h.setup) (moment_at h h.records) loss
+
+-- what a loss of power leaves of a history
+pub record Outlives (h : History) : Type 0 where
+  -- each loss leaves one tree, that of a cache
+  pub caches : LossesLeaveCaches h
+  -- what a durable put stored is there after it, where each call has a temporary file of its own
+  pub puts : FewCalls h → PutsOutlast h
+  -- and so is the entry of a durable insertion
+  pub inserts : InsertsOutlast h
+
+-- so it is of every legal history
+abbrev pub HistoriesOutlive : Type 0
+HistoriesOutlive = (h : History) → IsLegal h → Outlives h

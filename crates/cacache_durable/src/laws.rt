@@ -1,0 +1,8 @@
+//! The law of durable commits, on a function that does nothing.
+ghost use Rattle.cacache_durable.specs.Outlasting.{HistoriesOutlive};
+
+/// What a durable commit of a legal history stored is there after each later loss of power, while
+/// others remove, link and export nothing.
+pub fn durable_laws()
+    ensures { HistoriesOutlive }
+{}

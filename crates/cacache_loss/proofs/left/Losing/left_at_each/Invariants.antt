@@ -1,0 +1,9 @@
+use Rattle.std.proofs.Common.{◌≡◌, cond, None, take}
+use Rattle.cacache_core.specs.PathNames.{Names}
+use Rattle.cacache_disk.specs.Tree.{look}
+use Rattle.cacache_loss.specs.Losing.{lost_of}
+use Rattle.cacache_loss.specs.Reached.{is_among}
+use Rattle.cacache_loss.proofs.left.Losing.left_at_each.Given as goal
+
+abbrev pub invariant-loop-i : goal.invariant-loop-i
+invariant-loop-i l = (q : Names) → look l.nodes q ≡ cond (is_among q (take l.i l.paths)) (lost_of l.self q) None

@@ -1,0 +1,9 @@
+use Rattle.std.proofs.Common.{◌≡◌, take}
+use Rattle.std.specs.List.{list_any}
+use Rattle.cacache_core.specs.PathNames.{Names, names_of}
+use Rattle.cacache_loss.specs.Fixing.{is_at}
+use Rattle.cacache_loss.specs.Reached.{is_among}
+use Rattle.cacache_loss.proofs.loss.undone_paths.Given as goal
+
+abbrev pub invariant-loop-i : goal.invariant-loop-i
+invariant-loop-i l = (q : Names) → is_among q l.paths.items ≡ list_any (λ text. is_at (names_of text) q) (take l.i l.texts)

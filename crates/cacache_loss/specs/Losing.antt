@@ -1,0 +1,29 @@
+-- What the code takes a loss for, and what it leaves.
+use Rattle.std.specs.Prelude.{Option}
+use Rattle.cacache_core.specs.PathNames.{Names}
+use Rattle.cacache_disk.specs.declared.node.Node.{Node}
+use Rattle.cacache_loss.specs.declared.loss.Taken.{Taken}
+use Rattle.cacache_loss.specs.declared.left.Losing.{Losing}
+use Rattle.cacache_loss.specs.Chosen.{tail_in}
+use Rattle.cacache_loss.specs.Fixing.{Place}
+use Rattle.cacache_loss.specs.Loss.{Loss, left_at}
+use Rattle.cacache_loss.specs.Moments.{lost_then}
+use Rattle.cacache_loss.specs.Reached.{is_among}
+use Rattle.cacache_loss.specs.Running.{fixed_in, moment_of}
+
+-- the loss in which these paths are undone, and these tails follow
+abbrev pub loss_of : Taken → Loss
+loss_of taken = record {
+  undone = λ path. is_among path taken.undone.items;
+  tail = tail_in taken.tails.items;
+}
+
+-- what is left at a path whose folder is left
+abbrev pub left_of : Losing → Names → Place
+left_of l =
+    left_at l.home l.running.disk (fixed_in l.running.first l.running.files l.running.names)
+    (loss_of l.taken)
+
+-- what stands at a path after the loss
+abbrev pub lost_of : Losing → Names → Option Node
+lost_of l path = lost_then l.home (moment_of l.running) (loss_of l.taken) path

@@ -1,0 +1,45 @@
+-- Where a step may change something: the paths that it names, or that these lead to.
+use Rattle.std.specs.Prelude.{Bool, List, [], ◌∷◌, ◌++◌, Option, None, Some}
+use Rattle.std.specs.List.{list_any}
+use Rattle.std.specs.Result.{result_ok}
+use Rattle.cacache_core.specs.PathNames.{Names, names_of}
+use Rattle.cacache_store.specs.declared.store.step.Step.TheVariants.{MakeDirs, CreateTemp, Write, Persist, Append, Symlink, Copy, Reflink, HardLink, RemoveFile, RemoveDir}
+use Rattle.cacache_store.specs.Plain.{PlainStep}
+use Rattle.cacache_disk.specs.LedTo.{writable}
+use Rattle.cacache_disk.specs.Tree.{Tree, same_path}
+
+-- whether a path is one of these
+abbrev pub is_among : Names → List Names → Bool
+is_among path paths = list_any (same_path path) paths
+
+-- at most two paths
+abbrev pub listed : Option Names → Option Names → List Names
+listed None None = []
+listed (Some first) None = first ∷ []
+listed None (Some second) = second ∷ []
+listed (Some first) (Some second) = first ∷ second ∷ []
+
+-- the paths on the way through these names, each one name longer
+abbrev pub fronts : Names → Names → List Names
+fronts above [] = []
+fronts above (name ∷ rest) = (above ++ name ∷ []) ∷ fronts (above ++ name ∷ []) rest
+
+-- those of a path, if there is one
+abbrev pub fronts_of : Option Names → List Names
+fronts_of None = []
+fronts_of (Some path) = fronts [] path
+
+-- the paths at which a step may change something
+abbrev pub reached : Tree → PlainStep → List Names
+reached t (MakeDirs p) = fronts_of (result_ok (names_of p))
+reached t (CreateTemp p) = listed (result_ok (names_of p)) None
+reached t (Write f bytes) = listed (result_ok (names_of f.path)) None
+reached t (Persist f p) = listed (result_ok (names_of f.path)) (result_ok (names_of p))
+reached t (Append p bytes) = listed (result_ok (writable t p)) None
+reached t (Symlink target p) = listed (result_ok (names_of p)) None
+reached t (Copy p to) = listed (result_ok (writable t to)) None
+reached t (Reflink p to) = listed (result_ok (names_of to)) None
+reached t (HardLink p to) = listed (result_ok (names_of to)) None
+reached t (RemoveFile p) = listed (result_ok (names_of p)) None
+reached t (RemoveDir p) = listed (result_ok (names_of p)) None
+reached t step = []

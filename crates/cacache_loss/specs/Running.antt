@@ -1,0 +1,103 @@
+-- What the code keeps of a moment, and what a step does to it.
+use Rattle.std.specs.Prelude.{◌≡◌, map, Bool, true, false, ◌||◌, not, List, Option, None, Some, unwrap_or, is_some, if◌then◌else◌}
+use Rattle.std.specs.BTreeMap.{BTreeMap, get}
+use Rattle.cacache_core.specs.PathNames.{Names}
+use Rattle.cacache_store.specs.declared.store.step.Step.TheVariants.{Write, Persist, Copy}
+use Rattle.cacache_store.specs.declared.store.answer.Answer.TheVariants.{Done}
+use Rattle.cacache_store.specs.Plain.{PlainStep, PlainAnswer}
+use Rattle.cacache_disk.specs.declared.luck.Luck.{Luck}
+use Rattle.cacache_disk.specs.declared.node.Node.{Node}
+use Rattle.cacache_disk.specs.Tree.{Tree, look, names_cmp, same_path, bytes_of}
+use Rattle.cacache_value.specs.Traces.{Move}
+use Rattle.cacache_loss.specs.declared.effect.Effect.{Effect}
+use Rattle.cacache_loss.specs.declared.running.Running.{Running}
+use Rattle.cacache_loss.specs.Fixing.{Fixing, Place, Fixed, synced, refixed, opened_if, same_node, same_thing, moves_file, renamed}
+use Rattle.cacache_loss.specs.Moments.{Moment}
+use Rattle.cacache_loss.specs.Reached.{is_among}
+
+-- ---- what is kept
+
+-- how far files are fixed: as the map says, and else as the first tree had them
+abbrev pub files_in : Tree → BTreeMap Names Fixing → Names → Fixing
+files_in first files path = unwrap_or (get names_cmp files path) (synced (bytes_of (look first path)))
+
+-- what is fixed, where the first tree was and these changed since
+abbrev pub fixed_in : Tree → BTreeMap Names Fixing → BTreeMap Names Place → Fixed
+fixed_in first files names = record {
+  files = files_in first files;
+  names = get names_cmp names;
+}
+
+-- the moment at which a running disk stands
+abbrev pub moment_of : Running → Moment
+moment_of r = record { tree = r.disk; fixed = fixed_in r.first r.files r.names }
+
+-- ---- what a step does
+
+-- whether a step that moves a file did
+abbrev pub is_done : PlainAnswer → Bool
+is_done Done = true
+is_done answer = false
+
+-- where a file moved to, and how far it is fixed
+abbrev pub arrival : (Names → Fixing) → Option (Names × Names) → Option (Names × Fixing)
+arrival files None = None
+arrival files (Some (from, to)) = Some (to, files from)
+
+-- what a step with this answer does at the paths that it reaches
+abbrev pub effect_of : (Names → Fixing) → PlainStep → PlainAnswer → Effect
+effect_of files (Write f bytes) answer = record { rewrites = false; writes = true; moved = None }
+effect_of files (Copy p to) answer = record { rewrites = true; writes = false; moved = None }
+effect_of files (Persist f p) answer = record {
+  rewrites = false;
+  writes = false;
+  moved = arrival files (moves_file (Persist f p) answer);
+}
+effect_of files step answer = record { rewrites = false; writes = false; moved = None }
+
+-- how far the file is fixed that moved to a path, if one did
+abbrev pub arrived : Option (Names × Fixing) → Names → Option Fixing
+arrived None path = None
+arrived (Some (to, fixing)) path = if same_path path to then Some fixing else None
+
+-- how far a file is fixed after a step of this effect
+abbrev pub fixing_by : Effect → Place → Option Node → Names → Fixing
+fixing_by e was here path =
+    unwrap_or (arrived e.moved path)
+    (refixed e.rewrites (same_node was.node here) (same_thing was.node here)
+    (opened_if e.writes was.fixing))
+
+-- whether another thing stands at a path after it
+abbrev pub renames : Effect → Place → Option Node → Names → Bool
+renames e was here path = is_some (arrived e.moved path) || not (same_thing was.node here)
+
+-- a step with its luck and its answer
+abbrev pub move_of : PlainStep → Luck → PlainAnswer → Move
+move_of step luck answer = record { step = step; luck = luck; answer = answer }
+
+-- at the reached of these paths with these places, files are fixed as the effect says, and else
+-- as before
+abbrev pub FilesSettleAt : Effect → Tree → List Names → List Place → List Names → (Names → Fixing)
+    → (Names → Fixing) → Type 0
+FilesSettleAt e t paths places reached old new =
+    (place : Names → Place) → places ≡ map place paths → (q : Names)
+    → new q ≡ if is_among q reached then fixing_by e (place q) (look t q) q else old q
+
+-- and so is what stood at names
+abbrev pub NamesSettleAt : Effect → Tree → List Names → List Place → List Names
+    → (Names → Option Place) → (Names → Option Place) → Type 0
+NamesSettleAt e t paths places reached old new =
+    (place : Names → Place) → places ≡ map place paths → (q : Names)
+    → new q ≡ if is_among q reached
+    then renamed (renames e (place q) (look t q) q) (place q) (old q)
+    else old q
+
+-- at all of them
+abbrev pub FilesSettle : Effect → Tree → List Names → List Place → (Names → Fixing)
+    → (Names → Fixing) → Type 0
+FilesSettle e t paths places old new = FilesSettleAt e t paths places paths old new
+
+-- at all of them
+abbrev pub NamesSettle : Effect → Tree → List Names → List Place → (Names → Option Place)
+    → (Names → Option Place) → Type 0
+NamesSettle e t paths places old new = NamesSettleAt e t paths places paths old new

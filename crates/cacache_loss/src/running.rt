@@ -1,0 +1,193 @@
+//! A disk on which steps are made, and what of it is fixed.
+ghost use Rattle.std.specs.Prelude.{◌≡◌, IfOk, OnOk, map, length, true, false};
+ghost use Rattle.std.specs.BTreeMap.{get};
+ghost use Rattle.cacache_disk.specs.Apply.{apply};
+ghost use Rattle.cacache_disk.specs.Tree.{Tree, names_cmp};
+ghost use Rattle.cacache_loss.specs.ChangedNames.{opening};
+ghost use Rattle.cacache_loss.specs.Fixing.{place_now, is_sync};
+ghost use Rattle.cacache_loss.specs.Moments.{next};
+ghost use Rattle.cacache_loss.specs.Running.{files_in, fixed_in, moment_of, move_of, FilesSettle, NamesSettle};
+
+use crate::effect::{Effect, effect_of, fixing_at};
+use crate::fixing::{Fixing, Place};
+use crate::reached::reached;
+use crate::syncs::{is_sync, synced};
+use cacache_core::keeping::let_go;
+use cacache_disk::{Disk, Luck, Path};
+use cacache_store::store::{Answer, PlainFile, PlainTemp, Step};
+use std::alloc::{AllocError, Global};
+use std::collections::BTreeMap;
+
+/// A disk on which steps are made, and what of it is fixed. It began with the first disk, of which
+/// all was.
+#[derive(Drop)]
+pub struct Running {
+    pub(crate) alloc: Global,
+    pub(crate) first: Disk,
+    pub(crate) disk: Disk,
+    /// How far files are fixed that steps reached.
+    pub(crate) files: BTreeMap<Path, Fixing>,
+    /// What stood at names that changed since their folders were synced.
+    pub(crate) names: BTreeMap<Path, Place>,
+}
+
+/// What stands at each of these paths, and how far it is fixed.
+fn places(
+    alloc: Global,
+    first: &Disk,
+    disk: &Disk,
+    files: &BTreeMap<Path, Fixing>,
+    names: &BTreeMap<Path, Place>,
+    paths: &[Path],
+) -> Result<Vec<Place>, AllocError>
+    ensures { IfOk result (λ places. places.items
+        ≡ map (place_now disk.now (fixed_in first.now files.now names.now)) paths.now) }
+{
+    let mut places = Vec::new(alloc);
+    for i in 0..paths.len() {
+        let node = match disk.nodes().node(&paths[i]) {
+            Some(node) => Some(node.clone()?),
+            None => None,
+        };
+        let fixing = fixing_at(first, files, &paths[i]);
+        places.push(Place { node, fixing })?;
+    }
+    Ok(places)
+}
+
+/// Makes a step, whose answer is known.
+fn advance(disk: &mut Disk, step: &Step<PlainFile, PlainTemp>, luck: Luck) -> Result<(), AllocError>
+    ensures { OnOk result (disk.new ≡ (apply disk.old step.now luck).1) }
+{
+    match disk.apply(step, luck) {
+        Ok(answer) => {
+            let_go(answer);
+            Ok(())
+        }
+        Err(error) => Err(error),
+    }
+}
+
+/// Keeps what is fixed at the paths that a step reached, of which the places were these.
+fn settle(
+    effect: &Effect,
+    disk: &Disk,
+    paths: &[Path],
+    places: &[Place],
+    files: &mut BTreeMap<Path, Fixing>,
+    names: &mut BTreeMap<Path, Place>,
+) -> Result<(), AllocError>
+    requires { length places.now ≡ length paths.now }
+    ensures files { OnOk result ((first : Tree) → FilesSettle effect.now disk.now paths.now
+        places.now (files_in first files.old) (files_in first files.new)) }
+    ensures names { OnOk result (NamesSettle effect.now disk.now paths.now
+        places.now (get names_cmp names.old) (get names_cmp names.new)) }
+{
+    for i in 0..paths.len() {
+        effect.settle(disk, &paths[i], &places[i], files, names)?;
+    }
+    Ok(())
+}
+
+impl Running {
+    /// A disk of which all is fixed.
+    pub fn opening(disk: Disk) -> Result<Running, AllocError>
+        ensures { IfOk result (λ r. moment_of r ≡ opening disk) }
+    {
+        let alloc = disk.nodes().alloc();
+        let first = disk.clone()?;
+        Ok(Running {
+            alloc,
+            first,
+            disk,
+            files: BTreeMap::new(alloc),
+            names: BTreeMap::new(alloc),
+        })
+    }
+
+    /// The moment after a step that turns out as the luck says, with this answer.
+    pub fn next(
+        self,
+        step: &Step<PlainFile, PlainTemp>,
+        luck: Luck,
+        answer: &Answer<PlainFile, PlainTemp>,
+    ) -> Result<Running, AllocError>
+        ensures { IfOk result (λ r. moment_of r
+            ≡ next (moment_of self) (move_of step.now luck answer.now)) }
+    {
+        if is_sync(step) {
+            return self.synced(step, luck, answer);
+        }
+        self.changed(step, luck, answer)
+    }
+
+    /// The moment after a sync.
+    fn synced(
+        self,
+        step: &Step<PlainFile, PlainTemp>,
+        luck: Luck,
+        answer: &Answer<PlainFile, PlainTemp>,
+    ) -> Result<Running, AllocError>
+        requires { is_sync step.now ≡ true }
+        ensures { IfOk result (λ r. moment_of r
+            ≡ next (moment_of self) (move_of step.now luck answer.now)) }
+    {
+        let Running {
+            alloc,
+            first,
+            disk,
+            files,
+            names,
+        } = self;
+        let (mut disk, mut files, mut names) = (disk, files, names);
+        synced(alloc, &disk, step, answer, &mut files, &mut names)?;
+        advance(&mut disk, step, luck)?;
+        Ok(Running {
+            alloc,
+            first,
+            disk,
+            files,
+            names,
+        })
+    }
+
+    /// The moment after a step that is no sync.
+    fn changed(
+        self,
+        step: &Step<PlainFile, PlainTemp>,
+        luck: Luck,
+        answer: &Answer<PlainFile, PlainTemp>,
+    ) -> Result<Running, AllocError>
+        requires { is_sync step.now ≡ false }
+        ensures { IfOk result (λ r. moment_of r
+            ≡ next (moment_of self) (move_of step.now luck answer.now)) }
+    {
+        let Running {
+            alloc,
+            first,
+            disk,
+            files,
+            names,
+        } = self;
+        let (mut disk, mut files, mut names) = (disk, files, names);
+        let paths = reached(alloc, &disk, step)?;
+        let was = places(alloc, &first, &disk, &files, &names, paths.as_slice())?;
+        let effect = effect_of(alloc, &first, &files, step, answer)?;
+        advance(&mut disk, step, luck)?;
+        settle(
+            &effect,
+            &disk,
+            paths.as_slice(),
+            was.as_slice(),
+            &mut files,
+            &mut names,
+        )?;
+        Ok(Running {
+            alloc,
+            first,
+            disk,
+            files,
+            names,
+        })
+    }
+}

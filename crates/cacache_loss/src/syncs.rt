@@ -1,0 +1,190 @@
+//! What a sync fixes.
+ghost use Rattle.std.specs.Prelude.{◌≡◌, ◌&&◌, IfOk, OnOk, [], None, true, unwrap_or, if◌then◌else◌};
+ghost use Rattle.std.specs.BTreeMap.{get, keys};
+ghost use Rattle.cacache_core.specs.PathNames.{names_of};
+ghost use Rattle.cacache_disk.specs.LedTo.{leads};
+ghost use Rattle.cacache_disk.specs.Tree.{Tree, Names, names_cmp, look, bytes_of, is_child};
+ghost use Rattle.cacache_loss.specs.Reached.{is_among};
+ghost use Rattle.cacache_loss.specs.Fixing.{is_at, is_child_of, is_sync, is_synced, synced, fixed_after};
+ghost use Rattle.cacache_loss.specs.Running.{files_in, fixed_in};
+
+use crate::effect::fix;
+use crate::fixing::{Fixing, Place};
+use crate::reached::named;
+use cacache_core::keeping::let_go;
+use cacache_disk::{Disk, Path, Stop};
+use cacache_store::store::{Answer, PlainFile, PlainTemp, Step};
+use std::alloc::{AllocError, Global};
+use std::collections::BTreeMap;
+
+/// Whether a step is a sync.
+pub(crate) fn is_sync(step: &Step<PlainFile, PlainTemp>) -> bool
+    ensures { result ≡ is_sync step.now }
+{
+    match step {
+        Step::SyncTemp(_) | Step::SyncFile(_) | Step::SyncDir(_) => true,
+        Step::MakeDirs(_)
+        | Step::CreateTemp(_)
+        | Step::Write(_, _)
+        | Step::Persist(_, _)
+        | Step::Append(_, _)
+        | Step::ReadAll(_)
+        | Step::Open(_)
+        | Step::Read(_, _)
+        | Step::Exists(_)
+        | Step::Size(_)
+        | Step::Symlink(_, _)
+        | Step::Copy(_, _)
+        | Step::Reflink(_, _)
+        | Step::HardLink(_, _)
+        | Step::ReadDir(_)
+        | Step::RemoveFile(_)
+        | Step::RemoveDir(_) => false,
+    }
+}
+
+/// Whether a sync was done.
+pub(crate) fn is_synced(answer: &Answer<PlainFile, PlainTemp>) -> bool
+    ensures { result ≡ is_synced answer.now }
+{
+    match answer {
+        Answer::Done | Answer::Synced(_) => true,
+        Answer::Temp(_)
+        | Answer::Wrote(_, _)
+        | Answer::Took(_)
+        | Answer::Bytes(_)
+        | Answer::File(_)
+        | Answer::Got(_, _)
+        | Answer::There(_)
+        | Answer::Length(_)
+        | Answer::Names(_)
+        | Answer::Failed(_)
+        | Answer::NoMemory(_) => false,
+    }
+}
+
+/// The paths of a map, in their order.
+pub(crate) fn paths_of(
+    alloc: Global,
+    names: &BTreeMap<Path, Place>,
+) -> Result<Vec<Path>, AllocError>
+    ensures { IfOk result (λ paths. paths.items ≡ keys names.now) }
+{
+    let mut paths = Vec::new(alloc);
+    for path in names.keys() {
+        paths.push(path.clone()?)?;
+    }
+    Ok(paths)
+}
+
+/// Fixes the bytes of a temporary file.
+fn temp_synced(
+    alloc: Global,
+    temp: &PlainTemp,
+    files: &mut BTreeMap<Path, Fixing>,
+) -> Result<(), AllocError>
+    ensures { OnOk result ((first : Tree) (q : Names) → files_in first files.new q
+        ≡ if is_at (names_of temp.now.path) q then synced (unwrap_or temp.now.bytes [])
+        else files_in first files.old q) }
+{
+    if let Some(path) = named(alloc, temp.path.as_str())? {
+        let kept = match &temp.bytes {
+            Some(bytes) => bytes.len(),
+            None => 0,
+        };
+        return fix(files, path, Fixing { kept, whole: true });
+    }
+    Ok(())
+}
+
+/// Fixes the bytes of the file that a path leads to.
+fn file_synced(
+    disk: &Disk,
+    path: &str,
+    files: &mut BTreeMap<Path, Fixing>,
+) -> Result<(), AllocError>
+    ensures { OnOk result ((first : Tree) (q : Names) → files_in first files.new q
+        ≡ if is_at (leads disk.now path.now) q then synced (bytes_of (look disk.now q))
+        else files_in first files.old q) }
+{
+    match disk.leads(path) {
+        Ok((end, node)) => {
+            let fixing = Fixing::synced(node);
+            fix(files, end, fixing)
+        }
+        Err(Stop::Fault(_)) => Ok(()),
+        Err(Stop::OutOfMemory) => Err(AllocError),
+    }
+}
+
+/// Forgets what stood at those of these paths that lie in a folder.
+fn forget(names: &mut BTreeMap<Path, Place>, paths: &[Path], folder: &Path)
+    ensures { (q : Names) → get names_cmp names.new q
+        ≡ if is_among q paths.now && is_child folder.now q then None
+        else get names_cmp names.old q }
+{
+    for i in 0..paths.len() {
+        let path = &paths[i];
+        if !path.is_in(folder) {
+            continue;
+        }
+        let_go(names.remove(path));
+    }
+}
+
+/// Fixes the names in a folder.
+fn folder_synced(
+    alloc: Global,
+    path: &str,
+    names: &mut BTreeMap<Path, Place>,
+) -> Result<(), AllocError>
+    ensures { OnOk result ((q : Names) → get names_cmp names.new q
+        ≡ if is_child_of (names_of path.now) q then None else get names_cmp names.old q) }
+{
+    let Some(folder) = named(alloc, path)? else {
+        return Ok(());
+    };
+    let paths = paths_of(alloc, names)?;
+    forget(names, paths.as_slice(), &folder);
+    Ok(())
+}
+
+/// Fixes what a sync with this answer fixes.
+pub(crate) fn synced(
+    alloc: Global,
+    disk: &Disk,
+    step: &Step<PlainFile, PlainTemp>,
+    answer: &Answer<PlainFile, PlainTemp>,
+    files: &mut BTreeMap<Path, Fixing>,
+    names: &mut BTreeMap<Path, Place>,
+) -> Result<(), AllocError>
+    requires { is_sync step.now ≡ true }
+    ensures { OnOk result ((first new : Tree) → fixed_in first files.new names.new
+        ≡ fixed_after (fixed_in first files.old names.old) disk.now new step.now answer.now) }
+{
+    if !is_synced(answer) {
+        return Ok(());
+    }
+    match step {
+        Step::SyncTemp(temp) => temp_synced(alloc, temp, files),
+        Step::SyncFile(path) => file_synced(disk, path.as_str(), files),
+        Step::SyncDir(path) => folder_synced(alloc, path.as_str(), names),
+        Step::MakeDirs(_)
+        | Step::CreateTemp(_)
+        | Step::Write(_, _)
+        | Step::Persist(_, _)
+        | Step::Append(_, _)
+        | Step::ReadAll(_)
+        | Step::Open(_)
+        | Step::Read(_, _)
+        | Step::Exists(_)
+        | Step::Size(_)
+        | Step::Symlink(_, _)
+        | Step::Copy(_, _)
+        | Step::Reflink(_, _)
+        | Step::HardLink(_, _)
+        | Step::ReadDir(_)
+        | Step::RemoveFile(_)
+        | Step::RemoveDir(_) => Ok(()),
+    }
+}

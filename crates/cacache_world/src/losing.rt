@@ -1,0 +1,58 @@
+//! What a loss of power leaves of a world's disk.
+ghost use Rattle.std.specs.Prelude.{◌≡◌, ◌∷◌, [], ℕ, IfOk};
+ghost use Rattle.cacache_history.specs.Values.{steps_of};
+ghost use Rattle.cacache_loss.specs.ChangedNames.{opening};
+ghost use Rattle.cacache_loss.specs.Moments.{after};
+ghost use Rattle.cacache_loss.specs.Running.{moment_of};
+ghost use Rattle.cacache_world.specs.Losses.{LeftBy};
+ghost use Rattle.cacache_world.specs.WorldKept.{history_of, setup_of};
+
+use crate::outside::planted;
+use cacache_core::bytes::Bytes;
+use cacache_core::text::Text;
+use cacache_disk::{Disk, Nodes};
+use cacache_history::Record;
+use cacache_loss::{Loss, Running};
+use std::alloc::{AllocError, Global};
+
+/// The moment after a record.
+fn run_on(running: Running, record: &Record) -> Result<Running, AllocError>
+    ensures { IfOk result (λ r.
+        moment_of r ≡ after (moment_of running) (steps_of (record.now ∷ []))) }
+{
+    match record {
+        Record::Moved(_, luck, Some((step, answer)), _) => running.next(step, *luck, answer),
+        Record::Moved(_, _, None, _) | Record::Began(_, _) | Record::Stopped(_) => Ok(running),
+    }
+}
+
+/// The moment after these records, where a disk began with all of it fixed.
+fn replayed(disk: Disk, records: &[Record]) -> Result<Running, AllocError>
+    ensures { IfOk result (λ r.
+        moment_of r ≡ after (opening disk) (steps_of records.now)) }
+{
+    let mut running = Running::opening(disk)?;
+    for i in 0..records.len() {
+        running = run_on(running, &records[i])?;
+    }
+    Ok(running)
+}
+
+/// The nodes that a loss leaves where this history ends.
+pub(crate) fn nodes_left(
+    alloc: Global,
+    cache: &str,
+    outside: &[(Text, Bytes)],
+    records: &[Record],
+    loss: &Loss,
+) -> Result<Nodes, AllocError>
+    ensures { IfOk result (λ nodes. (callers : ℕ)
+        → LeftBy (history_of (setup_of cache.now outside.now callers) records.now)
+        loss.now nodes) }
+{
+    let Ok(disk) = planted(alloc, cache, outside) else {
+        return Err(AllocError);
+    };
+    let running = replayed(disk, records)?;
+    running.lose(cache, loss)
+}
