@@ -1,19 +1,25 @@
 -- Addresses in order, and which of them entries have.
-use Rattle.std.proofs.Common.{◌≡◌, ◌+◌, ◌<◌, ◌≤◌, ℕ, zero, suc, List, [], ◌∷◌, ◌++◌, Bool, true, false, Some, Ok, Err, Result, inl, inr, refl, sym, ap, subst, ◌∙◌, map, length, length-append, arith, get_or}
-use Rattle.std.specs.Prelude.{Contains, IsTrue, ◌↔◌, is_ok}
+use Rattle.std.proofs.Common.{◌≡◌, ◌+◌, ◌<◌, ◌≤◌, ℕ, List, [], ◌∷◌, ◌++◌, Bool, true, false, cond, Some, Ok, Err, Result, refl, sym, ap, ap₂, subst, ◌∙◌, map, length, length-append, arith, get_or, take}
+use Rattle.std.specs.Prelude.{All, Contains, IsTrue, ◌↔◌, ◌||◌, is_ok, not}
+use Rattle.std.specs.List.{filter}
+use Rattle.std.proofs.lemmas.List.{map-append, take_more}
 use Rattle.std.specs.declared.cmp.Ordering.TheVariants.{Equal}
 use Rattle.std.specs.Ordering.{eq_by_cmp, is_eq}
 use Rattle.std.specs.Cmp.{IsTotalOrder, then_total, on_total, nat_cmp_total, unsigned_ties, both_tied}
 use Rattle.std.specs.Cmp.Lexicographic.{nat_list_cmp_total, texts_ties}
 use Rattle.std.specs.List.Sorted.{IsBinarySearchResult, IsSearchInRange, IsSorted}
-use Rattle.std.proofs.lemmas.List.Elements.{Contains-append_left, Contains-push, Contains-push_cases}
+use Rattle.std.proofs.lemmas.List.Elements.{All-append, All-cons, All-nil}
 use Rattle.std.proofs.lemmas.List.Sorted.{searchable_from_sorted}
 use Rattle.cacache_core.specs.declared.integrity.digest.Hash.{Hash}
-use Rattle.cacache_core.specs.Integrity.{address, rank}
+use Rattle.cacache_core.specs.Integrity.{IsIntegrity, address, rank}
+use Rattle.cacache_core.specs.Meeting.{lists}
 use Rattle.cacache_core.specs.Same.{same_hash, same_hash-Decides}
 use Rattle.cacache_entry.specs.Latest.{Found}
 use Rattle.cacache_contents.specs.Listing.{hash_cmp}
-use Rattle.cacache_keep.specs.Calls.{AreOthers, AreUnused, IsAmong, IsUsed}
+use Rattle.cacache_core.proofs.Meeting.{lists_finds}
+use Rattle.cacache_keep_laws.specs.Collecting.{is_at, is_live}
+use Rattle.cacache_keep.specs.Calls.{AreOthers, AreUnused, is_among, is_used}
+use Rattle.cacache_keep.proofs.Asked.{kept, passed}
 
 -- ---- the order
 
@@ -34,7 +40,7 @@ not_equal h g other same =
 
 -- ---- the search
 
-pub found_among : (live : List Hash) (a : Hash) (r : Result ℕ ℕ) → IsSorted hash_cmp live → IsSearchInRange r (length live) → IsBinarySearchResult (λ y. hash_cmp y a) live r → IsTrue (is_ok r) ↔ Contains live a
+found_among : (live : List Hash) (a : Hash) (r : Result ℕ ℕ) → IsSorted hash_cmp live → IsSearchInRange r (length live) → IsBinarySearchResult (λ y. hash_cmp y a) live r → IsTrue (is_ok r) ↔ Contains live a
 found_among live a (Ok k) up range at = (λ so. (k, range, equal_same (get_or live k a) a (at a)), λ c. refl)
 found_among live a (Err k) up range at =
     let split = at (searchable_from_sorted hash_total (λ (h : Hash). h) live a up) in (
@@ -45,77 +51,77 @@ found_among live a (Err k) up range at =
           absurd (omega (arith, high, low)),
     )
 
+same_bool : (b c : Bool) → (b ≡ true → c ≡ true) → (c ≡ true → b ≡ true) → b ≡ c
+same_bool true c f g = sym (f refl)
+same_bool false false f g = refl
+same_bool false true f g = g refl
+
+pub found_so : (live : List Hash) (a : Hash) (r : Result ℕ ℕ) → IsSorted hash_cmp live → IsSearchInRange r (length live) → IsBinarySearchResult (λ y. hash_cmp y a) live r → is_ok r ≡ lists live a
+found_so live a r up range at =
+    let found = found_among live a r up range at in
+    let listed = lists_finds live a in
+    same_bool (is_ok r) (lists live a) (λ e. listed.1 (found.0 e)) (λ e. found.1 (listed.0 e))
+
 -- ---- those that aren't live
 
-pub live_passed : (live : List Hash) (yielded unused : List (List Hash)) (i : List Hash) → AreOthers live yielded unused → IsAmong live i → AreOthers live (yielded ++ i ∷ []) unused
+among_at : (live : List Hash) (i : List Hash) (h : Hash) → address i ≡ Some h → is_among live i ≡ lists live h
+among_at live [] h at = absurd cc
+among_at live (g ∷ gs) h at = let same : g ≡ h = cc in ap (lists live) same
+
+pub among_so : (live : List Hash) (i : List Hash) (h : Hash) (b c : Bool) → address i ≡ Some h → b ≡ lists live h → b ≡ c → not (is_among live i) ≡ not c
+among_so live i h b c at says so = ap not (among_at live i h at ∙ sym says ∙ so)
+
+pub live_passed : (live : List Hash) (yielded unused : List (List Hash)) (i : List Hash) → AreOthers live yielded unused → not (is_among live i) ≡ false → AreOthers live (yielded ++ i ∷ []) unused
 live_passed live yielded unused i r among = record {
-  which = λ j. (
-    (λ c. let w = (r.which j).0 c in (Contains-append_left yielded (i ∷ []) j w.0, w.1)),
-    λ p. elim (Contains-push_cases yielded i j p.0) [
-      | inl c ↦ (r.which j).1 (c, p.1)
-      | inr same ↦ absurd (p.1 (subst (IsAmong live) same among))
-    ],
-  );
+  which = r.which ∙ sym (passed (λ j. not (is_among live j)) yielded i among);
   fewer = omega (arith, r.fewer, length-append yielded (i ∷ []));
 }
 
-pub other_taken : (live : List Hash) (yielded unused : List (List Hash)) (i : List Hash) → AreOthers live yielded unused → (IsAmong live i → ⊥) → AreOthers live (yielded ++ i ∷ []) (unused ++ i ∷ [])
+pub other_taken : (live : List Hash) (yielded unused : List (List Hash)) (i : List Hash) → AreOthers live yielded unused → not (is_among live i) ≡ true → AreOthers live (yielded ++ i ∷ []) (unused ++ i ∷ [])
 other_taken live yielded unused i r none = record {
-  which = λ j. (
-    (λ c. elim (Contains-push_cases unused i j c) [
-      | inl c ↦ let w = (r.which j).0 c in (Contains-append_left yielded (i ∷ []) j w.0, w.1)
-      | inr same ↦ (subst (Contains (yielded ++ i ∷ [])) same (Contains-push yielded i), λ among. none (subst (IsAmong live) (sym same) among))
-    ]),
-    λ p. elim (Contains-push_cases yielded i j p.0) [
-      | inl c ↦ Contains-append_left unused (i ∷ []) j ((r.which j).1 (c, p.1))
-      | inr same ↦ subst (Contains (unused ++ i ∷ [])) same (Contains-push unused i)
-    ],
-  );
+  which = ap (λ l. l ++ i ∷ []) r.which ∙ sym (kept (λ j. not (is_among live j)) yielded i none);
   fewer = omega (arith, r.fewer, length-append yielded (i ∷ []), length-append unused (i ∷ []));
 }
 
-pub is_among : (live : List Hash) (i : List Hash) (h : Hash) (b : Bool) → address i ≡ Some h → IsTrue b ↔ Contains live h → b ≡ true → IsAmong live i
-is_among live i h b at says so = (h, says.0 so, at)
-
-pub isnt_among : (live : List Hash) (i : List Hash) (h : Hash) (b : Bool) → address i ≡ Some h → IsTrue b ↔ Contains live h → b ≡ false → IsAmong live i → ⊥
-isnt_among live i h b at says none among =
-    let same : among.0 ≡ h = cc in
-    let so : b ≡ true = says.1 (subst (Contains live) same among.1) in
-    absurd cc
-
 -- ---- those that no entry has
 
--- where two lists map to one, what is in the first has its like in the second
-likes : {X Y Z : Type 0} (f : X → Z) (g : Y → Z) (xs : List X) (ys : List Y) → map f xs ≡ map g ys → (x : X) → Contains xs x → (y : Y) × Contains ys y × (g y ≡ f x)
-likes f g [] [] same x c = absurd (omega (arith, c.1))
-likes f g [] (y ∷ ys) same x c = absurd cc
-likes f g (a ∷ xs) [] same x c = absurd cc
-likes f g (a ∷ xs) (b ∷ ys) same x c =
-    let first : f a ≡ g b = cc in
-    let rest : map f xs ≡ map g ys = cc in
-    likes_in f g a b xs ys first (likes f g xs ys rest) x c
-  where
-    likes_in : {X Y Z : Type 0} (f : X → Z) (g : Y → Z) (a : X) (b : Y) (xs : List X) (ys : List Y) → f a ≡ g b → ((x : X) → Contains xs x → (y : Y) × Contains ys y × (g y ≡ f x)) → (x : X) → Contains (a ∷ xs) x → (y : Y) × Contains (b ∷ ys) y × (g y ≡ f x)
-    likes_in f g a b xs ys first rest x (zero, low, same) = (b, (0, omega arith, refl), sym first ∙ ap f same)
-    likes_in f g a b xs ys first rest x (suc k, low, same) =
-        let y = rest x (k, omega (arith, low), same) in
-        (y.0, (suc y.1.0, omega (arith, y.1.1), y.1.2), y.2)
+-- what a list of addresses lists is live
+live_listed : (entries : List Found) (live : List Hash) (h : Hash) → map Some live ≡ map (λ (f : Found). address f.integrity) entries → lists live h ≡ is_live entries h
+live_listed [] [] h of = refl
+live_listed [] (g ∷ live) h of = absurd cc
+live_listed (f ∷ entries) [] h of = absurd cc
+live_listed (f ∷ entries) (g ∷ live) h of =
+    let first : Some g ≡ address f.integrity = cc in
+    let rest : map Some live ≡ map (λ (x : Found). address x.integrity) entries = cc in
+    ap₂ (λ a b. a || b) (ap (λ o. is_at o h) first) (live_listed entries live h rest)
 
-pub no_entry_has : (entries : List Found) (live sorted : List Hash) (addresses unused : List (List Hash)) → map Some live ≡ map (λ (f : Found). address f.integrity) entries → ((h : Hash) → Contains sorted h ↔ Contains live h) → AreOthers sorted addresses unused → AreUnused entries addresses unused
-no_entry_has entries live sorted addresses unused of same r = record {
-  which = λ i. (
-    (λ c. let w = (r.which i).0 c in (w.0, λ used. w.1 (among i used))),
-    λ p. (r.which i).1 (p.0, λ a. p.1 (used i a)),
-  );
+lists_same : (a b : List Hash) (h : Hash) → Contains a h ↔ Contains b h → lists a h ≡ lists b h
+lists_same a b h same = same_bool (lists a h) (lists b h) (λ e. (lists_finds b h).1 (same.0 ((lists_finds a h).0 e))) (λ e. (lists_finds a h).1 (same.1 ((lists_finds b h).0 e)))
+
+used_so : (entries : List Found) (live sorted : List Hash) → map Some live ≡ map (λ (f : Found). address f.integrity) entries → ((h : Hash) → Contains sorted h ↔ Contains live h) → (i : List Hash) → is_among sorted i ≡ is_used entries i
+used_so entries live sorted of same [] = refl
+used_so entries live sorted of same (h ∷ hs) = lists_same sorted live h (same h) ∙ live_listed entries live h of
+
+filter_same : {X : Type 0} (p q : X → Bool) → ((x : X) → p x ≡ q x) → (xs : List X) → filter p xs ≡ filter q xs
+filter_same p q same [] = refl
+filter_same p q same (x ∷ xs) = ap₂ (λ b l. cond b (x ∷ l) l) (same x) (filter_same p q same xs)
+
+pub no_entry_has : (entries : List Found) (live sorted : List Hash) (addresses unused : List (List Hash)) → map Some live ≡ map (λ (f : Found). address f.integrity) entries → All (λ (f : Found). IsIntegrity f.integrity) entries → ((h : Hash) → Contains sorted h ↔ Contains live h) → AreOthers sorted addresses unused → AreUnused entries addresses unused
+no_entry_has entries live sorted addresses unused of formed same r = record {
+  which = r.which ∙ filter_same (λ i. not (is_among sorted i)) (λ i. not (is_used entries i)) (λ i. ap not (used_so entries live sorted of same i)) addresses;
   fewer = r.fewer;
+  formed = formed;
 }
-  where
-    among : (i : List Hash) → IsUsed entries i → IsAmong sorted i
-    among i u =
-        let y = likes (λ (f : Found). address f.integrity) Some entries live (sym of) u.0 u.1 in
-        (y.0, (same y.0).1 y.1, sym u.2 ∙ sym y.2)
 
-    used : (i : List Hash) → IsAmong sorted i → IsUsed entries i
-    used i a =
-        let y = likes Some (λ (f : Found). address f.integrity) live entries of a.0 ((same a.0).0 a.1) in
-        (y.0, y.1, y.2 ∙ sym a.2)
+-- one entry more has an integrity
+pub formed_more : (entries : List Found) (k : ℕ) (f : Found) → k < length entries → f ≡ get_or entries k f → IsIntegrity f.integrity → All (λ (x : Found). IsIntegrity x.integrity) (take k entries) → All (λ (x : Found). IsIntegrity x.integrity) (take (k + 1) entries)
+formed_more entries k f low is formed all =
+    let more : take (k + 1) entries ≡ take k entries ++ f ∷ [] = take_more entries k f low ∙ ap (λ (x : Found). take k entries ++ x ∷ []) (sym is) in
+    subst (All (λ (x : Found). IsIntegrity x.integrity)) (sym more)
+    (All-append (λ (x : Found). IsIntegrity x.integrity) (take k entries) (f ∷ []) all (All-cons (λ (x : Found). IsIntegrity x.integrity) f [] formed (All-nil (λ (x : Found). IsIntegrity x.integrity))))
+
+-- and its address is one more
+pub live_more : (entries : List Found) (k : ℕ) (f : Found) (h : Hash) (live more : List Hash) → k < length entries → f ≡ get_or entries k f → address f.integrity ≡ Some h → more ≡ live ++ h ∷ [] → map Some live ≡ map (λ (x : Found). address x.integrity) (take k entries) → map Some more ≡ map (λ (x : Found). address x.integrity) (take (k + 1) entries)
+live_more entries k f h live more low is at grown of =
+    let front : take (k + 1) entries ≡ take k entries ++ f ∷ [] = take_more entries k f low ∙ ap (λ (x : Found). take k entries ++ x ∷ []) (sym is) in
+    ap (map Some) grown ∙ map-append Some live (h ∷ []) ∙ ap₂ (λ a o. a ++ o ∷ []) of (sym at) ∙ sym (map-append (λ (x : Found). address x.integrity) (take k entries) (f ∷ [])) ∙ ap (map (λ (x : Found). address x.integrity)) (sym front)

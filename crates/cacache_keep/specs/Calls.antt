@@ -1,10 +1,11 @@
 -- What a verification and a collection ask of a cache, call by call.
-use Rattle.std.specs.Prelude.{◌≡◌, ◌⊎◌, ◌↔◌, ◌++◌, ◌+◌, ◌≤◌, All, ℕ, List, [], ◌∷◌, Bool, true, false, Option, Some, Ok, Err, Vec, Contains, filter, length, map, not}
+use Rattle.std.specs.Prelude.{◌≡◌, ◌⊎◌, ◌++◌, ◌+◌, ◌≤◌, All, ℕ, List, [], ◌∷◌, Bool, true, false, Option, Ok, Err, Vec, Contains, filter, length, map, not}
 use Rattle.cacache_core.specs.declared.errors.Error.{Error}
 use Rattle.cacache_core.specs.declared.errors.Error.TheVariants.{IoError, IntegrityError, OutOfMemory}
 use Rattle.cacache_core.specs.declared.errors.Fault.TheVariants.{NotFound}
 use Rattle.cacache_core.specs.declared.integrity.digest.Hash.{Hash}
-use Rattle.cacache_core.specs.Integrity.{address}
+use Rattle.cacache_core.specs.Integrity.{IsIntegrity}
+use Rattle.cacache_core.specs.Meeting.{lists}
 use Rattle.cacache_store.specs.declared.store.log.LogItem.{LogItem}
 use Rattle.cacache_entry.specs.Latest.{Found}
 use Rattle.cacache_table.specs.declared.command.Command.{Command}
@@ -14,6 +15,7 @@ use Rattle.cacache_table.specs.declared.reply.Reply.TheVariants as replies
 use Rattle.cacache_table.specs.State.{Site, Item}
 use Rattle.cacache_table.specs.Table.{opening}
 use Rattle.cacache_table.specs.Runs.{Ran, plain_item, without_message}
+use Rattle.cacache_keep_laws.specs.Collecting.{is_live}
 
 -- the log gained runs of these calls with these replies, one after another
 abbrev pub Made : Site → List (Command × Reply)
@@ -110,24 +112,25 @@ abbrev pub removal : List Hash → Command × Reply
 removal i = (commands.RemoveHash i, replies.Done)
 
 -- an entry has the address of the integrity
-abbrev pub IsUsed : List Found → List Hash → Type 0
-IsUsed entries i =
-    (found : Found) × Contains entries found × (address found.integrity ≡ address i)
+abbrev pub is_used : List Found → List Hash → Bool
+is_used entries [] = false
+is_used entries (h ∷ hs) = is_live entries h
 
--- these are the ones of the addresses that no entry has
+-- these are the ones of the addresses that no entry has, in their order; and each entry has an
+-- integrity
 pub record AreUnused (entries : List Found) (addresses unused : List (List Hash)) : Type 0 where
-  pub which : (i : List Hash)
-      → Contains unused i ↔ (Contains addresses i × (IsUsed entries i → ⊥))
+  pub which : unused ≡ filter (λ i. not (is_used entries i)) addresses
   pub fewer : length unused ≤ length addresses
+  pub formed : All (λ f. IsIntegrity f.integrity) entries
 
 -- the address of the integrity is among the hashes
-abbrev pub IsAmong : List Hash → List Hash → Type 0
-IsAmong live i = (h : Hash) × Contains live h × (address i ≡ Some h)
+abbrev pub is_among : List Hash → List Hash → Bool
+is_among live [] = false
+is_among live (h ∷ hs) = lists live h
 
--- these are the ones of the addresses that aren't among the hashes
+-- these are the ones of the addresses that aren't among the hashes, in their order
 pub record AreOthers (live : List Hash) (addresses others : List (List Hash)) : Type 0 where
-  pub which : (i : List Hash)
-      → Contains others i ↔ (Contains addresses i × (IsAmong live i → ⊥))
+  pub which : others ≡ filter (λ i. not (is_among live i)) addresses
   pub fewer : length others ≤ length addresses
 
 -- ---- calls that an error ends

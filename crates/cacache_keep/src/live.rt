@@ -1,8 +1,9 @@
 //! Which contents entries have.
-ghost use Rattle.std.specs.Prelude.{◌≡◌, ◌↔◌, Some, IsTrue, IfOk, Contains, map};
+ghost use Rattle.std.specs.Prelude.{◌≡◌, ◌↔◌, Some, All, IfOk, IsOk, Contains, map};
 ghost use Rattle.std.specs.List.Sorted.{IsSorted};
 ghost use Rattle.cacache_core.specs.declared.integrity.digest.Hash.{Hash};
-ghost use Rattle.cacache_core.specs.Integrity.{address as address_of};
+ghost use Rattle.cacache_core.specs.Integrity.{IsIntegrity, address as address_of};
+ghost use Rattle.cacache_core.specs.Meeting.{lists};
 ghost use Rattle.cacache_contents.specs.Listing.{hash_cmp};
 ghost use Rattle.cacache_keep.specs.Calls.{AreOthers, AreUnused};
 
@@ -22,8 +23,9 @@ fn by_hash(a: &Hash, b: &Hash) -> Ordering
 
 /// The addresses of the entries.
 fn addresses_of(alloc: Global, entries: &[Found]) -> Result<Vec<Hash>, AllocError>
-    ensures { IfOk result
+    ensures each { IfOk result
         (λ live. map Some live.items ≡ map (λ f. address_of f.integrity) entries.now) }
+    ensures formed { IsOk result → All (λ f. IsIntegrity f.integrity) entries.now }
 {
     let mut live = Vec::new(alloc);
     for found in entries {
@@ -43,7 +45,7 @@ fn sort(live: &mut Vec<Hash>)
 /// Whether the address is among these, by bisection.
 fn is_live(live: &[Hash], address: &Hash) -> bool
     requires { IsSorted hash_cmp live.now }
-    ensures { IsTrue result ↔ Contains live.now address.now }
+    ensures { result ≡ lists live.now address.now }
 {
     live.binary_search_by(|other| by_hash(other, address))
         .is_ok()

@@ -1,12 +1,11 @@
-use Rattle.std.proofs.Common.{rules, sym, subst, Bool}
-use Rattle.std.specs.Prelude.{Contains, IsTrue, ◌↔◌}
+use Rattle.std.proofs.Common.{rules, ◌∙◌}
 use Rattle.std.proofs.lemmas.Fn.{always_returns_same}
 use Rattle.cacache_contents.specs.Listing.{hash_cmp}
-use Rattle.cacache_keep.proofs.Searching.{found_among}
+use Rattle.cacache_keep.proofs.Searching.{found_so}
 use Rattle.cacache_keep.proofs.live.is_live.Goals as goal
 
 pub returns : goal.returns
 returns c =
     let facts = c.binary_search_by.ensures in
     let place = facts.position (λ h. hash_cmp h c.args.address.now) (always_returns_same _ _ _ (λ a r f called. search rules)) in
-    subst (λ (b : Bool). IsTrue b ↔ Contains c.args.live.now c.args.address.now) (sym c.is_ok.ensures.value) (found_among c.args.live.now c.args.address.now c.binary_search_by.result c.requires facts.bound place)
+    c.is_ok.ensures.value ∙ found_so c.args.live.now c.args.address.now c.binary_search_by.result c.requires facts.bound place

@@ -1,0 +1,147 @@
+-- A collection leaves what is live, and later reads see none of it.
+use Rattle.std.proofs.Common.{◌≡◌, ℕ, List, [], ◌∷◌, ◌++◌, Bool, true, false, cond, Option, Some, map, length, refl, sym, ap, subst, ◌∙◌, arith, filter}
+use Rattle.std.proofs.lemmas.List.{length-map}
+use Rattle.std.proofs.lemmas.List.Filters.{length-filter_both}
+use Rattle.std.specs.Prelude.{not}
+use Rattle.cacache_core.specs.declared.integrity.digest.Hash.{Hash}
+use Rattle.cacache_core.specs.PathNames.{Names, home_of}
+use Rattle.cacache_core.specs.Paths.{joined, content_names}
+use Rattle.cacache_store.specs.declared.store.log.LogItem.{LogItem}
+use Rattle.cacache_store.specs.declared.store.step.Step.TheVariants.{RemoveFile}
+use Rattle.cacache_store.specs.declared.store.answer.Answer.TheVariants as answers
+use Rattle.cacache_disk.specs.declared.luck.Luck.TheVariants.{Plain}
+use Rattle.cacache_disk.specs.Tree.{Tree}
+use Rattle.cacache_disk.specs.Apply.{apply}
+use Rattle.cacache_memory.specs.Replay.{tree_of, IsLog}
+use Rattle.cacache_entry.specs.Latest.{Found}
+use Rattle.cacache_table.specs.declared.command.Command.{Command}
+use Rattle.cacache_table.specs.declared.command.Command.TheVariants as commands
+use Rattle.cacache_table.specs.declared.reply.Reply.{Reply}
+use Rattle.cacache_table.specs.declared.reply.Reply.TheVariants as replies
+use Rattle.cacache_table.specs.State.{Site}
+use Rattle.cacache_table.specs.Runs.{Moves, Gains}
+use Rattle.cacache_history.specs.Sequence.{tree_on, AreAnswered}
+use Rattle.cacache_history.proofs.InParts.{logs_lead}
+use Rattle.cacache_history.proofs.Looks.{tree_stays}
+use Rattle.cacache_contents.specs.Listing.{contents_folder}
+use Rattle.cacache_contents.specs.Reading.{first}
+use Rattle.cacache_keep_laws.specs.Contents.{HoldsJust}
+use Rattle.cacache_keep_laws.specs.Index.{IndexLists}
+use Rattle.cacache_keep_laws.specs.Collecting.{LeavesLive, Removes, ReadsAsBefore, is_live}
+use Rattle.cacache_keep_laws.proofs.Collected.{leaves, rest_stays, live_left, dead_gone, reads_as_before}
+use Rattle.cacache_keep_laws.proofs.Held.{holds_just}
+use Rattle.cacache_keep_laws.proofs.Logged.{answered_rest, answered_split, gains_join, log_rooted, looked, tree_rest, walked}
+use Rattle.cacache_keep_laws.proofs.Removed.{removals_run}
+use Rattle.cacache_keep.specs.Calls.{Made, is_used, removal}
+use Rattle.cacache_keep.specs.Keeping.{Collects}
+use Rattle.cacache_keep.specs.Kept.{CollectionsLeave, LaterReadsStay, Looked}
+use Rattle.cacache_keep.proofs.Judged.{index_lists}
+use Rattle.cacache_keep.proofs.Parts.{gains_none}
+
+-- ---- removals
+
+-- the steps of removals that are done
+abbrev removals : List ℕ → List Hash → Moves
+removals cache hs = map (λ h. (RemoveFile (joined cache (content_names h)), answers.Done)) hs
+
+removals_gain : (site : Site) (hs : List Hash) (old new : Option (List LogItem)) → Made site (map removal (map (λ h. h ∷ []) hs)) old new → Gains old new (removals site.cache hs)
+removals_gain site [] old new made = gains_none old new made
+removals_gain site (h ∷ hs) old new made =
+    let ran = made.1 in
+    let one = removals_run site h ran.0 ran.1 in
+    gains_join old made.0 new ((RemoveFile (joined site.cache (content_names h)), answers.Done) ∷ []) (removals site.cache hs) (subst (Gains old made.0) one ran.2) (removals_gain site hs made.0 new made.2)
+
+removed_by : (cache : List ℕ) (hs : List Hash) (t : Tree) → AreAnswered t (removals cache hs) → Removes cache hs t (tree_on t (removals cache hs))
+removed_by cache [] t a = refl
+removed_by cache (h ∷ hs) t a = (sym a.0, removed_by cache hs (apply t (RemoveFile (joined cache (content_names h))) Plain).1 a.1)
+
+-- ---- those that no entry has
+
+unused_on : (b : Bool) (h : Hash) (F : List (List Hash)) (G : List Hash) → F ≡ map (λ x. x ∷ []) G → cond b ((h ∷ []) ∷ F) F ≡ map (λ x. x ∷ []) (cond b (h ∷ G) G)
+unused_on true h F G e = ap (λ l. (h ∷ []) ∷ l) e
+unused_on false h F G e = e
+
+unused_ones : (entries : List Found) (hs : List Hash) → filter (λ i. not (is_used entries i)) (map (λ h. h ∷ []) hs) ≡ map (λ h. h ∷ []) (filter (λ h. not (is_live entries h)) hs)
+unused_ones entries [] = refl
+unused_ones entries (h ∷ hs) = unused_on (not (is_live entries h)) h (filter (λ i. not (is_used entries i)) (map (λ x. x ∷ []) hs)) (filter (λ x. not (is_live entries x)) hs) (unused_ones entries hs)
+
+-- ---- a collection
+
+module _ (site : Site) (home : Names) (kept : ℕ) (dropped : List (List Hash)) (old new : List LogItem)
+    (is : home_of site.cache ≡ Some home) (logged : IsLog new) (c : Collects site kept dropped (Some old) (Some new)) where
+  abbrev t : Tree
+  t = tree_of old
+
+  abbrev hashes : List Hash
+  hashes = c.1.order.hashes
+
+  abbrev entries : List Found
+  entries = c.1.entries
+
+  abbrev unused : List Hash
+  unused = filter (λ h. not (is_live entries h)) hashes
+
+  dropped_are : dropped ≡ map (λ h. h ∷ []) unused
+  dropped_are = c.1.unused.which ∙ ap (λ l. filter (λ i. not (is_used entries i)) l) c.1.order.single ∙ unused_ones entries hashes
+
+  kept_are : kept ≡ length (filter (is_live entries) hashes)
+  kept_are =
+      let all : length c.1.addresses ≡ length hashes = ap length c.1.order.single ∙ length-map hashes (λ h. h ∷ []) in
+      let gone : length dropped ≡ length unused = ap length dropped_are ∙ length-map unused (λ h. h ∷ []) in
+      omega (arith, c.1.counts, all, gone, length-filter_both (is_live entries) (λ h. not (is_live entries h)) (λ h. refl) hashes)
+
+  -- what its steps come to
+  record Done : Type 0 where
+    holds : HoldsJust site.cache home t hashes c.1.strange
+    index : IndexLists site t entries
+    removes : Removes site.cache unused t (tree_of new)
+
+  steps_done : Done
+  steps_done =
+      let list = c.1.contents in
+      let l = c.1.listing.2 in
+      let gone = removals site.cache unused in
+      let removing = removals_gain site unused c.0 (Some new) (subst (λ d. Made site (map removal d) c.0 (Some new)) dropped_are c.2) in
+      let gains = gains_join (Some old) c.1.found (Some new) list.0 (l.0 ++ gone) list.1 (gains_join c.1.found c.0 (Some new) l.0 gone l.2 removing) in
+      let lead = logs_lead old new (list.0 ++ (l.0 ++ gone)) gains logged in
+      let walk = walked t list.0 (first (contents_folder site.cache) ∷ []) list.2 (answered_split t list.0 (l.0 ++ gone) lead.0).0 in
+      let after_walk = answered_rest t list.0 (l.0 ++ gone) walk.1 lead.0 in
+      let index = looked site t commands.Ls (replies.Listed c.1.listing.0) l.0 tt l.1 (answered_split t l.0 gone after_walk).0 in
+      let made = removed_by site.cache unused t (answered_rest t l.0 gone index.1 after_walk) in
+      record {
+        holds = holds_just site.cache home t list.0 is (log_rooted old) list.2 walk.0 c.1.addresses c.1.strange list.3 c.1.order;
+        index = index_lists site t c.1.listing.0 entries c.1.listing.1 index.0;
+        removes = subst (Removes site.cache unused t) (sym (lead.1 ∙ tree_rest t list.0 (l.0 ++ gone) walk.1 ∙ tree_rest t l.0 gone index.1)) made;
+      }
+
+  leaves_live : LeavesLive site home t (tree_of new) kept dropped
+  leaves_live =
+      let d = steps_done in
+      record {
+        hashes = hashes;
+        strange = c.1.strange;
+        contents = d.holds;
+        entries = entries;
+        index = d.index;
+        counted = kept_are;
+        others = dropped_are;
+        left = live_left site home t (tree_of new) hashes c.1.strange entries is d.holds d.index d.removes;
+        gone = dead_gone site home t (tree_of new) hashes c.1.strange entries is d.holds d.index d.removes;
+        buckets = (leaves site home t (tree_of new) hashes c.1.strange entries is d.holds d.index d.removes).buckets;
+        rest = rest_stays site home t (tree_of new) hashes c.1.strange entries is d.holds d.index d.removes;
+      }
+
+pub collections_leave : CollectionsLeave
+collections_leave site home kept dropped old new is logged c = leaves_live site home kept dropped old new is logged c
+
+-- ---- later reads
+
+looks_stay : (calls : List (List ℕ × Command × Reply)) (old new : List LogItem) → Looked calls old new → tree_of new ≡ tree_of old
+looks_stay [] old new l = ap tree_of l
+looks_stay (c ∷ calls) old new l = looks_stay calls l.0 new l.3 ∙ tree_stays c.0 c.1 c.2 old l.0 l.1 l.2
+
+pub later_reads_stay : LaterReadsStay
+later_reads_stay site home kept dropped calls old new later is logged out c looks =
+    let d = steps_done site home kept dropped old new is logged c in
+    subst (ReadsAsBefore site (tree_of old)) (sym (looks_stay calls new later looks))
+    (reads_as_before site home (tree_of old) (tree_of new) c.1.order.hashes c.1.strange c.1.entries is d.holds d.index d.removes (log_rooted old) out c.1.unused.formed)

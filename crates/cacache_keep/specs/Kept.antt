@@ -1,0 +1,67 @@
+-- What a listing, a verification and a collection come to on a store in memory.
+use Rattle.std.specs.Prelude.{◌≡◌, ℕ, List, [], ◌∷◌, Some, map}
+use Rattle.cacache_core.specs.declared.integrity.digest.Hash.{Hash}
+use Rattle.cacache_core.specs.PathNames.{Names, home_of}
+use Rattle.cacache_store.specs.declared.store.log.LogItem.{LogItem}
+use Rattle.cacache_memory.specs.Replay.{tree_of, IsLog}
+use Rattle.cacache_entry.specs.Latest.{Found}
+use Rattle.cacache_table.specs.declared.command.Command.{Command}
+use Rattle.cacache_table.specs.declared.reply.Reply.{Reply}
+use Rattle.cacache_table.specs.State.{Site}
+use Rattle.cacache_history.specs.Caches.{Called}
+use Rattle.cacache_history.specs.Looks.{OnlyLooks}
+use Rattle.cacache_contents.specs.Listing.{IsByHash, ListsContents}
+use Rattle.cacache_keep_laws.specs.Contents.{HoldsJust}
+use Rattle.cacache_keep_laws.specs.Verifying.{Judges}
+use Rattle.cacache_keep_laws.specs.Collecting.{LeavesLive, LinksLeadOut, ReadsAsBefore}
+use Rattle.cacache_keep.specs.Keeping.{Collects, Verifies}
+
+-- the log leads to the tree that it led to
+abbrev pub LeavesTree : List LogItem → List LogItem → Type 0
+LeavesTree old new = tree_of new ≡ tree_of old
+
+-- a listing lists what the cache holds, and changes nothing
+abbrev pub ListsHold : Type 0
+ListsHold =
+    (cache : List ℕ) (home : Names) (addresses : List (List Hash)) (strange : List (List ℕ))
+    (old new : List LogItem)
+    → home_of cache ≡ Some home → IsLog new
+    → ListsContents cache addresses strange (Some old) (Some new) → IsByHash addresses
+    → ((hashes : List Hash) × (addresses ≡ map (λ h. h ∷ []) hashes)
+    × HoldsJust cache home (tree_of old) hashes strange)
+    × LeavesTree old new
+
+-- a verification judges what the cache holds, and changes nothing
+abbrev pub VerdictsJudge : Type 0
+VerdictsJudge =
+    (site : Site) (home : Names) (good : ℕ) (damaged : List (List Hash)) (dangling : List Found)
+    (strange : List (List ℕ)) (old new : List LogItem)
+    → home_of site.cache ≡ Some home → IsLog new
+    → Verifies site good damaged dangling strange (Some old) (Some new)
+    → Judges site home (tree_of old) good damaged dangling strange × LeavesTree old new
+
+-- a collection leaves what is live
+abbrev pub CollectionsLeave : Type 0
+CollectionsLeave =
+    (site : Site) (home : Names) (kept : ℕ) (dropped : List (List Hash)) (old new : List LogItem)
+    → home_of site.cache ≡ Some home → IsLog new
+    → Collects site kept dropped (Some old) (Some new)
+    → LeavesLive site home (tree_of old) (tree_of new) kept dropped
+
+-- ---- calls behind a collection
+
+-- the log gained calls that only look, one after another: each its cache, its command, its reply
+abbrev pub Looked : List (List ℕ × Command × Reply) → List LogItem → List LogItem → Type 0
+Looked [] old new = new ≡ old
+Looked (c ∷ calls) old new =
+    (next : List LogItem) × OnlyLooks c.1 × Called c.0 c.1 c.2 old next × Looked calls next new
+
+-- where links lead out of the cache, each lookup and each verified read by key behind a collection,
+-- with calls in between that only look, answers what it may answer without the collection
+abbrev pub LaterReadsStay : Type 0
+LaterReadsStay =
+    (site : Site) (home : Names) (kept : ℕ) (dropped : List (List Hash))
+    (calls : List (List ℕ × Command × Reply)) (old new later : List LogItem)
+    → home_of site.cache ≡ Some home → IsLog new → LinksLeadOut home (tree_of old)
+    → Collects site kept dropped (Some old) (Some new) → Looked calls new later
+    → ReadsAsBefore site (tree_of old) (tree_of later)

@@ -1,0 +1,82 @@
+-- A read of a content that stands tells whether it is good.
+use Rattle.std.proofs.Common.{◌≡◌, inl, inr, ℕ, List, [], ◌∷◌, ◌++◌, Option, Some, None, Bool, true, false, cond, Result, Ok, Err, refl, sym, ap, subst, ◌∙◌}
+use Rattle.std.specs.Prelude.{◌↔◌}
+use Rattle.cacache_core.specs.declared.errors.Fault.{Fault}
+use Rattle.cacache_core.specs.declared.errors.Fault.TheVariants.{IsADirectory}
+use Rattle.cacache_core.specs.declared.errors.Error.TheVariants.{IoError, IntegrityError}
+use Rattle.cacache_core.specs.declared.errors.IntegrityFault.TheVariants.{Check}
+use Rattle.cacache_core.specs.declared.integrity.digest.Hash.{Hash}
+use Rattle.cacache_core.specs.Integrity.{IsHash, actual}
+use Rattle.cacache_core.specs.Meeting.{meets}
+use Rattle.cacache_core.specs.PathNames.{Names, names_of, home_of}
+use Rattle.cacache_core.specs.Paths.{joined, content_names}
+use Rattle.cacache_store.specs.declared.store.step.Step.TheVariants.{ReadAll}
+use Rattle.cacache_store.specs.Plain.{PlainAnswer}
+use Rattle.cacache_disk.specs.declared.luck.Luck.TheVariants.{Plain}
+use Rattle.cacache_disk.specs.declared.node.Node.{Node}
+use Rattle.cacache_disk.specs.declared.node.Node.TheVariants.{Folder, File, Link}
+use Rattle.cacache_disk.specs.Tree.{Tree, look}
+use Rattle.cacache_disk.specs.LedTo.{place, followed, leads, file_at}
+use Rattle.cacache_disk.specs.Apply.{apply}
+use Rattle.cacache_disk.specs.Rooted.{Rooted}
+use Rattle.cacache_disk.proofs.Standing.{way_clear}
+use Rattle.cacache_table.specs.declared.reply.Reply.{Reply}
+use Rattle.cacache_table.specs.declared.reply.Reply.TheVariants.{Read, Refused}
+use Rattle.cacache_table.specs.Answers.{bytes_in}
+use Rattle.cacache_table.specs.StepPaths.{content_path}
+use Rattle.cacache_table.specs.Replies.{content_reply}
+use Rattle.cacache_table.proofs.Replies.{reads_shown}
+use Rattle.cacache_table.specs.State.{Site}
+use Rattle.cacache_table.specs.Runs.{Moves}
+use Rattle.cacache_value.specs.Value.{Blob, blob_in, value_of_tree}
+use Rattle.cacache_value.specs.Shows.{link_end, blob_bytes}
+use Rattle.cacache_keep_laws.specs.Answers.{AnsweredBy}
+use Rattle.cacache_keep_laws.specs.Verifying.{is_met, is_good, ReadsTellGood}
+use Rattle.cacache_keep_laws.proofs.Agreeing.{said, answer_of}
+use Rattle.cacache_keep_laws.proofs.Keeping.{content_named}
+
+-- ---- where a content stands, a read gives its bytes
+
+leaf_read : (t : Tree) (path : List ℕ) (names : Names) (here : Option Node) (blob : Blob) → Rooted t → names_of path ≡ Ok names → look t names ≡ here → blob_in here ≡ Some blob → file_at t path IsADirectory ≡ blob_bytes t (blob_in here)
+unfolding file_at leads place followed link_end
+leaf_read t path names None blob rooted is there e = absurd cc
+leaf_read t path names (Some Folder) blob rooted is there e = absurd cc
+leaf_read t path names (Some (File bytes)) blob rooted is there e = rw (is, way_clear t [] names (File bytes) rooted there, there, there) refl
+leaf_read t path names (Some (Link target)) blob rooted is there e = rw (is, way_clear t [] names (Link target) rooted there, there) refl
+
+met : (i : List Hash) (b : List ℕ) (reply : Reply) (m : Bool) → meets i b ≡ m → reply ≡ cond m (Read b) (Refused (IntegrityError (Check i (actual i b)))) → ((bytes : List ℕ) × (reply ≡ Read bytes)) ↔ (meets i b ≡ true)
+met i b reply true is e = ((λ k. is), (λ k. (b, e)))
+met i b reply false is e = (
+  (λ k. absurd (let wrong : Refused (IntegrityError (Check i (actual i b))) ≡ Read k.0 = sym e ∙ k.1 in cc)),
+  (λ k. absurd (let wrong : false ≡ true = sym is ∙ k in cc)),
+)
+
+tells : (i : List Hash) (r : Result (List ℕ) Fault) (reply : Reply) → reply ≡ content_reply i (bytes_in (said r)) → ((bytes : List ℕ) × (reply ≡ Read bytes)) ↔ (is_met i r ≡ true)
+tells i (Ok b) reply e = met i b reply (meets i b) refl e
+tells i (Err fault) reply e = (
+  (λ k. absurd (let wrong : Refused (IoError fault []) ≡ Read k.0 = sym e ∙ k.1 in cc)),
+  (λ k. absurd (let wrong : false ≡ true = k in cc)),
+)
+
+read_answer : (t : Tree) (path : List ℕ) → (apply t (ReadAll path) Plain).0 ≡ said (file_at t path IsADirectory)
+unfolding apply
+read_answer t path = answer_of (file_at t path IsADirectory) t
+
+module _ (site : Site) (home : Names) (t : Tree) (h : Hash) (blob : Blob) (is : home_of site.cache ≡ Some home) (rooted : Rooted t) (hash : IsHash h) (stands : (value_of_tree (Some home) t).contents h ≡ Some blob) where
+  content_answer : (apply t (ReadAll (content_path site.cache (h ∷ []))) Plain).0 ≡ said (blob_bytes t ((value_of_tree (Some home) t).contents h))
+  unfolding content_path
+  content_answer =
+      read_answer t (joined site.cache (content_names h))
+      ∙ ap said (leaf_read t (joined site.cache (content_names h)) (home ++ content_names h) (look t (home ++ content_names h)) blob rooted (content_named site.cache home h is hash) refl stands)
+
+  told : (moves : Moves) (reply : Reply) (a : PlainAnswer) → moves ≡ (ReadAll (content_path site.cache (h ∷ [])), a) ∷ [] → reply ≡ content_reply (h ∷ []) (bytes_in a) → AnsweredBy t moves → ((bytes : List ℕ) × (reply ≡ Read bytes)) ↔ (is_good home t h ≡ true)
+  told moves reply a made e answered =
+      let at = subst (AnsweredBy t) made answered in
+      tells (h ∷ []) (blob_bytes t ((value_of_tree (Some home) t).contents h)) reply (e ∙ ap (λ x. content_reply (h ∷ []) (bytes_in x)) (at.0 ∙ content_answer))
+
+pub reads_tell_good : ReadsTellGood
+reads_tell_good site home t h blob moves reply is rooted hash stands run answered =
+    elim (reads_shown site (h ∷ []) moves reply run) [
+      | inl memory ↦ inl memory
+      | inr shown ↦ inr (told site home t h blob is rooted hash stands moves reply shown.0 shown.1 shown.2 answered)
+    ]

@@ -1,0 +1,7 @@
+pub mod Walks
+pub mod Answers
+pub mod Index
+pub mod Contents
+pub mod Verifying
+pub mod Collecting
+pub mod Removing

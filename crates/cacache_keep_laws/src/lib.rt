@@ -1,0 +1,6 @@
+//! What listings, reads and removals of contents show of the tree of a store in memory.
+#![tactic(auto)]
+
+mod laws;
+
+pub use laws::{answer_laws, collect_laws, contents_laws, index_laws, verify_laws, walk_laws};

@@ -1,0 +1,69 @@
+//! Functions of a caller's own that verify a cache in memory and collect it. Their contracts are proved
+//! from clauses alone: those of the calls, of `keep_laws` and of `answer_laws`.
+#![tactic(auto)]
+
+ghost use Rattle.std.specs.Prelude.{◌≡◌, ℕ, List, [], Some, IfOk, map, string_bytes};
+ghost use Rattle.cacache_core.specs.PathNames.{Names as PathNames, home_of};
+ghost use Rattle.cacache_memory.specs.Replay.{tree_of};
+ghost use Rattle.cacache_entry.specs.View.{found_view};
+ghost use Rattle.cacache_table.specs.declared.command.Command.TheVariants as commands;
+ghost use Rattle.cacache_table.specs.declared.reply.Reply.TheVariants as replies;
+ghost use Rattle.cacache_jobs.specs.Sites.{site_of};
+ghost use Rattle.cacache_keep_laws.specs.Answers.{AnswersOn};
+ghost use Rattle.cacache_keep_laws.specs.Collecting.{LeavesLive, LinksLeadOut};
+ghost use Rattle.cacache_keep_laws.specs.Verifying.{Judges};
+
+use cacache_core::errors::Result;
+use cacache_core::keeping::let_go;
+use cacache_get::read_sync;
+use cacache_keep::{Collected, Verdict, collect, keep_laws, verify};
+use cacache_keep_laws::answer_laws;
+use cacache_memory::MemStore;
+use cacache_store::env::{Clock, Env, Names};
+
+/// Verifies a cache in memory: the good contents are those whose bytes meet their address, and all
+/// others are named.
+pub fn judged<C: Clock, N: Names>(env: &mut Env<MemStore, C, N>, cache: &str) -> Result<Verdict>
+    ensures { (home : PathNames) → home_of cache.now ≡ Some home → IfOk result (λ v.
+        Judges (site_of cache.now env.old.base 0) home (tree_of env.old.store)
+        v.good v.damaged.items
+        (map found_view v.dangling.items) (map string_bytes v.strange.items)) }
+{
+    let verdict = verify(env, cache)?;
+    keep_laws(&env.store);
+    Ok(verdict)
+}
+
+/// Collects a cache in memory: the contents that an entry has are left.
+pub fn collected<C: Clock, N: Names>(
+    env: &mut Env<MemStore, C, N>,
+    cache: &str,
+) -> Result<Collected>
+    ensures { (home : PathNames) → home_of cache.now ≡ Some home → IfOk result (λ c.
+        LeavesLive (site_of cache.now env.old.base 0) home
+        (tree_of env.old.store) (tree_of env.new.store) c.kept c.dropped.items) }
+{
+    let collected = collect(env, cache)?;
+    keep_laws(&env.store);
+    Ok(collected)
+}
+
+/// Collects a cache in memory, and reads by a key. It reads what it would have read without the
+/// collection.
+pub fn read_after<C: Clock, N: Names>(
+    env: &mut Env<MemStore, C, N>,
+    cache: &str,
+    key: &str,
+) -> Result<Vec<u8>>
+    ensures { (home : PathNames) → home_of cache.now ≡ Some home
+        → LinksLeadOut home (tree_of env.old.store) → IfOk result (λ bytes.
+        AnswersOn (site_of cache.now env.old.base 0) (tree_of env.old.store)
+        (commands.Get key.now) (replies.Read bytes.items)) }
+{
+    let_go(collect(env, cache)?);
+    keep_laws(&env.store);
+    let bytes = read_sync(env, cache, key)?;
+    keep_laws(&env.store);
+    answer_laws();
+    Ok(bytes)
+}
