@@ -16,11 +16,11 @@ use cacache_loss::{Loss, Running};
 use std::alloc::{AllocError, Global};
 
 /// The moment after a record.
-fn run_on(running: Running, record: &Record) -> Result<Running, AllocError>
+fn run_on(running: Running, happened: &Record) -> Result<Running, AllocError>
     ensures { IfOk result (λ r.
-        moment_of r ≡ after (moment_of running) (steps_of (record.now ∷ []))) }
+        moment_of r ≡ after (moment_of running) (steps_of (happened.now ∷ []))) }
 {
-    match record {
+    match happened {
         Record::Moved(_, luck, Some((step, answer)), _) => running.next(step, *luck, answer),
         Record::Moved(_, _, None, _) | Record::Began(_, _) | Record::Stopped(_) => Ok(running),
     }
