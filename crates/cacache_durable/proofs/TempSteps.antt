@@ -23,7 +23,8 @@ use Rattle.cacache_value.specs.Placed.{Placed, Proper}
 use Rattle.cacache_value.specs.Traces.{Move}
 use Rattle.cacache_value.proofs.FoundPaths.{of_names, writable_out}
 use Rattle.cacache_value.proofs.KindsApart.{not_true}
-use Rattle.cacache_loss.specs.Fixing.{Fixed, Fixing, between, file_synced, fixed_after, folder_synced, is_at, is_synced, moved_to, moves_file, rewrites_at, temp_synced, writes_at}
+use Rattle.cacache_loss.specs.declared.fixing.Fixing.{Fixing}
+use Rattle.cacache_loss.specs.Fixing.{Fixed, between, file_synced, fixed_after, folder_synced, is_at, is_synced, moved_to, moves_file, rewrites_at, temp_synced, writes_at}
 use Rattle.cacache_loss.specs.Moments.{Moment, next}
 use Rattle.cacache_loss.proofs.KeptPaths.{cond_whole}
 use Rattle.cacache_loss.proofs.StepCases.{AppendCase, unsent, took, torn, append_case, PersistCase, refused, moved, persist_case, dirs_keep, make_apart, put_misses}
