@@ -15,17 +15,12 @@ use Rattle.cacache_core.specs.declared.integrity.algorithm.Algorithm.{Algorithm}
 use Rattle.cacache_core.specs.declared.integrity.algorithm.Algorithm.TheVariants.{Sha1, Sha256, Sha384, Sha512}
 use Rattle.cacache_core.specs.declared.integrity.digest.Hash.{Hash}
 use Rattle.cacache_core.specs.Integrity.{IsHash, hash_of}
-use Rattle.cacache_core.specs.PathLaws.{IsKeyDigest, PathsDiffer}
+use Rattle.cacache_core.specs.PathLaws.{IsKeyDigest, PathsDiffer, JoinedTextsSpell}
 use Rattle.cacache_core.specs.PathNames.{ends_name, IsProperName}
-use Rattle.cacache_core.specs.Paths.{join, joined, cut_digits, content_names, bucket_names_of, temp_names}
+use Rattle.cacache_core.specs.Paths.{join, joined, slashed, cut_digits, content_names, bucket_names_of, temp_names}
 use Rattle.cacache_core.specs.Texts.{name_of}
 
 -- ---- names after a slash each
-
--- the names' texts, each after a slash
-pub below : List (List ℕ) → List ℕ
-below [] = []
-below (n ∷ ns) = 47 ∷ n ++ below ns
 
 -- a text that a further name follows after a slash
 pub record IsOpen (p : List ℕ) : Type 0 where
@@ -58,13 +53,12 @@ unfolding join
 join_open p n is =
     rw (ne_eqb (length p) 0 (λ e. absurd (omega (arith, is.some))), ne_eqb (slice_index p (length p - 1)) 47 is.no_slash) refl
 
-pub joined_open : (p : List ℕ) (ns : List (List ℕ)) → IsOpen p → All IsProperName ns → joined p ns ≡ p ++ below ns
-unfolding below
+pub joined_open : (p : List ℕ) (ns : List (List ℕ)) → IsOpen p → All IsProperName ns → joined p ns ≡ p ++ slashed ns
 joined_open p [] is all = sym (append-nil p)
 joined_open p (n ∷ ns) is all =
     ap (λ (q : List ℕ). joined q ns) (join_open p n is)
     ∙ joined_open (p ++ 47 ∷ n) ns (open_below p n (open_name n (All-head IsProperName n ns all))) (All-tail IsProperName n ns all)
-    ∙ append_assoc p (47 ∷ n) (below ns)
+    ∙ append_assoc p (47 ∷ n) (slashed ns)
 
 -- what stands before a first name
 lead : List ℕ → List ℕ
@@ -79,15 +73,18 @@ join_lead : (p n : List ℕ) → join p n ≡ lead p ++ n
 unfolding join lead
 join_lead p n = spread (length p == 0) (slice_index p (length p - 1) == 47) p n
 
-joined_lead : (p n : List ℕ) (ns : List (List ℕ)) → IsProperName n → All IsProperName ns → joined p (n ∷ ns) ≡ (lead p ++ n) ++ below ns
+joined_lead : (p n : List ℕ) (ns : List (List ℕ)) → IsProperName n → All IsProperName ns → joined p (n ∷ ns) ≡ (lead p ++ n) ++ slashed ns
 joined_lead p n ns is all =
     ap (λ (q : List ℕ). joined q ns) (join_lead p n) ∙ joined_open (lead p ++ n) ns (open_after (lead p) n (open_name n is)) all
 
+pub joined_texts_spell : JoinedTextsSpell
+joined_texts_spell p n ns is all = joined_lead p n ns is all ∙ sym (ap (λ (q : List ℕ). q ++ slashed ns) (join_lead p n))
+
 -- names of one first name and equal texts
 same_below : (p n : List ℕ) (ns ms : List (List ℕ)) → IsProperName n → All IsProperName ns → All IsProperName ms
-    → joined p (n ∷ ns) ≡ joined p (n ∷ ms) → below ns ≡ below ms
+    → joined p (n ∷ ns) ≡ joined p (n ∷ ms) → slashed ns ≡ slashed ms
 same_below p n ns ms is all every e =
-    append_cancel_left (lead p ++ n) (below ns) (below ms) (sym (joined_lead p n ns is all) ∙ e ∙ joined_lead p n ms is every)
+    append_cancel_left (lead p ++ n) (slashed ns) (slashed ms) (sym (joined_lead p n ns is all) ∙ e ∙ joined_lead p n ms is every)
 
 -- ---- digits
 
@@ -98,15 +95,15 @@ long_digits d long = omega (arith, length-encode_with lower_digits d)
 digits_in : List ℕ → List ℕ
 digits_in t = take 2 (drop 1 t) ++ (take 2 (drop 4 t) ++ drop 7 t)
 
-digits_in-cut : (h : List ℕ) → 4 < length h → digits_in (below (cut_digits h)) ≡ h
-unfolding digits_in below
+digits_in-cut : (h : List ℕ) → 4 < length h → digits_in (slashed (cut_digits h)) ≡ h
+unfolding digits_in
 digits_in-cut (a ∷ b ∷ c ∷ d ∷ h) long = ap (λ (t : List ℕ). a ∷ b ∷ c ∷ d ∷ t) (append-nil h)
 digits_in-cut (a ∷ b ∷ c ∷ []) long = absurd (omega arith)
 digits_in-cut (a ∷ b ∷ []) long = absurd (omega arith)
 digits_in-cut (a ∷ []) long = absurd (omega arith)
 digits_in-cut [] long = absurd (omega arith)
 
-same_digits : (g h : List ℕ) → 4 < length g → 4 < length h → below (cut_digits g) ≡ below (cut_digits h) → g ≡ h
+same_digits : (g h : List ℕ) → 4 < length g → 4 < length h → slashed (cut_digits g) ≡ slashed (cut_digits h) → g ≡ h
 same_digits g h long long' e = sym (digits_in-cut g long) ∙ ap digits_in e ∙ digits_in-cut h long'
 
 -- ---- contents
@@ -136,13 +133,13 @@ after_name-name Sha512 t = refl
 
 -- a content's names below the folder of contents
 text_in : Hash → List ℕ
-text_in h = below (name_of h.algorithm ∷ cut_digits (encode_lower h.digest))
+text_in h = slashed (name_of h.algorithm ∷ cut_digits (encode_lower h.digest))
 
 same_hash : (h g : Hash) → IsHash h → IsHash g → text_in h ≡ text_in g → h ≡ g
-unfolding text_in below
+unfolding text_in
 same_hash h g p q e =
     let a : h.algorithm ≡ g.algorithm = sym (algorithm_in-name h.algorithm _) ∙ ap algorithm_in e ∙ algorithm_in-name g.algorithm _ in
-    let cut : below (cut_digits (encode_lower h.digest)) ≡ below (cut_digits (encode_lower g.digest)) = sym (after_name-name h.algorithm _) ∙ ap after_name e ∙ after_name-name g.algorithm _ in
+    let cut : slashed (cut_digits (encode_lower h.digest)) ≡ slashed (cut_digits (encode_lower g.digest)) = sym (after_name-name h.algorithm _) ∙ ap after_name e ∙ after_name-name g.algorithm _ in
     ap₂ (λ (a : Algorithm) (d : List ℕ). hash_of a d) a
     (same_bytes h.digest g.digest p.bytes q.bytes
     (same_digits (encode_lower h.digest) (encode_lower g.digest) (long_digits h.digest p.long_enough) (long_digits g.digest q.long_enough) cut))
@@ -150,7 +147,9 @@ same_hash h g p q e =
 same_content : (cache : List ℕ) (h g : Hash) → IsHash h → IsHash g → joined cache (content_names h) ≡ joined cache (content_names g) → h ≡ g
 unfolding text_in
 same_content cache h g p q e =
-    same_hash h g p q (same_below cache (codes "content-v2") _ _ proper_content_folder (proper_content h p) (proper_content g q) e)
+    let hs = name_of h.algorithm ∷ cut_digits (encode_lower h.digest) in
+    let gs = name_of g.algorithm ∷ cut_digits (encode_lower g.digest) in
+    same_hash h g p q (same_below cache (codes "content-v2") hs gs proper_content_folder (proper_content h p) (proper_content g q) e)
 
 -- ---- buckets
 
@@ -165,8 +164,8 @@ same_bucket cache d e p q same =
 digits_behind : List ℕ → List ℕ
 digits_behind t = drop 5 t
 
-digits_behind-name : (d : List ℕ) → digits_behind (below ((codes ".tmp" ++ d) ∷ [])) ≡ d
-unfolding digits_behind below
+digits_behind-name : (d : List ℕ) → digits_behind (slashed ((codes ".tmp" ++ d) ∷ [])) ≡ d
+unfolding digits_behind
 digits_behind-name d = append-nil d
 
 same_temp : (cache : List ℕ) (n m : ℕ) → n < 2 ^ 64 → m < 2 ^ 64 → joined cache (temp_names n) ≡ joined cache (temp_names m) → n ≡ m

@@ -1,11 +1,11 @@
 -- What holds of the paths of contents, buckets and temporary files.
-use Rattle.std.specs.Prelude.{◌≡◌, ◌<◌, ◌↔◌, ◌^◌, ℕ, List, length, All}
+use Rattle.std.specs.Prelude.{◌≡◌, ◌<◌, ◌↔◌, ◌^◌, ◌++◌, ◌∷◌, ℕ, List, length, All}
 use Rattle.base64.specs.GeneralPurpose.{IsBytes}
 use Rattle.sha1.specs.Sha1.{sha1}
 use Rattle.cacache_core.specs.declared.integrity.digest.Hash.{Hash}
 use Rattle.cacache_core.specs.Integrity.{IsHash}
 use Rattle.cacache_core.specs.PathNames.{Names, names_of, home_of, names_below, IsProperName}
-use Rattle.cacache_core.specs.Paths.{joined, content_names, bucket_names_of, temp_names, Begins, AreApart}
+use Rattle.cacache_core.specs.Paths.{join, joined, slashed, content_names, bucket_names_of, temp_names, Begins, AreApart}
 
 -- what the digest of a key may be: 20 bytes
 pub record IsKeyDigest (digest : List ℕ) : Type 0 where
@@ -50,3 +50,9 @@ abbrev pub JoinedTextsName : Type 0
 JoinedTextsName =
     (cache : List ℕ) (names : Names) → All IsProperName names → 0 < length names
     → names_of (joined cache names) ≡ names_below (home_of cache) names
+
+-- the text of proper names below a cache: the first is joined to the cache, and each further one follows a slash
+abbrev pub JoinedTextsSpell : Type 0
+JoinedTextsSpell =
+    (cache name : List ℕ) (names : Names) → IsProperName name → All IsProperName names
+    → joined cache (name ∷ names) ≡ join cache name ++ slashed names

@@ -38,6 +38,11 @@ abbrev pub joined : List ℕ → List (List ℕ) → List ℕ
 joined path [] = path
 joined path (n ∷ ns) = joined (join path n) ns
 
+-- names, each behind a slash
+abbrev pub slashed : List (List ℕ) → List ℕ
+slashed [] = []
+slashed (n ∷ ns) = 47 ∷ n ++ slashed ns
+
 -- the names without the last: where a file's folder lies
 abbrev pub folder_names : List (List ℕ) → List (List ℕ)
 folder_names [] = []

@@ -5,6 +5,7 @@ mod laws;
 mod limits;
 mod metadata;
 mod parse;
+mod printing;
 mod read;
 mod search;
 mod write;

@@ -6,8 +6,10 @@ ghost use Rattle.std.specs.Hash as fed;
 ghost use Rattle.std.specs.Ordering.{on};
 ghost use Rattle.cacache_entry.specs.declared.metadata.SerializableMetadata.{SerializableMetadata as Said};
 
+use crate::printing::{Numbers, Quoted};
 use cacache_core::integrity::Integrity;
 use serde_json::Value;
+use std::fmt;
 use std::hash::{Hash, Hasher};
 
 /// What a line of a bucket says of a key. Two of one key are equal and hash equally, whatever else they say.
@@ -68,4 +70,24 @@ pub struct Metadata {
     pub metadata: Value,
     /// Any bytes that the writer put beside the content.
     pub raw_metadata: Option<Vec<u8>>,
+}
+
+/// The compact JSON text that an entry of these parts has in its line. Takes no memory.
+impl fmt::Display for Metadata {
+    fn fmt<W: fmt::Write>(&self, f: &mut fmt::Formatter<W>) -> fmt::Result {
+        write!(
+            f,
+            "{{\"key\":{},\"integrity\":\"{}\",\"time\":{},\"size\":{}",
+            Quoted(self.key.as_str()),
+            self.integrity,
+            self.time,
+            self.size
+        )?;
+        write!(
+            f,
+            ",\"metadata\":{},\"raw_metadata\":{}}}",
+            self.metadata,
+            Numbers(&self.raw_metadata)
+        )
+    }
 }

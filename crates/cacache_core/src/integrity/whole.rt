@@ -1,5 +1,5 @@
 //! Integrities.
-ghost use Rattle.std.specs.Prelude.{◌≡◌, ◌≤◌, ◌∷◌, [], ◌↔◌, Some, Ok, IsTrue, ℕ, List, IsOk, IsSome, IfOk, IfErr, IfSome, Contains, length, string_bytes};
+ghost use Rattle.std.specs.Prelude.{◌≡◌, ◌≤◌, ◌∷◌, [], ◌↔◌, Some, Ok, IsTrue, ℕ, List, IsOk, IsSome, IfOk, IfErr, OnOk, IfSome, Contains, length, string_bytes};
 ghost use Rattle.std.specs.Cmp;
 ghost use Rattle.base64.specs.GeneralPurpose.{IsBytes};
 ghost use Rattle.hex.specs.Hex.{encode_lower};
@@ -7,11 +7,11 @@ ghost use Rattle.cacache_core.specs.Hashers.{finished_bytes, Holds, algorithm_of
 ghost use Rattle.cacache_core.specs.Integrity.{IsIntegrity, IsHash, Meets, ShareDigest, hash_of, strongest, address as address_of, actual, integrity_under};
 ghost use Rattle.cacache_core.specs.Refusals.{IsCheckFailure, IsReadFailure};
 ghost use Rattle.cacache_core.specs.Same.{same_hashes, same_hashes-equiv};
-ghost use Rattle.cacache_core.specs.Texts.{integrity_text, read_integrity};
+ghost use Rattle.cacache_core.specs.Texts.{integrity_text, long_hash, read_integrity};
 
 use crate::errors::{Error, IntegrityFault, Result};
 use crate::integrity::algorithm::Algorithm;
-use crate::integrity::digest::Hash;
+use crate::integrity::digest::{Digest, Hash};
 use crate::integrity::hasher::{Finished, Hasher};
 use crate::integrity::reading::{in_order, read_hashes};
 use std::alloc::{AllocError, Global};
@@ -42,6 +42,11 @@ impl Integrity {
     /// hash is an algorithm's name, `-`, and its digest in canonical padded base64 (RFC 4648,
     /// section 4). A text without a hash is `BadText`; else the leftmost wrong hash decides, `BadText` for its
     /// form and `ShortDigest` for a digest under three bytes.
+    ///
+    /// ```
+    /// let sri = Integrity::parse(alloc, "sha1-qvTGHdzF6KLavt4PO0gs2a6pQ00=")?;
+    /// let algorithm = sri.pick_algorithm(); // Algorithm::Sha1
+    /// ```
     #[tactic(auto, using(crate::proofs::ReadLemmas::read_some, crate::proofs::ReadLemmas::read_none, crate::proofs::ReadLemmas::read_failed, crate::proofs::Order::ordered_is_integrity))]
     pub fn parse(alloc: Global, text: &str) -> Result<Integrity>
         ensures ok { IfOk result (λ i. read_integrity text.now ≡ Ok i) }
@@ -83,7 +88,37 @@ impl Integrity {
         Ok(Integrity::of_finished(alloc, algorithm, &hasher.finalize())?)
     }
 
+    /// The integrity of a digest under an algorithm. The algorithm's own length isn't asked of it.
+    ///
+    /// A digest under three bytes is `ShortDigest`; `OutOfMemory` is the only other error.
+    #[tactic(auto, using(crate::proofs::Order::one_in_order))]
+    pub fn from_digest(alloc: Global, algorithm: Algorithm, digest: Vec<u8>) -> Result<Integrity>
+        ensures is { IfOk result (λ i. i ≡ hash_of algorithm digest.items ∷ []) }
+        ensures hash { OnOk result (IsHash (hash_of algorithm digest.items)) }
+        ensures refused { IfErr result (IsReadFailure (long_hash algorithm digest.items)) }
+    {
+        if digest.len() < 3 {
+            return Err(Error::IntegrityError(IntegrityFault::ShortDigest));
+        }
+        Ok(Integrity::of_digest(alloc, algorithm, Digest::new(digest))?)
+    }
+
     /// The integrity of one digest under an algorithm.
+    fn of_digest(
+        alloc: Global,
+        algorithm: Algorithm,
+        digest: Digest,
+    ) -> std::result::Result<Integrity, AllocError>
+        requires bytes { IsBytes digest }
+        requires long_enough { 3 ≤ length digest }
+        ensures { IfOk result (λ i. i ≡ hash_of algorithm digest ∷ []) }
+    {
+        let hash = Hash { algorithm, digest };
+        let hashes = vec![in alloc; hash]?;
+        Ok(Integrity { hashes })
+    }
+
+    /// The integrity of a finished digest under its algorithm.
     fn of_finished(
         alloc: Global,
         algorithm: Algorithm,
@@ -94,9 +129,7 @@ impl Integrity {
         ensures { IfOk result (λ i. i ≡ hash_of algorithm (finished_bytes finished.now) ∷ []) }
     {
         let digest = finished.to_digest(alloc)?;
-        let hash = Hash { algorithm, digest };
-        let hashes = vec![in alloc; hash]?;
-        Ok(Integrity { hashes })
+        Integrity::of_digest(alloc, algorithm, digest)
     }
 
     /// The content address: the first hash, one of the strongest algorithm.
@@ -118,6 +151,11 @@ impl Integrity {
     /// The strongest algorithm where the bytes meet this integrity, their digest being among its
     /// digests of that algorithm. Otherwise the error is `Check` with this integrity and that of
     /// the bytes. The bytes are hashed once, and only the error takes memory.
+    ///
+    /// ```
+    /// let sri = Integrity::from(alloc, b"hello")?;
+    /// let algorithm = sri.check(alloc, b"hello")?; // Algorithm::Sha256
+    /// ```
     pub fn check(&self, alloc: Global, data: &[u8]) -> Result<Algorithm>
         ensures ok { IfOk result (λ a. Meets self.now «data».now × (strongest self.now ≡ Some a)) }
         ensures met { Meets self.now «data».now → IsOk result }

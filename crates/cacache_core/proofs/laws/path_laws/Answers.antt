@@ -1,6 +1,6 @@
 use Rattle.cacache_core.proofs.JoinedNames.{joined_texts_name}
 use Rattle.cacache_core.proofs.PathLemmas.{keys_have_digests, none_begins, kinds_are_apart}
-use Rattle.cacache_core.proofs.PathTexts.{paths_differ}
+use Rattle.cacache_core.proofs.PathTexts.{joined_texts_spell, paths_differ}
 use Rattle.cacache_core.proofs.ProperNames.{names_are_proper}
 use Rattle.cacache_core.proofs.laws.path_laws.Goals as goal
 
@@ -21,3 +21,6 @@ returns-clause-proper c = names_are_proper
 
 pub returns-clause-texts : goal.returns-clause-texts
 returns-clause-texts c = joined_texts_name
+
+pub returns-clause-spelled : goal.returns-clause-spelled
+returns-clause-spelled c = joined_texts_spell
