@@ -2,6 +2,8 @@
 use Rattle.std.specs.Prelude.{◌≡◌, ◌≢◌, ◌⊎◌, ◌<◌, ◌^◌, ◌-◌, ◌++◌, ℕ, List, [], Option, None, Result, Ok, Err, min, length}
 use Rattle.std.specs.IoError.{error_kind}
 use Rattle.cacache_core.specs.declared.errors.Error.{Error}
+use Rattle.cacache_core.specs.declared.errors.Error.TheVariants.{IoError, OutOfMemory}
+use Rattle.cacache_core.specs.Contexts.{fault_of}
 use Rattle.cacache_core.specs.declared.integrity.algorithm.Algorithm.{Algorithm}
 use Rattle.cacache_core.specs.Hashers.{Holds, algorithm_of}
 use Rattle.cacache_core.specs.Integrity.{integrity_under}
@@ -66,6 +68,13 @@ module _ {T : Type 0} (writes : T → ℕ → Result ℕ io.Error → T → Type
       WriteGave (Err e) file
       ⊎ (WriteGave (Ok 0) file × (error_kind e ≡ io.WriteZero))
       ⊎ (IsInterrupted × (error_kind e ≡ io.TimedOut))
+
+  -- a write failed with this fault, or there was no memory for the message
+  abbrev pub IsWriteError : Error → Type 0
+  IsWriteError OutOfMemory = Unit {0}
+  IsWriteError (IoError fault message) =
+      (file : T) × (e : io.Error) × WholeFails file e × (fault ≡ fault_of (error_kind e))
+  IsWriteError e = ⊥
 
 -- an interrupted write is tried again, and none of its errors is told
 abbrev pub IsRetried : io.Error → Type 0
@@ -135,6 +144,10 @@ abbrev pub RemovesTemp :
     List ℕ → Result (Unit {0}) Error → Option (List LogItem) → Option (List LogItem) → Type 0
 RemovesTemp path (Ok done) old new = Does (steps.RemoveFile path) answers.Done old new
 RemovesTemp path (Err e) old new = FailsAt (steps.RemoveFile path) e old new
+
+-- the temporary file was to be removed, whatever came of it
+abbrev pub TriesToRemove : List ℕ → Option (List LogItem) → Option (List LogItem) → Type 0
+TriesToRemove path old new = (tried : Result (Unit {0}) Error) × RemovesTemp path tried old new
 
 -- the commit of a writer without a key, of which nothing was said
 abbrev pub unkeyed : {T : Type 0} → Writer T → List ℕ → Commit
