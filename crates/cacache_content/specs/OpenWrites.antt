@@ -13,7 +13,7 @@ use Rattle.cacache_store.specs.declared.store.answer.Answer.TheVariants as answe
 use Rattle.cacache_store.specs.declared.store.log.LogItem.{LogItem}
 use Rattle.cacache_store.specs.declared.store.plain.PlainTemp.{PlainTemp}
 use Rattle.cacache_store.specs.declared.store.step.Step.TheVariants as steps
-use Rattle.cacache_store.specs.Plain.{PlainStep}
+use Rattle.cacache_store.specs.Plain.{PlainStep, PlainAnswer}
 use Rattle.cacache_table.specs.declared.command.Options.{Options}
 use Rattle.cacache_table.specs.declared.reply.Reply.{Reply}
 use Rattle.cacache_table.specs.StepPaths.{temp_folder, temp_path}
@@ -145,9 +145,15 @@ abbrev pub RemovesTemp :
 RemovesTemp path (Ok done) old new = Does (steps.RemoveFile path) answers.Done old new
 RemovesTemp path (Err e) old new = FailsAt (steps.RemoveFile path) e old new
 
--- the temporary file was to be removed, whatever came of it
-abbrev pub TriesToRemove : List ℕ → Option (List LogItem) → Option (List LogItem) → Type 0
-TriesToRemove path old new = (tried : Result (Unit {0}) Error) × RemovesTemp path tried old new
+-- one step was to remove the temporary file, whatever came of it
+abbrev pub AsksToRemove : List ℕ → Option (List LogItem) → Option (List LogItem) → Type 0
+AsksToRemove path old new = (answer : PlainAnswer) × Does (steps.RemoveFile path) answer old new
+
+-- the same, unless this error says that there was no memory for it
+abbrev pub TriesToRemove :
+    List ℕ → Error → Option (List LogItem) → Option (List LogItem) → Type 0
+TriesToRemove path OutOfMemory old new = (new ≡ old) ⊎ AsksToRemove path old new
+TriesToRemove path e old new = AsksToRemove path old new
 
 -- the commit of a writer without a key, of which nothing was said
 abbrev pub unkeyed : {T : Type 0} → Writer T → List ℕ → Commit

@@ -13,10 +13,9 @@ ghost use Rattle.cacache_table.specs.SingleSteps.{Does, FailsAt};
 ghost use Rattle.cacache_content.specs.Passed.{passed};
 ghost use Rattle.cacache_content.specs.OpenWrites.{HasTaken, GoesOn, OpensTemp, EndsWriter, RemovesTemp, TriesToRemove, Takes, TakesPart, WholeFails, IsWriteError, IsRetried, make_folder as making_folder, content_commit, unkeyed};
 
-use cacache_core::errors::{Fault, Result};
+use cacache_core::errors::{Error, Fault, Result};
 use cacache_core::hasher::Hasher;
 use cacache_core::integrity::{Algorithm, Integrity};
-use cacache_core::keeping::let_go;
 use cacache_core::text::Text;
 use cacache_jobs::{Commit, commit_from, messages, refused, temp_folder, temp_path};
 use cacache_store::env::{Clock, Env, Names};
@@ -165,8 +164,8 @@ pub fn write_or_abandon<S: Store>(
     ensures takes { IfOk result (λ w. Takes writer w «data».now) }
     ensures goes_on { IfOk result (λ w. GoesOn S.Temp.seen writer w) }
     ensures quiet { OnOk result (store.new ≡ store.old) }
-    ensures removed { OnErr result
-        (TriesToRemove writer.path (S.log store.old) (S.log store.new)) }
+    ensures removed { IfErr result
+        (λ e. TriesToRemove writer.path e (S.log store.old) (S.log store.new)) }
     ensures earned { IfErr result (IsWriteError S.Temp.writes) }
 {
     let mut writer = writer;
@@ -175,8 +174,10 @@ pub fn write_or_abandon<S: Store>(
     };
     let refusal = Refusal::Fault(Fault::from(error.kind()));
     let message = messages::writing(alloc, &writer.cache, key);
-    let_go(abandon(alloc, store, writer));
-    Err(refused(refusal, message))
+    match abandon(alloc, store, writer) {
+        Ok(()) | Err(Error::IoError(_, _)) => Err(refused(refusal, message)),
+        Err(_) => Err(Error::OutOfMemory),
+    }
 }
 
 /// The file at the path wasn't removed.

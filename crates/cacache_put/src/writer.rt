@@ -131,8 +131,8 @@ impl<T: TempFile> SyncWriter<T> {
         ensures goes_on { IfOk result (λ w. GoesOn T.seen self.writer w.writer) }
         ensures said { IfOk result (λ w. w ≡ record self { writer = w.writer }) }
         ensures quiet { OnOk result (env.new.store ≡ env.old.store) }
-        ensures removed { OnErr result
-            (TriesToRemove self.writer.path (S.log env.old.store) (S.log env.new.store)) }
+        ensures removed { IfErr result
+            (λ e. TriesToRemove self.writer.path e (S.log env.old.store) (S.log env.new.store)) }
         ensures earned { IfErr result (IsWriteError T.writes) }
         ensures clock { env.new.clock ≡ env.old.clock }
         ensures names { env.new.names ≡ env.old.names }
