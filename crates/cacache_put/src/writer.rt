@@ -62,6 +62,14 @@ impl<T: TempFile> SyncWriter<T> {
     /// Opens a writer that commits under the key, with the SHA-256 integrity. A number is asked once, before the first
     /// step.
     ///
+    /// ```
+    /// let mut writer = cacache::SyncWriter::create(&mut env, "my-cache", "key")?;
+    /// writer.write_all(b"my ")?;
+    /// writer.write_all(b"data")?;
+    /// let sri = writer.commit(&mut env)?;
+    /// let bytes = cacache::read_hash_sync(&mut env, "my-cache", &sri)?; // b"my data"
+    /// ```
+    ///
     /// `IoError` says which step failed. Contents and index stay as they were; folders may have been made.
     pub fn create<S: Store<Temp = T>, C: Clock, N: Names>(
         env: &mut Env<S, C, N>,
