@@ -1,4 +1,3 @@
 pub mod FolderHandles
 pub mod PartialSteps
 pub mod Escaped
-pub mod WholeFiles

@@ -1,7 +1,6 @@
 //! Files that are read whole.
-ghost use Rattle.std.specs.Prelude.{◌≡◌, ◌++◌, IfOk, IfSome, OnOk};
+ghost use Rattle.std.specs.Prelude.{◌≡◌, IfOk, IfSome};
 ghost use Rattle.std.specs.Io.KnownBytes.{Consumes};
-ghost use Rattle.cacache_folder.specs.WholeFiles.{Continues};
 
 use crate::folder::again::read_again;
 use std::alloc::Global;
@@ -13,9 +12,6 @@ use std::io::Read;
 /// how long they are.
 const FIRST_READ: usize = 16 * 1024;
 
-/// The most bytes that the second read asks for. The buffer of a read is filled with zeros first.
-const SECOND_READ: usize = 128 * 1024;
-
 /// What the first read of a file gives.
 fn first_of<F: Read>(alloc: Global, file: &mut F) -> io::Result<Vec<u8>>
     ensures { IfOk result
@@ -26,32 +22,15 @@ fn first_of<F: Read>(alloc: Global, file: &mut F) -> io::Result<Vec<u8>>
     Ok(piece[..count].to_vec(alloc)?)
 }
 
-/// Adds what one more read gives of a file of `size` bytes. There is room for a byte more.
-fn add_rest<F: Read>(file: &mut F, bytes: &mut Vec<u8>, size: usize) -> io::Result<()>
-    ensures { OnOk result
-        (Continues bytes.old.items bytes.new.items (F.remaining file.old) (F.remaining file.new)) }
-{
-    let start = bytes.len();
-    let rest = size.saturating_sub(start);
-    if rest == 0 {
-        return Ok(());
-    }
-    bytes.reserve(rest.saturating_add(1))?;
-    bytes.resize(start.saturating_add(rest.min(SECOND_READ)), 0)?;
-    let count = read_again(file, &mut bytes[start..])?;
-    bytes.truncate(start + count);
-    Ok(())
-}
-
-/// All that the file has: a short one in one read, and a second one sees the end. Of a longer one the system is asked
-/// the size, which may be untrue.
+/// All that the file has. A short one comes in one read, and a second one sees the end. A longer one is asked for its
+/// size, which may be untrue, so that there is room for it.
 pub(crate) fn read_whole<F: Read + OpenFile>(alloc: Global, file: &mut F) -> io::Result<Vec<u8>>
     ensures { IfOk result (λ whole. IfSome (F.remaining file.old) (λ bytes. whole.items ≡ bytes)) }
 {
     let mut bytes = first_of(alloc, file)?;
     if bytes.len() == FIRST_READ {
         let size = usize::try_from(file.metadata()?.len()).unwrap_or(usize::MAX);
-        add_rest(file, &mut bytes, size)?;
+        bytes.reserve(size.saturating_sub(FIRST_READ).saturating_add(1))?;
     }
     file.read_to_end(&mut bytes)?;
     Ok(bytes)
