@@ -1,6 +1,7 @@
 -- A path that is taken apart: what its text tells.
 use Rattle.std.proofs.Common.{◌≡◌, ℕ, ◌<◌, ◌≤◌, ◌+◌, ◌-◌, List, [], ◌∷◌, ◌++◌, Some, Ok, Err, length, slice_index, take, drop, codes, refl, sym, ap, ap₂, ◌∙◌, subst, arith, append-nil, length-append}
 use Rattle.std.specs.Prelude.{IfSome}
+use Rattle.std.proofs.lemmas.Bool.{le-ltb}
 use Rattle.std.proofs.lemmas.List.{take_all, length-drop}
 use Rattle.std.proofs.lemmas.List.Elements.{All-nil, All-cons}
 use Rattle.base64.specs.GeneralPurpose.{IsBytes}
@@ -114,10 +115,7 @@ pub lie_of : (cache lies : List ℕ) (i : List Hash) (a : Algorithm) (d : List �
 lie_of cache lies i a d is at = subst (λ (j : List Hash). IfSome (address j) (λ g. lies ≡ joined cache (content_names g))) is at
 
 long_is : (a : Algorithm) (d : List ℕ) → 3 ≤ length d → long_hash a d ≡ Ok (hash_of a d)
-long_is a (x ∷ y ∷ z ∷ d) long = refl
-long_is a (x ∷ y ∷ []) long = absurd (omega arith)
-long_is a (x ∷ []) long = absurd (omega arith)
-long_is a [] long = absurd (omega arith)
+long_is a d long = rw (le-ltb (length d) 3 long) refl
 
 -- a digest that is long enough is refused for memory alone
 pub memory_alone : (a : Algorithm) (d : List ℕ) (e : Error) → 3 ≤ length d → IsReadFailure (long_hash a d) e → e ≡ OutOfMemory

@@ -1,4 +1,4 @@
-use Rattle.std.proofs.Common.{◌≡◌, ℕ, List, true, false, length, drop, sym, ap, ◌∙◌, bytes_eq}
+use Rattle.std.proofs.Common.{rules, ◌≡◌, ℕ, List, true, false, length, drop, sym, ap, ◌∙◌, bytes_eq}
 use Rattle.std.proofs.lemmas.Slice.Eq.{bytes_eq-Decides}
 use Rattle.cacache_core.specs.Integrity.{hash_of}
 use Rattle.cacache_contents.proofs.TakenApart.{behind_top, not_shorter, same_path_of, rest_all, lie_of, memory_alone}
@@ -34,4 +34,5 @@ returns-then-eq-clause-address c =
 pub returns-in_err-sri-clause-memory : goal.returns-in_err-sri-clause-memory
 returns-in_err-sri-clause-memory c =
     let some = rw c.in-Some.is at c.in_ok-algorithm.ensures.hash in
-    memory_alone c.in-Some.algorithm c.in-Some.digest.items c.in_err-sri.field-0.0 some.0 c.in_err-sri.ensures.refused
+    let memory = memory_alone c.in-Some.algorithm c.in-Some.digest.items c.in_err-sri.field-0.0 some.0 c.in_err-sri.ensures.refused in
+    search rules
