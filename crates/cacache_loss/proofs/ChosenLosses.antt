@@ -1,16 +1,21 @@
--- The lists of a loss, one text after another.
-use Rattle.std.proofs.Common.{◌≡◌, ◌<◌, ◌≤◌, ◌+◌, ℕ, suc, Bool, true, false, cond, List, [], ◌∷◌, ◌++◌, None, Some, Ok, length, get_or, take, drop, refl, sym, ap, ◌∙◌, arith, drop-cons, add-one}
-use Rattle.std.specs.Prelude.{Result, Err, ◌||◌}
+-- The maps of a loss, one text after another.
+use Rattle.std.proofs.Common.{◌≡◌, ◌<◌, ◌≤◌, ◌+◌, ℕ, suc, Bool, true, false, cond, List, [], ◌∷◌, Option, None, Some, Ok, length, get_or, take, drop, refl, sym, ap, ◌∙◌, arith, drop-cons, add-one}
+use Rattle.std.specs.Prelude.{Result, Err, ◌||◌, is_some, unwrap_or}
 use Rattle.std.specs.List.{list_any}
 use Rattle.std.specs.Result.{result_ok}
+use Rattle.std.specs.BTreeMap as btree
+use Rattle.std.specs.BTreeMap.{BTreeMap, get}
+use Rattle.std.specs.BTreeSet as btree_set
+use Rattle.std.specs.BTreeSet.{BTreeSet, contains}
 use Rattle.std.proofs.lemmas.List.{take_more, drop_all}
 use Rattle.std.proofs.lemmas.List.Folds.{list_any-append}
 use Rattle.cacache_core.specs.declared.errors.Fault.{Fault}
 use Rattle.cacache_core.specs.PathNames.{Names, names_of}
-use Rattle.cacache_disk.specs.Tree.{same_path}
+use Rattle.cacache_disk.specs.Tree.{names_cmp, same_path}
+use Rattle.cacache_disk.proofs.Maps.{same_path-true}
 use Rattle.cacache_loss.specs.Fixing.{is_at}
-use Rattle.cacache_loss.specs.Reached.{is_among}
-use Rattle.cacache_loss.specs.Chosen.{tail_at, tail_in}
+use Rattle.cacache_loss.specs.Chosen.{tail_at}
+use Rattle.cacache_loss.proofs.PathMaps.{symmetric}
 
 or_false : (b : Bool) → (b || false) ≡ b
 or_false true = refl
@@ -35,18 +40,26 @@ at_nothing : (q : Names) (r : Result Names Fault) → None ≡ result_ok r → i
 at_nothing q (Ok names) is = absurd cc
 at_nothing q (Err fault) is = refl
 
-pub undone_more : (paths : List Names) (texts : List (List ℕ)) (i : ℕ) (text : List ℕ) (path : Names) → i < length texts → text ≡ get_or texts i text → Some path ≡ result_ok (names_of text)
-    → ((q : Names) → is_among q paths ≡ list_any (names_it q) (take i texts))
-    → (q : Names) → is_among q (paths ++ path ∷ []) ≡ list_any (names_it q) (take (i + 1) texts)
-undone_more paths texts i text path below is named so q =
-    list_any-append (same_path q) paths (path ∷ [])
-    ∙ ap (λ b. b || (same_path q path || false)) (so q)
-    ∙ ap (λ b. list_any (names_it q) (take i texts) || b) (or_false (same_path q path) ∙ at_found q path (names_of text) named)
+-- a name more in the set
+in_front : (a b : Bool) → cond a true b ≡ (b || a)
+in_front true true = refl
+in_front true false = refl
+in_front false b = sym (or_false b)
+
+pub undone_more : (old new : BTreeSet Names) (texts : List (List ℕ)) (i : ℕ) (text : List ℕ) (path : Names) → i < length texts → text ≡ get_or texts i text → Some path ≡ result_ok (names_of text)
+    → btree_set.Updates names_cmp old new path true
+    → ((q : Names) → contains names_cmp old q ≡ list_any (names_it q) (take i texts))
+    → (q : Names) → contains names_cmp new q ≡ list_any (names_it q) (take (i + 1) texts)
+undone_more old new texts i text path below is named u so q =
+    u.0 q ∙ ap (λ b. cond b true (contains names_cmp old q)) (symmetric path q)
+    ∙ ap (cond (same_path q path) true) (so q)
+    ∙ in_front (same_path q path) (list_any (names_it q) (take i texts))
+    ∙ ap (λ b. list_any (names_it q) (take i texts) || b) (at_found q path (names_of text) named)
     ∙ sym (undone_next texts i text q below is)
 
-pub undone_none : (paths : List Names) (texts : List (List ℕ)) (i : ℕ) (text : List ℕ) → i < length texts → text ≡ get_or texts i text → None ≡ result_ok (names_of text)
-    → ((q : Names) → is_among q paths ≡ list_any (names_it q) (take i texts))
-    → (q : Names) → is_among q paths ≡ list_any (names_it q) (take (i + 1) texts)
+pub undone_none : (paths : BTreeSet Names) (texts : List (List ℕ)) (i : ℕ) (text : List ℕ) → i < length texts → text ≡ get_or texts i text → None ≡ result_ok (names_of text)
+    → ((q : Names) → contains names_cmp paths q ≡ list_any (names_it q) (take i texts))
+    → (q : Names) → contains names_cmp paths q ≡ list_any (names_it q) (take (i + 1) texts)
 undone_none paths texts i text below is named so q =
     so q ∙ sym (or_false (list_any (names_it q) (take i texts)))
     ∙ ap (λ b. list_any (names_it q) (take i texts) || b) (sym (at_nothing q (names_of text) named))
@@ -54,44 +67,61 @@ undone_none paths texts i text below is named so q =
 
 -- ---- tails
 
--- the tail of a path, or another one
-abbrev pub tail_or : List (Names × List ℕ) → Names → List ℕ → List ℕ
-tail_or [] q other = other
-tail_or (file ∷ files) q other = cond (same_path q file.0) file.1 (tail_or files q other)
-
-tail_or_none : (files : List (Names × List ℕ)) (q : Names) → tail_or files q [] ≡ tail_in files q
-tail_or_none [] q = refl
-tail_or_none (file ∷ files) q = ap (cond (same_path q file.0) file.1) (tail_or_none files q)
-
-tail_push : (files : List (Names × List ℕ)) (file : Names × List ℕ) (q : Names) (other : List ℕ)
-    → tail_or (files ++ file ∷ []) q other ≡ tail_or files q (cond (same_path q file.0) file.1 other)
-tail_push [] file q other = refl
-tail_push (f ∷ files) file q other = ap (cond (same_path q f.0) f.1) (tail_push files file q other)
-
 drop_one : (files : List (List ℕ × List ℕ)) (i : ℕ) (file : List ℕ × List ℕ) → i < length files → file ≡ get_or files i file → drop i files ≡ file ∷ drop (i + 1) files
 drop_one files i file below is =
     let next : suc i ≤ length files = omega (arith, below) in
     rw add-one (drop-cons files i file next) ∙ ap (λ (f : List ℕ × List ℕ). f ∷ drop (i + 1) files) (sym is)
 
 -- the tails of the first files, and then of the others
-abbrev pub TailsSoFar : List (Names × List ℕ) → List (List ℕ × List ℕ) → ℕ → Type 0
-TailsSoFar tails files i = (q : Names) → tail_or tails q (tail_at (drop i files) q) ≡ tail_at files q
+abbrev pub TailsSoFar : BTreeMap Names (List ℕ) → List (List ℕ × List ℕ) → ℕ → Type 0
+TailsSoFar tails files i = (q : Names) → unwrap_or (get names_cmp tails q) (tail_at (drop i files) q) ≡ tail_at files q
 
-pub tails_more : (tails : List (Names × List ℕ)) (files : List (List ℕ × List ℕ)) (i : ℕ) (file : List ℕ × List ℕ) (path : Names) → i < length files → file ≡ get_or files i file
-    → Some path ≡ result_ok (names_of file.0) → TailsSoFar tails files i → TailsSoFar (tails ++ (path, file.1) ∷ []) files (i + 1)
-tails_more tails files i file path below is named so q =
-    tail_push tails (path, file.1) q (tail_at (drop (i + 1) files) q)
-    ∙ ap (λ b. tail_or tails q (cond b file.1 (tail_at (drop (i + 1) files) q))) (at_found q path (names_of file.0) named)
-    ∙ ap (λ (fs : List (List ℕ × List ℕ)). tail_or tails q (tail_at fs q)) (sym (drop_one files i file below is))
-    ∙ so q
+-- a path whose tail is known
+known_first : (tails : BTreeMap Names (List ℕ)) (path q : Names) (bytes rest : List ℕ) (b : Bool) → same_path q path ≡ b → true ≡ is_some (get names_cmp tails path)
+    → unwrap_or (get names_cmp tails q) rest ≡ unwrap_or (get names_cmp tails q) (cond b bytes rest)
+known_first tails path q bytes rest false e there = refl
+known_first tails path q bytes rest true e there = here (get names_cmp tails q) (there ∙ ap (λ p. is_some (get names_cmp tails p)) (sym (same_path-true q path e)))
+  where
+    here : (o : Option (List ℕ)) → true ≡ is_some o → unwrap_or o rest ≡ unwrap_or o bytes
+    here None e = absurd cc
+    here (Some tail) e = refl
 
-pub tails_none : (tails : List (Names × List ℕ)) (files : List (List ℕ × List ℕ)) (i : ℕ) (file : List ℕ × List ℕ) → i < length files → file ≡ get_or files i file
-    → None ≡ result_ok (names_of file.0) → TailsSoFar tails files i → TailsSoFar tails files (i + 1)
-tails_none tails files i file below is named so q =
-    ap (λ b. tail_or tails q (cond b file.1 (tail_at (drop (i + 1) files) q))) (sym (at_nothing q (names_of file.0) named))
-    ∙ ap (λ (fs : List (List ℕ × List ℕ)). tail_or tails q (tail_at fs q)) (sym (drop_one files i file below is))
-    ∙ so q
+-- a path of which this is the first tail
+first_known : (tails : BTreeMap Names (List ℕ)) (path q : Names) (bytes rest : List ℕ) (b : Bool) → same_path q path ≡ b → false ≡ is_some (get names_cmp tails path)
+    → unwrap_or (cond b (Some bytes) (get names_cmp tails q)) rest ≡ unwrap_or (get names_cmp tails q) (cond b bytes rest)
+first_known tails path q bytes rest false e free = refl
+first_known tails path q bytes rest true e free = here (get names_cmp tails q) (free ∙ ap (λ p. is_some (get names_cmp tails p)) (sym (same_path-true q path e)))
+  where
+    here : (o : Option (List ℕ)) → false ≡ is_some o → bytes ≡ unwrap_or o bytes
+    here None e = refl
+    here (Some tail) e = absurd cc
 
-pub tails_all : (tails : List (Names × List ℕ)) (files : List (List ℕ × List ℕ)) (i : ℕ) → length files ≤ i → TailsSoFar tails files i → (q : Names) → tail_in tails q ≡ tail_at files q
+module _ (tails : BTreeMap Names (List ℕ)) (files : List (List ℕ × List ℕ)) (i : ℕ) (file : List ℕ × List ℕ) (below : i < length files) (is : file ≡ get_or files i file) where
+  abbrev rest : Names → List ℕ
+  rest q = tail_at (drop (i + 1) files) q
+
+  next : (q : Names) → unwrap_or (get names_cmp tails q) (cond (is_at (names_of file.0) q) file.1 (rest q)) ≡ unwrap_or (get names_cmp tails q) (tail_at (drop i files) q)
+  next q = ap (λ (fs : List (List ℕ × List ℕ)). unwrap_or (get names_cmp tails q) (tail_at fs q)) (sym (drop_one files i file below is))
+
+  found : (path q : Names) → Some path ≡ result_ok (names_of file.0)
+      → unwrap_or (get names_cmp tails q) (cond (same_path q path) file.1 (rest q)) ≡ unwrap_or (get names_cmp tails q) (cond (is_at (names_of file.0) q) file.1 (rest q))
+  found path q named = ap (λ b. unwrap_or (get names_cmp tails q) (cond b file.1 (rest q))) (at_found q path (names_of file.0) named)
+
+  pub tails_more : (new : BTreeMap Names (List ℕ)) (path : Names) → Some path ≡ result_ok (names_of file.0) → btree.Updates names_cmp tails new path (Some file.1)
+      → false ≡ is_some (get names_cmp tails path) → TailsSoFar tails files i → TailsSoFar new files (i + 1)
+  tails_more new path named u free so q =
+      ap (λ o. unwrap_or o (rest q)) (u.0 q ∙ ap (λ b. cond b (Some file.1) (get names_cmp tails q)) (symmetric path q))
+      ∙ first_known tails path q file.1 (rest q) (same_path q path) refl free
+      ∙ found path q named ∙ next q ∙ so q
+
+  pub tails_known : (path : Names) → Some path ≡ result_ok (names_of file.0) → true ≡ is_some (get names_cmp tails path) → TailsSoFar tails files i → TailsSoFar tails files (i + 1)
+  tails_known path named there so q = known_first tails path q file.1 (rest q) (same_path q path) refl there ∙ found path q named ∙ next q ∙ so q
+
+  pub tails_none : None ≡ result_ok (names_of file.0) → TailsSoFar tails files i → TailsSoFar tails files (i + 1)
+  tails_none named so q =
+      ap (λ b. unwrap_or (get names_cmp tails q) (cond b file.1 (rest q))) (sym (at_nothing q (names_of file.0) named)) ∙ next q ∙ so q
+
+pub tails_all : (tails : BTreeMap Names (List ℕ)) (files : List (List ℕ × List ℕ)) (i : ℕ) → length files ≤ i → TailsSoFar tails files i
+    → (q : Names) → unwrap_or (get names_cmp tails q) [] ≡ tail_at files q
 tails_all tails files i end so q =
-    sym (tail_or_none tails q) ∙ ap (λ (fs : List (List ℕ × List ℕ)). tail_or tails q (tail_at fs q)) (sym (drop_all i files (omega (arith, end)))) ∙ so q
+    ap (λ (fs : List (List ℕ × List ℕ)). unwrap_or (get names_cmp tails q) (tail_at fs q)) (sym (drop_all i files (omega (arith, end)))) ∙ so q

@@ -1,6 +1,6 @@
 -- Maps by path, one path after another.
 use Rattle.std.proofs.Common.{◌≡◌, ◌<◌, ◌≤◌, ◌+◌, ℕ, Bool, true, false, cond, List, [], ◌∷◌, ◌++◌, Option, None, Some, Ok, length, get_or, take, drop, refl, sym, ap, ◌∙◌, arith}
-use Rattle.std.specs.Prelude.{◌||◌, ◌&&◌, map, Result, Err, OnOk, is_some, unwrap_or}
+use Rattle.std.specs.Prelude.{◌||◌, map, filter, not, Result, Err, OnOk, is_some, unwrap_or}
 use Rattle.std.specs.Cmp.{eq_by_cmp_equiv}
 use Rattle.std.specs.BTreeMap as btree
 use Rattle.std.specs.BTreeMap.{BTreeMap, get}
@@ -9,6 +9,7 @@ use Rattle.std.proofs.lemmas.List.{take_more, drop_all, take_all, get_or-map}
 use Rattle.std.specs.Result.{result_ok}
 use Rattle.cacache_core.specs.declared.errors.Fault.{Fault}
 use Rattle.std.proofs.lemmas.List.Folds.{list_any-append}
+use Rattle.std.proofs.lemmas.Map.Entries.{lookup-filter-keys}
 use Rattle.cacache_disk.proofs.Maps.{total, same_path-true}
 use Rattle.cacache_disk.proofs.PathFolders.{drop_here, front_next}
 use Rattle.cacache_disk.specs.LedTo.{leads}
@@ -42,7 +43,8 @@ first_kept : (o : Option Place) (was : Place) → false ≡ is_some o → Some w
 first_kept None was e = refl
 first_kept (Some place) was e = absurd cc
 
-symmetric : (p q : Names) → same_path p q ≡ same_path q p
+-- either path may come first
+pub symmetric : (p q : Names) → same_path p q ≡ same_path q p
 symmetric p q = (eq_by_cmp_equiv total).symm p q
 
 -- a name that is kept for the first time
@@ -165,56 +167,20 @@ module _ (e : Effect) (t : Tree) (paths : List Names) (places : List Place) (i :
 
 -- ---- names that are forgotten
 
-forget_in : (m : Names → Option Place) (folder p q : Names) (a b c : Bool) → same_path q p ≡ c → is_child folder q ≡ b → is_child folder p ≡ true
-    → cond c None (cond (a && b) None (m q)) ≡ cond ((a || c) && b) None (m q)
-forget_in m folder p q a b false is child inside = ap (λ a. cond (a && b) None (m q)) (sym (or_false a))
-forget_in m folder p q a true true is child inside = ap (λ a. cond (a && true) None (m q)) (sym (or_true a))
-  where
-    or_true : (a : Bool) → (a || true) ≡ true
-    or_true true = refl
-    or_true false = refl
-forget_in m folder p q a false true is child inside = let differ : true ≡ false = sym inside ∙ ap (is_child folder) (sym (same_path-true q p is)) ∙ child in absurd cc
-
-forget_out : (m : Names → Option Place) (folder p q : Names) (a b c : Bool) → same_path q p ≡ c → is_child folder q ≡ b → is_child folder p ≡ false
-    → cond (a && b) None (m q) ≡ cond ((a || c) && b) None (m q)
-forget_out m folder p q a b false is child outside = ap (λ a. cond (a && b) None (m q)) (sym (or_false a))
-forget_out m folder p q true b true is child outside = refl
-forget_out m folder p q false false true is child outside = refl
-forget_out m folder p q false true true is child outside = let differ : false ≡ true = sym outside ∙ ap (is_child folder) (sym (same_path-true q p is)) ∙ child in absurd cc
-
--- one path more, in the folder or not
-pub forgot_more : (old m n : BTreeMap Names Place) (folder : Names) (paths : List Names) (i : ℕ) (p : Names) → i < length paths → p ≡ get_or paths i p
-    → is_child folder p ≡ true → btree.Updates names_cmp m n p None
-    → ((q : Names) → get names_cmp m q ≡ cond (is_among q (take i paths) && is_child folder q) None (get names_cmp old q))
-    → (q : Names) → get names_cmp n q ≡ cond (is_among q (take (i + 1) paths) && is_child folder q) None (get names_cmp old q)
-forgot_more old m n folder paths i p below is inside u so q =
-    u.0 q ∙ ap (λ b. cond b None (get names_cmp m q)) (symmetric p q) ∙ ap (cond (same_path q p) None) (so q)
-    ∙ forget_in (get names_cmp old) folder p q (is_among q (take i paths)) (is_child folder q) (same_path q p) refl refl inside
-    ∙ ap (λ a. cond (a && is_child folder q) None (get names_cmp old q)) (ap (λ r. is_among q (take i paths) || same_path q r) is ∙ sym (among_more paths i q p below))
-
-pub left_more : (old m : BTreeMap Names Place) (folder : Names) (paths : List Names) (i : ℕ) (p : Names) → i < length paths → p ≡ get_or paths i p
-    → is_child folder p ≡ false
-    → ((q : Names) → get names_cmp m q ≡ cond (is_among q (take i paths) && is_child folder q) None (get names_cmp old q))
-    → (q : Names) → get names_cmp m q ≡ cond (is_among q (take (i + 1) paths) && is_child folder q) None (get names_cmp old q)
-left_more old m folder paths i p below is outside so q =
-    so q
-    ∙ forget_out (get names_cmp old) folder p q (is_among q (take i paths)) (is_child folder q) (same_path q p) refl refl outside
-    ∙ ap (λ a. cond (a && is_child folder q) None (get names_cmp old q)) (ap (λ r. is_among q (take i paths) || same_path q r) is ∙ sym (among_more paths i q p below))
-
-known_or_none : (a b : Bool) (o : Option Place) → a ≡ is_some o → cond (a && b) None o ≡ cond b None o
-known_or_none true b o e = refl
-known_or_none false true None e = refl
-known_or_none false true (Some place) e = absurd cc
-known_or_none false false o e = refl
+kept_or_none : (b : Bool) (o : Option Place) → cond (not b) o None ≡ cond b None o
+kept_or_none true o = refl
+kept_or_none false o = refl
 
 -- all names in a folder are forgotten
-pub all_forgot : (old new : BTreeMap Names Place) (paths : List Names) (folder : Names) → ((q : Names) → is_among q paths ≡ is_some (get names_cmp old q))
-    → ((q : Names) → get names_cmp new q ≡ cond (is_among q paths && is_child folder q) None (get names_cmp old q))
+pub all_forgot : (old new : BTreeMap Names Place) (folder : Names) → new.entries ≡ filter (λ e. not (is_child folder e.0)) old.entries
     → (r : Result Names Fault) → Some folder ≡ result_ok r → (q : Names) → get names_cmp new q ≡ cond (is_child_of r q) None (get names_cmp old q)
-all_forgot old new paths folder all so (Ok names) is q =
+all_forgot old new folder so (Ok names) is q =
     let same : folder ≡ names = cc in
-    so q ∙ known_or_none (is_among q paths) (is_child folder q) (get names_cmp old q) (all q) ∙ ap (λ f. cond (is_child f q) None (get names_cmp old q)) same
-all_forgot old new paths folder all so (Err fault) is q = absurd cc
+    ap (lookup (btree.is_at (names_cmp q))) so
+    ∙ lookup-filter-keys (btree.is_at (names_cmp q)) (λ p. not (is_child folder p)) (not (is_child folder q))
+    (λ p at. ap (λ r. not (is_child folder r)) (sym (same_path-true q p at))) old.entries
+    ∙ kept_or_none (is_child folder q) (get names_cmp old q) ∙ ap (λ f. cond (is_child f q) None (get names_cmp old q)) same
+all_forgot old new folder so (Err fault) is q = absurd cc
 
 -- ---- the paths of a map
 

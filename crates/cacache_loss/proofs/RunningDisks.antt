@@ -1,6 +1,6 @@
 -- What the code keeps after a step is what is fixed after it.
 use Rattle.std.proofs.Common.{◌≡◌, Bool, true, false, cond, List, Option, None, Some, refl, sym, ap, ap₂, ◌∙◌}
-use Rattle.std.specs.Prelude.{is_some, map, unwrap_or}
+use Rattle.std.specs.Prelude.{is_some, map, unwrap_or, OnOk, Result, Ok, Err}
 use Rattle.std.specs.BTreeMap.{BTreeMap, get}
 use Rattle.cacache_core.specs.PathNames.{Names}
 use Rattle.cacache_store.specs.declared.store.step.Step.TheVariants.{Write, Persist, Copy, SyncTemp, SyncFile, SyncDir}
@@ -101,7 +101,7 @@ module _ (first old new : Tree) (files files' : BTreeMap Names Fixing) (names na
   abbrev was : Fixed
   was = fixed_in first files names
 
-  pub changed_moment : (paths : List Names) (places : List Place) (e : Effect) → is_sync step ≡ false → paths ≡ reached old step → places ≡ map (place_now old was) paths
+  changed_moment : (paths : List Names) (places : List Place) (e : Effect) → is_sync step ≡ false → paths ≡ reached old step → places ≡ map (place_now old was) paths
       → e ≡ effect_of (files_in first files) step answer → new ≡ (apply old step luck).1
       → FilesSettle e new paths places (files_in first files) (files_in first files') → NamesSettle e new paths places (get names_cmp names) (get names_cmp names')
       → moment new (fixed_in first files' names') ≡ next (moment old was) (move_of step luck answer)
@@ -117,6 +117,14 @@ module _ (first old new : Tree) (files files' : BTreeMap Names Fixing) (names na
       ∙ ap₂ (λ e t. cond (is_among q (reached old step)) (renamed (renames e (place_now old was q) (look t q) q) (place_now old was q) (was.names q)) (was.names q)) e_is new_is
       ∙ name_is was old step luck answer q (is_among q (reached old step)) refl)
       ∙ not_sync was old (apply old step luck).1 step answer no_sync)
+
+  pub changed_ok : {E : Type 0} (r : Result Unit E) (paths : List Names) (places : List Place) (e : Effect) → is_sync step ≡ false → paths ≡ reached old step
+      → places ≡ map (place_now old was) paths → e ≡ effect_of (files_in first files) step answer → new ≡ (apply old step luck).1
+      → OnOk r ((t : Tree) → FilesSettle e new paths places (files_in t files) (files_in t files')) → OnOk r (NamesSettle e new paths places (get names_cmp names) (get names_cmp names'))
+      → OnOk r (moment new (fixed_in first files' names') ≡ next (moment old was) (move_of step luck answer))
+  changed_ok (Ok u) paths places e no_sync paths_is places_is e_is new_is files_settle names_settle =
+      changed_moment paths places e no_sync paths_is places_is e_is new_is (files_settle first) names_settle
+  changed_ok (Err error) paths places e no_sync paths_is places_is e_is new_is files_settle names_settle = tt
 
 -- ---- after a sync
 

@@ -2,14 +2,8 @@
 use Rattle.std.specs.Prelude.{ℕ, List, [], ◌∷◌, if◌then◌else◌}
 use Rattle.std.specs.List.{list_any}
 use Rattle.cacache_core.specs.PathNames.{Names, names_of}
-use Rattle.cacache_disk.specs.Tree.{same_path}
 use Rattle.cacache_loss.specs.Fixing.{is_at}
 use Rattle.cacache_loss.specs.Loss.{Loss}
-
--- the tail that the first of these tells of a path, none where none does
-abbrev pub tail_in : List (Names × List ℕ) → Names → List ℕ
-tail_in [] path = []
-tail_in (file ∷ files) path = if same_path path file.0 then file.1 else tail_in files path
 
 -- the tail that the first of these texts tells of a path, none where none does
 abbrev pub tail_at : List (List ℕ × List ℕ) → Names → List ℕ

@@ -39,21 +39,7 @@ pub(crate) fn fixing_at(first: &Disk, files: &BTreeMap<Path, Fixing>, path: &Pat
 fn is_done(answer: &Answer<PlainFile, PlainTemp>) -> bool
     ensures { result ≡ is_done answer.now }
 {
-    match answer {
-        Answer::Done => true,
-        Answer::Temp(_)
-        | Answer::Wrote(_, _)
-        | Answer::Took(_)
-        | Answer::Bytes(_)
-        | Answer::File(_)
-        | Answer::Got(_, _)
-        | Answer::There(_)
-        | Answer::Length(_)
-        | Answer::Names(_)
-        | Answer::Synced(_)
-        | Answer::Failed(_)
-        | Answer::NoMemory(_) => false,
-    }
+    matches!(answer, Answer::Done)
 }
 
 /// Where a temporary file moved to, and how far it is fixed, if it did.

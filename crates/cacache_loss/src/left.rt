@@ -5,18 +5,17 @@ ghost use Rattle.std.specs.FinMap as map;
 ghost use Rattle.cacache_core.specs.PathNames.{home_of};
 ghost use Rattle.cacache_disk.specs.Rooted.{is_folder};
 ghost use Rattle.cacache_disk.specs.Tree.{look, Names};
-ghost use Rattle.cacache_loss.specs.Chosen.{tail_in, chosen};
+ghost use Rattle.cacache_loss.specs.Chosen.{chosen};
 ghost use Rattle.cacache_loss.specs.Loss.{Lost, bytes_left, lead_folders, node_left, stays};
 ghost use Rattle.cacache_loss.specs.Losing.{loss_of, left_of, lost_of};
 ghost use Rattle.cacache_loss.specs.Reached.{is_among};
 ghost use Rattle.cacache_loss.specs.Running.{moment_of};
 
-use crate::effect::{fixing_at, same_path};
+use crate::effect::fixing_at;
 use crate::fixing::Fixing;
 use crate::loss::{Loss, Taken, read_loss};
 use crate::reached::named;
 use crate::running::Running;
-use crate::syncs::paths_of;
 use cacache_core::bytes::Bytes;
 use cacache_disk::{Contents, Node, Nodes, Path};
 use std::alloc::{AllocError, Global};
@@ -27,18 +26,6 @@ pub(crate) struct Losing {
     running: Running,
     home: Option<Path>,
     taken: Taken,
-}
-
-/// Whether a path is one of these.
-fn among(paths: &[Path], path: &Path) -> bool
-    ensures { result ≡ is_among path.now paths.now }
-{
-    for i in 0..paths.len() {
-        if same_path(path, &paths[i]) {
-            return true;
-        }
-    }
-    false
 }
 
 /// Whether a path is the cache's folder or one above it, or there is no such folder.
@@ -53,19 +40,6 @@ fn stays(alloc: Global, home: &Option<Path>, path: &Path) -> Result<bool, AllocE
     }
     let front = home.front(alloc, path.len())?;
     Ok(*path == front)
-}
-
-/// What follows the fixed bytes of the file at a path.
-fn tail_of<'a>(tails: &'a [(Path, Bytes)], path: &Path) -> Option<&'a Bytes>
-    ensures { unwrap_or (option_copied result) [] ≡ tail_in tails.now path.now }
-{
-    for i in 0..tails.len() {
-        let tail = &tails[i];
-        if same_path(path, &tail.0) {
-            return Some(&tail.1);
-        }
-    }
-    None
 }
 
 /// The bytes that are left of a file.
@@ -112,7 +86,7 @@ impl Losing {
         ensures { IfOk result (λ undone. undone ≡
             ((loss_of self.now.taken).undone path.now && not (stays self.now.home path.now))) }
     {
-        if !among(self.taken.undone.as_slice(), path) {
+        if !self.taken.undone.contains(path) {
             return Ok(false);
         }
         Ok(!stays(self.running.alloc, &self.home, path)?)
@@ -165,7 +139,7 @@ impl Losing {
             return Ok(None);
         }
         let (node, fixing) = self.left_at(path)?;
-        node_left(fixing, tail_of(self.taken.tails.as_slice(), path), node)
+        node_left(fixing, self.taken.tails.get(path), node)
     }
 
     /// The paths at which something stands, or stood.
@@ -174,8 +148,9 @@ impl Losing {
             ≡ map.keys self.now.running.disk ++ keys self.now.running.names) }
     {
         let mut paths = self.running.disk.nodes().paths()?;
-        let mut more = paths_of(self.running.alloc, &self.running.names)?;
-        paths.append(&mut more)?;
+        for path in self.running.names.keys() {
+            paths.push(path.clone()?)?;
+        }
         Ok(paths)
     }
 

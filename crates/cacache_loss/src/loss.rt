@@ -1,11 +1,12 @@
 //! What a loss of power takes.
-ghost use Rattle.std.specs.Prelude.{◌≡◌, IfOk};
+ghost use Rattle.std.specs.Prelude.{◌≡◌, [], IfOk, unwrap_or};
+ghost use Rattle.std.specs.BTreeMap.{get};
+ghost use Rattle.std.specs.BTreeSet.{contains};
 ghost use Rattle.std.specs.List.{list_any};
 ghost use Rattle.cacache_core.specs.PathNames.{names_of};
-ghost use Rattle.cacache_disk.specs.Tree.{Names};
+ghost use Rattle.cacache_disk.specs.Tree.{Names, names_cmp};
 ghost use Rattle.cacache_loss.specs.Fixing.{is_at};
-ghost use Rattle.cacache_loss.specs.Reached.{is_among};
-ghost use Rattle.cacache_loss.specs.Chosen.{tail_at, tail_in, chosen};
+ghost use Rattle.cacache_loss.specs.Chosen.{tail_at, chosen};
 ghost use Rattle.cacache_loss.specs.Losing.{loss_of};
 
 use crate::reached::named;
@@ -13,6 +14,7 @@ use cacache_core::bytes::Bytes;
 use cacache_core::text::Text;
 use cacache_disk::Path;
 use std::alloc::{AllocError, Global};
+use std::collections::{BTreeMap, BTreeSet};
 
 /// What a loss of power takes. A text that names no path is ignored.
 #[derive(Debug, Drop)]
@@ -27,37 +29,40 @@ pub struct Loss {
 /// A loss with the names of its paths.
 #[derive(Drop)]
 pub(crate) struct Taken {
-    pub(crate) undone: Vec<Path>,
-    pub(crate) tails: Vec<(Path, Bytes)>,
+    pub(crate) undone: BTreeSet<Path>,
+    pub(crate) tails: BTreeMap<Path, Bytes>,
 }
 
 /// The paths that texts name.
-fn undone_paths(alloc: Global, texts: &[Text]) -> Result<Vec<Path>, AllocError>
-    ensures { IfOk result (λ paths. (q : Names)
-        → is_among q paths.items ≡ list_any (λ text. is_at (names_of text) q) texts.now) }
+fn undone_paths(alloc: Global, texts: &[Text]) -> Result<BTreeSet<Path>, AllocError>
+    ensures { IfOk result (λ paths. (q : Names) → contains names_cmp paths q
+        ≡ list_any (λ text. is_at (names_of text) q) texts.now) }
 {
-    let mut paths = Vec::new(alloc);
+    let mut paths = BTreeSet::new(alloc);
     for i in 0..texts.len() {
         let Some(path) = named(alloc, texts[i].as_str())? else {
             continue;
         };
-        paths.push(path)?;
+        paths.insert(path)?;
     }
     Ok(paths)
 }
 
-/// The tails whose texts name paths.
-fn tail_paths(alloc: Global, files: &[(Text, Bytes)]) -> Result<Vec<(Path, Bytes)>, AllocError>
-    ensures { IfOk result (λ tails. (q : Names) → tail_in tails.items q ≡ tail_at files.now q) }
+/// The first tail of each path that a text names.
+fn tail_paths(alloc: Global, files: &[(Text, Bytes)]) -> Result<BTreeMap<Path, Bytes>, AllocError>
+    ensures { IfOk result (λ tails. (q : Names)
+        → unwrap_or (get names_cmp tails q) [] ≡ tail_at files.now q) }
 {
-    let mut tails = Vec::new(alloc);
+    let mut tails = BTreeMap::new(alloc);
     for i in 0..files.len() {
         let file = &files[i];
         let Some(path) = named(alloc, file.0.as_str())? else {
             continue;
         };
-        let bytes = file.1.share()?;
-        tails.push((path, bytes))?;
+        if tails.contains_key(&path) {
+            continue;
+        }
+        tails.insert(path, file.1.share()?)?;
     }
     Ok(tails)
 }

@@ -115,79 +115,49 @@ impl Running {
         ensures { IfOk result (λ r. moment_of r
             ≡ next (moment_of self) (move_of step.now luck answer.now)) }
     {
+        let mut running = self;
         if is_sync(step) {
-            return self.synced(step, luck, answer);
+            running.sync(step, luck, answer)?;
+        } else {
+            running.change(step, luck, answer)?;
         }
-        self.changed(step, luck, answer)
+        Ok(running)
     }
 
-    /// The moment after a sync.
-    fn synced(
-        self,
+    /// Makes a sync.
+    fn sync(
+        &mut self,
         step: &Step<PlainFile, PlainTemp>,
         luck: Luck,
         answer: &Answer<PlainFile, PlainTemp>,
-    ) -> Result<Running, AllocError>
+    ) -> Result<(), AllocError>
         requires { is_sync step.now ≡ true }
-        ensures { IfOk result (λ r. moment_of r
-            ≡ next (moment_of self) (move_of step.now luck answer.now)) }
+        ensures { OnOk result (moment_of self.new
+            ≡ next (moment_of self.old) (move_of step.now luck answer.now)) }
     {
-        let Running {
-            alloc,
-            first,
-            disk,
-            files,
-            names,
-        } = self;
-        let (mut disk, mut files, mut names) = (disk, files, names);
-        synced(alloc, &disk, step, answer, &mut files, &mut names)?;
-        advance(&mut disk, step, luck)?;
-        Ok(Running {
-            alloc,
-            first,
-            disk,
-            files,
-            names,
-        })
+        let (files, names) = (&mut self.files, &mut self.names);
+        synced(self.alloc, &self.disk, step, answer, files, names)?;
+        advance(&mut self.disk, step, luck)
     }
 
-    /// The moment after a step that is no sync.
-    fn changed(
-        self,
+    /// Makes a step that is no sync.
+    fn change(
+        &mut self,
         step: &Step<PlainFile, PlainTemp>,
         luck: Luck,
         answer: &Answer<PlainFile, PlainTemp>,
-    ) -> Result<Running, AllocError>
+    ) -> Result<(), AllocError>
         requires { is_sync step.now ≡ false }
-        ensures { IfOk result (λ r. moment_of r
-            ≡ next (moment_of self) (move_of step.now luck answer.now)) }
+        ensures { OnOk result (moment_of self.new
+            ≡ next (moment_of self.old) (move_of step.now luck answer.now)) }
     {
-        let Running {
-            alloc,
-            first,
-            disk,
-            files,
-            names,
-        } = self;
-        let (mut disk, mut files, mut names) = (disk, files, names);
-        let paths = reached(alloc, &disk, step)?;
-        let was = places(alloc, &first, &disk, &files, &names, paths.as_slice())?;
-        let effect = effect_of(alloc, &first, &files, step, answer)?;
-        advance(&mut disk, step, luck)?;
-        settle(
-            &effect,
-            &disk,
-            paths.as_slice(),
-            was.as_slice(),
-            &mut files,
-            &mut names,
-        )?;
-        Ok(Running {
-            alloc,
-            first,
-            disk,
-            files,
-            names,
-        })
+        let (alloc, first) = (self.alloc, &self.first);
+        let paths = reached(alloc, &self.disk, step)?;
+        let paths = paths.as_slice();
+        let was = places(alloc, first, &self.disk, &self.files, &self.names, paths)?;
+        let effect = effect_of(alloc, first, &self.files, step, answer)?;
+        advance(&mut self.disk, step, luck)?;
+        let (files, names) = (&mut self.files, &mut self.names);
+        settle(&effect, &self.disk, paths, was.as_slice(), files, names)
     }
 }

@@ -1,17 +1,15 @@
 //! What a sync fixes.
-ghost use Rattle.std.specs.Prelude.{◌≡◌, ◌&&◌, IfOk, OnOk, [], None, true, unwrap_or, if◌then◌else◌};
-ghost use Rattle.std.specs.BTreeMap.{get, keys};
+ghost use Rattle.std.specs.Prelude.{◌≡◌, OnOk, [], None, true, unwrap_or, if◌then◌else◌};
+ghost use Rattle.std.specs.BTreeMap.{get};
 ghost use Rattle.cacache_core.specs.PathNames.{names_of};
 ghost use Rattle.cacache_disk.specs.LedTo.{leads};
-ghost use Rattle.cacache_disk.specs.Tree.{Tree, Names, names_cmp, look, bytes_of, is_child};
-ghost use Rattle.cacache_loss.specs.Reached.{is_among};
+ghost use Rattle.cacache_disk.specs.Tree.{Tree, Names, names_cmp, look, bytes_of};
 ghost use Rattle.cacache_loss.specs.Fixing.{is_at, is_child_of, is_sync, is_synced, synced, fixed_after};
 ghost use Rattle.cacache_loss.specs.Running.{files_in, fixed_in};
 
 use crate::effect::fix;
 use crate::fixing::{Fixing, Place};
 use crate::reached::named;
-use cacache_core::keeping::let_go;
 use cacache_disk::{Disk, Path, Stop};
 use cacache_store::store::{Answer, PlainFile, PlainTemp, Step};
 use std::alloc::{AllocError, Global};
@@ -21,60 +19,17 @@ use std::collections::BTreeMap;
 pub(crate) fn is_sync(step: &Step<PlainFile, PlainTemp>) -> bool
     ensures { result ≡ is_sync step.now }
 {
-    match step {
-        Step::SyncTemp(_) | Step::SyncFile(_) | Step::SyncDir(_) => true,
-        Step::MakeDirs(_)
-        | Step::CreateTemp(_)
-        | Step::Write(_, _)
-        | Step::Persist(_, _)
-        | Step::Append(_, _)
-        | Step::ReadAll(_)
-        | Step::Open(_)
-        | Step::Read(_, _)
-        | Step::Exists(_)
-        | Step::Size(_)
-        | Step::Symlink(_, _)
-        | Step::Copy(_, _)
-        | Step::Reflink(_, _)
-        | Step::HardLink(_, _)
-        | Step::ReadDir(_)
-        | Step::RemoveFile(_)
-        | Step::RemoveDir(_) => false,
-    }
+    matches!(
+        step,
+        Step::SyncTemp(_) | Step::SyncFile(_) | Step::SyncDir(_)
+    )
 }
 
 /// Whether a sync was done.
-pub(crate) fn is_synced(answer: &Answer<PlainFile, PlainTemp>) -> bool
+fn is_synced(answer: &Answer<PlainFile, PlainTemp>) -> bool
     ensures { result ≡ is_synced answer.now }
 {
-    match answer {
-        Answer::Done | Answer::Synced(_) => true,
-        Answer::Temp(_)
-        | Answer::Wrote(_, _)
-        | Answer::Took(_)
-        | Answer::Bytes(_)
-        | Answer::File(_)
-        | Answer::Got(_, _)
-        | Answer::There(_)
-        | Answer::Length(_)
-        | Answer::Names(_)
-        | Answer::Failed(_)
-        | Answer::NoMemory(_) => false,
-    }
-}
-
-/// The paths of a map, in their order.
-pub(crate) fn paths_of(
-    alloc: Global,
-    names: &BTreeMap<Path, Place>,
-) -> Result<Vec<Path>, AllocError>
-    ensures { IfOk result (λ paths. paths.items ≡ keys names.now) }
-{
-    let mut paths = Vec::new(alloc);
-    for path in names.keys() {
-        paths.push(path.clone()?)?;
-    }
-    Ok(paths)
+    matches!(answer, Answer::Done | Answer::Synced(_))
 }
 
 /// Fixes the bytes of a temporary file.
@@ -117,21 +72,6 @@ fn file_synced(
     }
 }
 
-/// Forgets what stood at those of these paths that lie in a folder.
-fn forget(names: &mut BTreeMap<Path, Place>, paths: &[Path], folder: &Path)
-    ensures { (q : Names) → get names_cmp names.new q
-        ≡ if is_among q paths.now && is_child folder.now q then None
-        else get names_cmp names.old q }
-{
-    for i in 0..paths.len() {
-        let path = &paths[i];
-        if !path.is_in(folder) {
-            continue;
-        }
-        let_go(names.remove(path));
-    }
-}
-
 /// Fixes the names in a folder.
 fn folder_synced(
     alloc: Global,
@@ -144,8 +84,7 @@ fn folder_synced(
     let Some(folder) = named(alloc, path)? else {
         return Ok(());
     };
-    let paths = paths_of(alloc, names)?;
-    forget(names, paths.as_slice(), &folder);
+    names.retain(|name, _| !name.is_in(&folder));
     Ok(())
 }
 
@@ -169,22 +108,6 @@ pub(crate) fn synced(
         Step::SyncTemp(temp) => temp_synced(alloc, temp, files),
         Step::SyncFile(path) => file_synced(disk, path.as_str(), files),
         Step::SyncDir(path) => folder_synced(alloc, path.as_str(), names),
-        Step::MakeDirs(_)
-        | Step::CreateTemp(_)
-        | Step::Write(_, _)
-        | Step::Persist(_, _)
-        | Step::Append(_, _)
-        | Step::ReadAll(_)
-        | Step::Open(_)
-        | Step::Read(_, _)
-        | Step::Exists(_)
-        | Step::Size(_)
-        | Step::Symlink(_, _)
-        | Step::Copy(_, _)
-        | Step::Reflink(_, _)
-        | Step::HardLink(_, _)
-        | Step::ReadDir(_)
-        | Step::RemoveFile(_)
-        | Step::RemoveDir(_) => Ok(()),
+        _ => Ok(()),
     }
 }

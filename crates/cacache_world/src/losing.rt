@@ -50,6 +50,7 @@ pub(crate) fn nodes_left(
         → LeftBy (history_of (setup_of cache.now outside.now callers) records.now)
         loss.now nodes) }
 {
+    // The world was made of these files, so that only memory can be lacking now.
     let Ok(disk) = planted(alloc, cache, outside) else {
         return Err(AllocError);
     };

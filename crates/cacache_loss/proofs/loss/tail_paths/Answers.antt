@@ -1,16 +1,19 @@
-use Rattle.std.proofs.Common.{◌∙◌, ◌+◌, ◌++◌, ◌∷◌, [], ℕ, List, drop, sym, ap, arith}
+use Rattle.std.proofs.Common.{◌∙◌, ℕ, List, Some, sym, ap, subst₂}
+use Rattle.std.specs.BTreeMap as btree
 use Rattle.std.specs.Result.{result_ok}
 use Rattle.cacache_core.specs.PathNames.{Names, names_of}
-use Rattle.cacache_loss.specs.Chosen.{tail_at}
-use Rattle.cacache_loss.proofs.ChosenLosses.{tail_or, tails_more, tails_all}
+use Rattle.cacache_disk.specs.Tree.{names_cmp}
+use Rattle.cacache_loss.proofs.ChosenLosses.{tails_more, tails_known}
 use Rattle.cacache_loss.proofs.loss.tail_paths.Goals as goal
 
-pub loop-i-preserved : goal.loop-i-preserved
-loop-i-preserved c = λ q.
-    ap (λ (ts : List (Names × List ℕ)). tail_or ts q (tail_at (drop (c.loop-i.i + 1) c.args.files.now) q))
-    (c.in_ok-push.ensures.items ∙ ap (λ (b : List ℕ). c.loop-i.tails.items ++ (c.in-Some.path, b) ∷ []) c.in_ok-bytes.ensures)
-    ∙ tails_more c.loop-i.tails.items c.args.files.now c.loop-i.i c.index-files-i.result c.in-Some.path c.loop-i-test.true c.index-files-i.is
-    (sym c.in-Some.is ∙ c.in_ok-path.ensures ∙ ap (λ (t : List ℕ). result_ok (names_of t)) c.as_str.ensures.same) c.loop-i.invariant q
+pub loop-i-preserved-then-contains_key : goal.loop-i-preserved-then-contains_key
+loop-i-preserved-then-contains_key c =
+    tails_known c.loop-i.tails c.args.files.now c.loop-i.i c.index-files-i.result c.loop-i-test.true c.index-files-i.is c.in-Some.path
+    (sym c.in-Some.is ∙ c.in_ok-path.ensures ∙ ap (λ (t : List ℕ). result_ok (names_of t)) c.as_str.ensures.same) (sym c.if-contains_key.true ∙ c.contains_key.ensures) c.loop-i.invariant
 
-pub returns : goal.returns
-returns c = tails_all c.loop-i.tails.items c.args.files.now c.loop-i.i (omega (arith, c.loop-i-test.false)) c.loop-i.invariant
+pub loop-i-preserved : goal.loop-i-preserved
+loop-i-preserved c =
+    tails_more c.loop-i.tails c.args.files.now c.loop-i.i c.index-files-i.result c.loop-i-test.true c.index-files-i.is c.insert.new.self c.in-Some.path
+    (sym c.in-Some.is ∙ c.in_ok-path.ensures ∙ ap (λ (t : List ℕ). result_ok (names_of t)) c.as_str.ensures.same)
+    (subst₂ (λ (p : Names) (b : List ℕ). btree.Updates names_cmp c.loop-i.tails c.insert.new.self p (Some b)) c.path.view_is c.in_ok-share.ensures c.in_ok-insert.ensures.updates)
+    (sym c.if-contains_key.false ∙ c.contains_key.ensures) c.loop-i.invariant
