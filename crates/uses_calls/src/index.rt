@@ -1,0 +1,81 @@
+//! Calls on the index.
+use crate::{shown, tell};
+use anyhow::Result;
+use cacache::env::{Memory, memory};
+use cacache::{Integrity, WriteOpts};
+
+/// A cache with one entry, whose time was set.
+fn timed(rt: HostRuntime) -> Result<Memory> {
+    let mut env = memory(rt, "/")?;
+    let sri = Integrity::from(rt.alloc(), b"hello")?;
+    let opts = WriteOpts::new().integrity(sri).size(5).time(1234567890123);
+    cacache::index::insert(&mut env, "my-cache", "key", opts)?;
+    Ok(env)
+}
+
+/// An entry for a content that is there.
+fn insert(rt: HostRuntime) -> Result<String> {
+    let mut env = memory(rt, "/")?;
+    let sri = cacache::write_hash_sync(&mut env, "my-cache", b"my data")?;
+    let opts = cacache::WriteOpts::new().integrity(sri).size(7);
+    cacache::index::insert(&mut env, "my-cache", "key", opts)?;
+    let bytes = cacache::read_sync(&mut env, "my-cache", "key")?; // b"my data"
+    shown(rt.alloc(), &bytes)
+}
+
+/// The entry of a key.
+fn metadata_sync(rt: HostRuntime) -> Result<String> {
+    let mut text = String::new(rt.alloc());
+    let mut env = memory(rt, "/")?;
+    cacache::write_sync(&mut env, "my-cache", "key", b"my data")?;
+    if let Some(entry) = cacache::metadata_sync(&mut env, "my-cache", "key")? {
+        write!(text, "{} has {} bytes", entry.key, entry.size)?; // key has 7 bytes
+    }
+    Ok(text)
+}
+
+/// A key that is removed.
+fn remove_sync(rt: HostRuntime) -> Result<String> {
+    let mut env = memory(rt, "/")?;
+    cacache::write_sync(&mut env, "my-cache", "key", b"my data")?;
+    cacache::remove_sync(&mut env, "my-cache", "key")?;
+    let found = cacache::metadata_sync(&mut env, "my-cache", "key")?; // None
+    let answer = if found.is_none() { "None" } else { "Some" };
+    Ok(format!(in rt.alloc(); "{answer}")?)
+}
+
+/// All entries.
+fn list_sync(rt: HostRuntime) -> Result<String> {
+    let mut text = String::new(rt.alloc());
+    let mut env = memory(rt, "/")?;
+    cacache::write_sync(&mut env, "my-cache", "key", b"my data")?;
+    for entry in cacache::list_sync(&mut env, "my-cache")? {
+        let entry = entry?;
+        write!(text, "{}: {} bytes", entry.key, entry.size)?; // key: 7 bytes
+    }
+    Ok(text)
+}
+
+/// The texts of entries.
+fn text(rt: HostRuntime) -> Result<String> {
+    let alloc = rt.alloc();
+    let mut env = timed(rt)?;
+    let mut lines = Vec::new(alloc);
+    if let Some(found) = cacache::metadata_sync(&mut env, "my-cache", "key")? {
+        let entry = cacache::index::entry_of(alloc, found)?;
+        lines.push(cacache::index::text(alloc, &entry)?)?; // {"key":"key","integrity":..
+    }
+    match lines.first() {
+        Some(line) => shown(alloc, line),
+        None => shown(alloc, b""),
+    }
+}
+
+/// Makes these calls.
+pub(crate) fn run(rt: HostRuntime) -> Result<()> {
+    tell(rt, "index::insert", insert(rt))?;
+    tell(rt, "metadata_sync", metadata_sync(rt))?;
+    tell(rt, "remove_sync", remove_sync(rt))?;
+    tell(rt, "list_sync", list_sync(rt))?;
+    tell(rt, "index::text", text(rt))
+}

@@ -1,0 +1,48 @@
+//! Contents that are written and read in pieces.
+use crate::{shown, tell};
+use anyhow::Result;
+use cacache::env::memory;
+use std::io::{Read, Write};
+
+/// A content whose pieces are written one after another.
+fn create(rt: HostRuntime) -> Result<String> {
+    let mut env = memory(rt, "/")?;
+    let mut writer = cacache::SyncWriter::create(&mut env, "my-cache", "key")?;
+    writer.write_all(b"my ")?;
+    writer.write_all(b"data")?;
+    let sri = writer.commit(&mut env)?;
+    let bytes = cacache::read_hash_sync(&mut env, "my-cache", &sri)?; // b"my data"
+    shown(rt.alloc(), &bytes)
+}
+
+/// A content with metadata and an expected size.
+fn open_sync(rt: HostRuntime) -> Result<String> {
+    let mut env = memory(rt, "/")?;
+    let opts = cacache::WriteOpts::new()
+        .metadata(cacache::Value::Bool(true))
+        .size(7);
+    let mut writer = opts.open_sync(&mut env, "my-cache", "key")?;
+    writer.write_all(b"my data")?; // one byte less, and the commit is a SizeMismatch
+    let sri = writer.commit(&mut env)?;
+    Ok(format!(in rt.alloc(); "{sri}")?)
+}
+
+/// A content that is read and then checked.
+fn open(rt: HostRuntime) -> Result<String> {
+    let alloc = rt.alloc();
+    let mut env = memory(rt, "/")?;
+    cacache::write_sync(&mut env, "my-cache", "key", b"my data")?;
+    let mut reader = cacache::SyncReader::open(&mut env, "my-cache", "key")?;
+    let mut bytes = Vec::new(alloc);
+    reader.read_to_end(&mut bytes)?; // bytes are b"my data", which aren't checked yet
+    let algorithm = reader.check()?; // Algorithm::Sha256
+    let bytes = shown(alloc, &bytes)?;
+    Ok(format!(in alloc; "{bytes}, {algorithm}")?)
+}
+
+/// Makes these calls.
+pub(crate) fn run(rt: HostRuntime) -> Result<()> {
+    tell(rt, "SyncWriter::create", create(rt))?;
+    tell(rt, "WriteOpts::open_sync", open_sync(rt))?;
+    tell(rt, "SyncReader::open", open(rt))
+}

@@ -1,0 +1,58 @@
+//! Calls that store.
+use crate::{shown, tell};
+use anyhow::Result;
+use cacache::env::memory;
+
+/// Bytes under a key.
+fn write_sync(rt: HostRuntime) -> Result<String> {
+    let mut env = memory(rt, "/")?;
+    let sri = cacache::write_sync(&mut env, "my-cache", "key", b"my data")?;
+    let bytes = cacache::read_hash_sync(&mut env, "my-cache", &sri)?; // b"my data"
+    shown(rt.alloc(), &bytes)
+}
+
+/// Bytes under a key, with an algorithm.
+fn write_sync_with_algo(rt: HostRuntime) -> Result<String> {
+    let mut env = memory(rt, "/")?;
+    let algo = cacache::Algorithm::Sha512;
+    let sri = cacache::write_sync_with_algo(&mut env, algo, "my-cache", "key", b"my data")?;
+    let algorithm = sri.pick_algorithm(); // Algorithm::Sha512
+    Ok(format!(in rt.alloc(); "{algorithm}")?)
+}
+
+/// Bytes that are moved in.
+fn write_vec_sync(rt: HostRuntime) -> Result<String> {
+    let alloc = rt.alloc();
+    let mut env = memory(rt, "/")?;
+    let data = Vec::from_slice(alloc, b"my data")?;
+    let sri = cacache::write_vec_sync(&mut env, "my-cache", "key", data)?;
+    let bytes = cacache::read_hash_sync(&mut env, "my-cache", &sri)?; // b"my data"
+    shown(rt.alloc(), &bytes)
+}
+
+/// Bytes without a key.
+fn write_hash_sync(rt: HostRuntime) -> Result<String> {
+    let alloc = rt.alloc();
+    let mut env = memory(rt, "/")?;
+    let sri = cacache::write_hash_sync(&mut env, "my-cache", b"hello")?;
+    let text = sri.to_string(alloc)?; // sha256-LPJNul+wow4m6DsqxbninhsWHlwfp0JecwQzYpOLmCQ=
+    Ok(text)
+}
+
+/// A file outside the cache.
+fn link_to_sync(rt: HostRuntime) -> Result<String> {
+    let mut env = memory(rt, "/")?;
+    env.store.plant("/my-file", b"hello")?;
+    let sri = cacache::link_to_sync(&mut env, "my-cache", "key", "/my-file")?;
+    let bytes = cacache::read_hash_sync(&mut env, "my-cache", &sri)?; // those of /my-file
+    shown(rt.alloc(), &bytes)
+}
+
+/// Makes these calls.
+pub(crate) fn run(rt: HostRuntime) -> Result<()> {
+    tell(rt, "write_sync", write_sync(rt))?;
+    tell(rt, "write_sync_with_algo", write_sync_with_algo(rt))?;
+    tell(rt, "write_vec_sync", write_vec_sync(rt))?;
+    tell(rt, "write_hash_sync", write_hash_sync(rt))?;
+    tell(rt, "link_to_sync", link_to_sync(rt))
+}
