@@ -41,6 +41,11 @@ impl<'a, S: Store, C: Clock, N: Names> Call<S, C, N> for ReadCall<'a> {
 pub type ReadFuture<'a, S, C, N> = CallFuture<'a, S, C, N, ReadCall<'a>>;
 
 /// `read_sync` as a future.
+///
+/// ```
+/// cacache::write_sync(&mut env, "my-cache", "key", b"my data")?;
+/// let bytes = block_on(&rt, cacache::read(&mut env, "my-cache", "key"))??; // b"my data"
+/// ```
 pub fn read<'a, S: Store, C: Clock, N: Names>(
     env: &'a mut Env<S, C, N>,
     cache: &'a str,

@@ -2,6 +2,8 @@
 use Rattle.std.specs.Prelude.{◌≡◌, ◌≢◌, ◌⊎◌, ◌<◌, ◌^◌, ◌-◌, ◌++◌, ℕ, List, [], Option, None, Result, Ok, Err, min, length}
 use Rattle.std.specs.IoError.{error_kind}
 use Rattle.cacache_core.specs.declared.errors.Error.{Error}
+use Rattle.cacache_core.specs.declared.errors.Error.TheVariants.{IoError, OutOfMemory}
+use Rattle.cacache_core.specs.Contexts.{fault_of}
 use Rattle.cacache_core.specs.declared.integrity.algorithm.Algorithm.{Algorithm}
 use Rattle.cacache_core.specs.Hashers.{Holds, algorithm_of}
 use Rattle.cacache_core.specs.Integrity.{integrity_under}
@@ -11,7 +13,7 @@ use Rattle.cacache_store.specs.declared.store.answer.Answer.TheVariants as answe
 use Rattle.cacache_store.specs.declared.store.log.LogItem.{LogItem}
 use Rattle.cacache_store.specs.declared.store.plain.PlainTemp.{PlainTemp}
 use Rattle.cacache_store.specs.declared.store.step.Step.TheVariants as steps
-use Rattle.cacache_store.specs.Plain.{PlainStep}
+use Rattle.cacache_store.specs.Plain.{PlainStep, PlainAnswer}
 use Rattle.cacache_table.specs.declared.command.Options.{Options}
 use Rattle.cacache_table.specs.declared.reply.Reply.{Reply}
 use Rattle.cacache_table.specs.StepPaths.{temp_folder, temp_path}
@@ -66,6 +68,13 @@ module _ {T : Type 0} (writes : T → ℕ → Result ℕ io.Error → T → Type
       WriteGave (Err e) file
       ⊎ (WriteGave (Ok 0) file × (error_kind e ≡ io.WriteZero))
       ⊎ (IsInterrupted × (error_kind e ≡ io.TimedOut))
+
+  -- a write failed with this fault, or there was no memory for the message
+  abbrev pub IsWriteError : Error → Type 0
+  IsWriteError OutOfMemory = Unit {0}
+  IsWriteError (IoError fault message) =
+      (file : T) × (e : io.Error) × WholeFails file e × (fault ≡ fault_of (error_kind e))
+  IsWriteError e = ⊥
 
 -- an interrupted write is tried again, and none of its errors is told
 abbrev pub IsRetried : io.Error → Type 0
@@ -135,6 +144,16 @@ abbrev pub RemovesTemp :
     List ℕ → Result (Unit {0}) Error → Option (List LogItem) → Option (List LogItem) → Type 0
 RemovesTemp path (Ok done) old new = Does (steps.RemoveFile path) answers.Done old new
 RemovesTemp path (Err e) old new = FailsAt (steps.RemoveFile path) e old new
+
+-- one step was to remove the temporary file, whatever came of it
+abbrev pub AsksToRemove : List ℕ → Option (List LogItem) → Option (List LogItem) → Type 0
+AsksToRemove path old new = (answer : PlainAnswer) × Does (steps.RemoveFile path) answer old new
+
+-- the same, unless this error says that there was no memory for it
+abbrev pub TriesToRemove :
+    List ℕ → Error → Option (List LogItem) → Option (List LogItem) → Type 0
+TriesToRemove path OutOfMemory old new = (new ≡ old) ⊎ AsksToRemove path old new
+TriesToRemove path e old new = AsksToRemove path old new
 
 -- the commit of a writer without a key, of which nothing was said
 abbrev pub unkeyed : {T : Type 0} → Writer T → List ℕ → Commit

@@ -77,6 +77,14 @@ impl<F: OpenedFile> SyncReader<F> {
     /// Opens the content that a lookup of the key finds. What is read is checked against the integrity that the lookup
     /// gives.
     ///
+    /// ```
+    /// cacache::write_sync(&mut env, "my-cache", "key", b"my data")?;
+    /// let mut reader = cacache::SyncReader::open(&mut env, "my-cache", "key")?;
+    /// let mut bytes = Vec::new(alloc);
+    /// reader.read_to_end(&mut bytes)?; // bytes are b"my data", which aren't checked yet
+    /// let algorithm = reader.check()?; // Algorithm::Sha256
+    /// ```
+    ///
     /// `EntryNotFound` where that lookup is none, `IoError` says which step failed. Nothing changes.
     pub fn open<S: Store<File = F>, C: Clock, N: Names>(
         env: &mut Env<S, C, N>,

@@ -11,17 +11,17 @@ ghost use Rattle.cacache_table.specs.Promises.{Stores};
 ghost use Rattle.cacache_table.specs.Runs.{reply_of};
 ghost use Rattle.cacache_table.specs.SingleSteps.{Does, FailsAt};
 ghost use Rattle.cacache_content.specs.Passed.{passed};
-ghost use Rattle.cacache_content.specs.OpenWrites.{HasTaken, GoesOn, OpensTemp, EndsWriter, RemovesTemp, Takes, TakesPart, WholeFails, IsRetried, make_folder as making_folder, content_commit, unkeyed};
+ghost use Rattle.cacache_content.specs.OpenWrites.{HasTaken, GoesOn, OpensTemp, EndsWriter, RemovesTemp, TriesToRemove, Takes, TakesPart, WholeFails, IsWriteError, IsRetried, make_folder as making_folder, content_commit, unkeyed};
 
-use cacache_core::errors::Result;
+use cacache_core::errors::{Error, Fault, Result};
 use cacache_core::hasher::Hasher;
 use cacache_core::integrity::{Algorithm, Integrity};
 use cacache_core::text::Text;
 use cacache_jobs::{Commit, commit_from, messages, refused, temp_folder, temp_path};
 use cacache_store::env::{Clock, Env, Names};
 use cacache_store::store::{Step, Store, TempFile};
-use cacache_table::Options;
 use cacache_table::answers::{done_of, temp_of};
+use cacache_table::{Options, Refusal};
 use std::alloc::{AllocError, Global};
 use std::io;
 use std::io::{ErrorKind, Write};
@@ -146,6 +146,37 @@ pub fn abandon<S: Store>(alloc: Global, store: &mut S, writer: Writer<S::Temp>) 
             let message = removing(alloc, &path);
             Err(refused(refusal, message))
         }
+    }
+}
+
+/// Hands all of the data to the writer's file, as `write_all` does, and gives the writer back. Where a write fails, the
+/// file is removed.
+///
+/// `IoError` has the fault of that write. Whether the file could be removed isn't told. Contents and index stay as they
+/// were.
+pub fn write_or_abandon<S: Store>(
+    alloc: Global,
+    store: &mut S,
+    writer: Writer<S::Temp>,
+    key: &Option<Text>,
+    data: &[u8],
+) -> Result<Writer<S::Temp>>
+    ensures takes { IfOk result (λ w. Takes writer w «data».now) }
+    ensures goes_on { IfOk result (λ w. GoesOn S.Temp.seen writer w) }
+    ensures quiet { OnOk result (store.new ≡ store.old) }
+    ensures removed { IfErr result
+        (λ e. TriesToRemove writer.path e (S.log store.old) (S.log store.new)) }
+    ensures earned { IfErr result (IsWriteError S.Temp.writes) }
+{
+    let mut writer = writer;
+    let Err(error) = writer.write_all(data) else {
+        return Ok(writer);
+    };
+    let refusal = Refusal::Fault(Fault::from(error.kind()));
+    let message = messages::writing(alloc, &writer.cache, key);
+    match abandon(alloc, store, writer) {
+        Ok(()) | Err(Error::IoError(_, _)) => Err(refused(refusal, message)),
+        Err(_) => Err(Error::OutOfMemory),
     }
 }
 

@@ -1,4 +1,3 @@
-mod ContentTexts
 mod FolderFiles
 mod Orders
 mod Sorting

@@ -1,24 +1,24 @@
--- A path that is taken apart: what its text tells, and the integrity of one hash.
+-- A path that is taken apart: what its text tells.
 use Rattle.std.proofs.Common.{◌≡◌, ℕ, ◌<◌, ◌≤◌, ◌+◌, ◌-◌, List, [], ◌∷◌, ◌++◌, Some, Ok, Err, length, slice_index, take, drop, codes, refl, sym, ap, ap₂, ◌∙◌, subst, arith, append-nil, length-append}
 use Rattle.std.specs.Prelude.{IfSome}
+use Rattle.std.proofs.lemmas.Bool.{le-ltb}
 use Rattle.std.proofs.lemmas.List.{take_all, length-drop}
 use Rattle.std.proofs.lemmas.List.Elements.{All-nil, All-cons}
 use Rattle.base64.specs.GeneralPurpose.{IsBytes}
 use Rattle.hex.specs.Hex.{encode_lower, lower_digits, decode_of}
 use Rattle.hex.proofs.HexLemmas.{length-encode_with, decode_of-encode_lower}
-use Rattle.cacache_core.proofs.Printed.{printed}
-use Rattle.cacache_core.proofs.Order.{one_in_order}
+use Rattle.cacache_core.proofs.PathTexts.{joined_texts_spell}
+use Rattle.cacache_core.proofs.ProperNames.{proper_content_folder, proper_content}
 use Rattle.cacache_core.specs.declared.integrity.algorithm.Algorithm.{Algorithm}
 use Rattle.cacache_core.specs.declared.integrity.algorithm.Algorithm.TheVariants.{Sha1, Sha256, Sha384, Sha512}
 use Rattle.cacache_core.specs.declared.integrity.digest.Hash.{Hash}
-use Rattle.cacache_core.specs.Integrity.{IsHash, IsIntegrity, hash_of, address}
-use Rattle.cacache_core.specs.Paths.{join, joined, cut_digits, content_names}
-use Rattle.cacache_core.specs.Texts.{name_of, hash_text, read_integrity}
+use Rattle.cacache_core.specs.Integrity.{IsHash, hash_of, address}
+use Rattle.cacache_core.specs.Paths.{join, joined, slashed, cut_digits, content_names}
+use Rattle.cacache_core.specs.Texts.{name_of, long_hash}
 use Rattle.cacache_core.specs.declared.errors.Error.{Error}
 use Rattle.cacache_core.specs.declared.errors.Error.TheVariants.{IntegrityError, OutOfMemory}
 use Rattle.cacache_core.specs.Refusals.{IsReadFailure}
-use Rattle.cacache_contents.specs.Addresses.{slashed, names_text, by_letter, digits_of}
-use Rattle.cacache_contents.proofs.ContentTexts.{content_text}
+use Rattle.cacache_contents.specs.Addresses.{names_text, by_letter, digits_of}
 
 -- ---- taken apart
 
@@ -70,17 +70,12 @@ taken text h hash is =
       bytes = decode_of-encode_lower h.digest hash.bytes;
     }
 
--- ---- one hash
+-- ---- the path of a content
 
-pub one_is_integrity : (h : Hash) → IsHash h → IsIntegrity (h ∷ [])
-one_is_integrity h hash = record {
-  nonempty = omega arith;
-  ordered = sym (one_in_order (h ∷ []) (omega arith));
-  hashes = All-cons IsHash h [] hash (All-nil IsHash);
-}
-
-pub one_read : (a : Algorithm) (d : List ℕ) → IsBytes d → 3 ≤ length d → read_integrity (hash_text (hash_of a d)) ≡ Ok (hash_of a d ∷ [])
-one_read a d bytes long = printed (hash_of a d ∷ []) (one_is_integrity (hash_of a d) (record { bytes = bytes; long_enough = long }))
+-- its names stand behind its folder
+content_text : (cache : List ℕ) (h : Hash) → IsHash h → joined cache (content_names h) ≡ join cache (codes "content-v2") ++ names_text h
+unfolding names_text
+content_text cache h hash = joined_texts_spell cache (codes "content-v2") (name_of h.algorithm ∷ cut_digits (encode_lower h.digest)) proper_content_folder (proper_content h hash)
 
 -- ---- for the functions
 
@@ -119,8 +114,11 @@ rest_all k xs = let l = length-drop k xs in take_all (length xs - k) (drop k xs)
 pub lie_of : (cache lies : List ℕ) (i : List Hash) (a : Algorithm) (d : List ℕ) → i ≡ hash_of a d ∷ [] → IfSome (address i) (λ g. lies ≡ joined cache (content_names g)) → lies ≡ joined cache (content_names (hash_of a d))
 lie_of cache lies i a d is at = subst (λ (j : List Hash). IfSome (address j) (λ g. lies ≡ joined cache (content_names g))) is at
 
--- it is read, unless memory is refused
-pub memory_alone : (a : Algorithm) (d text : List ℕ) (e : Error) → IsBytes d → 3 ≤ length d → text ≡ hash_text (hash_of a d) → IsReadFailure (read_integrity text) e → e ≡ OutOfMemory
-memory_alone a d text OutOfMemory bytes long is fails = refl
-memory_alone a d text (IntegrityError fault) bytes long is fails = absurd (let both : Ok (hash_of a d ∷ []) ≡ Err fault = sym (one_read a d bytes long) ∙ ap read_integrity (sym is) ∙ fails in cc)
-memory_alone a d text e bytes long is fails = absurd fails
+long_is : (a : Algorithm) (d : List ℕ) → 3 ≤ length d → long_hash a d ≡ Ok (hash_of a d)
+long_is a d long = rw (le-ltb (length d) 3 long) refl
+
+-- a digest that is long enough is refused for memory alone
+pub memory_alone : (a : Algorithm) (d : List ℕ) (e : Error) → 3 ≤ length d → IsReadFailure (long_hash a d) e → e ≡ OutOfMemory
+memory_alone a d OutOfMemory long fails = refl
+memory_alone a d (IntegrityError fault) long fails = absurd (let both : Ok (hash_of a d) ≡ Err fault = sym (long_is a d long) ∙ fails in cc)
+memory_alone a d e long fails = absurd fails

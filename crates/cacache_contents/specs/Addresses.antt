@@ -6,7 +6,7 @@ use Rattle.cacache_core.specs.declared.integrity.algorithm.Algorithm.{Algorithm}
 use Rattle.cacache_core.specs.declared.integrity.algorithm.Algorithm.TheVariants.{Sha1, Sha256, Sha384, Sha512}
 use Rattle.cacache_core.specs.declared.integrity.digest.Hash.{Hash}
 use Rattle.cacache_core.specs.Integrity.{IsHash}
-use Rattle.cacache_core.specs.Paths.{joined, content_names, cut_digits}
+use Rattle.cacache_core.specs.Paths.{joined, slashed, content_names, cut_digits}
 use Rattle.cacache_core.specs.Texts.{name_of}
 
 -- ---- what is told of a path
@@ -38,11 +38,6 @@ digits_of t = take 2 (drop 1 t) ++ (take 2 (drop 4 t) ++ drop 7 t)
 -- the digits are those of no bytes
 abbrev pub HasNoBytes : List ℕ → Type 0
 HasNoBytes digits = (bytes : List ℕ) → IsBytes bytes → decode_of digits ≢ Ok bytes
-
--- names, each behind a slash
-abbrev pub slashed : List (List ℕ) → List ℕ
-slashed [] = []
-slashed (n ∷ ns) = 47 ∷ n ++ slashed ns
 
 -- the names of a content behind its folder, as a text
 unfoldable pub names_text : Hash → List ℕ

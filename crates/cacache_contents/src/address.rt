@@ -1,13 +1,12 @@
 //! Which content a path is of.
-ghost use Rattle.std.specs.Prelude.{◌≡◌, ◌+◌, ◌<◌, ◌≤◌, ◌∷◌, [], Some, Ok, IfOk, IfErr, MatchOption, length, slice_index, codes};
+ghost use Rattle.std.specs.Prelude.{◌≡◌, ◌+◌, ◌<◌, ◌≤◌, Some, Ok, IfOk, IfErr, MatchOption, length, slice_index, codes};
 ghost use Rattle.hex.specs.Hex.{decode_of};
 ghost use Rattle.cacache_core.specs.declared.errors.Error.TheVariants.{OutOfMemory};
 ghost use Rattle.cacache_core.specs.declared.integrity.digest.Hash.{Hash};
-ghost use Rattle.cacache_core.specs.Integrity.{IsHash, hash_of};
+ghost use Rattle.cacache_core.specs.Integrity.{IsHash};
 ghost use Rattle.cacache_core.specs.Paths.{join};
 ghost use Rattle.cacache_contents.specs.Addresses.{HasNoBytes, HasNoNames, IsContent, IsStrange, by_letter, digits_of, names_text};
 
-use base64::engine::general_purpose::STANDARD;
 use cacache_core::errors::{Error, Result};
 use cacache_core::integrity::{Algorithm, Integrity};
 use cacache_core::paths::content_path;
@@ -44,21 +43,6 @@ fn digits_in(alloc: Global, text: &[u8]) -> std::result::Result<Vec<u8>, AllocEr
     digits.extend_from_slice(&text[4..6])?;
     digits.extend_from_slice(&text[7..])?;
     Ok(digits)
-}
-
-/// The integrity of one hash.
-fn one_hash(alloc: Global, algorithm: Algorithm, digest: &[u8]) -> Result<Integrity>
-    requires { 3 ≤ length digest.now }
-    ensures is { IfOk result (λ i. i ≡ hash_of algorithm digest.now ∷ []) }
-    ensures hash { IfOk result (λ i. IsHash (hash_of algorithm digest.now)) }
-    ensures memory { IfErr result (λ e. e ≡ OutOfMemory) }
-{
-    let mut text = String::new(alloc);
-    text.push_str(algorithm.name())?;
-    text.push_str("-")?;
-    STANDARD.encode_string(digest, &mut text)?;
-    let integrity = Integrity::parse(alloc, text.as_str())?;
-    Ok(integrity)
 }
 
 /// The bytes of hex digits, if they are that.
@@ -119,7 +103,7 @@ pub(crate) fn address_at(
     let Some((algorithm, digest)) = hash_in(alloc, &path.as_bytes()[top.len()..])? else {
         return Ok(None);
     };
-    let sri = one_hash(alloc, algorithm, &digest)?;
+    let sri = Integrity::from_digest(alloc, algorithm, digest)?;
     let lies = content_path(alloc, cache, &sri)?;
     if lies.as_str() == path {
         return Ok(Some(sri));

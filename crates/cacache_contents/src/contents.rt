@@ -84,6 +84,14 @@ fn sorted(alloc: Global, cache: &str, top: &str, files: Vec<Text>) -> Result<Con
 /// folder that isn't there is empty. Folders are read, contents aren't: a path alone tells whose it
 /// is. Nothing changes.
 ///
+/// ```
+/// cacache::write_hash_sync(&mut env, "my-cache", b"hello")?;
+/// let contents = cacache::content::read::list(&mut env, "my-cache")?;
+/// for sri in &contents.addresses {
+///     write!(text, "{sri}")?; // sha256-LPJNul+wow4m6DsqxbninhsWHlwfp0JecwQzYpOLmCQ=
+/// }
+/// ```
+///
 /// `IoError` has the fault of a folder that couldn't be read, or it has `TooDeep`: a folder lies
 /// more than sixteen levels below the folder of contents, or there are more than 2^63 names.
 /// `OutOfMemory` is the only other error. Clock and numbers aren't asked.

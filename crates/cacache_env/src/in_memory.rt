@@ -26,6 +26,12 @@ pub type MemoryLinker = SyncToLinker<PlainFile>;
 /// The environment of caches on a disk in memory, which has nothing but the top folder. A relative target of a link starts
 /// from the folder `base`.
 ///
+/// ```
+/// let mut env = cacache::env::memory(rt, "/")?;
+/// cacache::write_sync(&mut env, "my-cache", "key", b"my data")?;
+/// let bytes = cacache::read_sync(&mut env, "my-cache", "key")?; // b"my data"
+/// ```
+///
 /// `OutOfMemory` is the only error.
 pub fn memory(rt: HostRuntime, base: &str) -> Result<Memory>
     ensures store { IfOk result (λ env. env.store ≡ []) }

@@ -27,6 +27,11 @@ pub type FolderLinker = SyncToLinker<FolderFile<File>>;
 
 /// The environment of caches in real folders. A relative target of a link starts from the folder `base`.
 ///
+/// ```
+/// let env = cacache::env::folders(rt, "/home/me")?;
+/// let base = env.base.as_str(); // "/home/me"
+/// ```
+///
 /// `OutOfMemory` is the only error. No folder is touched.
 pub fn folders(rt: HostRuntime, base: &str) -> Result<Folders>
     ensures store { IfOk result (λ env. env.store.rt ≡ rt) }

@@ -20,6 +20,11 @@ use cacache_table::{How, Source};
 /// overwritten. The content is read to its end first, and goes there only if it meets the integrity that the lookup
 /// gives.
 ///
+/// ```
+/// cacache::write_sync(&mut env, "my-cache", "key", b"my data")?;
+/// let count = cacache::copy_sync(&mut env, "my-cache", "key", "/my-copy")?; // 7
+/// ```
+///
 /// `EntryNotFound` where that lookup is none, `IntegrityError` where the content doesn't meet the integrity, `IoError`
 /// says which step failed. The path is left alone until the content is verified; a copy that failed may leave a part of
 /// it there. `OutOfMemory` may come after the last step.

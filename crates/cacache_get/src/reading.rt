@@ -38,6 +38,11 @@ fn read<S: Store, C, N>(env: &mut Env<S, C, N>, cache: &str, command: Command) -
 /// The bytes that the key was last stored with. They meet the integrity that the lookup of the key gives
 /// from the bucket as this call read it.
 ///
+/// ```
+/// cacache::write_sync(&mut env, "my-cache", "key", b"my data")?;
+/// let bytes = cacache::read_sync(&mut env, "my-cache", "key")?; // b"my data"
+/// ```
+///
 /// `EntryNotFound` where that lookup is none, `IntegrityError` where the content doesn't meet the integrity,
 /// `IoError` says which step failed. Nothing changes.
 pub fn read_sync<S: Store, C: Clock, N: Names>(
@@ -55,6 +60,11 @@ pub fn read_sync<S: Store, C: Clock, N: Names>(
 }
 
 /// The bytes of an integrity. Whatever the store gives, what is answered meets it.
+///
+/// ```
+/// let sri = cacache::write_hash_sync(&mut env, "my-cache", b"my data")?;
+/// let bytes = cacache::read_hash_sync(&mut env, "my-cache", &sri)?; // b"my data"
+/// ```
 ///
 /// `IntegrityError` where the content doesn't meet the integrity, `IoError` says which step failed. Nothing
 /// changes.
@@ -74,6 +84,13 @@ pub fn read_hash_sync<S: Store, C: Clock, N: Names>(
 }
 
 /// Whether the content of the integrity is there. Whether it meets the integrity isn't asked.
+///
+/// ```
+/// let sri = cacache::Integrity::from(alloc, b"my data")?;
+/// let before = cacache::exists_sync(&mut env, "my-cache", &sri)?; // false
+/// cacache::write_hash_sync(&mut env, "my-cache", b"my data")?;
+/// let after = cacache::exists_sync(&mut env, "my-cache", &sri)?; // true
+/// ```
 ///
 /// A failed step counts as a content that isn't there, so `OutOfMemory` is the only error. Nothing changes. It is one
 /// step.

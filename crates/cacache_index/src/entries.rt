@@ -31,6 +31,13 @@ pub fn entry_of(
 
 /// The JSON text of an entry, as it stands in its line.
 ///
+/// ```
+/// if let Some(found) = cacache::metadata_sync(&mut env, "my-cache", "key")? {
+///     let entry = cacache::index::entry_of(alloc, found)?;
+///     lines.push(cacache::index::text(alloc, &entry)?)?; // {"key":"key","integrity":..
+/// }
+/// ```
+///
 /// # Errors
 ///
 /// Those of `line`: `SerdeError` for an entry that can't be written, `OutOfMemory` where memory runs out. What a lookup

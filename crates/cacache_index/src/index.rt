@@ -16,6 +16,13 @@ use cacache_table::{Command, Delete};
 
 /// What the index has of the key: the entry that counts, if there is one.
 ///
+/// ```
+/// cacache::write_sync(&mut env, "my-cache", "key", b"my data")?;
+/// if let Some(entry) = cacache::metadata_sync(&mut env, "my-cache", "key")? {
+///     write!(text, "{} has {} bytes", entry.key, entry.size)?; // key has 7 bytes
+/// }
+/// ```
+///
 /// `IoError` says that the bucket couldn't be read. Nothing changes.
 pub fn find<S: Store, C: Clock, N: Names>(
     env: &mut Env<S, C, N>,
@@ -32,6 +39,12 @@ pub fn find<S: Store, C: Clock, N: Names>(
 
 /// Adds a tombstone, which says that the key was deleted; the content stays. Its moment is the clock's, which is asked
 /// once, before the first step.
+///
+/// ```
+/// cacache::write_sync(&mut env, "my-cache", "key", b"my data")?;
+/// cacache::remove_sync(&mut env, "my-cache", "key")?;
+/// let found = cacache::metadata_sync(&mut env, "my-cache", "key")?; // None
+/// ```
 ///
 /// Errors are those of `insert`.
 pub fn delete<S: Store, C: Clock, N: Names>(

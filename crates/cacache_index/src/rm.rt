@@ -18,6 +18,12 @@ use cacache_table::Command;
 
 /// Removes the content of the integrity; entries that name it stay.
 ///
+/// ```
+/// let sri = cacache::write_hash_sync(&mut env, "my-cache", b"my data")?;
+/// cacache::remove_hash_sync(&mut env, "my-cache", &sri)?;
+/// let there = cacache::exists_sync(&mut env, "my-cache", &sri)?; // false
+/// ```
+///
 /// `IoError` says that the content couldn't be removed, as where there is none. Then nothing changed.
 pub fn remove_hash_sync<S: Store, C: Clock, N: Names>(
     env: &mut Env<S, C, N>,
@@ -44,6 +50,12 @@ fn remove_fully<S: Store, C, N>(env: &mut Env<S, C, N>, cache: &str, key: &str) 
 }
 
 /// Removes all that lies in the cache folder, which stays. A link is removed and not followed.
+///
+/// ```
+/// let sri = cacache::write_hash_sync(&mut env, "my-cache", b"my data")?;
+/// cacache::clear_sync(&mut env, "my-cache")?;
+/// let there = cacache::exists_sync(&mut env, "my-cache", &sri)?; // false
+/// ```
 ///
 /// `IoError` says which step failed; then what was removed before that step is gone. A plain file that lies directly in
 /// the cache folder fails with `NotADirectory`, and a folder more than sixteen levels below it with `TooDeep`. A cache
@@ -80,6 +92,13 @@ impl RemoveOpts {
 
     /// Removes the key. Fully, the content that its lookup finds goes first, if there is one, and then the key's bucket;
     /// other keys that share either lose it too. Else this is `index::delete`.
+    ///
+    /// ```
+    /// let sri = cacache::write_sync(&mut env, "my-cache", "key", b"my data")?;
+    /// let opts = cacache::RemoveOpts::new().remove_fully(true);
+    /// opts.remove_sync(&mut env, "my-cache", "key")?;
+    /// let there = cacache::exists_sync(&mut env, "my-cache", &sri)?; // false
+    /// ```
     ///
     /// `IoError` says which step failed; a content that couldn't be removed keeps its bucket, and a key without a bucket
     /// fails with `NotFound`. By a tombstone, errors are those of `index::insert`.

@@ -36,9 +36,8 @@ pub fn creating(alloc: Global, cache: &str) -> Result<Text, AllocError> {
     at(alloc, words, &folder)
 }
 
-pub(crate) fn writing(alloc: Global, commit: &Commit) -> Result<Text, AllocError> {
-    let cache = &commit.cache;
-    let message = match &commit.key {
+pub fn writing(alloc: Global, cache: &Text, key: &Option<Text>) -> Result<Text, AllocError> {
+    let message = match key {
         Some(key) => format!(in alloc;
             "Failed to write to cache data for key {key} for cache at {cache:?}"
         )?,

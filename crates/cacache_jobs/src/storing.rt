@@ -212,7 +212,10 @@ pub(crate) fn written<F: FileHandle, T: TempHandle>(
         }
         Err(refusal) => refusal,
     };
-    Err(refused(refusal, messages::writing(alloc, &commit)))
+    Err(refused(
+        refusal,
+        messages::writing(alloc, &commit.cache, &commit.key),
+    ))
 }
 
 /// Moves the temporary file to the content's path.

@@ -14,6 +14,14 @@ use cacache_store::store::Store;
 /// key's lookup there finds an entry. They come in an open order. No step is made before the first
 /// is asked for.
 ///
+/// ```
+/// cacache::write_sync(&mut env, "my-cache", "key", b"my data")?;
+/// for entry in cacache::list_sync(&mut env, "my-cache")? {
+///     let entry = entry?;
+///     write!(text, "{}: {} bytes", entry.key, entry.size)?; // key: 7 bytes
+/// }
+/// ```
+///
 /// `OutOfMemory` is the only error. Of the items, an `IoError` says which folder or bucket couldn't
 /// be read, or with `TooDeep` that folders lie more than sixteen levels below the index; the
 /// listing then goes on. Past 2^63 names or items an `IoError` with `TooDeep` is the last item, and

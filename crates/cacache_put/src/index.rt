@@ -21,6 +21,13 @@ use cacache_table::{Command, Insert};
 /// key was deleted, and answers `sha1-deadbeef`. The entry's size is the one that was set, and else 0. Where no time was
 /// set, the clock is asked for it once, before the first step.
 ///
+/// ```
+/// let sri = cacache::write_hash_sync(&mut env, "my-cache", b"my data")?;
+/// let opts = cacache::WriteOpts::new().integrity(sri).size(7);
+/// cacache::index::insert(&mut env, "my-cache", "key", opts)?;
+/// let bytes = cacache::read_sync(&mut env, "my-cache", "key")?; // b"my data"
+/// ```
+///
 /// `SerdeError` where the entry can't be written: then nothing changed. `IoError` says which step failed, or took only a
 /// part of the line: then the bucket may end in a beginning of the line, perhaps all of it. `OutOfMemory` may come after
 /// any step.

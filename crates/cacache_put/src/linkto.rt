@@ -47,6 +47,11 @@ fn linked<S: Store, C, N>(
 /// read to its end first; one without a `/` in front starts at the base folder of `env`. The entry has the clock's
 /// moment, which is asked once, before the first step.
 ///
+/// ```
+/// let sri = cacache::link_to_sync(&mut env, "my-cache", "key", "/my-file")?;
+/// let bytes = cacache::read_hash_sync(&mut env, "my-cache", &sri)?; // those of /my-file
+/// ```
+///
 /// `IoError` says which step failed, or took only a part of the line. `SizeMismatch` where the target gave more or fewer
 /// bytes than its size. Then the link may have been made or not, and the bucket may end in a beginning of the line,
 /// perhaps all of it. `OutOfMemory` may come after any step.

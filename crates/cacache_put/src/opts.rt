@@ -150,6 +150,15 @@ impl WriteOpts {
     /// Opens a writer that commits under the key, with these options. A number is asked once, before the first step. The
     /// size that was set is compared at the commit.
     ///
+    /// ```
+    /// let opts = cacache::WriteOpts::new()
+    ///     .metadata(cacache::Value::Bool(true))
+    ///     .size(7);
+    /// let mut writer = opts.open_sync(&mut env, "my-cache", "key")?;
+    /// writer.write_all(b"my data")?; // one byte less, and the commit is a SizeMismatch
+    /// let sri = writer.commit(&mut env)?;
+    /// ```
+    ///
     /// `IoError` says which step failed. Contents and index stay as they were; folders may have been made.
     pub fn open_sync<S: Store, C: Clock, N: Names>(
         self,

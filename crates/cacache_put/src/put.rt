@@ -79,6 +79,11 @@ fn stored<S: Store, C, N>(
 /// Stores the bytes under the key, and answers their SHA-256 integrity. The entry has the clock's moment,
 /// which is asked once, before the first step.
 ///
+/// ```
+/// let sri = cacache::write_sync(&mut env, "my-cache", "key", b"my data")?;
+/// let bytes = cacache::read_hash_sync(&mut env, "my-cache", &sri)?; // b"my data"
+/// ```
+///
 /// `IoError` says which step failed, took none of the bytes or only a part of the line. Then the content may
 /// have been stored or not, and the bucket may end in a beginning of the line, perhaps all of it.
 /// `OutOfMemory` may come after any step.
@@ -96,6 +101,12 @@ pub fn write_sync<S: Store, C: Clock, N: Names>(
 }
 
 /// What `write_sync` does, with an algorithm of the caller's for the integrity.
+///
+/// ```
+/// let algo = cacache::Algorithm::Sha512;
+/// let sri = cacache::write_sync_with_algo(&mut env, algo, "my-cache", "key", b"my data")?;
+/// let algorithm = sri.pick_algorithm(); // Algorithm::Sha512
+/// ```
 pub fn write_sync_with_algo<S: Store, C: Clock, N: Names>(
     env: &mut Env<S, C, N>,
     algo: Algorithm,
@@ -115,6 +126,12 @@ pub fn write_sync_with_algo<S: Store, C: Clock, N: Names>(
 }
 
 /// What `write_sync` does, with bytes that are moved in, so that none is copied.
+///
+/// ```
+/// let data = Vec::from_slice(alloc, b"my data")?;
+/// let sri = cacache::write_vec_sync(&mut env, "my-cache", "key", data)?;
+/// let bytes = cacache::read_hash_sync(&mut env, "my-cache", &sri)?; // b"my data"
+/// ```
 pub fn write_vec_sync<S: Store, C: Clock, N: Names>(
     env: &mut Env<S, C, N>,
     cache: &str,
@@ -147,6 +164,11 @@ pub fn write_vec_sync_with_algo<S: Store, C: Clock, N: Names>(
 }
 
 /// Stores the bytes without a key, and answers their SHA-256 integrity.
+///
+/// ```
+/// let sri = cacache::write_hash_sync(&mut env, "my-cache", b"hello")?;
+/// let text = sri.to_string(alloc)?; // sha256-LPJNul+wow4m6DsqxbninhsWHlwfp0JecwQzYpOLmCQ=
+/// ```
 ///
 /// `IoError` says which step failed or took none of the bytes. Then the content may have been stored or not;
 /// no bucket changes. `OutOfMemory` may come after any step.

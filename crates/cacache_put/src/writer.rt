@@ -1,17 +1,17 @@
 //! Contents that are written in pieces, with all options at their commit.
-ghost use Rattle.std.specs.Prelude.{◌≡◌, ℕ, List, Some, IfErr, IsOk, OnOk, OnErr, length};
+ghost use Rattle.std.specs.Prelude.{◌≡◌, ℕ, List, Some, IfOk, IfErr, IsOk, OnOk, OnErr, length};
 ghost use Rattle.std.specs.Io.{WritesAtMost};
 ghost use Rattle.std.specs.Io.KnownBytes.{Appends, WriteAppends};
 ghost use Rattle.cacache_table.specs.declared.reply.Reply.TheVariants.{Stored};
 ghost use Rattle.cacache_table.specs.Promises.{Stores};
 ghost use Rattle.cacache_table.specs.Runs.{reply_of};
 ghost use Rattle.cacache_content.specs.Passed.{passed};
-ghost use Rattle.cacache_content.specs.OpenWrites.{HasTaken, GoesOn, RemovesTemp, Takes, TakesPart, WholeFails, IsRetried};
+ghost use Rattle.cacache_content.specs.OpenWrites.{HasTaken, GoesOn, RemovesTemp, TriesToRemove, Takes, TakesPart, WholeFails, IsWriteError, IsRetried};
 ghost use Rattle.cacache_put.specs.Options.{nothing_said};
 ghost use Rattle.cacache_put.specs.KeyedWriters.{OpensAt, OpensKeyed, CommitsWriter, writer_commit};
 
 use crate::opts::WriteOpts;
-use cacache_content::writer::{Writer, abandon, commit, open};
+use cacache_content::writer::{Writer, abandon, commit, open, write_or_abandon};
 use cacache_core::errors::Result;
 use cacache_core::integrity::{Algorithm, Integrity};
 use cacache_core::keeping::{beside, let_go};
@@ -61,6 +61,14 @@ pub(crate) fn open_writer<S: Store>(
 impl<T: TempFile> SyncWriter<T> {
     /// Opens a writer that commits under the key, with the SHA-256 integrity. A number is asked once, before the first
     /// step.
+    ///
+    /// ```
+    /// let mut writer = cacache::SyncWriter::create(&mut env, "my-cache", "key")?;
+    /// writer.write_all(b"my ")?;
+    /// writer.write_all(b"data")?;
+    /// let sri = writer.commit(&mut env)?;
+    /// let bytes = cacache::read_hash_sync(&mut env, "my-cache", &sri)?; // b"my data"
+    /// ```
     ///
     /// `IoError` says which step failed. Contents and index stay as they were; folders may have been made.
     pub fn create<S: Store<Temp = T>, C: Clock, N: Names>(
@@ -115,6 +123,43 @@ impl<T: TempFile> SyncWriter<T> {
         } = self;
         let moment = moment_of(&mut env.clock, &key, time);
         commit(env, writer, key, moment, options)
+    }
+
+    /// Hands all of the data to the file, as `write_all` does, and gives the writer back. Where a write fails, the
+    /// temporary file is removed, so that a `?` leaves nothing behind.
+    ///
+    /// `IoError` has the fault of that write. Whether the file could be removed isn't told. Contents and index stay as
+    /// they were.
+    pub fn write_or_abandon<S: Store<Temp = T>, C: Clock, N: Names>(
+        self,
+        env: &mut Env<S, C, N>,
+        data: &[u8],
+    ) -> Result<SyncWriter<T>>
+        ensures takes { IfOk result (λ w. Takes self.writer w.writer «data».now) }
+        ensures goes_on { IfOk result (λ w. GoesOn T.seen self.writer w.writer) }
+        ensures said { IfOk result (λ w. w ≡ record self { writer = w.writer }) }
+        ensures quiet { OnOk result (env.new.store ≡ env.old.store) }
+        ensures removed { IfErr result
+            (λ e. TriesToRemove self.writer.path e (S.log env.old.store) (S.log env.new.store)) }
+        ensures earned { IfErr result (IsWriteError T.writes) }
+        ensures clock { env.new.clock ≡ env.old.clock }
+        ensures names { env.new.names ≡ env.old.names }
+        ensures base { env.new.base ≡ env.old.base }
+    {
+        let SyncWriter {
+            writer,
+            key,
+            time,
+            options,
+        } = self;
+        let written = write_or_abandon(env.alloc, &mut env.store, writer, &key, data);
+        let (writer, (key, options)) = beside(written, (key, options))?;
+        Ok(SyncWriter {
+            writer,
+            key,
+            time,
+            options,
+        })
     }
 
     /// Removes the temporary file, and commits nothing.

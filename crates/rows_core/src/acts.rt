@@ -55,6 +55,7 @@ fn got(alloc: Global, act: &str, given: &str) -> Result<String, Flaw> {
         "integrity" => integrities::integrity(alloc, given),
         "length" => integrities::length(alloc, given),
         "address" => integrities::address(alloc, given),
+        "of-digest" => integrities::of_digest(alloc, given),
         "check" => integrities::check(alloc, given),
         "shares" => integrities::shares(alloc, given),
         "build" => integrities::build(alloc, given),

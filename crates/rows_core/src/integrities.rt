@@ -56,6 +56,14 @@ pub(crate) fn length(alloc: Global, text: &str) -> Result<String, Flaw> {
     printed(alloc, text.len())
 }
 
+/// The integrity of an algorithm and a digest in hex digits.
+pub(crate) fn of_digest(alloc: Global, columns: &str) -> Result<String, Flaw> {
+    let (name, digits) = column(columns);
+    let algorithm = given(Algorithm::parse(name))?;
+    let digest = given(hex::decode(alloc, plain(digits)))?;
+    told(alloc, Integrity::from_digest(alloc, algorithm, digest))
+}
+
 /// The algorithm and the digits of an integrity's address, and whether a copy of the integrity is equal.
 pub(crate) fn address(alloc: Global, text: &str) -> Result<String, Flaw> {
     let integrity = read(alloc, text)?;

@@ -1,11 +1,14 @@
 //! The lines of entries.
 use crate::words::{Debugged, bytes_of, column, given, plain, printed, text_of, three};
 use cacache_core::keeping::let_go;
-use cacache_entry::{SerializableMetadata, entries};
+use cacache_entry::{Metadata, SerializableMetadata, entries, latest};
 use rows::Flaw;
 use rows::words::{number_of, word_of};
 use serde_json::Value;
-use std::alloc::Global;
+use std::alloc::{AllocError, Global};
+
+/// Where the text of an entry begins in its line: behind LF, 64 hex digits and TAB.
+const TEXT: usize = 66;
 
 /// The columns of an entry.
 #[derive(Clone, Copy)]
@@ -93,10 +96,33 @@ fn are_only(found: &[SerializableMetadata], entry: &SerializableMetadata) -> boo
     }
 }
 
-/// Whether a line reads back as the entry alone, how long it is, and the line.
+/// Whether what a lookup found prints as a line's text. A tombstone's line has nothing to find.
+fn prints_as(alloc: Global, found: &Option<Metadata>, line: &[u8]) -> Result<bool, AllocError> {
+    let Some(found) = found else {
+        return Ok(true);
+    };
+    let printed = found.to_string(alloc)?;
+    Ok(line.split_at_checked(TEXT).map(|(_head, text)| text) == Some(printed.as_bytes()))
+}
+
+/// Whether what a lookup of the entry's key finds in its line prints as the line's text.
+fn is_printed(alloc: Global, entry: &SerializableMetadata, line: &[u8]) -> Result<bool, Flaw> {
+    let lookup = given(latest(alloc, line, entry.key.as_str()))?;
+    let same = prints_as(alloc, &lookup.found, line);
+    let_go(lookup);
+    Ok(same?)
+}
+
+/// Whether a line reads back as the entry alone, and what a lookup finds prints so; how long it is, and the line.
 fn shown(alloc: Global, entry: &SerializableMetadata, line: &[u8]) -> Result<String, Flaw> {
+    let same = is_printed(alloc, entry, line)?;
     let found = given(entries(alloc, line))?;
-    three(alloc, are_only(&found, entry), line.len(), word_of(line))
+    three(
+        alloc,
+        same && are_only(&found, entry),
+        line.len(),
+        word_of(line),
+    )
 }
 
 /// That of an entry's line, or why there is none.
@@ -107,7 +133,7 @@ fn written(alloc: Global, entry: &SerializableMetadata) -> Result<String, Flaw> 
     }
 }
 
-/// Whether the line of an entry reads back, how long it is, and the line; or why there is none.
+/// Whether the line of an entry reads back and prints again, how long it is, and the line; or why there is none.
 pub(crate) fn line(alloc: Global, columns: &str) -> Result<String, Flaw> {
     let entry = entry_of(alloc, columns_of(columns))?;
     let written = written(alloc, &entry);

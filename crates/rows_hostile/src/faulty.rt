@@ -111,13 +111,16 @@ fn given(alloc: Global, file: Failing, max: usize) -> Answer<Failing, Short>
     }
 }
 
-/// A store that makes all folders, links and temporary files, opens one file, and keeps the bytes of what was moved last.
+/// A store that makes all folders, links and temporary files, takes all lines, opens one file, removes any, and
+/// keeps the bytes of what was moved last.
 #[derive(Drop)]
 pub(crate) struct Faulty {
     alloc: Global,
     fails: usize,
     file: Option<Failing>,
     pub(crate) kept: Vec<u8>,
+    /// How many files were removed.
+    pub(crate) removed: usize,
 }
 
 impl Faulty {
@@ -165,6 +168,11 @@ impl Store for Faulty {
                 self.keep(temp);
                 Answer::Done
             }
+            Step::RemoveFile(_path) => {
+                self.removed = self.removed.saturating_add(1);
+                Answer::Done
+            }
+            Step::Append(_path, bytes) => Answer::Took(bytes.len()),
             Step::Symlink(_target, _path) => Answer::Done,
             Step::Read(file, max) => given(self.alloc, file, max),
             Step::Size(_path) => Answer::Length(11),
@@ -209,6 +217,7 @@ fn store_of(alloc: Global, fails: usize) -> Result<Faulty, AllocError> {
             reads: 0,
         }),
         kept: Vec::new(alloc),
+        removed: 0,
     })
 }
 

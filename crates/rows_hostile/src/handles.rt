@@ -131,6 +131,25 @@ pub(crate) fn writes(alloc: Global, words: &str) -> Result<String, Flaw> {
     Ok(format!(in alloc; "{text}, kept {kept}")?)
 }
 
+/// What a writer's commit answers that hands each part on or is abandoned, or why it was.
+fn commit_or_abandon(env: &mut On, count: usize) -> Answered<Integrity> {
+    let mut writer = WriteOpts::new().open_sync(env, "c", "k")?;
+    for part in PARTS.get(..count).unwrap_or(&PARTS) {
+        writer = writer.write_or_abandon(env, part.as_bytes())?;
+    }
+    writer.commit(env)
+}
+
+/// What such a writer of this row answers, what is stored then, and how many files were removed.
+pub(crate) fn abandons(alloc: Global, words: &str) -> Result<String, Flaw> {
+    let (fails, count) = numbers(words)?;
+    let mut env = on(alloc, fails)?;
+    let end = commit_or_abandon(&mut env, count);
+    let text = stored(alloc, end)?;
+    let (kept, removed) = (word_of(env.store.kept.as_slice()), env.store.removed);
+    Ok(format!(in alloc; "{text}, kept {kept}, removed {removed}")?)
+}
+
 /// What a linker gives, and its commit.
 fn link(env: &mut On, count: usize) -> Result<String, AllocError> {
     let alloc = env.alloc;

@@ -14,7 +14,7 @@ use std::test::Fail;
 use std::{fs, io};
 
 /// The most bytes that the first read of a file asks for.
-const FIRST_READ: usize = 128 * 1024;
+const FIRST_READ: usize = 16 * 1024;
 
 /// A file that says this of its size.
 fn sized(size: usize) -> Ways {
@@ -94,7 +94,7 @@ fn a_file_is_read_whole_whatever_it_says_of_its_size(rt: HostRuntime) -> Result<
 fn a_longer_file_is_read_whole(rt: HostRuntime) -> Result<(), Fail> {
     let long = vec![in rt.alloc(); 7; 3 * FIRST_READ + 1]?;
     let root = with_file(rt, "long", &long)?;
-    for size in [0, FIRST_READ, long.len()] {
+    for size in [0, FIRST_READ, long.len(), 2 * long.len()] {
         let (watched, _) = Watched::new(rt, sized(size))?;
         let path = below(rt.alloc(), root.as_str(), "/file")?;
         let is_whole = is_read_as(&mut FolderStore::new(watched), path, &long);

@@ -15,7 +15,6 @@ use std::alloc::{AllocError, Global};
 /// What stands at a path.
 #[derive(Debug, Drop)]
 pub enum TreeNode {
-    /// A folder. What it holds comes behind it.
     Folder,
     /// The bytes of a file, which the disk shares.
     File(Bytes),

@@ -44,8 +44,7 @@ impl<R: Files + AllocGlobal + Clone + Drop> FolderStore<R> {
     pub(crate) fn read_all(&self, path: &str) -> io::Result<Bytes> {
         let alloc = self.rt.alloc();
         let mut file = File::open(&self.rt, path)?;
-        let size = usize::try_from(file.metadata()?.len()).unwrap_or(usize::MAX);
-        Ok(Bytes::new(alloc, read_whole(alloc, &mut file, size)?)?)
+        Ok(Bytes::new(alloc, read_whole(alloc, &mut file)?)?)
     }
 
     /// The file at the path, open for reading. The system would open a folder too, and fail its first read.
