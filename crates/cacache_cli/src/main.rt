@@ -2,23 +2,14 @@
 #![tactic(auto)]
 
 use cacache::env::folders;
-use cacache_program::{run, tell_about, without_words};
-use std::io::{self, Write};
+use cacache_program::{USAGE, run, tell_about, without_words, words_of};
+use std::io::Write;
 use std::process::ExitCode;
-
-/// The words behind the program's name.
-fn words_of(rt: &HostRuntime) -> io::Result<Vec<String>> {
-    let mut words = Vec::new(rt.alloc());
-    for word in std::env::args(rt)?.skip(1) {
-        words.push(word)?;
-    }
-    Ok(words)
-}
 
 fn main(rt: HostRuntime) -> ExitCode {
     let words = match words_of(&rt) {
         Ok(words) => words,
-        Err(error) => return ExitCode::from(without_words(&error, &mut rt.stderr())),
+        Err(error) => return ExitCode::from(without_words(&error, USAGE, &mut rt.stderr())),
     };
     if let Some(status) = tell_about(&words, &mut rt.stdout(), &mut rt.stderr()) {
         return ExitCode::from(status);

@@ -2,23 +2,15 @@
 #![tactic(auto)]
 
 use cacache::env::folders;
-use cacache_keep_program::{run, without_words};
-use std::io::{self, Write};
+use cacache_keep_program::{USAGE, run};
+use cacache_program::{without_words, words_of};
+use std::io::Write;
 use std::process::ExitCode;
-
-/// The words behind the program's name.
-fn words_of(rt: &HostRuntime) -> io::Result<Vec<String>> {
-    let mut words = Vec::new(rt.alloc());
-    for word in std::env::args(rt)?.skip(1) {
-        words.push(word)?;
-    }
-    Ok(words)
-}
 
 fn main(rt: HostRuntime) -> ExitCode {
     let words = match words_of(&rt) {
         Ok(words) => words,
-        Err(error) => return ExitCode::from(without_words(&error, &mut rt.stderr())),
+        Err(error) => return ExitCode::from(without_words(&error, USAGE, &mut rt.stderr())),
     };
     let Ok(mut env) = folders(rt, ".") else {
         let _ = rt.stderr().write_all(b"out of memory\n");

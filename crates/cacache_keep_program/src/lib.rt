@@ -5,4 +5,4 @@ mod output;
 mod program;
 
 pub use output::USAGE;
-pub use program::{run, without_words};
+pub use program::run;

@@ -3,27 +3,12 @@ ghost use Rattle.std.specs.Prelude.{◌≡◌, ◌⊎◌};
 
 use cacache::errors::Error;
 use cacache_keep::{Collected, Verdict};
+use cacache_program::call_failed;
 use std::alloc::{AllocError, Global};
 use std::io::Write;
 
 /// What the program says to wrong words.
 pub const USAGE: &str = "usage: cacache-keep verify|collect CACHE\n";
-
-/// Prints the usage, and returns the status of wrong words.
-pub(crate) fn misused<E: Write>(errors: &mut E) -> u8
-    ensures { result ≡ 2 }
-{
-    let _ = errors.write_all(USAGE.as_bytes());
-    2
-}
-
-/// Prints a call's error on a line of its own, and returns the status of a failed call.
-pub(crate) fn call_failed<E: Write>(errors: &mut E, error: &Error) -> u8
-    ensures { result ≡ 1 }
-{
-    let _ = writeln!(errors, "{error}");
-    1
-}
 
 /// What is printed of a verification.
 pub(crate) fn verdict_text(alloc: Global, verdict: &Verdict) -> Result<String, AllocError> {

@@ -1,13 +1,13 @@
 //! What the program does with its words.
 ghost use Rattle.std.specs.Prelude.{◌≡◌, ◌≢◌, ◌≤◌, ◌⊎◌};
-ghost use Rattle.std.specs.IoError.{error_kind};
 ghost use Rattle.cacache_keep_program.specs.Words.{IsWrong};
 
-use crate::output::{call_failed, collected_text, misused, put_out, verdict_text};
+use crate::output::{USAGE, collected_text, put_out, verdict_text};
 use cacache::env::{Clock, Env, Names};
 use cacache::store::Store;
 use cacache_keep::{Verdict, collect, verify};
-use std::io::{self, ErrorKind, Write};
+use cacache_program::{call_failed, misused};
+use std::io::Write;
 
 /// The status of a verification: 0 where all is good, else 3.
 fn status_of(verdict: &Verdict) -> u8
@@ -69,24 +69,11 @@ pub fn run<S: Store, C: Clock, N: Names, W: Write, E: Write>(
     ensures quiet { result ≡ 0 → errors.new ≡ errors.old }
 {
     let [word, cache] = words else {
-        return misused(errors);
+        return misused(USAGE, errors);
     };
     match word.as_str() {
         "verify" => verified(env, cache.as_str(), output, errors),
         "collect" => collected(env, cache.as_str(), output, errors),
-        _ => misused(errors),
+        _ => misused(USAGE, errors),
     }
-}
-
-/// Prints why the words of the command line can't be had, and returns the status: 1 if memory ran out, and 2 if a word
-/// isn't UTF-8.
-pub fn without_words<E: Write>(error: &io::Error, errors: &mut E) -> u8
-    ensures memory { error_kind error.now ≡ ErrorKind.OutOfMemory → result ≡ 1 }
-    ensures wrong { error_kind error.now ≢ ErrorKind.OutOfMemory → result ≡ 2 }
-{
-    if error.kind() == ErrorKind::OutOfMemory {
-        let _ = errors.write_all(b"out of memory\n");
-        return 1;
-    }
-    misused(errors)
 }

@@ -12,8 +12,10 @@ mod program;
 mod reading;
 mod removing;
 mod storming;
+mod words;
 mod writing;
 
 pub use about::{VERSION, tell_about};
-pub use output::USAGE;
-pub use program::{run, without_words};
+pub use output::{USAGE, call_failed, misused};
+pub use program::run;
+pub use words::{without_words, words_of};

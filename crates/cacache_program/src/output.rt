@@ -10,16 +10,16 @@ use std::io::{ErrorKind, Write};
 pub const USAGE: &str =
     "usage: cacache write|read|find|remove CACHE KEY | ls|clear CACHE | storm THREADS KEYS\n";
 
-/// Prints the usage, and returns the status of wrong words.
-pub(crate) fn misused<E: Write>(errors: &mut E) -> u8
+/// Prints this usage, and returns the status of wrong words.
+pub fn misused<E: Write>(usage: &str, errors: &mut E) -> u8
     ensures { result ≡ 2 }
 {
-    let _ = errors.write_all(USAGE.as_bytes());
+    let _ = errors.write_all(usage.as_bytes());
     2
 }
 
 /// Prints a call's error on a line of its own, and returns the status of a failed call.
-pub(crate) fn call_failed<E: Write>(errors: &mut E, error: &Error) -> u8
+pub fn call_failed<E: Write>(errors: &mut E, error: &Error) -> u8
     ensures { result ≡ 1 }
 {
     let _ = writeln!(errors, "{error}");

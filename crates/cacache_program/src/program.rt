@@ -1,6 +1,5 @@
 //! What the program does with its words.
-ghost use Rattle.std.specs.Prelude.{◌≡◌, ◌≢◌, ◌≤◌, codes, option_map};
-ghost use Rattle.std.specs.IoError.{error_kind};
+ghost use Rattle.std.specs.Prelude.{◌≡◌, ◌≤◌, codes, option_map};
 ghost use Rattle.cacache_program.specs.Words.{asked_of, Keyed, Unkeyed, IsWrong};
 ghost use Rattle.cacache_program.specs.WordWrite.{Writes};
 ghost use Rattle.cacache_program.specs.WordRead.{Reads};
@@ -13,14 +12,14 @@ ghost use Rattle.cacache_program.specs.WordStorm.{Storms};
 use crate::clearing::clear;
 use crate::finding::find;
 use crate::listing::ls;
-use crate::output::{misused, stream_failed};
+use crate::output::{USAGE, misused};
 use crate::reading::read;
 use crate::removing::remove;
 use crate::storming::storm;
 use crate::writing::write;
 use cacache::env::{Clock, Env, Names};
 use cacache::store::Store;
-use std::io::{self, ErrorKind, Read, Write};
+use std::io::{Read, Write};
 use std::sync::Wait;
 use std::thread::Threads;
 use std::time;
@@ -93,18 +92,6 @@ pub fn run<
         ("storm", threads, Some(keys)) => storm(rt, threads, keys, output, errors),
         ("clear", cache, None) => clear(env, cache, errors),
         ("ls", cache, None) => ls(env, cache, output, errors),
-        _ => misused(errors),
+        _ => misused(USAGE, errors),
     }
-}
-
-/// Prints why the words of the command line can't be had, and returns the status: 1 if memory ran
-/// out, and 2 if a word isn't UTF-8.
-pub fn without_words<E: Write>(error: &io::Error, errors: &mut E) -> u8
-    ensures memory { error_kind error.now ≡ ErrorKind.OutOfMemory → result ≡ 1 }
-    ensures wrong { error_kind error.now ≢ ErrorKind.OutOfMemory → result ≡ 2 }
-{
-    if error.kind() == ErrorKind::OutOfMemory {
-        return stream_failed(errors, b"out of memory\n");
-    }
-    misused(errors)
 }

@@ -5,7 +5,7 @@ ghost use Rattle.std.specs.Str.Parse.{digits_value};
 ghost use Rattle.cacache.specs.Shared.{Count};
 ghost use Rattle.cacache_program.specs.WordStorm.{Storms, TellsStorm, storm_text};
 
-use crate::output::{call_failed, misused, put_out, stream_failed};
+use crate::output::{USAGE, call_failed, misused, put_out, stream_failed};
 use cacache::errors::Error;
 use cacache::jobs::Open;
 use cacache::world::{Storm, StormFault};
@@ -51,7 +51,7 @@ fn storm_failed<E: Write>(errors: &mut E, fault: StormFault) -> u8
     ensures other { fault ≢ Count → result ≡ 1 }
 {
     match fault {
-        StormFault::Count => misused(errors),
+        StormFault::Count => misused(USAGE, errors),
         StormFault::Mismatch => stream_failed(errors, b"storm: mismatch\n"),
         StormFault::Quit => stream_failed(errors, b"storm: quit\n"),
         StormFault::Failed(error) => call_failed(errors, &error),
@@ -85,7 +85,7 @@ pub(crate) fn storm<T: Threads + Wait + Clock + AllocGlobal + Sync, W: Write, E:
     ensures quiet { result ≡ 0 → errors.new ≡ errors.old }
 {
     let (Some(threads), Some(keys)) = (number_of(threads), number_of(keys)) else {
-        return misused(errors);
+        return misused(USAGE, errors);
     };
     match cacache::world::storm(rt, threads, keys, &Open) {
         Ok(storm) => tell(rt.alloc(), storm, output, errors),

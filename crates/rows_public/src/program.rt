@@ -5,7 +5,7 @@ use crate::row::Row;
 use crate::streams::{Input, Output};
 use crate::words::{bytes_of, shown, words_of};
 use cacache::store::Store;
-use cacache_program::{run, tell_about, without_words};
+use cacache_program::{USAGE, run, tell_about, without_words};
 use rows::Flaw;
 use rows::words::{cut, number_of};
 use std::alloc::{AllocError, Global};
@@ -109,6 +109,6 @@ pub(crate) fn without(alloc: Global, why: &str) -> Result<String, Flaw> {
         _ => return Err(Flaw::NotRead),
     };
     let mut errors = Vec::new(alloc);
-    let status = without_words(&io::Error::from(kind), &mut errors);
+    let status = without_words(&io::Error::from(kind), USAGE, &mut errors);
     Ok(told(alloc, status, b"", &errors)?)
 }
