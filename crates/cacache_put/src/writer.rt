@@ -128,6 +128,12 @@ impl<T: TempFile> SyncWriter<T> {
     /// Hands all of the data to the file, as `write_all` does, and gives the writer back. Where a write fails, the
     /// temporary file is removed, so that a `?` leaves nothing behind.
     ///
+    /// ```
+    /// let mut writer = cacache::SyncWriter::create(&mut env, "my-cache", "key")?;
+    /// writer = writer.write_or_abandon(&mut env, b"my data")?;
+    /// let sri = writer.commit(&mut env)?;
+    /// ```
+    ///
     /// `IoError` has the fault of that write. Whether the file could be removed isn't told. Contents and index stay as
     /// they were.
     pub fn write_or_abandon<S: Store<Temp = T>, C: Clock, N: Names>(

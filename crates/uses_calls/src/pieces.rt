@@ -15,6 +15,16 @@ fn create(rt: HostRuntime) -> Result<String> {
     shown(rt.alloc(), &bytes)
 }
 
+/// A content whose file is removed where a write fails.
+fn write_or_abandon(rt: HostRuntime) -> Result<String> {
+    let mut env = memory(rt, "/")?;
+    let mut writer = cacache::SyncWriter::create(&mut env, "my-cache", "key")?;
+    writer = writer.write_or_abandon(&mut env, b"my data")?;
+    let sri = writer.commit(&mut env)?;
+    let bytes = cacache::read_hash_sync(&mut env, "my-cache", &sri)?;
+    shown(rt.alloc(), &bytes)
+}
+
 /// A content with metadata and an expected size.
 fn open_sync(rt: HostRuntime) -> Result<String> {
     let mut env = memory(rt, "/")?;
@@ -43,6 +53,7 @@ fn open(rt: HostRuntime) -> Result<String> {
 /// Makes these calls.
 pub(crate) fn run(rt: HostRuntime) -> Result<()> {
     tell(rt, "SyncWriter::create", create(rt))?;
+    tell(rt, "SyncWriter::write_or_abandon", write_or_abandon(rt))?;
     tell(rt, "WriteOpts::open_sync", open_sync(rt))?;
     tell(rt, "SyncReader::open", open(rt))
 }
