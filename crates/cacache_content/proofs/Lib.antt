@@ -1,3 +1,4 @@
+pub mod GivenUp
 pub mod OpenedLookups
 pub mod StepAnswers
 pub mod Writes

@@ -155,6 +155,11 @@ abbrev pub TriesToRemove :
 TriesToRemove path OutOfMemory old new = (new ≡ old) ⊎ AsksToRemove path old new
 TriesToRemove path e old new = AsksToRemove path old new
 
+-- why a writer is given up: its write failed so, or there was no memory for the removal
+abbrev pub given_up : Result (Unit {0}) Error → Error → Error
+given_up (Err OutOfMemory) e = OutOfMemory
+given_up removed e = e
+
 -- the commit of a writer without a key, of which nothing was said
 abbrev pub unkeyed : {T : Type 0} → Writer T → List ℕ → Commit
 unkeyed w bytes = content_commit w bytes None 0 (blank (algorithm_of w.hasher))

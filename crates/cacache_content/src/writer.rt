@@ -11,11 +11,12 @@ ghost use Rattle.cacache_table.specs.Promises.{Stores};
 ghost use Rattle.cacache_table.specs.Runs.{reply_of};
 ghost use Rattle.cacache_table.specs.SingleSteps.{Does, FailsAt};
 ghost use Rattle.cacache_content.specs.Passed.{passed};
-ghost use Rattle.cacache_content.specs.OpenWrites.{HasTaken, GoesOn, OpensTemp, EndsWriter, RemovesTemp, TriesToRemove, Takes, TakesPart, WholeFails, IsWriteError, IsRetried, make_folder as making_folder, content_commit, unkeyed};
+ghost use Rattle.cacache_content.specs.OpenWrites.{HasTaken, GoesOn, OpensTemp, EndsWriter, RemovesTemp, TriesToRemove, given_up, Takes, TakesPart, WholeFails, IsWriteError, IsRetried, make_folder as making_folder, content_commit, unkeyed};
 
 use cacache_core::errors::{Error, Fault, Result};
 use cacache_core::hasher::Hasher;
 use cacache_core::integrity::{Algorithm, Integrity};
+use cacache_core::keeping::let_go;
 use cacache_core::text::Text;
 use cacache_jobs::{Commit, commit_from, messages, refused, temp_folder, temp_path};
 use cacache_store::env::{Clock, Env, Names};
@@ -154,6 +155,7 @@ pub fn abandon<S: Store>(alloc: Global, store: &mut S, writer: Writer<S::Temp>) 
 ///
 /// `IoError` has the fault of that write. Whether the file could be removed isn't told. Contents and index stay as they
 /// were.
+#[tactic(auto, using(crate::proofs::GivenUp::given_up_tries, crate::proofs::GivenUp::given_up_earned))]
 pub fn write_or_abandon<S: Store>(
     alloc: Global,
     store: &mut S,
@@ -174,9 +176,20 @@ pub fn write_or_abandon<S: Store>(
     };
     let refusal = Refusal::Fault(Fault::from(error.kind()));
     let message = messages::writing(alloc, &writer.cache, key);
-    match abandon(alloc, store, writer) {
-        Ok(()) | Err(Error::IoError(_, _)) => Err(refused(refusal, message)),
-        Err(_) => Err(Error::OutOfMemory),
+    let removed = abandon(alloc, store, writer);
+    Err(given_up(removed, refused(refusal, message)))
+}
+
+/// Why a writer is given up whose write failed with this error: for want of memory if the removal found none.
+fn given_up(removed: Result<()>, error: Error) -> Error
+    ensures { result ≡ given_up removed error }
+{
+    match removed {
+        Err(Error::OutOfMemory) => Error::OutOfMemory,
+        other => {
+            let_go(other);
+            error
+        }
     }
 }
 
