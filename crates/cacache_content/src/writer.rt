@@ -163,6 +163,8 @@ pub fn write_or_abandon<S: Store>(
     key: &Option<Text>,
     data: &[u8],
 ) -> Result<Writer<S::Temp>>
+    ensures bytes { IfOk result (λ w. Appends (S.Temp.seen writer.file).bytes
+        (S.Temp.seen w.file).bytes «data».now) }
     ensures takes { IfOk result (λ w. Takes writer w «data».now) }
     ensures goes_on { IfOk result (λ w. GoesOn S.Temp.seen writer w) }
     ensures quiet { OnOk result (store.new ≡ store.old) }

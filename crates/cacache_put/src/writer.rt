@@ -141,6 +141,8 @@ impl<T: TempFile> SyncWriter<T> {
         env: &mut Env<S, C, N>,
         data: &[u8],
     ) -> Result<SyncWriter<T>>
+        ensures bytes { IfOk result (λ w. Appends (T.seen self.writer.file).bytes
+            (T.seen w.writer.file).bytes «data».now) }
         ensures takes { IfOk result (λ w. Takes self.writer w.writer «data».now) }
         ensures goes_on { IfOk result (λ w. GoesOn T.seen self.writer w.writer) }
         ensures said { IfOk result (λ w. w ≡ record self { writer = w.writer }) }
