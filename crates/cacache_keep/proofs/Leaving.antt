@@ -27,14 +27,18 @@ use Rattle.cacache_contents.specs.Listing.{contents_folder}
 use Rattle.cacache_contents.specs.Reading.{first}
 use Rattle.cacache_keep_laws.specs.Contents.{HoldsJust}
 use Rattle.cacache_keep_laws.specs.Index.{IndexLists}
-use Rattle.cacache_keep_laws.specs.Collecting.{LeavesLive, Removes, ReadsAsBefore, is_live}
-use Rattle.cacache_keep_laws.proofs.Collected.{leaves, rest_stays, live_left, dead_gone, reads_as_before}
+use Rattle.cacache_keep_laws.specs.Collecting.{LeavesLive, Removes, is_live}
+use Rattle.cacache_keep_laws.specs.Idle.{LacksIdle}
+use Rattle.cacache_keep_laws.proofs.Collected.{dead_gone, lacks, leaves, live_left, rest_stays}
+use Rattle.cacache_keep_laws.proofs.Idle.{idle_is_unseen}
+use Rattle.cacache_keep_laws.proofs.BothLogs.{still_lacks_idle}
+use Rattle.cacache_keep_laws.proofs.Fully.{lacks_at}
 use Rattle.cacache_keep_laws.proofs.Held.{holds_just}
 use Rattle.cacache_keep_laws.proofs.Logged.{answered_rest, answered_split, gains_join, log_rooted, looked, tree_rest, walked}
 use Rattle.cacache_keep_laws.proofs.Removed.{removals_run}
 use Rattle.cacache_keep.specs.Calls.{Made, is_used, removal}
 use Rattle.cacache_keep.specs.Keeping.{Collects}
-use Rattle.cacache_keep.specs.Kept.{CollectionsLeave, LaterReadsStay, Looked}
+use Rattle.cacache_keep.specs.Kept.{Cleaned, CollectionsLackIdle, CollectionsLeave, LaterReadsStay, Looked}
 use Rattle.cacache_keep.proofs.Judged.{index_lists}
 use Rattle.cacache_keep.proofs.Parts.{gains_none}
 
@@ -134,14 +138,28 @@ module _ (site : Site) (home : Names) (kept : ℕ) (dropped : List (List Hash)) 
 pub collections_leave : CollectionsLeave
 collections_leave site home kept dropped old new is logged c = leaves_live site home kept dropped old new is logged c
 
+-- ---- what it lacks
+
+pub collections_lack_idle : CollectionsLackIdle
+collections_lack_idle site home kept dropped old new is logged out c =
+    let d = steps_done site home kept dropped old new is logged c in
+    lacks site home (tree_of old) (tree_of new) c.1.order.hashes c.1.strange c.1.entries is d.holds d.index d.removes (log_rooted old) out c.1.unused.formed
+
 -- ---- later reads
 
 looks_stay : (calls : List (List ℕ × Command × Reply)) (old new : List LogItem) → Looked calls old new → tree_of new ≡ tree_of old
 looks_stay [] old new l = ap tree_of l
 looks_stay (c ∷ calls) old new l = looks_stay calls l.0 new l.3 ∙ tree_stays c.0 c.1 c.2 old l.0 l.1 l.2
 
+-- after the same removals too it lacks idle contents alone
+cleaned : (cache : List ℕ) (home : Names) (removals : List Command) (full rest lean left : List LogItem) → home_of cache ≡ Some home → Cleaned cache removals full rest → Cleaned cache removals lean left → LacksIdle cache home (tree_of full) (tree_of lean)
+    → LacksIdle cache home (tree_of rest) (tree_of left)
+cleaned cache home [] full rest lean left is one two l = lacks_at cache home (tree_of rest) (tree_of left) (tree_of full) (tree_of lean) (looks_stay one.0 full rest one.1) (looks_stay two.0 lean left two.1) l
+cleaned cache home (removal ∷ removals) full rest lean left is one two l =
+    let before = lacks_at cache home (tree_of one.1) (tree_of two.1) (tree_of full) (tree_of lean) (looks_stay one.0 full one.1 one.2) (looks_stay two.0 lean two.1 two.2) l in
+    cleaned cache home removals one.3 rest two.3 left is one.5 two.5 (still_lacks_idle cache home removal one.1 one.3 two.1 two.3 is one.4 two.4 before)
+
 pub later_reads_stay : LaterReadsStay
-later_reads_stay site home kept dropped calls old new later is logged out c looks =
-    let d = steps_done site home kept dropped old new is logged c in
-    subst (ReadsAsBefore site (tree_of old)) (sym (looks_stay calls new later looks))
-    (reads_as_before site home (tree_of old) (tree_of new) c.1.order.hashes c.1.strange c.1.entries is d.holds d.index d.removes (log_rooted old) out c.1.unused.formed)
+later_reads_stay site home kept dropped removals old collected later other is logged out c with_it without =
+    idle_is_unseen site home (tree_of other) (tree_of later) is
+    (cleaned site.cache home removals old other collected later is without with_it (collections_lack_idle site home kept dropped old collected is logged out c))

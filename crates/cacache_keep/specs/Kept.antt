@@ -14,6 +14,7 @@ use Rattle.cacache_contents.specs.Listing.{IsByHash, ListsContents}
 use Rattle.cacache_keep_laws.specs.Contents.{HoldsJust}
 use Rattle.cacache_keep_laws.specs.Verifying.{Judges}
 use Rattle.cacache_keep_laws.specs.Collecting.{LeavesLive, LinksLeadOut, ReadsAsBefore}
+use Rattle.cacache_keep_laws.specs.Idle.{LacksIdle, Removed}
 use Rattle.cacache_keep.specs.Keeping.{Collects, Verifies}
 
 -- the log leads to the tree that it led to
@@ -48,6 +49,14 @@ CollectionsLeave =
     → Collects site kept dropped (Some old) (Some new)
     → LeavesLive site home (tree_of old) (tree_of new) kept dropped
 
+-- where links lead out of the cache, it leaves a tree that lacks idle contents alone
+abbrev pub CollectionsLackIdle : Type 0
+CollectionsLackIdle =
+    (site : Site) (home : Names) (kept : ℕ) (dropped : List (List Hash)) (old new : List LogItem)
+    → home_of site.cache ≡ Some home → IsLog new → LinksLeadOut home (tree_of old)
+    → Collects site kept dropped (Some old) (Some new)
+    → LacksIdle site.cache home (tree_of old) (tree_of new)
+
 -- ---- calls behind a collection
 
 -- the log gained calls that only look, one after another: each its cache, its command, its reply
@@ -56,12 +65,22 @@ Looked [] old new = new ≡ old
 Looked (c ∷ calls) old new =
     (next : List LogItem) × OnlyLooks c.1 × Called c.0 c.1 c.2 old next × Looked calls next new
 
--- where links lead out of the cache, each lookup and each verified read by key behind a collection,
--- with calls in between that only look, answers what it may answer without the collection
+-- the log gained these removals from the cache, one after another, none of which broke off; before,
+-- between and behind them it gained calls that only look
+abbrev pub Cleaned : List ℕ → List Command → List LogItem → List LogItem → Type 0
+Cleaned cache [] old new = (looks : List (List ℕ × Command × Reply)) × Looked looks old new
+Cleaned cache (removal ∷ removals) old new =
+    (looks : List (List ℕ × Command × Reply)) × (found : List LogItem) × Looked looks old found
+    × (left : List LogItem) × Removed cache removal found left × Cleaned cache removals left new
+
+-- where links lead out of the cache, let the same removals come with a collection before them and
+-- without it: each later lookup and each verified read by key answers with it what it may answer
+-- without it
 abbrev pub LaterReadsStay : Type 0
 LaterReadsStay =
-    (site : Site) (home : Names) (kept : ℕ) (dropped : List (List Hash))
-    (calls : List (List ℕ × Command × Reply)) (old new later : List LogItem)
-    → home_of site.cache ≡ Some home → IsLog new → LinksLeadOut home (tree_of old)
-    → Collects site kept dropped (Some old) (Some new) → Looked calls new later
-    → ReadsAsBefore site (tree_of old) (tree_of later)
+    (site : Site) (home : Names) (kept : ℕ) (dropped : List (List Hash)) (removals : List Command)
+    (old collected later other : List LogItem)
+    → home_of site.cache ≡ Some home → IsLog collected → LinksLeadOut home (tree_of old)
+    → Collects site kept dropped (Some old) (Some collected)
+    → Cleaned site.cache removals collected later → Cleaned site.cache removals old other
+    → ReadsAsBefore site (tree_of other) (tree_of later)

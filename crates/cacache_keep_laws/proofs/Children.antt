@@ -91,7 +91,7 @@ member_found e (y ∷ es) s (inr m) =
 same_names : (xs ys : Names) → pointwise (pointwise nat_eq) xs ys ≡ true → xs ≡ ys
 same_names xs ys h = (slice_eq-Decides (λ a b. slice_eq-Decides Decides-eqb a b (pointwise nat_eq a b) refl) xs ys (pointwise (pointwise nat_eq) xs ys) refl).0 h
 
-child_path : (p q : Names) → is_child p q ≡ true → q ≡ p ++ get_or q (length p) [] ∷ []
+pub child_path : (p q : Names) → is_child p q ≡ true → q ≡ p ++ get_or q (length p) [] ∷ []
 child_path p q h =
     let parts = and_parts _ _ h in
     let size : length q ≡ length p + 1 = eqb-true (length q) (length p + 1) parts.0 in
@@ -173,7 +173,20 @@ folder_ok t path names e =
     let f = and_then_ok (place t path) (λ n. where_folder (look t n) n) names e in
     place_ok t path f.0 f.1 ∙ ap Ok (folder_at (look t f.0) f.0 names f.2)
 
-folder_there : (t : Tree) (path : List ℕ) (names : Names) → Rooted t → names_of path ≡ Ok names → look t names ≡ Some Folder → folder t path ≡ Ok names
+folder_node : (here : Option Node) (old new : Names) → where_folder here old ≡ Ok new → here ≡ Some Folder
+folder_node None old new e = absurd cc
+folder_node (Some Folder) old new e = refl
+folder_node (Some (File bytes)) old new e = absurd cc
+folder_node (Some (Link target)) old new e = absurd cc
+
+pub folder_found : (t : Tree) (path : List ℕ) (names : Names) → folder t path ≡ Ok names → (names_of path ≡ Ok names) × (look t names ≡ Some Folder)
+unfolding folder
+folder_found t path names e =
+    let f = and_then_ok (place t path) (λ n. where_folder (look t n) n) names e in
+    let same = folder_at (look t f.0) f.0 names f.2 in
+    (place_ok t path f.0 f.1 ∙ ap Ok same, ap (look t) (sym same) ∙ folder_node (look t f.0) f.0 names f.2)
+
+pub folder_there : (t : Tree) (path : List ℕ) (names : Names) → Rooted t → names_of path ≡ Ok names → look t names ≡ Some Folder → folder t path ≡ Ok names
 unfolding folder place
 folder_there t path names rooted is there = rw (is, way_clear t [] names Folder rooted there, there) refl
 

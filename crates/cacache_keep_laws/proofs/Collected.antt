@@ -12,10 +12,11 @@ use Rattle.cacache_entry.specs.Latest.{Found}
 use Rattle.cacache_table.specs.State.{Site, Item}
 use Rattle.cacache_value.specs.Value.{Blob, value_of_tree}
 use Rattle.cacache_keep_laws.specs.Contents.{HoldsJust}
+use Rattle.cacache_keep_laws.specs.Idle.{LacksIdle}
 use Rattle.cacache_keep_laws.specs.Index.{IndexLists, IndexesFind, entries_in}
 use Rattle.cacache_keep_laws.proofs.Indexed.{lists_each_key}
-use Rattle.cacache_keep_laws.specs.Collecting.{LinksLeadOut, IsLive, Removes, IsLeft, is_at, is_live, ReadsAsBefore}
-use Rattle.cacache_keep_laws.proofs.Keeping.{stays, removals_leave, collections_keep_reads, collections_keep_lookups}
+use Rattle.cacache_keep_laws.specs.Collecting.{LinksLeadOut, IsLive, Removes, IsLeft, is_at, is_live}
+use Rattle.cacache_keep_laws.proofs.Keeping.{lacks_idle, removals_leave, stays}
 use Rattle.cacache_keep_laws.proofs.Members.{Member, contains_member, member_contains}
 
 -- ---- members of filters
@@ -121,7 +122,7 @@ module _ (site : Site) (home : Names) (t new : Tree) (hashes : List Hash) (stran
       stays site.cache home is dropped t new names (λ g m. dropped_hash g (contains_member g dropped m)) removed
       (λ g m e. apart g (dropped_hash g (contains_member g dropped m)) (not_so (is_live entries g) (of_dropped g (contains_member g dropped m)).1) e)
 
-  -- ---- reads
+  -- ---- what it lacks
 
   abbrev items : List Item
   items = index.items
@@ -132,17 +133,11 @@ module _ (site : Site) (home : Names) (t new : Tree) (hashes : List Hash) (stran
   not_live : (h : Hash) → Contains dropped h → IsLive items h → ⊥
   not_live h c l = not_false (is_live entries h) (live_so entries l.0 h (member_contains l.0 entries (entry_of l.0 l.1)) l.2) (of_dropped h c).1
 
-  pub reads_as_before : Rooted t → LinksLeadOut home t → All (λ f. IsIntegrity f.integrity) entries → ReadsAsBefore site t new
-  reads_as_before rooted out formed = record {
-    finds = λ key r a. (a.0, a.1, collections_keep_lookups site home t new dropped key a.0 r is out dropped_hash removed a.1 a.2);
-    gets = λ key r a. (
-      a.0,
-      a.1,
-      collections_keep_reads site home t new index.answers.0 items dropped key a.0 r is rooted out index.answers.1 index.answers.2 index.clean
-          (λ f c. let e = entry_of f c in subst (λ x. IsIntegrity x.integrity) e.2 (formed e.0 f e.1))
-          (λ h c. (dropped_hash h c, not_live h c)) removed a.1 a.2,
-    );
-  }
+  pub lacks : Rooted t → LinksLeadOut home t → All (λ f. IsIntegrity f.integrity) entries → LacksIdle site.cache home t new
+  lacks rooted out formed =
+      lacks_idle site home t new index.answers.0 items dropped is rooted out index.answers.1 index.answers.2 index.clean
+      (λ f c. let e = entry_of f c in subst (λ x. IsIntegrity x.integrity) e.2 (formed e.0 f e.1))
+      (λ h c. (dropped_hash h c, not_live h c)) removed
 
 pub indexes_find : IndexesFind
 indexes_find site home t entries key bytes found is rooted index answer e =

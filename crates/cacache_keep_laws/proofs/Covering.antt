@@ -32,11 +32,14 @@ home_at path base true b i is e = let wrong : Err NotFound ≡ Ok base = rw i at
 home_at path base false true i is e = let wrong : Err InvalidInput ≡ Ok base = rw (i, is) at e in absurd cc
 home_at path base false false i is e = let same : Ok (filter is_name (pieces path)) ≡ Ok base = rw (i, is) at e in rw is (let k : filter is_name (pieces path) ≡ base = cc in ap Some k)
 
+pub home_named : (path : List ℕ) (base : Names) → names_of path ≡ Ok base → home_of path ≡ Some base
+home_named path base is = home_at path base (length path == 0) (is_bad path) refl refl is
+
 -- one name more
 pub named_on : (path : List ℕ) (base : Names) (name : List ℕ) → names_of path ≡ Ok base → IsProperName name → names_of (join path name) ≡ Ok (base ++ name ∷ [])
 named_on path base name is proper =
     joined_texts_name path (name ∷ []) (All-cons IsProperName name [] proper (All-nil IsProperName)) (omega arith)
-    ∙ ap (λ h. names_below h (name ∷ [])) (home_at path base (length path == 0) (is_bad path) refl refl is)
+    ∙ ap (λ h. names_below h (name ∷ [])) (home_named path base is)
 
 -- ---- what one move shows
 

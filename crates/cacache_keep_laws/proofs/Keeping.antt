@@ -1,13 +1,12 @@
 -- What removals of contents leave, and that lookups and reads by key don't see them.
-use Rattle.std.proofs.Common.{◌≡◌, inl, inr, ℕ, List, [], ◌∷◌, ◌++◌, Option, Some, None, Bool, true, false, cond, Result, Ok, Err, refl, sym, ap, subst, ◌∙◌, arith}
+use Rattle.std.proofs.Common.{◌≡◌, ◌⊎◌, inl, inr, ℕ, List, [], ◌∷◌, ◌++◌, Option, Some, None, Bool, true, false, cond, Result, Ok, Err, refl, sym, ap, subst, ◌∙◌, arith}
 use Rattle.std.specs.Prelude.{Contains}
 use Rattle.std.specs.FinMap as map
-use Rattle.std.proofs.lemmas.List.Elements.{All-head}
 use Rattle.sha1.specs.Sha1.{sha1}
 use Rattle.cacache_core.specs.declared.errors.Fault.{Fault}
 use Rattle.cacache_core.specs.declared.errors.Fault.TheVariants.{NotFound}
 use Rattle.cacache_core.specs.declared.integrity.digest.Hash.{Hash}
-use Rattle.cacache_core.specs.Integrity.{IsHash, IsIntegrity, address}
+use Rattle.cacache_core.specs.Integrity.{IsHash, IsIntegrity}
 use Rattle.cacache_core.specs.PathNames.{Names, names_of, home_of}
 use Rattle.cacache_core.specs.Paths.{joined, content_names, bucket_names, bucket_names_of}
 use Rattle.cacache_core.proofs.JoinedNames.{joined_texts_name}
@@ -17,7 +16,7 @@ use Rattle.cacache_core.proofs.PathTexts.{paths_differ}
 use Rattle.cacache_store.specs.declared.store.step.Step.TheVariants.{ReadAll, RemoveFile}
 use Rattle.cacache_store.specs.declared.store.answer.Answer.TheVariants as answers
 use Rattle.cacache_store.specs.declared.store.answer.Answer.TheVariants.{Done, Bytes, Failed}
-use Rattle.cacache_store.specs.Plain.{PlainStep, PlainAnswer}
+use Rattle.cacache_store.specs.Plain.{PlainAnswer}
 use Rattle.cacache_disk.specs.declared.luck.Luck.TheVariants.{Plain}
 use Rattle.cacache_disk.specs.declared.node.Node.{Node}
 use Rattle.cacache_disk.specs.Tree.{Tree, look, cut, same_path}
@@ -30,12 +29,9 @@ use Rattle.cacache_disk.proofs.FoundNodes.{removable_ok}
 use Rattle.cacache_entry.specs.Latest.{Found}
 use Rattle.cacache_table.specs.declared.command.Command.TheVariants as commands
 use Rattle.cacache_table.specs.declared.reply.Reply.{Reply}
-use Rattle.cacache_table.specs.State.{State, looking, reading, over, to_read, to_report, Lookup, Site, Item}
-use Rattle.cacache_table.specs.State as states
-use Rattle.cacache_core.specs.Meeting.{meets}
+use Rattle.cacache_table.specs.State.{looking, to_report, Site, Item}
 use Rattle.cacache_table.specs.declared.reply.Reply.TheVariants.{Listed}
-use Rattle.cacache_table.specs.StepPaths.{bucket_path, content_path}
-use Rattle.cacache_table.specs.Looking.{found_in, found_for, found_content}
+use Rattle.cacache_table.specs.StepPaths.{addressed, bucket_path, content_path}
 use Rattle.cacache_table.specs.Table.{opening, after}
 use Rattle.cacache_table.specs.Runs.{Moves, Runs}
 use Rattle.cacache_value.specs.Kinds.{Content, Bucket, path_kind, is_used}
@@ -44,9 +40,13 @@ use Rattle.cacache_value.proofs.KindsApart.{kind-below}
 use Rattle.cacache_keep_laws.proofs.Members.{Member, contains_member, member_contains}
 use Rattle.cacache_keep_laws.specs.Answers.{AnsweredBy}
 use Rattle.cacache_keep_laws.specs.Index.{is_bad}
+use Rattle.cacache_keep_laws.specs.Walks.{is_leaf}
+use Rattle.cacache_keep_laws.specs.Idle.{Finds, IsNeeded, LacksIdle}
 use Rattle.cacache_keep_laws.specs.Collecting.{LinksLeadOut, IsLive, Removes, RemovalsLeave, CollectionsKeepReads, CollectionsKeepLookups}
 use Rattle.cacache_keep_laws.proofs.Indexed.{lists_each_key}
 use Rattle.cacache_keep_laws.proofs.Agreeing.{read_same}
+use Rattle.cacache_keep_laws.proofs.Idle.{address_is, get_moves, moved_same, over_done}
+use Rattle.cacache_keep_laws.proofs.Twice.{leaf_done}
 
 -- ---- removals
 
@@ -99,6 +99,21 @@ module _ (cache : List ℕ) (home : Names) (is : home_of cache ≡ Some home) wh
       ap (λ (g : Hash). look new (home ++ content_names g)) same ∙ none_stays hs (apply t (RemoveFile (joined cache (content_names k))) Plain).1 new q (λ g m. hashes g (inr m)) r.1 none
   gone (k ∷ hs) t new h hashes r (inr m) = gone hs (apply t (RemoveFile (joined cache (content_names k))) Plain).1 new h (λ g m. hashes g (inr m)) r.1 m
 
+  -- each of them was a file or link
+  after_leaf : (t : Tree) (h g : Hash) → IsHash h → (apply t (RemoveFile (joined cache (content_names h))) Plain).0 ≡ Done → is_leaf (look (apply t (RemoveFile (joined cache (content_names h))) Plain).1 (home ++ content_names g)) ≡ true → is_leaf (look t (home ++ content_names g)) ≡ true
+  after_leaf t h g hash e leaf = by (same_path (home ++ content_names g) (home ++ content_names h)) (ap is_leaf (sym (look_after t h (home ++ content_names g) hash e)) ∙ leaf)
+    where
+      by : (b : Bool) → is_leaf (cond b None (look t (home ++ content_names g))) ≡ true → is_leaf (look t (home ++ content_names g)) ≡ true
+      by true e = absurd cc
+      by false e = e
+
+  stood : (hs : List Hash) (t new : Tree) (h : Hash) → ((g : Hash) → Member g hs → IsHash g) → Removes cache hs t new → Member h hs → is_leaf (look t (home ++ content_names h)) ≡ true
+  stood [] t new h hashes r m = absurd m
+  stood (k ∷ hs) t new h hashes r (inl same) =
+      ap (λ (g : Hash). is_leaf (look t (home ++ content_names g))) same ∙ leaf_done t (joined cache (content_names k)) (home ++ content_names k) (content_named cache home k is (hashes k (inl refl))) r.0
+  stood (k ∷ hs) t new h hashes r (inr m) =
+      after_leaf t k h (hashes k (inl refl)) r.0 (stood hs (apply t (RemoveFile (joined cache (content_names k))) Plain).1 new h (λ g n. hashes g (inr n)) r.1 m)
+
   pub stays : (hs : List Hash) (t new : Tree) (q : Names) → ((g : Hash) → Member g hs → IsHash g) → Removes cache hs t new → ((g : Hash) → Member g hs → q ≡ home ++ content_names g → ⊥) → look new q ≡ look t q
   stays [] t new q hashes r apart = ap (λ (x : Tree). look x q) r
   stays (h ∷ hs) t new q hashes r apart =
@@ -134,28 +149,21 @@ removals_leave cache home dropped t new is hashes r =
 
 -- ---- reads by key
 
-over_done : (t : Tree) (reply : Reply) (moves : Moves) (r : Reply) → Runs (over reply) moves r → AnsweredBy t moves
-over_done t reply [] r run = tt
-over_done t reply (m ∷ moves) r run = absurd (let wrong : None ≡ Some m.0 = run.0 in cc)
+-- a path is that of one of the contents, or of none
+found_in : (home q : Names) (hs : List Hash) → ((g : Hash) × Member g hs × (q ≡ home ++ content_names g)) ⊎ ((g : Hash) → Member g hs → q ≡ home ++ content_names g → ⊥)
+found_in home q [] = inr (λ g m e. m)
+found_in home q (h ∷ hs) = at (same_path q (home ++ content_names h)) refl (found_in home q hs)
+  where
+    at : (b : Bool) → same_path q (home ++ content_names h) ≡ b → ((g : Hash) × Member g hs × (q ≡ home ++ content_names g)) ⊎ ((g : Hash) → Member g hs → q ≡ home ++ content_names g → ⊥)
+        → ((g : Hash) × Member g (h ∷ hs) × (q ≡ home ++ content_names g)) ⊎ ((g : Hash) → Member g (h ∷ hs) → q ≡ home ++ content_names g → ⊥)
+    at true is later = inl (h, inl refl, same_path-true q (home ++ content_names h) is)
+    at false is (inl k) = inl (k.0, inr k.1, k.2)
+    at false is (inr never) = inr (λ g m e. elim m [
+      | inl same ↦ (let wrong : false ≡ true = sym is ∙ ap (λ (x : Hash). same_path q (home ++ content_names x)) (sym same) ∙ ap (same_path q) (sym e) ∙ same_self q in absurd cc)
+      | inr k ↦ never g k e
+    ])
 
-address_is : (i : List Hash) → IsIntegrity i → (h : Hash) × IsHash h × (address i ≡ Some h)
-address_is [] is = absurd (let some = is.nonempty in omega (arith, some))
-address_is (h ∷ hs) is = (h, All-head IsHash h hs is.hashes, refl)
-
-checked_over : (t : Tree) (b : Bool) (x y : Reply) (more : Moves) (reply : Reply) → Runs (cond b (over x) (over y)) more reply → AnsweredBy t more
-checked_over t true x y more reply run = over_done t x more reply run
-checked_over t false x y more reply run = over_done t y more reply run
-
--- after a content was read the call is over
-reading_over : (t : Tree) (k : states.Content) (u : PlainAnswer) (more : Moves) (reply : Reply) → Runs (after (reading k) u) more reply → AnsweredBy t more
-reading_over t k (answers.Bytes b) more reply run = checked_over t (meets k.integrity b) _ _ more reply run
-reading_over t k (answers.Failed fault) more reply run = over_done t _ more reply run
-reading_over t k other more reply run = over_done t _ more reply run
-
-moved_same : (t new : Tree) (m : PlainStep × PlainAnswer) (step : PlainStep) → step ≡ m.0 → m.1 ≡ (apply new m.0 Plain).0 → (apply new step Plain).0 ≡ (apply t step Plain).0 → m.1 ≡ (apply t m.0 Plain).0
-moved_same t new m step is a same = a ∙ ap (λ s. (apply new s Plain).0) (sym is) ∙ same ∙ ap (λ s. (apply t s Plain).0) is
-
-module _ (site : Site) (home : Names) (t new : Tree) (listing : Moves) (items : List Item) (dropped : List Hash) (key : List ℕ) (reply : Reply)
+module _ (site : Site) (home : Names) (t new : Tree) (listing : Moves) (items : List Item) (dropped : List Hash)
     (is : home_of site.cache ≡ Some home) (rooted : Rooted t) (out : LinksLeadOut home t)
     (ls : Runs (opening site commands.Ls) listing (Listed items)) (at : AnsweredBy t listing)
     (fine : (item : Item) → Contains items item → is_bad item ≡ false)
@@ -165,53 +173,42 @@ module _ (site : Site) (home : Names) (t new : Tree) (listing : Moves) (items : 
   hashes : (g : Hash) → Member g dropped → IsHash g
   hashes g m = (apart g (contains_member g dropped m)).0
 
-  same : (q : Names) → (path_kind (Some home) q ≡ Content → ⊥) → look new q ≡ look t q
-  same = agree site.cache home is dropped t new hashes r
+  listed : (key : List ℕ) (found : Found) → Finds site.cache t key found → Contains items (Ok found)
+  listed key found f = lists_each_key site home t listing items key f.0 found is rooted ls at fine f.1 f.2
 
-  bucket_same : (apply new (ReadAll (bucket_path site.cache key)) Plain).0 ≡ (apply t (ReadAll (bucket_path site.cache key)) Plain).0
-  unfolding bucket_path
-  bucket_same =
-      let named : names_of (joined site.cache (bucket_names key)) ≡ Ok (home ++ bucket_names key) = joined_texts_name site.cache (bucket_names key) (names_are_proper.buckets (sha1 key) (keys_have_digests key)) (omega arith) ∙ rw is refl in
-      read_same home t new same out (joined site.cache (bucket_names key)) (home ++ bucket_names key) named (inl (ap is_used (kind-below home (bucket_names key)))) (same (home ++ bucket_names key) (bucket_apart home (sha1 key)))
-
-  content_same : (f : Found) → Contains items (Ok f) → (apply new (ReadAll (content_path site.cache f.integrity)) Plain).0 ≡ (apply t (ReadAll (content_path site.cache f.integrity)) Plain).0
+  -- no lookup leads to what was removed
+  unneeded : (g : Hash) (q : Names) → Member g dropped → q ≡ home ++ content_names g → IsNeeded site.cache t q → ⊥
   unfolding content_path
-  content_same f among =
-      let a = address_is f.integrity (integrities f among) in
-      let q = home ++ content_names a.0 in
-      let live : Member a.0 dropped → ⊥ = λ m. (apart a.0 (contains_member a.0 dropped m)).1 (f, among, a.2) in
-      rw a.2 (read_same home t new same out (joined site.cache (content_names a.0)) q (content_named site.cache home a.0 is a.1) (inl (ap is_used (content_kind home a.0))) (kept_at site.cache home is dropped t new a.0 hashes r a.1 live))
+  unneeded g q m e n =
+      let item = listed n.0 n.1 n.2 in
+      let a = address_is n.1.integrity (integrities n.1 item) in
+      let path = ap (addressed (λ (x : Hash). joined site.cache (content_names x))) a.2 in
+      let both : Ok (home ++ content_names a.0) ≡ Ok (home ++ content_names g) = sym (content_named site.cache home a.0 is a.1) ∙ ap names_of (sym path) ∙ n.3 ∙ ap Ok e in
+      let names : content_names a.0 ≡ content_names g = same_rest home (content_names a.0) (content_names g) cc in
+      let same : a.0 ≡ g = (paths_differ.contents site.cache a.0 g a.1 (hashes g m)).0 (ap (joined site.cache) names) in
+      (apart g (contains_member g dropped m)).1 (n.1, item, a.2 ∙ ap Some same)
 
-  abbrev l : Lookup
-  l = record { cache = site.cache; key = key; aim = to_read }
-
-  content_moves : (f : Found) (more : Moves) → Contains items (Ok f) → Runs (reading (found_content l f)) more reply → AnsweredBy new more → AnsweredBy t more
-  content_moves f [] among run a = tt
-  content_moves f (m ∷ more) among run a =
-      let step : ReadAll (content_path site.cache f.integrity) ≡ m.0 = (let e : Some (ReadAll (content_path site.cache f.integrity)) ≡ Some m.0 = run.0 in cc) in
-      (moved_same t new m (ReadAll (content_path site.cache f.integrity)) step a.0 (content_same f among), reading_over t (found_content l f) m.1 more reply run.2)
-
-  found_moves : (b : List ℕ) (o : Option Found) (more : Moves) → found_in key b ≡ o → (apply t (ReadAll (bucket_path site.cache key)) Plain).0 ≡ Bytes b → Runs (found_for l to_read o) more reply → AnsweredBy new more → AnsweredBy t more
-  unfolding found_in
-  found_moves b None more e answer run a = over_done t _ more reply run
-  found_moves b (Some f) more e answer run a = content_moves f more (lists_each_key site home t listing items key b f is rooted ls at fine answer e) run a
-
-  bucket_moves : (u : PlainAnswer) (more : Moves) → (apply t (ReadAll (bucket_path site.cache key)) Plain).0 ≡ u → Runs (after (looking l) u) more reply → AnsweredBy new more → AnsweredBy t more
-  bucket_moves (answers.Bytes b) more answer run a = found_moves b (found_in key b) more refl answer run a
-  bucket_moves (answers.Failed NotFound) more answer run a = over_done t _ more reply run
-  bucket_moves (answers.Failed other) more answer run a = over_done t _ more reply run
-  bucket_moves other more answer run a = over_done t _ more reply run
-
-  all_moves : (moves : Moves) → Runs (looking l) moves reply → AnsweredBy new moves → AnsweredBy t moves
-  all_moves [] run a = tt
-  all_moves (m ∷ more) run a =
-      let step : ReadAll (bucket_path site.cache key) ≡ m.0 = (let e : Some (ReadAll (bucket_path site.cache key)) ≡ Some m.0 = run.0 in cc) in
-      let now = moved_same t new m (ReadAll (bucket_path site.cache key)) step a.0 bucket_same in
-      (now, bucket_moves m.1 more (ap (λ s. (apply t s Plain).0) step ∙ sym now) run.2 a.1)
+  -- it lacks what is idle alone
+  pub lacks_idle : LacksIdle site.cache home t new
+  lacks_idle = record {
+    nodes = λ q. elim (found_in home q dropped) [
+      | inl k ↦ inr (
+        ap (look new) k.2 ∙ gone site.cache home is dropped t new k.0 hashes r k.1,
+        record {
+          kind = ap (path_kind (Some home)) k.2 ∙ content_kind home k.0;
+          stands = ap (λ n. is_leaf (look t n)) k.2 ∙ stood site.cache home is dropped t new k.0 hashes r k.1;
+          idle = unneeded k.0 q k.1 k.2;
+        },
+      )
+      | inr never ↦ inl (stays site.cache home is dropped t new q hashes r never)
+    ];
+    links = out;
+    formed = λ key found f. integrities found (listed key found f);
+  }
 
 pub collections_keep_reads : CollectionsKeepReads
 collections_keep_reads site home t new listing items dropped key moves reply is rooted out ls at fine integrities apart r run answered =
-    all_moves site home t new listing items dropped key reply is rooted out ls at fine integrities apart r moves run answered
+    get_moves site.cache home t new is (lacks_idle site home t new listing items dropped is rooted out ls at fine integrities apart r) key reply moves run answered
 
 -- ---- lookups
 

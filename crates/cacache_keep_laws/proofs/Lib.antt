@@ -4,6 +4,16 @@ pub mod Covering
 mod Listing
 mod Indexed
 mod Agreeing
+mod Within
+pub mod Idle
+mod Twice
+mod Stepping
+pub mod Fully
+mod SameListing
+mod Sheds
+mod Swept
+mod Cleared
+pub mod BothLogs
 pub mod Keeping
 pub mod Logged
 pub mod Looks

@@ -5,3 +5,4 @@ pub mod Contents
 pub mod Verifying
 pub mod Collecting
 pub mod Removing
+pub mod Idle

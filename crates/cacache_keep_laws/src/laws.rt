@@ -2,6 +2,7 @@
 ghost use Rattle.cacache_keep_laws.specs.Answers.{AnswersAgree, LooksAnswer, TreesAreRooted};
 ghost use Rattle.cacache_keep_laws.specs.Collecting.{CachesLinkOut, CollectionsKeepLookups, CollectionsKeepReads, RemovalsLeave};
 ghost use Rattle.cacache_keep_laws.specs.Contents.{ContentsShown, ListingsHold};
+ghost use Rattle.cacache_keep_laws.specs.Idle.{IdleIsUnseen, StillLacksIdle};
 ghost use Rattle.cacache_keep_laws.specs.Index.{IndexesFind, ListsEachKey};
 ghost use Rattle.cacache_keep_laws.specs.Removing.{RemovalsRun};
 ghost use Rattle.cacache_keep_laws.specs.Verifying.{ReadsTellGood};
@@ -46,4 +47,11 @@ pub fn collect_laws()
     ensures leaves { RemovalsLeave }
     ensures reads { CollectionsKeepReads }
     ensures lookups { CollectionsKeepLookups }
+{}
+
+/// Where all that a tree lacks of another are contents that no lookup leads to: so it is still after a
+/// removal that is made on both, and neither a lookup nor a verified read by key sees it.
+pub fn idle_laws()
+    ensures removals { StillLacksIdle }
+    ensures unseen { IdleIsUnseen }
 {}

@@ -3,4 +3,6 @@
 
 mod laws;
 
-pub use laws::{answer_laws, collect_laws, contents_laws, index_laws, verify_laws, walk_laws};
+pub use laws::{
+    answer_laws, collect_laws, contents_laws, idle_laws, index_laws, verify_laws, walk_laws,
+};

@@ -1,0 +1,6 @@
+use Rattle.cacache_keep_laws.proofs.Idle.{idle_is_unseen}
+use Rattle.cacache_keep_laws.proofs.BothLogs.{still_lacks_idle}
+use Rattle.cacache_keep_laws.proofs.laws.idle_laws.Goals as goal
+
+pub returns : goal.returns
+returns c = record { removals = still_lacks_idle; unseen = idle_is_unseen }
