@@ -4,6 +4,7 @@
 
 ghost use Rattle.std.specs.Prelude.{◌≡◌, ℕ, List, [], Some, IfOk, map, string_bytes};
 ghost use Rattle.cacache_core.specs.PathNames.{Names as PathNames, home_of};
+ghost use Rattle.cacache_store.specs.declared.store.log.LogItem.{LogItem};
 ghost use Rattle.cacache_memory.specs.Replay.{tree_of};
 ghost use Rattle.cacache_entry.specs.View.{found_view};
 ghost use Rattle.cacache_table.specs.declared.command.Command.TheVariants as commands;
@@ -11,11 +12,13 @@ ghost use Rattle.cacache_table.specs.declared.reply.Reply.TheVariants as replies
 ghost use Rattle.cacache_jobs.specs.Sites.{site_of};
 ghost use Rattle.cacache_keep_laws.specs.Answers.{AnswersOn};
 ghost use Rattle.cacache_keep_laws.specs.Collecting.{LeavesLive, LinksLeadOut};
+ghost use Rattle.cacache_keep_laws.specs.Idle.{Removed};
 ghost use Rattle.cacache_keep_laws.specs.Verifying.{Judges};
 
 use cacache_core::errors::Result;
 use cacache_core::keeping::let_go;
 use cacache_get::read_sync;
+use cacache_index::rm::RemoveOpts;
 use cacache_keep::{Collected, Verdict, collect, keep_laws, verify};
 use cacache_keep_laws::answer_laws;
 use cacache_memory::MemStore;
@@ -61,6 +64,31 @@ pub fn read_after<C: Clock, N: Names>(
         (commands.Get key.now) (replies.Read bytes.items)) }
 {
     let_go(collect(env, cache)?);
+    keep_laws(&env.store);
+    let bytes = read_sync(env, cache, key)?;
+    keep_laws(&env.store);
+    answer_laws();
+    Ok(bytes)
+}
+
+/// Collects a cache in memory, removes a key with its content, and reads by a key. It reads what it would
+/// have read with the same removal and no collection, in the store `other` that this would have left.
+pub fn read_after_removal<C: Clock, N: Names>(
+    env: &mut Env<MemStore, C, N>,
+    cache: &str,
+    gone: &str,
+    key: &str,
+) -> Result<Vec<u8>>
+    ensures { (home : PathNames) (other : List LogItem) → home_of cache.now ≡ Some home
+        → LinksLeadOut home (tree_of env.old.store)
+        → Removed cache.now (commands.RemoveFully gone.now) env.old.store other
+        → IfOk result (λ bytes. AnswersOn (site_of cache.now env.old.base 0) (tree_of other)
+        (commands.Get key.now) (replies.Read bytes.items)) }
+{
+    let_go(collect(env, cache)?);
+    keep_laws(&env.store);
+    let removal = RemoveOpts::new().remove_fully(true);
+    removal.remove_sync(env, cache, gone)?;
     keep_laws(&env.store);
     let bytes = read_sync(env, cache, key)?;
     keep_laws(&env.store);
