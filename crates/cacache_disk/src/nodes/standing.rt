@@ -15,6 +15,7 @@ use std::alloc::{AllocError, Global};
 /// What stands at a path.
 #[derive(Debug, Drop)]
 pub enum TreeNode {
+    /// A folder; what it holds are items of their own.
     Folder,
     /// The bytes of a file, which the disk shares.
     File(Bytes),
