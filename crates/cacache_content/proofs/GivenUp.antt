@@ -11,7 +11,7 @@ use Rattle.cacache_store.specs.declared.store.answer.Answer.TheVariants as answe
 use Rattle.cacache_store.specs.declared.store.log.LogItem.{LogItem}
 use Rattle.cacache_table.specs.Common.{fails}
 use Rattle.cacache_table.specs.Runs.{EndsAs}
-use Rattle.cacache_content.specs.OpenWrites.{AsksToRemove, IsWriteError, RemovesTemp, TriesToRemove, WholeFails, given_up}
+use Rattle.cacache_content.specs.OpenWrites.{AsksToRemove, IsRetried, IsWriteError, RemovesTemp, TriesToRemove, WholeFails, given_up}
 
 asks_tries : (path : List ℕ) (e : Error) (old new : Option (List LogItem)) → AsksToRemove path old new → TriesToRemove path e old new
 asks_tries path OutOfMemory old new asks = inr asks
@@ -41,9 +41,9 @@ given_up_earned writes (Err (SerdeError cause message)) e earned = earned
 given_up_earned writes (Err (IntegrityError fault)) e earned = earned
 
 -- an error with the fault of a write that failed so, or for want of memory
-pub refused_earned : {T : Type 0} (writes : T → ℕ → Result ℕ io.Error → T → Type 0) (file : T) (error : io.Error) (fault : Fault) (e : Error) → WholeFails writes file error → fault ≡ fault_of (error_kind error) → EndsAs e (fails fault) → IsWriteError writes e
+pub refused_earned : {T : Type 0} (writes : T → ℕ → Result ℕ io.Error → T → Type 0) (file : T) (error : io.Error) (fault : Fault) (e : Error) → WholeFails writes file error × IsRetried error → fault ≡ fault_of (error_kind error) → EndsAs e (fails fault) → IsWriteError writes e
 refused_earned writes file error fault OutOfMemory failed is ends = record {}
-refused_earned writes file error fault (IoError f message) failed is (inl same) = (file, error, failed, (let alike : f ≡ fault = cc in alike ∙ is))
+refused_earned writes file error fault (IoError f message) failed is (inl same) = (file, error, failed.0, failed.1, (let alike : f ≡ fault = cc in alike ∙ is))
 refused_earned writes file error fault (IoError f message) failed is (inr memory) = absurd (cc)
 refused_earned writes file error fault (EntryNotFound cache key) failed is (inl same) = absurd (cc)
 refused_earned writes file error fault (EntryNotFound cache key) failed is (inr memory) = absurd (cc)

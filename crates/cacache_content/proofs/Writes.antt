@@ -1,4 +1,5 @@
 -- One write after another.
+use Rattle.std.specs.Prelude.{Option, None, Some}
 use Rattle.std.proofs.Common.{◌≡◌, ◌<◌, ◌≤◌, ◌^◌, ◌⊎◌, inl, inr, ℕ, ◌+◌, ◌-◌, List, [], ◌++◌, length, take, drop, refl, sym, ◌∙◌, ap, subst, append_assoc, append-nil, arith}
 use Rattle.std.proofs.Math.Seq.{take-add}
 use Rattle.std.proofs.lemmas.List.{take_rest, take-append-drop, length-drop}
@@ -42,6 +43,12 @@ module _ {T : Type 0} (temp : T → PlainTemp) where
       let none : Went v w [] = (Appends-kept _ _ _ [] (Appends-nil _) kept, takes, goes) in
       subst (Went u w) (append-nil bytes) (went_through u v w bytes [] x none)
 
+-- known bytes to which none are appended stay
+pub appends_nothing : (old new : Option (List ℕ)) → Appends old new [] → Keeps old new
+appends_nothing None new appends = tt
+appends_nothing (Some xs) None appends = appends
+appends_nothing (Some xs) (Some ys) appends = appends ∙ append-nil xs
+
 -- what is left of a buffer of which not all was handed over
 pub rest_left : (bytes : List ℕ) (n : ℕ) → n ≤ length bytes → (n ≡ length bytes → ⊥) → 0 < length (take (length bytes - n) (drop n bytes))
 rest_left bytes n within other =
@@ -59,7 +66,6 @@ pub too_often : {X : Type 0} (tries done size : ℕ) → (tries ≤ done) ⊎ X 
 too_often tries done size (inl few) all within other bound = absurd (omega (arith, few, all, within, other, bound))
 too_often tries done size (inr was) all within other bound = was
 
--- the first n bytes, and then none
-pub part_taken : {T : Type 0} (u v w : Writer T) (bytes : List ℕ) (n : ℕ) → Takes u v (take n bytes) → Takes v w [] → TakesPart u w bytes
-part_taken u v w bytes n x y =
-    (take n bytes, drop n bytes, sym (take-append-drop n bytes), λ so_far had. subst (HasTaken w) (append-nil (so_far ++ take n bytes)) (y (so_far ++ take n bytes) (x so_far had)))
+-- the first n bytes
+pub part_taken : {T : Type 0} (temp : T → PlainTemp) (u w : Writer T) (bytes : List ℕ) (n : ℕ) → Went temp u w (take n bytes) → TakesPart temp u w bytes
+part_taken temp u w bytes n x = (take n bytes, drop n bytes, sym (take-append-drop n bytes), x.1, x.0)

@@ -1,5 +1,6 @@
 -- Contents that are written in pieces: how they open, what they took and what their commit is.
 use Rattle.std.specs.Prelude.{◌≡◌, ◌≢◌, ◌⊎◌, ◌<◌, ◌^◌, ◌-◌, ◌++◌, ℕ, List, [], Option, None, Result, Ok, Err, min, length}
+use Rattle.std.specs.Io.KnownBytes.{Appends}
 use Rattle.std.specs.IoError.{error_kind}
 use Rattle.cacache_core.specs.declared.errors.Error.{Error}
 use Rattle.cacache_core.specs.declared.errors.Error.TheVariants.{IoError, OutOfMemory}
@@ -37,10 +38,11 @@ HasTaken w bytes = Holds w.hasher bytes × (w.count ≡ counted_bytes bytes)
 abbrev pub Takes : {T : Type 0} → Writer T → Writer T → List ℕ → Type 0
 Takes old new more = (bytes : List ℕ) → HasTaken old bytes → HasTaken new (bytes ++ more)
 
--- it took a beginning of these
-abbrev pub TakesPart : {T : Type 0} → Writer T → Writer T → List ℕ → Type 0
-TakesPart old new bytes =
+-- it took a beginning of these, and so did its file
+abbrev pub TakesPart : {T : Type 0} → (T → PlainTemp) → Writer T → Writer T → List ℕ → Type 0
+TakesPart temp old new bytes =
     (front rest : List ℕ) × (bytes ≡ front ++ rest) × Takes old new front
+    × Appends (temp old.file).bytes (temp new.file).bytes front
 
 -- the writer is still one of the same cache, temporary file and algorithm
 abbrev pub GoesOn : {T : Type 0} → (T → PlainTemp) → Writer T → Writer T → Type 0
@@ -69,16 +71,17 @@ module _ {T : Type 0} (writes : T → ℕ → Result ℕ io.Error → T → Type
       ⊎ (WriteGave (Ok 0) file × (error_kind e ≡ io.WriteZero))
       ⊎ (IsInterrupted × (error_kind e ≡ io.TimedOut))
 
-  -- a write failed with this fault, or there was no memory for the message
-  abbrev pub IsWriteError : Error → Type 0
-  IsWriteError OutOfMemory = Unit {0}
-  IsWriteError (IoError fault message) =
-      (file : T) × (e : io.Error) × WholeFails file e × (fault ≡ fault_of (error_kind e))
-  IsWriteError e = ⊥
-
 -- an interrupted write is tried again, and none of its errors is told
 abbrev pub IsRetried : io.Error → Type 0
 IsRetried e = error_kind e ≢ io.Interrupted
+
+-- all of a buffer couldn't be written for such a fault, or there was no memory for the message
+abbrev pub IsWriteError : {T : Type 0} → (T → ℕ → Result ℕ io.Error → T → Type 0) → Error → Type 0
+IsWriteError writes OutOfMemory = Unit {0}
+IsWriteError {T} writes (IoError fault message) =
+    (file : T) × (e : io.Error) × WholeFails writes file e × IsRetried e
+    × (fault ≡ fault_of (error_kind e))
+IsWriteError writes e = ⊥
 
 -- ---- the opening: before and after
 

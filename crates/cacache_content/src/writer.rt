@@ -271,7 +271,7 @@ impl<T: TempFile> Write for Writer<T> {
         ensures bytes { OnOk result (Appends (T.seen self.old.file).bytes
             (T.seen self.new.file).bytes buf.now) }
         ensures takes { OnOk result (Takes self.old self.new buf.now) }
-        ensures part { OnErr result (TakesPart self.old self.new buf.now) }
+        ensures part { OnErr result (TakesPart T.seen self.old self.new buf.now) }
         ensures goes_on { GoesOn T.seen self.old self.new }
         ensures earned { IfErr result (WholeFails T.writes self.new.file) }
         ensures retried { IfErr result IsRetried }

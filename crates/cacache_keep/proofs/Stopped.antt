@@ -1,10 +1,12 @@
 -- Calls that an error ends.
-use Rattle.std.proofs.Common.{◌≡◌, ◌⊎◌, ℕ, List, [], ◌∷◌, ◌++◌, Bool, Option, Ok, Err, Result, IfErr, inl, inr, refl, sym, ap, subst, ◌∙◌, map, arith, append_assoc}
-use Rattle.std.specs.Prelude.{All, Contains, IsErrAnd}
-use Rattle.std.proofs.lemmas.List.{get_or-map, length-map}
+use Rattle.std.proofs.Common.{◌≡◌, ◌⊎◌, ◌<◌, ◌+◌, ℕ, List, [], ◌∷◌, ◌++◌, Bool, Option, Ok, Err, Result, IfErr, inl, inr, refl, sym, ap, subst, ◌∙◌, map, length, take, drop, get_or, append_assoc}
+use Rattle.std.specs.Prelude.{All, IsErrAnd}
+use Rattle.std.proofs.lemmas.List.{drop_more, take-append-drop}
 use Rattle.std.proofs.lemmas.List.Elements.{All-append, All-cons, All-map, All-nil}
 use Rattle.cacache_core.specs.declared.errors.Error.{Error}
-use Rattle.cacache_core.specs.declared.errors.Error.TheVariants.{OutOfMemory}
+use Rattle.cacache_core.specs.declared.errors.Error.TheVariants.{EntryNotFound, SizeMismatch, IoError, SerdeError, IntegrityError, OutOfMemory}
+use Rattle.cacache_core.specs.declared.errors.Fault.{Fault}
+use Rattle.cacache_core.specs.declared.errors.Fault.TheVariants.{NotFound}
 use Rattle.cacache_core.specs.declared.integrity.digest.Hash.{Hash}
 use Rattle.cacache_store.specs.declared.store.log.LogItem.{LogItem}
 use Rattle.cacache_entry.specs.Latest.{Found}
@@ -16,7 +18,7 @@ use Rattle.cacache_table.specs.State.{Site, Item}
 use Rattle.cacache_table.specs.Table.{opening}
 use Rattle.cacache_table.specs.Runs.{Ran, plain_item, without_message}
 use Rattle.cacache_jobs.specs.Sites.{site_of}
-use Rattle.cacache_keep.specs.Calls.{AsksEach, IsReading, ListsEntries, Made, ReadsEach, SaysWhy, StopsReading, question_of, read_of}
+use Rattle.cacache_keep.specs.Calls.{AsksEach, EndsAll, IsFirstError, IsMissing, IsReading, ListsEntries, Made, ReadsEach, SaysWhy, StopsReading, question_of, read_of}
 
 -- ---- calls behind calls
 
@@ -43,12 +45,12 @@ pub stops_lost : (site : Site) (calls : List (Command × Reply)) (old new : Opti
 stops_lost site calls old new made harmless = record { calls = calls; made = made; harmless = harmless; why = inl refl }
 
 -- this call was refused
-pub stops_at : (site : Site) (command : Command) (e : Error) (old new : Option (List LogItem)) → IsReading command → Ran (opening site command) (replies.Refused (without_message e)) old new → StopsReading site e old new
-stops_at site command e old new reading ran = record {
+pub stops_at : (site : Site) (command : Command) (e : Error) (old new : Option (List LogItem)) → IsReading command → EndsAll command e → Ran (opening site command) (replies.Refused (without_message e)) old new → StopsReading site e old new
+stops_at site command e old new reading ends ran = record {
   calls = (command, replies.Refused (without_message e)) ∷ [];
   made = (new, ran, refl);
   harmless = All-cons (λ (c : Command × Reply). IsReading c.0) (command, replies.Refused (without_message e)) [] reading (All-nil (λ (c : Command × Reply). IsReading c.0));
-  why = inr ([], (command, replies.Refused (without_message e)), refl, refl);
+  why = inr ([], (command, replies.Refused (without_message e)), refl, refl, ends);
 }
 
 -- ---- reads, questions, listings
@@ -65,20 +67,44 @@ listing items = (commands.Ls, replies.Listed items) ∷ []
 pub listing_harmless : (items : List Item) → All (λ (c : Command × Reply). IsReading c.0) (listing items)
 listing_harmless items = All-cons (λ (c : Command × Reply). IsReading c.0) (commands.Ls, replies.Listed items) [] tt (All-nil (λ (c : Command × Reply). IsReading c.0))
 
--- an item of the listing is the error, or memory ran out
-pub item_stops : (site : Site) (items : List Item) (e : Error) (old new : Option (List LogItem)) → Ran (opening site commands.Ls) (replies.Listed (map plain_item items)) old new → (e ≡ OutOfMemory) ⊎ Contains items (Err e) → StopsReading site e old new
-item_stops site items e old new ran why = record {
+-- the first error of the listing's items is this one, or memory ran out
+pub item_stops : (site : Site) (items : List Item) (e : Error) (old new : Option (List LogItem)) → Ran (opening site commands.Ls) (replies.Listed (map plain_item items)) old new → (IsMissing items → ⊥) → (e ≡ OutOfMemory) ⊎ IsFirstError items e → StopsReading site e old new
+item_stops site items e old new ran there why = record {
   calls = listing (map plain_item items);
   made = (new, ran, refl);
   harmless = listing_harmless (map plain_item items);
   why = elim why [
     | inl memory ↦ inl memory
-    | inr c ↦ inr ([], (commands.Ls, replies.Listed (map plain_item items)), refl, plain_among items e c)
+    | inr first ↦ inr ([], (commands.Ls, replies.Listed (map plain_item items)), refl, (first_plain items e first, λ missing. there (missing_too items missing)), tt)
   ];
 }
   where
-    plain_among : (items : List Item) (e : Error) → Contains items (Err e) → Contains (map plain_item items) (Err (without_message e))
-    plain_among items e c = (c.0, omega (arith, c.1, length-map items plain_item), get_or-map plain_item items c.0 (Err e) (Err (without_message e)) c.1 ∙ ap plain_item c.2)
+    entries_plain : (entries : List Found) (more : List Item) → map plain_item (map Ok entries ++ more) ≡ map Ok entries ++ map plain_item more
+    entries_plain [] more = refl
+    entries_plain (f ∷ fs) more = ap (λ (l : List Item). Ok f ∷ l) (entries_plain fs more)
+
+    first_plain : (items : List Item) (e : Error) → IsFirstError items e → IsFirstError (map plain_item items) (without_message e)
+    first_plain items e (entries, rest, is) = (entries, map plain_item rest, ap (map plain_item) is ∙ entries_plain entries (Err e ∷ rest))
+
+    only_missing : (item : Item) (message : List ℕ) → plain_item item ≡ Err (IoError NotFound message) → (m : List ℕ) × (item ≡ Err (IoError NotFound m))
+    only_missing (Ok found) message is = absurd (cc)
+    only_missing (Err (IoError fault m)) message is = (m, (let same : fault ≡ NotFound = cc in ap (λ (f : Fault). Err (IoError f m)) same))
+    only_missing (Err (SerdeError cause m)) message is = absurd (cc)
+    only_missing (Err (EntryNotFound cache key)) message is = absurd (cc)
+    only_missing (Err (SizeMismatch wanted found)) message is = absurd (cc)
+    only_missing (Err (IntegrityError fault)) message is = absurd (cc)
+    only_missing (Err OutOfMemory) message is = absurd (cc)
+
+    missing_too : (items : List Item) → IsMissing (map plain_item items) → IsMissing items
+    missing_too [] (message, is) = absurd (cc)
+    missing_too (item ∷ []) (message, is) =
+        let it = only_missing item message (cc) in (it.0, ap (λ (i : Item). i ∷ []) it.1)
+    missing_too (item ∷ other ∷ rest) (message, is) = absurd (cc)
+
+-- entries, and then an error
+pub first_error : (items : List Item) (entries : List Found) (e : Error) (k : ℕ) → k < length items → map Ok entries ≡ take k items → Err e ≡ get_or items k (Err e) → IsFirstError items e
+first_error items entries e k below before is =
+    (entries, drop (k + 1) items, sym (take-append-drop k items) ∙ ap (λ (l : List Item). take k items ++ l) (drop_more items k (Err e) below ∙ ap (λ (x : Item). x ∷ drop (k + 1) items) (sym is)) ∙ ap (λ (l : List Item). l ++ Err e ∷ drop (k + 1) items) (sym before))
 
 pub reads_stop : (site : Site) (addresses damaged : List (List Hash)) (good : ℕ) (e : Error) (old mid new : Option (List LogItem)) → ReadsEach site addresses good damaged old mid → StopsReading site e mid new → StopsReading site e old new
 reads_stop site addresses damaged good e old mid new r s = stops_on site (map read_of r.reads) e old mid new r.reading (reads_harmless r.reads) s

@@ -1,5 +1,5 @@
 -- What a verification and a collection ask of a cache, call by call.
-use Rattle.std.specs.Prelude.{◌≡◌, ◌⊎◌, ◌++◌, ◌+◌, ◌≤◌, All, ℕ, List, [], ◌∷◌, Bool, true, false, Option, Ok, Err, Vec, Contains, filter, length, map, not}
+use Rattle.std.specs.Prelude.{◌≡◌, ◌⊎◌, ◌++◌, ◌+◌, ◌≤◌, All, ℕ, List, [], ◌∷◌, Bool, true, false, Option, Ok, Err, Vec, filter, length, map, not}
 use Rattle.cacache_core.specs.declared.errors.Error.{Error}
 use Rattle.cacache_core.specs.declared.errors.Error.TheVariants.{IoError, IntegrityError, OutOfMemory}
 use Rattle.cacache_core.specs.declared.errors.Fault.TheVariants.{NotFound}
@@ -142,18 +142,29 @@ IsReading (commands.Exists i) = Unit {0}
 IsReading commands.Ls = Unit {0}
 IsReading command = ⊥
 
--- the reply says the error: it is why the call was refused, or why an item couldn't be read
+-- the error is the first among the items: those before it are entries
+abbrev pub IsFirstError : List Item → Error → Type 0
+IsFirstError items e =
+    (entries : List Found) × (rest : List Item) × (items ≡ map Ok entries ++ Err e ∷ rest)
+
+-- the reply says the error: it is why the call was refused, or the first item that couldn't be read
 abbrev pub SaysError : Reply → Error → Type 0
 SaysError (replies.Refused error) e = error ≡ without_message e
-SaysError (replies.Listed items) e = Contains items (Err (without_message e))
+SaysError (replies.Listed items) e =
+    IsFirstError items (without_message e) × (IsMissing items → ⊥)
 SaysError reply e = ⊥
+
+-- the error of such a call ends all: that of a content's read does, unless it says damage
+abbrev pub EndsAll : Command → Error → Type 0
+EndsAll (commands.GetHash i) e = is_damage e ≡ false
+EndsAll command e = Unit {0}
 
 -- the last of the calls says the error, or memory ran out
 abbrev pub SaysWhy : List (Command × Reply) → Error → Type 0
 SaysWhy calls e =
     (e ≡ OutOfMemory)
     ⊎ ((before : List (Command × Reply)) × (last : Command × Reply)
-    × (calls ≡ before ++ last ∷ []) × SaysError last.1 e)
+    × (calls ≡ before ++ last ∷ []) × SaysError last.1 e × EndsAll last.0 e)
 
 -- the log gained runs of calls that read, which the error ended
 pub record StopsReading

@@ -1,10 +1,10 @@
 //! The entries of the index.
-ghost use Rattle.std.specs.Prelude.{◌≡◌, ◌⊎◌, Ok, Err, true, IfOk, IfErr, Contains, map};
+ghost use Rattle.std.specs.Prelude.{◌≡◌, ◌⊎◌, Ok, true, false, IfOk, IfErr, map};
 ghost use Rattle.cacache_core.specs.declared.errors.Error.TheVariants.{OutOfMemory};
 ghost use Rattle.cacache_table.specs.Runs.{reply_of};
 ghost use Rattle.cacache_jobs.specs.Environment.{Calls, KeepsRest};
 ghost use Rattle.cacache_jobs.specs.Sites.{site_of};
-ghost use Rattle.cacache_keep.specs.Calls.{IsMissing, ListsEntries, StopsReading, listed};
+ghost use Rattle.cacache_keep.specs.Calls.{IsFirstError, IsMissing, ListsEntries, StopsReading, listed};
 
 use cacache_core::errors::{Error, Fault, Result};
 use cacache_core::keeping::let_go;
@@ -30,7 +30,8 @@ fn items<S: Store, C, N>(
 
 /// Whether the only item says that the folder of the index isn't there.
 fn is_missing(items: &[std::result::Result<Found, Error>]) -> bool
-    ensures { result ≡ true → IsMissing items.now }
+    ensures yes { result ≡ true → IsMissing items.now }
+    ensures no { result ≡ false → IsMissing items.now → ⊥ }
 {
     if items.len() != 1 {
         return false;
@@ -44,7 +45,7 @@ fn is_missing(items: &[std::result::Result<Found, Error>]) -> bool
 /// The items, if each is an entry; the first that is an error else.
 fn entries_of(alloc: Global, items: Vec<std::result::Result<Found, Error>>) -> Result<Vec<Found>>
     ensures ok { IfOk result (λ entries. items.items ≡ map Ok entries.items) }
-    ensures err { IfErr result (λ e. (e ≡ OutOfMemory) ⊎ Contains items.items (Err e)) }
+    ensures err { IfErr result (λ e. (e ≡ OutOfMemory) ⊎ IsFirstError items.items e) }
 {
     let mut entries = Vec::new(alloc);
     for item in items {

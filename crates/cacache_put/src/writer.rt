@@ -220,7 +220,8 @@ impl<T: TempFile> Write for SyncWriter<T> {
         ensures bytes { OnOk result (Appends (T.seen self.old.writer.file).bytes
             (T.seen self.new.writer.file).bytes buf.now) }
         ensures takes { OnOk result (Takes self.old.writer self.new.writer buf.now) }
-        ensures part { OnErr result (TakesPart self.old.writer self.new.writer buf.now) }
+        ensures part { OnErr result
+            (TakesPart T.seen self.old.writer self.new.writer buf.now) }
         ensures goes_on { GoesOn T.seen self.old.writer self.new.writer }
         ensures said { self.new ≡ record self.old { writer = self.new.writer } }
         ensures earned { IfErr result (WholeFails T.writes self.new.writer.file) }

@@ -96,26 +96,44 @@ fn are_only(found: &[SerializableMetadata], entry: &SerializableMetadata) -> boo
     }
 }
 
-/// Whether what a lookup found prints as a line's text. A tombstone's line has nothing to find.
+/// Whether what a lookup found prints as a line's text.
 fn prints_as(alloc: Global, found: &Option<Metadata>, line: &[u8]) -> Result<bool, AllocError> {
     let Some(found) = found else {
-        return Ok(true);
+        return Ok(false);
     };
     let printed = found.to_string(alloc)?;
     Ok(line.split_at_checked(TEXT).map(|(_head, text)| text) == Some(printed.as_bytes()))
 }
 
-/// Whether what a lookup of the entry's key finds in its line prints as the line's text.
-fn is_printed(alloc: Global, entry: &SerializableMetadata, line: &[u8]) -> Result<bool, Flaw> {
-    let lookup = given(latest(alloc, line, entry.key.as_str()))?;
-    let same = prints_as(alloc, &lookup.found, line);
-    let_go(lookup);
+/// The columns, with an integrity where there is none: a lookup finds no entry without one.
+fn findable(columns: Columns<'_>) -> Columns<'_> {
+    match columns.integrity {
+        "none" => Columns {
+            integrity: "sha1-deadbeef",
+            ..columns
+        },
+        _ => columns,
+    }
+}
+
+/// Whether what a lookup finds of the columns' entry prints as the text of its line.
+fn is_printed(alloc: Global, columns: Columns<'_>) -> Result<bool, Flaw> {
+    let entry = entry_of(alloc, findable(columns))?;
+    let line = given(cacache_entry::line(alloc, &entry))?;
+    let lookup = given(latest(alloc, &line, entry.key.as_str()))?;
+    let same = prints_as(alloc, &lookup.found, &line);
+    let_go((lookup, entry));
     Ok(same?)
 }
 
-/// Whether a line reads back as the entry alone, and what a lookup finds prints so; how long it is, and the line.
-fn shown(alloc: Global, entry: &SerializableMetadata, line: &[u8]) -> Result<String, Flaw> {
-    let same = is_printed(alloc, entry, line)?;
+/// Whether a line reads back as the entry alone, and prints again; how long it is, and the line.
+fn shown(
+    alloc: Global,
+    columns: Columns<'_>,
+    entry: &SerializableMetadata,
+    line: &[u8],
+) -> Result<String, Flaw> {
+    let same = is_printed(alloc, columns)?;
     let found = given(entries(alloc, line))?;
     three(
         alloc,
@@ -126,17 +144,22 @@ fn shown(alloc: Global, entry: &SerializableMetadata, line: &[u8]) -> Result<Str
 }
 
 /// That of an entry's line, or why there is none.
-fn written(alloc: Global, entry: &SerializableMetadata) -> Result<String, Flaw> {
+fn written(
+    alloc: Global,
+    columns: Columns<'_>,
+    entry: &SerializableMetadata,
+) -> Result<String, Flaw> {
     match cacache_entry::line(alloc, entry) {
-        Ok(line) => shown(alloc, entry, &line),
+        Ok(line) => shown(alloc, columns, entry, &line),
         Err(error) => printed(alloc, Debugged(error)),
     }
 }
 
 /// Whether the line of an entry reads back and prints again, how long it is, and the line; or why there is none.
 pub(crate) fn line(alloc: Global, columns: &str) -> Result<String, Flaw> {
-    let entry = entry_of(alloc, columns_of(columns))?;
-    let written = written(alloc, &entry);
+    let columns = columns_of(columns);
+    let entry = entry_of(alloc, columns)?;
+    let written = written(alloc, columns, &entry);
     let_go(entry);
     written
 }

@@ -111,16 +111,18 @@ fn given(alloc: Global, file: Failing, max: usize) -> Answer<Failing, Short>
     }
 }
 
-/// A store that makes all folders, links and temporary files, takes all lines, opens one file, removes any, and
-/// keeps the bytes of what was moved last.
+/// A store that makes all folders, links and temporary files, takes all lines, opens one file, and keeps the bytes of
+/// what was moved last.
 #[derive(Drop)]
 pub(crate) struct Faulty {
     alloc: Global,
     fails: usize,
     file: Option<Failing>,
     pub(crate) kept: Vec<u8>,
-    /// How many files were removed.
-    pub(crate) removed: usize,
+    /// Whether no file can be removed.
+    pub(crate) stays: bool,
+    /// How many files were to be removed.
+    pub(crate) removals: usize,
 }
 
 impl Faulty {
@@ -169,7 +171,10 @@ impl Store for Faulty {
                 Answer::Done
             }
             Step::RemoveFile(_path) => {
-                self.removed = self.removed.saturating_add(1);
+                self.removals = self.removals.saturating_add(1);
+                if self.stays {
+                    return Answer::Failed(Fault::PermissionDenied);
+                }
                 Answer::Done
             }
             Step::Append(_path, bytes) => Answer::Took(bytes.len()),
@@ -217,7 +222,8 @@ fn store_of(alloc: Global, fails: usize) -> Result<Faulty, AllocError> {
             reads: 0,
         }),
         kept: Vec::new(alloc),
-        removed: 0,
+        stays: false,
+        removals: 0,
     })
 }
 

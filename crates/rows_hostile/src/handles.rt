@@ -1,6 +1,6 @@
 //! Readers, writers and linkers over a store that fails one read or write. A row's words say which one, counted from 0, and how
 //! many the handle is asked for before its end. Each read asks for five bytes of `hello world`, and each write hands in the
-//! next part of it; the file takes three bytes at most.
+//! next part of it, or all of it; the file takes three bytes at most.
 use crate::faulty::{On, on};
 use cacache::content::read::open;
 use cacache::errors::Error;
@@ -131,6 +131,22 @@ pub(crate) fn writes(alloc: Global, words: &str) -> Result<String, Flaw> {
     Ok(format!(in alloc; "{text}, kept {kept}")?)
 }
 
+/// What a writer of this row that is handed all at once says of it, and what is stored then.
+pub(crate) fn writes_whole(alloc: Global, words: &str) -> Result<String, Flaw> {
+    let mut env = on(alloc, number_of(words)?)?;
+    let (said, end) = match WriteOpts::new().open_hash_sync(&mut env, "c") {
+        Ok(mut writer) => {
+            let written = writer.write_all(b"hello world");
+            let said = if written.is_ok() { "written" } else { "failed" };
+            (said, writer.commit(&mut env))
+        }
+        Err(error) => ("", Err(error)),
+    };
+    let text = stored(alloc, end)?;
+    let kept = word_of(env.store.kept.as_slice());
+    Ok(format!(in alloc; "{said}, {text}, kept {kept}")?)
+}
+
 /// What a writer's commit answers that hands each part on or is abandoned, or why it was.
 fn commit_or_abandon(env: &mut On, count: usize) -> Answered<Integrity> {
     let mut writer = WriteOpts::new().open_sync(env, "c", "k")?;
@@ -140,14 +156,20 @@ fn commit_or_abandon(env: &mut On, count: usize) -> Answered<Integrity> {
     writer.commit(env)
 }
 
-/// What such a writer of this row answers, what is stored then, and how many files were removed.
+/// What such a writer of this row answers, what is stored then, and how many files were to be removed. `stays` behind the
+/// numbers says that none can be.
 pub(crate) fn abandons(alloc: Global, words: &str) -> Result<String, Flaw> {
+    let (words, stays) = match words.strip_suffix(" stays") {
+        Some(words) => (words, true),
+        None => (words, false),
+    };
     let (fails, count) = numbers(words)?;
     let mut env = on(alloc, fails)?;
+    env.store.stays = stays;
     let end = commit_or_abandon(&mut env, count);
     let text = stored(alloc, end)?;
-    let (kept, removed) = (word_of(env.store.kept.as_slice()), env.store.removed);
-    Ok(format!(in alloc; "{text}, kept {kept}, removed {removed}")?)
+    let (kept, removals) = (word_of(env.store.kept.as_slice()), env.store.removals);
+    Ok(format!(in alloc; "{text}, kept {kept}, removals {removals}")?)
 }
 
 /// What a linker gives, and its commit.

@@ -11,7 +11,8 @@
 //! memory may be refused: `rt try --fail-alloc` refuses each in turn.
 //!
 //! `puts` are two puts of one key whose moves meet. `reader`, `writer` and `linker` are handles over a store that fails one read
-//! or write: which one, and how many there are before the end.
+//! or write: which one, and how many there are before the end. `whole` is a writer that is handed all at once, and `abandons`
+//! one that is given up where a write fails, also where its file `stays`.
 //!
 //! Of the cache's own code the model has the words for luck and faults alone. What a key's bucket, a content's place and a line
 //! are is written out, as other tools say it.

@@ -1,6 +1,6 @@
 //! What a row asks for, and what came.
 use crate::changes::changes;
-use crate::handles::{abandons, links, reads, writes};
+use crate::handles::{abandons, links, reads, writes, writes_whole};
 use crate::meeting::all_met;
 use crate::script::{Change, Run, played};
 use crate::tally::Tally;
@@ -61,6 +61,7 @@ fn tried(alloc: Global, act: &str) -> Result<String, Flaw> {
         "puts" => Ok(all_met(alloc)?),
         "reader" => reads(alloc, words),
         "writer" => writes(alloc, words),
+        "whole" => writes_whole(alloc, words),
         "abandons" => abandons(alloc, words),
         "linker" => links(alloc, words),
         _ => kind_played(alloc, kind),

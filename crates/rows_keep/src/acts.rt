@@ -1,6 +1,6 @@
 //! What the rows do.
 use crate::place::On;
-use crate::planting::plant;
+use crate::planting::{link, plant};
 use cacache::store::Store;
 use cacache::{Error, Integrity, Result as Answered};
 use cacache_core::keeping::let_go;
@@ -22,6 +22,11 @@ fn refused(alloc: Global, error: Error) -> Result<String, AllocError> {
     let text = format!(in alloc; "Refused: {error}");
     let_go(error);
     written_out(alloc, text?.as_str())
+}
+
+/// Whether something was done.
+fn is_done(alloc: Global, is_done: bool) -> Result<String, AllocError> {
+    String::from_str(alloc, if is_done { "done" } else { "not done" })
 }
 
 /// The words of a text.
@@ -63,10 +68,8 @@ pub(crate) fn made<S: Store>(env: &mut On<S>, act: &str, input: &str) -> Result<
         "write_sync" => told(alloc, cacache::write_vec_sync(env, cache, rest, bytes)),
         "remove_sync" => told(alloc, cacache::remove_sync(env, cache, rest)),
         "remove_hash_sync" => return removed(env, cache, rest),
-        "plant" => {
-            let is_done = plant(env, cache, bytes)?;
-            String::from_str(alloc, if is_done { "done" } else { "not done" })
-        }
+        "plant" => is_done(alloc, plant(env, cache, bytes)?),
+        "link" => is_done(alloc, link(env, cache, rest)?),
         "cacache-keep" => ran(env, words),
         _ => return Err(Flaw::NotRead),
     };

@@ -4,6 +4,8 @@
 #[cfg(test)]
 mod making;
 #[cfg(test)]
+mod names;
+#[cfg(test)]
 mod order;
 #[cfg(test)]
 mod playing;

@@ -112,9 +112,12 @@ fn committed(alloc: Global) -> Result<String, Fail> {
     let Ok(mut writer) = WriteOpts::new().size(11).open_hash_sync(&mut env, "c") else {
         return Ok(String::from_str(alloc, "not opened")?);
     };
-    if writer.write_all(b"hello world").is_err() {
+    if writer.write_all(b"hello ").is_err() {
         return Ok(String::from_str(alloc, "not written")?);
     }
+    let Ok(writer) = writer.write_or_abandon(&mut env, b"world") else {
+        return Ok(String::from_str(alloc, "abandoned")?);
+    };
     let Ok(integrity) = writer.commit(&mut env) else {
         return Ok(String::from_str(alloc, "not committed")?);
     };

@@ -11,7 +11,7 @@ returns-clause-lists g c =
 
 pub returns-clause-stops : goal.returns-clause-stops
 returns-clause-stops g c =
-    error_so c.entries_of.result (λ e why. item_stops (site_of c.args.cache.now c.args.env.now.base 0) c.in_ok-items.items.items e _ _ c.in_ok-items.ensures.0.0 why) c.entries_of.ensures.err
+    error_so c.entries_of.result (λ e why. item_stops (site_of c.args.cache.now c.args.env.now.base 0) c.in_ok-items.items.items e _ _ c.in_ok-items.ensures.0.0 (c.is_missing.ensures.no c.if-is_missing.false) why) c.entries_of.ensures.err
 
 pub returns-in_err-items-clause-stops : goal.returns-in_err-items-clause-stops
 returns-in_err-items-clause-stops g c =
@@ -19,4 +19,4 @@ returns-in_err-items-clause-stops g c =
     let old = g.S.Store.log c.args.env.now.store in
     let new = g.S.Store.log c.items.new.env.store in
     let e = c.in_err-items.field-0.0 in
-    error_as (λ x. StopsReading site x old new) c.from_residual.result e c.from_residual.ensures.1 (stops_at site Ls e old new tt c.in_err-items.ensures.0.0)
+    error_as (λ x. StopsReading site x old new) c.from_residual.result e c.from_residual.ensures.1 (stops_at site Ls e old new tt tt c.in_err-items.ensures.0.0)

@@ -1,14 +1,22 @@
-use Rattle.std.proofs.Common.{◌≡◌, Err, length, rules, sym, subst}
-use Rattle.std.specs.Prelude.{Contains}
+use Rattle.std.proofs.Common.{◌≡◌, ◌∙◌, Err, Ok, get_or, length, map, rules, sym, subst}
+use Rattle.std.proofs.lemmas.List.{map-id}
 use Rattle.std.proofs.lemmas.Iterator.Adapters.{YieldsList-from_vec}
-use Rattle.std.proofs.lemmas.Iterator.Consumers.{YieldsList-turn}
+use Rattle.std.proofs.lemmas.Iterator.Consumers.{YieldsList-so_far, YieldsList-turn}
 use Rattle.cacache_table.specs.State.{Item}
+use Rattle.cacache_keep.specs.Calls.{IsFirstError}
+use Rattle.cacache_keep.proofs.Stopped.{first_error}
 use Rattle.cacache_keep.proofs.index.entries_of.Goals as goal
 
--- the error is an item
+-- the items before the error are entries
 pub returns-in_err-item-clause-err : goal.returns-in_err-item-clause-err
 returns-in_err-item-clause-err c =
-    let t = YieldsList-turn (YieldsList-from_vec {s = c.into_iter-item-iterator.result} c.args.items.items (search rules) (search rules)) c.loop-item.yielded c.loop-item.item-iterator c.loop-item.yielded_by c.next.result c.next.new.self c.in-Some.item c.in-Some.is c.next.ensures.steps in
-    let e : c.in-Some.item ≡ Err c.in_err-item.field-0.0 = search rules in
-    let h : Contains c.args.items.items (Err c.in_err-item.field-0.0) = subst (λ (x : Item). Contains c.args.items.items x) e (length c.loop-item.yielded, t.0, sym t.1) in
-    search (rules, h)
+    let items = c.args.items.items in
+    let road = YieldsList-from_vec {s = c.into_iter-item-iterator.result} items (search rules) (search rules) in
+    let so_far = YieldsList-so_far road c.loop-item.yielded c.loop-item.item-iterator c.loop-item.yielded_by in
+    let turn = YieldsList-turn road c.loop-item.yielded c.loop-item.item-iterator c.loop-item.yielded_by c.next.result c.next.new.self c.in-Some.item c.in-Some.is c.next.ensures.steps in
+    let e = c.in_err-item.field-0.0 in
+    let is : c.in-Some.item ≡ Err e = search rules in
+    let before : map Ok c.loop-item.entries.items ≡ _ = sym c.loop-item.invariant ∙ sym (map-id c.loop-item.yielded) ∙ so_far in
+    let at = subst (λ (x : Item). x ≡ get_or items (length c.loop-item.yielded) x) is turn.1 in
+    let first : IsFirstError items e = first_error items c.loop-item.entries.items e (length c.loop-item.yielded) turn.0 before at in
+    search (rules, first)

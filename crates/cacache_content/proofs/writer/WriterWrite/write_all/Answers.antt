@@ -1,14 +1,16 @@
-use Rattle.std.proofs.Common.{rules, drop, take, sym, inl, inr}
-use Rattle.std.proofs.lemmas.List.{take-append-drop}
-use Rattle.cacache_content.proofs.Writes.{went_further, went_no_further, part_taken, rest_left, tried_more, too_often}
+use Rattle.std.proofs.Common.{rules, inl, inr}
+use Rattle.cacache_content.proofs.Writes.{appends_nothing, went_further, went_no_further, part_taken, rest_left, tried_more, too_often}
 use Rattle.cacache_content.proofs.writer.WriterWrite.write_all.Goals as goal
 use Rattle.cacache_content.proofs.writer.WriterWrite.write_all.Goals.{in-Ok, in-Err}
 
+-- the write that took nothing
 pub returns-in-Ok-eq0-clause-part : goal.returns-in-Ok-eq0-clause-part
 returns-in-Ok-eq0-clause-part g c =
-    let told = rw c.in-Ok-eq0.is at c.write.ensures.takes in
-    let takes = rw c.in-Ok-eq0.field-0-test at told in
-    part_taken c.args.self.now c.loop-tries.self c.write.new.self c.args.buf.now c.loop-tries.done c.loop-tries.invariant.1.1 takes
+    let temp = g.T.TempHandle.seen in
+    let bytes = rw c.in-Ok-eq0.field-0-test at rw c.in-Ok-eq0.is at c.write.ensures.bytes in
+    let takes = rw c.in-Ok-eq0.field-0-test at rw c.in-Ok-eq0.is at c.write.ensures.takes in
+    let kept = appends_nothing (temp c.loop-tries.self.file).bytes (temp c.write.new.self.file).bytes bytes in
+    part_taken temp c.args.self.now c.write.new.self c.args.buf.now c.loop-tries.done (went_no_further temp _ _ _ _ c.loop-tries.invariant.1 kept takes c.write.ensures.goes_on)
 
 pub returns-in-Ok-eq0-clause-earned : goal.returns-in-Ok-eq0-clause-earned
 returns-in-Ok-eq0-clause-earned g c =
@@ -19,7 +21,8 @@ returns-in-Ok-eq0-clause-earned g c =
 
 pub returns-in-Err-2-clause-part : goal.returns-in-Err-2-clause-part
 returns-in-Err-2-clause-part g c =
-    part_taken c.args.self.now c.loop-tries.self c.write.new.self c.args.buf.now c.loop-tries.done c.loop-tries.invariant.1.1 c.in-Err.ensures.takes
+    let temp = g.T.TempHandle.seen in
+    part_taken temp c.args.self.now c.write.new.self c.args.buf.now c.loop-tries.done (went_no_further temp _ _ _ _ c.loop-tries.invariant.1 c.in-Err.ensures.bytes c.in-Err.ensures.takes c.in-Err.ensures.goes_on)
 
 pub returns-in-Err-2-clause-earned : goal.returns-in-Err-2-clause-earned
 returns-in-Err-2-clause-earned g c =
@@ -41,10 +44,7 @@ loop-tries-preserved g c =
     ]
 
 pub returns-clause-part : goal.returns-clause-part
-returns-clause-part g c =
-    let done = c.loop-tries.done in
-    let buf = c.args.buf.now in
-    (take done buf, drop done buf, sym (take-append-drop done buf), c.loop-tries.invariant.1.1)
+returns-clause-part g c = part_taken g.T.TempHandle.seen c.args.self.now _ c.args.buf.now c.loop-tries.done c.loop-tries.invariant.1
 
 pub returns-clause-earned : goal.returns-clause-earned
 returns-clause-earned g c =
