@@ -29,7 +29,7 @@ made_both site (c ∷ calls) more old mid new made after = (made.0, made.1, made
 why_on : (calls more : List (Command × Reply)) (e : Error) → SaysWhy more e → SaysWhy (calls ++ more) e
 why_on calls more e (inl memory) = inl memory
 why_on calls more e (inr last) =
-    inr (calls ++ last.0, last.1, ap (λ (l : List (Command × Reply)). calls ++ l) last.2 ∙ sym (append_assoc calls last.0 (last.1 ∷ [])), last.3)
+    inr (calls ++ last.0, last.1, ap (λ (l : List (Command × Reply)). calls ++ l) last.2 ∙ sym (append_assoc calls last.0 (last.1 ∷ [])), last.3, last.4)
 
 -- the error ends what begins with these calls
 pub stops_on : (site : Site) (calls : List (Command × Reply)) (e : Error) (old mid new : Option (List LogItem)) → Made site calls old mid → All (λ (c : Command × Reply). IsReading c.0) calls → StopsReading site e mid new → StopsReading site e old new
