@@ -173,7 +173,7 @@ impl Store for Faulty {
             Step::RemoveFile(_path) => {
                 self.removals = self.removals.saturating_add(1);
                 if self.stays {
-                    return Answer::Failed(Fault::PermissionDenied);
+                    return Answer::Failed(Fault::NotFound);
                 }
                 Answer::Done
             }
