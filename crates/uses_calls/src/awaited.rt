@@ -8,7 +8,7 @@ use std::random::RandomSource;
 use std::sync::Wait;
 
 /// The bytes of a key.
-pub(crate) fn read<R>(rt: R, mut env: Memory) -> Result<String>
+pub(crate) fn read<R>(rt: R, mut env: &mut Memory) -> Result<String>
 where
     R: Wait + RandomSource + AllocGlobal + Copy,
 {

@@ -1,28 +1,25 @@
 //! Calls that read.
-use crate::{shown, tell};
+use crate::{in_memory, shown};
 use anyhow::Result;
-use cacache::env::memory;
+use cacache::env::Memory;
 
 /// The bytes of a key.
-fn read_sync(rt: HostRuntime) -> Result<String> {
-    let mut env = memory(rt, "/")?;
+fn read_sync(rt: HostRuntime, mut env: &mut Memory) -> Result<String> {
     cacache::write_sync(&mut env, "my-cache", "key", b"my data")?;
     let bytes = cacache::read_sync(&mut env, "my-cache", "key")?; // b"my data"
     shown(rt.alloc(), &bytes)
 }
 
 /// The bytes of an integrity.
-fn read_hash_sync(rt: HostRuntime) -> Result<String> {
-    let mut env = memory(rt, "/")?;
+fn read_hash_sync(rt: HostRuntime, mut env: &mut Memory) -> Result<String> {
     let sri = cacache::write_hash_sync(&mut env, "my-cache", b"my data")?;
     let bytes = cacache::read_hash_sync(&mut env, "my-cache", &sri)?; // b"my data"
     shown(rt.alloc(), &bytes)
 }
 
 /// Whether a content is there, before it is stored and after.
-fn exists_sync(rt: HostRuntime) -> Result<String> {
+fn exists_sync(rt: HostRuntime, mut env: &mut Memory) -> Result<String> {
     let alloc = rt.alloc();
-    let mut env = memory(rt, "/")?;
     let sri = cacache::Integrity::from(alloc, b"my data")?;
     let before = cacache::exists_sync(&mut env, "my-cache", &sri)?; // false
     cacache::write_hash_sync(&mut env, "my-cache", b"my data")?;
@@ -31,17 +28,15 @@ fn exists_sync(rt: HostRuntime) -> Result<String> {
 }
 
 /// A content's copy outside the cache.
-fn copy_sync(rt: HostRuntime) -> Result<String> {
-    let mut env = memory(rt, "/")?;
+fn copy_sync(rt: HostRuntime, mut env: &mut Memory) -> Result<String> {
     cacache::write_sync(&mut env, "my-cache", "key", b"my data")?;
     let count = cacache::copy_sync(&mut env, "my-cache", "key", "/my-copy")?; // 7
     Ok(format!(in rt.alloc(); "{count}")?)
 }
 
 /// The contents that are there.
-fn list(rt: HostRuntime) -> Result<String> {
+fn list(rt: HostRuntime, mut env: &mut Memory) -> Result<String> {
     let mut text = String::new(rt.alloc());
-    let mut env = memory(rt, "/")?;
     cacache::write_hash_sync(&mut env, "my-cache", b"hello")?;
     let contents = cacache::content::read::list(&mut env, "my-cache")?;
     for sri in &contents.addresses {
@@ -52,9 +47,9 @@ fn list(rt: HostRuntime) -> Result<String> {
 
 /// Makes these calls.
 pub(crate) fn run(rt: HostRuntime) -> Result<()> {
-    tell(rt, "read_sync", read_sync(rt))?;
-    tell(rt, "read_hash_sync", read_hash_sync(rt))?;
-    tell(rt, "exists_sync", exists_sync(rt))?;
-    tell(rt, "copy_sync", copy_sync(rt))?;
-    tell(rt, "content::read::list", list(rt))
+    in_memory(rt, "read_sync", read_sync)?;
+    in_memory(rt, "read_hash_sync", read_hash_sync)?;
+    in_memory(rt, "exists_sync", exists_sync)?;
+    in_memory(rt, "copy_sync", copy_sync)?;
+    in_memory(rt, "content::read::list", list)
 }

@@ -1,21 +1,19 @@
 //! Calls on the index.
-use crate::{shown, tell};
+use crate::{in_memory, shown, tell};
 use anyhow::Result;
 use cacache::env::{Memory, memory};
 use cacache::{Integrity, WriteOpts};
 
-/// A cache with one entry, whose time was set.
-fn timed(rt: HostRuntime) -> Result<Memory> {
-    let mut env = memory(rt, "/")?;
-    let sri = Integrity::from(rt.alloc(), b"hello")?;
+/// Makes an entry whose time is set.
+fn insert_timed(env: &mut Memory) -> Result<()> {
+    let sri = Integrity::from(env.alloc, b"hello")?;
     let opts = WriteOpts::new().integrity(sri).size(5).time(1234567890123);
-    cacache::index::insert(&mut env, "my-cache", "key", opts)?;
-    Ok(env)
+    cacache::index::insert(env, "my-cache", "key", opts)?;
+    Ok(())
 }
 
 /// An entry for a content that is there.
-fn insert(rt: HostRuntime) -> Result<String> {
-    let mut env = memory(rt, "/")?;
+fn insert(rt: HostRuntime, mut env: &mut Memory) -> Result<String> {
     let sri = cacache::write_hash_sync(&mut env, "my-cache", b"my data")?;
     let opts = cacache::WriteOpts::new().integrity(sri).size(7);
     cacache::index::insert(&mut env, "my-cache", "key", opts)?;
@@ -24,9 +22,8 @@ fn insert(rt: HostRuntime) -> Result<String> {
 }
 
 /// The entry of a key.
-fn metadata_sync(rt: HostRuntime) -> Result<String> {
+fn metadata_sync(rt: HostRuntime, mut env: &mut Memory) -> Result<String> {
     let mut text = String::new(rt.alloc());
-    let mut env = memory(rt, "/")?;
     cacache::write_sync(&mut env, "my-cache", "key", b"my data")?;
     if let Some(entry) = cacache::metadata_sync(&mut env, "my-cache", "key")? {
         write!(text, "{} has {} bytes", entry.key, entry.size)?; // key has 7 bytes
@@ -35,8 +32,7 @@ fn metadata_sync(rt: HostRuntime) -> Result<String> {
 }
 
 /// A key that is removed.
-fn remove_sync(rt: HostRuntime) -> Result<String> {
-    let mut env = memory(rt, "/")?;
+fn remove_sync(rt: HostRuntime, mut env: &mut Memory) -> Result<String> {
     cacache::write_sync(&mut env, "my-cache", "key", b"my data")?;
     cacache::remove_sync(&mut env, "my-cache", "key")?;
     let found = cacache::metadata_sync(&mut env, "my-cache", "key")?; // None
@@ -44,7 +40,7 @@ fn remove_sync(rt: HostRuntime) -> Result<String> {
     Ok(format!(in rt.alloc(); "{answer}")?)
 }
 
-/// All entries.
+/// All entries. The listing lends the environment, which is this function's own.
 fn list_sync(rt: HostRuntime) -> Result<String> {
     let mut text = String::new(rt.alloc());
     let mut env = memory(rt, "/")?;
@@ -57,9 +53,9 @@ fn list_sync(rt: HostRuntime) -> Result<String> {
 }
 
 /// The texts of entries.
-fn text(rt: HostRuntime) -> Result<String> {
+fn text(rt: HostRuntime, mut env: &mut Memory) -> Result<String> {
     let alloc = rt.alloc();
-    let mut env = timed(rt)?;
+    insert_timed(env)?;
     let mut lines = Vec::new(alloc);
     if let Some(found) = cacache::metadata_sync(&mut env, "my-cache", "key")? {
         let entry = cacache::index::entry_of(alloc, found)?;
@@ -73,9 +69,9 @@ fn text(rt: HostRuntime) -> Result<String> {
 
 /// Makes these calls.
 pub(crate) fn run(rt: HostRuntime) -> Result<()> {
-    tell(rt, "index::insert", insert(rt))?;
-    tell(rt, "metadata_sync", metadata_sync(rt))?;
-    tell(rt, "remove_sync", remove_sync(rt))?;
+    in_memory(rt, "index::insert", insert)?;
+    in_memory(rt, "metadata_sync", metadata_sync)?;
+    in_memory(rt, "remove_sync", remove_sync)?;
     tell(rt, "list_sync", list_sync(rt))?;
-    tell(rt, "index::text", text(rt))
+    in_memory(rt, "index::text", text)
 }

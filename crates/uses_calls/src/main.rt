@@ -1,5 +1,6 @@
 //! The examples of the public calls, each as the call's docs have it, and on a disk in memory of its own where it needs
-//! one. What came of it is printed behind the call's name.
+//! one. What came of it is printed behind the call's name. `env` is `mut` everywhere, so that the lines are those of a
+//! caller who owns it.
 #![tactic(auto)]
 
 mod awaited;
@@ -12,7 +13,7 @@ mod put;
 mod rm;
 
 use anyhow::Result;
-use cacache::env::memory;
+use cacache::env::{Memory, memory};
 use std::alloc::Global;
 
 /// The bytes as a text.
@@ -25,6 +26,16 @@ pub(crate) fn tell(rt: HostRuntime, name: &str, came: Result<String>) -> Result<
     Ok(println!(rt; "{name}: {}", came?)?)
 }
 
+/// Makes calls on a disk in memory of their own, and prints what came of them.
+pub(crate) fn in_memory<F>(rt: HostRuntime, name: &str, calls: F) -> Result<()>
+where
+    F: FnOnce(HostRuntime, &mut Memory) -> Result<String>,
+{
+    let mut env = memory(rt, "/")?;
+    let came = calls(rt, &mut env);
+    tell(rt, name, came)
+}
+
 fn main(rt: HostRuntime) -> Result<()> {
     integrity::run(rt)?;
     env::run(rt)?;
@@ -33,5 +44,5 @@ fn main(rt: HostRuntime) -> Result<()> {
     index::run(rt)?;
     rm::run(rt)?;
     pieces::run(rt)?;
-    tell(rt, "read", awaited::read(rt, memory(rt, "/")?))
+    in_memory(rt, "read", awaited::read)
 }

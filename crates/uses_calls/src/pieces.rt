@@ -1,12 +1,11 @@
 //! Contents that are written and read in pieces.
-use crate::{shown, tell};
+use crate::{in_memory, shown};
 use anyhow::Result;
-use cacache::env::memory;
+use cacache::env::Memory;
 use std::io::{Read, Write};
 
 /// A content whose pieces are written one after another.
-fn create(rt: HostRuntime) -> Result<String> {
-    let mut env = memory(rt, "/")?;
+fn create(rt: HostRuntime, mut env: &mut Memory) -> Result<String> {
     let mut writer = cacache::SyncWriter::create(&mut env, "my-cache", "key")?;
     writer.write_all(b"my ")?;
     writer.write_all(b"data")?;
@@ -16,8 +15,7 @@ fn create(rt: HostRuntime) -> Result<String> {
 }
 
 /// A content whose file is removed where a write fails.
-fn write_or_abandon(rt: HostRuntime) -> Result<String> {
-    let mut env = memory(rt, "/")?;
+fn write_or_abandon(rt: HostRuntime, mut env: &mut Memory) -> Result<String> {
     let mut writer = cacache::SyncWriter::create(&mut env, "my-cache", "key")?;
     writer = writer.write_or_abandon(&mut env, b"my data")?;
     let sri = writer.commit(&mut env)?;
@@ -26,8 +24,7 @@ fn write_or_abandon(rt: HostRuntime) -> Result<String> {
 }
 
 /// A content with metadata and an expected size.
-fn open_sync(rt: HostRuntime) -> Result<String> {
-    let mut env = memory(rt, "/")?;
+fn open_sync(rt: HostRuntime, mut env: &mut Memory) -> Result<String> {
     let opts = cacache::WriteOpts::new()
         .metadata(cacache::Value::Bool(true))
         .size(7);
@@ -38,9 +35,8 @@ fn open_sync(rt: HostRuntime) -> Result<String> {
 }
 
 /// A content that is read and then checked.
-fn open(rt: HostRuntime) -> Result<String> {
+fn open(rt: HostRuntime, mut env: &mut Memory) -> Result<String> {
     let alloc = rt.alloc();
-    let mut env = memory(rt, "/")?;
     cacache::write_sync(&mut env, "my-cache", "key", b"my data")?;
     let mut reader = cacache::SyncReader::open(&mut env, "my-cache", "key")?;
     let mut bytes = Vec::new(alloc);
@@ -52,8 +48,8 @@ fn open(rt: HostRuntime) -> Result<String> {
 
 /// Makes these calls.
 pub(crate) fn run(rt: HostRuntime) -> Result<()> {
-    tell(rt, "SyncWriter::create", create(rt))?;
-    tell(rt, "SyncWriter::write_or_abandon", write_or_abandon(rt))?;
-    tell(rt, "WriteOpts::open_sync", open_sync(rt))?;
-    tell(rt, "SyncReader::open", open(rt))
+    in_memory(rt, "SyncWriter::create", create)?;
+    in_memory(rt, "SyncWriter::write_or_abandon", write_or_abandon)?;
+    in_memory(rt, "WriteOpts::open_sync", open_sync)?;
+    in_memory(rt, "SyncReader::open", open)
 }

@@ -1,19 +1,17 @@
 //! Calls that store.
-use crate::{shown, tell};
+use crate::{in_memory, shown};
 use anyhow::Result;
-use cacache::env::memory;
+use cacache::env::Memory;
 
 /// Bytes under a key.
-fn write_sync(rt: HostRuntime) -> Result<String> {
-    let mut env = memory(rt, "/")?;
+fn write_sync(rt: HostRuntime, mut env: &mut Memory) -> Result<String> {
     let sri = cacache::write_sync(&mut env, "my-cache", "key", b"my data")?;
     let bytes = cacache::read_hash_sync(&mut env, "my-cache", &sri)?; // b"my data"
     shown(rt.alloc(), &bytes)
 }
 
 /// Bytes under a key, with an algorithm.
-fn write_sync_with_algo(rt: HostRuntime) -> Result<String> {
-    let mut env = memory(rt, "/")?;
+fn write_sync_with_algo(rt: HostRuntime, mut env: &mut Memory) -> Result<String> {
     let algo = cacache::Algorithm::Sha512;
     let sri = cacache::write_sync_with_algo(&mut env, algo, "my-cache", "key", b"my data")?;
     let algorithm = sri.pick_algorithm(); // Algorithm::Sha512
@@ -21,9 +19,8 @@ fn write_sync_with_algo(rt: HostRuntime) -> Result<String> {
 }
 
 /// Bytes that are moved in.
-fn write_vec_sync(rt: HostRuntime) -> Result<String> {
+fn write_vec_sync(rt: HostRuntime, mut env: &mut Memory) -> Result<String> {
     let alloc = rt.alloc();
-    let mut env = memory(rt, "/")?;
     let data = Vec::from_slice(alloc, b"my data")?;
     let sri = cacache::write_vec_sync(&mut env, "my-cache", "key", data)?;
     let bytes = cacache::read_hash_sync(&mut env, "my-cache", &sri)?; // b"my data"
@@ -31,17 +28,15 @@ fn write_vec_sync(rt: HostRuntime) -> Result<String> {
 }
 
 /// Bytes without a key.
-fn write_hash_sync(rt: HostRuntime) -> Result<String> {
+fn write_hash_sync(rt: HostRuntime, mut env: &mut Memory) -> Result<String> {
     let alloc = rt.alloc();
-    let mut env = memory(rt, "/")?;
     let sri = cacache::write_hash_sync(&mut env, "my-cache", b"hello")?;
     let text = sri.to_string(alloc)?; // sha256-LPJNul+wow4m6DsqxbninhsWHlwfp0JecwQzYpOLmCQ=
     Ok(text)
 }
 
 /// A file outside the cache.
-fn link_to_sync(rt: HostRuntime) -> Result<String> {
-    let mut env = memory(rt, "/")?;
+fn link_to_sync(rt: HostRuntime, mut env: &mut Memory) -> Result<String> {
     env.store.plant("/my-file", b"hello")?;
     let sri = cacache::link_to_sync(&mut env, "my-cache", "key", "/my-file")?;
     let bytes = cacache::read_hash_sync(&mut env, "my-cache", &sri)?; // those of /my-file
@@ -50,9 +45,9 @@ fn link_to_sync(rt: HostRuntime) -> Result<String> {
 
 /// Makes these calls.
 pub(crate) fn run(rt: HostRuntime) -> Result<()> {
-    tell(rt, "write_sync", write_sync(rt))?;
-    tell(rt, "write_sync_with_algo", write_sync_with_algo(rt))?;
-    tell(rt, "write_vec_sync", write_vec_sync(rt))?;
-    tell(rt, "write_hash_sync", write_hash_sync(rt))?;
-    tell(rt, "link_to_sync", link_to_sync(rt))
+    in_memory(rt, "write_sync", write_sync)?;
+    in_memory(rt, "write_sync_with_algo", write_sync_with_algo)?;
+    in_memory(rt, "write_vec_sync", write_vec_sync)?;
+    in_memory(rt, "write_hash_sync", write_hash_sync)?;
+    in_memory(rt, "link_to_sync", link_to_sync)
 }

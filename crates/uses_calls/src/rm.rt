@@ -1,11 +1,10 @@
 //! Calls that remove.
-use crate::tell;
+use crate::in_memory;
 use anyhow::Result;
-use cacache::env::memory;
+use cacache::env::Memory;
 
 /// A content.
-fn remove_hash_sync(rt: HostRuntime) -> Result<String> {
-    let mut env = memory(rt, "/")?;
+fn remove_hash_sync(rt: HostRuntime, mut env: &mut Memory) -> Result<String> {
     let sri = cacache::write_hash_sync(&mut env, "my-cache", b"my data")?;
     cacache::remove_hash_sync(&mut env, "my-cache", &sri)?;
     let there = cacache::exists_sync(&mut env, "my-cache", &sri)?; // false
@@ -13,8 +12,7 @@ fn remove_hash_sync(rt: HostRuntime) -> Result<String> {
 }
 
 /// All that a cache holds.
-fn clear_sync(rt: HostRuntime) -> Result<String> {
-    let mut env = memory(rt, "/")?;
+fn clear_sync(rt: HostRuntime, mut env: &mut Memory) -> Result<String> {
     let sri = cacache::write_hash_sync(&mut env, "my-cache", b"my data")?;
     cacache::clear_sync(&mut env, "my-cache")?;
     let there = cacache::exists_sync(&mut env, "my-cache", &sri)?; // false
@@ -22,8 +20,7 @@ fn clear_sync(rt: HostRuntime) -> Result<String> {
 }
 
 /// A key and its content.
-fn remove_fully(rt: HostRuntime) -> Result<String> {
-    let mut env = memory(rt, "/")?;
+fn remove_fully(rt: HostRuntime, mut env: &mut Memory) -> Result<String> {
     let sri = cacache::write_sync(&mut env, "my-cache", "key", b"my data")?;
     let opts = cacache::RemoveOpts::new().remove_fully(true);
     opts.remove_sync(&mut env, "my-cache", "key")?;
@@ -33,7 +30,7 @@ fn remove_fully(rt: HostRuntime) -> Result<String> {
 
 /// Makes these calls.
 pub(crate) fn run(rt: HostRuntime) -> Result<()> {
-    tell(rt, "remove_hash_sync", remove_hash_sync(rt))?;
-    tell(rt, "clear_sync", clear_sync(rt))?;
-    tell(rt, "RemoveOpts::remove_sync", remove_fully(rt))
+    in_memory(rt, "remove_hash_sync", remove_hash_sync)?;
+    in_memory(rt, "clear_sync", clear_sync)?;
+    in_memory(rt, "RemoveOpts::remove_sync", remove_fully)
 }
