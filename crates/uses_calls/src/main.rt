@@ -30,6 +30,7 @@ pub(crate) fn tell(rt: HostRuntime, name: &str, came: Result<String>) -> Result<
 pub(crate) fn in_memory<F>(rt: HostRuntime, name: &str, calls: F) -> Result<()>
 where
     F: FnOnce(HostRuntime, &mut Memory) -> Result<String>,
+    requires { F.IsAlwaysCallable calls }
 {
     let mut env = memory(rt, "/")?;
     let came = calls(rt, &mut env);
