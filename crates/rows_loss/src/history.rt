@@ -2,7 +2,7 @@
 use cacache_core::bytes::Bytes;
 use cacache_core::errors::Fault;
 use cacache_core::integrity::{Algorithm, Integrity};
-use cacache_core::keeping::let_go;
+use cacache_core::keeping::{beside, let_go, set};
 use cacache_core::text::Text;
 use cacache_disk::Luck;
 use cacache_table::{Command, Delete, Insert, Options, Put};
@@ -42,34 +42,48 @@ pub(crate) fn put_of(
     moment: u128,
     durable: bool,
 ) -> Result<Command, AllocError> {
-    let key = Some(Text::from_str(alloc, key)?);
-    let data = bytes_of(alloc, text)?;
+    let key = Text::from_str(alloc, key)?;
+    let (data, key) = beside(bytes_of(alloc, text), key)?;
     Ok(Command::Put(Put {
-        key,
+        key: Some(key),
         data,
         moment,
         options: options_of(durable),
     }))
 }
 
-/// The insertion of an entry of its own under a key.
-fn insert_of(alloc: Global, key: &str, moment: u128, durable: bool) -> Result<Command, AllocError> {
-    let key = Text::from_str(alloc, key)?;
-    let mut options = options_of(durable);
+/// The integrity of no content at all.
+fn dangling(alloc: Global) -> Result<Integrity, AllocError> {
     match Integrity::parse(alloc, "sha1-deadbeef") {
-        Ok(integrity) => {
-            options.integrity = Some(integrity);
-        }
+        Ok(integrity) => Ok(integrity),
         Err(error) => {
-            let_go((error, key));
-            return Err(AllocError);
+            let_go(error);
+            Err(AllocError)
         }
     }
+}
+
+/// The insertion of an entry of its own under a key.
+fn insert_of(alloc: Global, key: &str, moment: u128, durable: bool) -> Result<Command, AllocError> {
+    let integrity = dangling(alloc)?;
+    let (key, integrity) = beside(Text::from_str(alloc, key), integrity)?;
+    let mut options = options_of(durable);
+    set(&mut options.integrity, Some(integrity));
     Ok(Command::Insert(Insert {
         key,
         moment,
         options,
     }))
+}
+
+/// A call on a key alone.
+fn on_key(alloc: Global, kind: usize, key: &str, moment: u128) -> Result<Command, AllocError> {
+    let key = Text::from_str(alloc, key)?;
+    Ok(match kind {
+        12 => Command::Delete(Delete { key, moment }),
+        14 => Command::Find(key),
+        _ => Command::Get(key),
+    })
 }
 
 /// A random call; no two have one moment.
@@ -85,15 +99,9 @@ fn command_of(alloc: Global, random: &mut Random, moment: u128) -> Result<Comman
             let text = random.pick(&PASSING).copied().unwrap_or("two");
             put_of(alloc, key, text, moment, false)
         }
-        10 => insert_of(alloc, key, moment, true),
-        11 => insert_of(alloc, key, moment, false),
-        12 => {
-            let key = Text::from_str(alloc, key)?;
-            Ok(Command::Delete(Delete { key, moment }))
-        }
+        10 | 11 => insert_of(alloc, key, moment, kind == 10),
         13 => Ok(Command::Ls),
-        14 => Ok(Command::Find(Text::from_str(alloc, key)?)),
-        _ => Ok(Command::Get(Text::from_str(alloc, key)?)),
+        _ => on_key(alloc, kind, key, moment),
     }
 }
 
@@ -108,6 +116,18 @@ fn random_luck(random: &mut Random) -> Luck {
     }
 }
 
+/// A caller's call moves, if it has one: whether it does.
+fn moves(world: &mut World, caller: usize, luck: Luck) -> Result<bool, AllocError> {
+    match world.move_one(caller, luck) {
+        Ok(moved) => {
+            let_go(moved);
+            Ok(true)
+        }
+        Err(WorldFault::Idle) => Ok(false),
+        Err(_) => Err(AllocError),
+    }
+}
+
 /// A random event of a caller: it stops its call, moves it, or begins one.
 fn event(
     alloc: Global,
@@ -119,13 +139,8 @@ fn event(
     if random.below(60) == 0 && world.stop(caller).is_ok() {
         return Ok(());
     }
-    match world.move_one(caller, random_luck(random)) {
-        Ok(moved) => {
-            let_go(moved);
-            return Ok(());
-        }
-        Err(WorldFault::Idle) => {}
-        Err(_) => return Err(AllocError),
+    if moves(world, caller, random_luck(random))? {
+        return Ok(());
     }
     let command = command_of(alloc, random, moment)?;
     match world.begin(caller, command) {

@@ -161,30 +161,41 @@ impl Places {
         let mut left = count;
         let mut at = String::new(self.alloc);
         for name in path.split('/') {
-            if name.is_empty() {
-                continue;
-            }
-            at.push('/')?;
-            at.push_str(name)?;
-            if left > 0 && !self.is_taken(at.as_str()) {
-                self.put(at.as_str(), Some(Node::Folder))?;
-                left = left.saturating_sub(1);
+            if !name.is_empty() {
+                enter(&mut at, name)?;
+                if left > 0 && self.make_folder(at.as_str())? {
+                    left = left.saturating_sub(1);
+                }
             }
         }
         Ok(())
     }
 
+    /// Makes the folder at a path where nothing stands: whether it did.
+    fn make_folder(&mut self, path: &str) -> Result<bool, AllocError> {
+        if self.is_taken(path) {
+            return Ok(false);
+        }
+        self.put(path, Some(Node::Folder))?;
+        Ok(true)
+    }
+
+    /// Makes a file at a path.
+    pub(crate) fn make_file(&mut self, path: &str) -> Result<(), AllocError> {
+        let bytes = Bytes::new(self.alloc, Vec::new(self.alloc))?;
+        let (fixed, whole) = (0, false);
+        let node = Node::File(File {
+            bytes,
+            fixed,
+            whole,
+        });
+        self.put(path, Some(node))
+    }
+
     /// Puts bytes behind those of the file at a path, which is made where it is missing.
     pub(crate) fn append(&mut self, path: &str, more: &[u8]) -> Result<(), AllocError> {
         if !self.is_taken(path) {
-            let bytes = Bytes::new(self.alloc, Vec::new(self.alloc))?;
-            let (fixed, whole) = (0, false);
-            let node = Node::File(File {
-                bytes,
-                fixed,
-                whole,
-            });
-            self.put(path, Some(node))?;
+            self.make_file(path)?;
         }
         match self.place(path) {
             Some(place) => place.lengthen(more),
@@ -239,6 +250,12 @@ impl Places {
         self.put(to, Some(node))?;
         self.put(from, None)
     }
+}
+
+/// Goes on to a name in the folder at a path.
+pub(crate) fn enter(path: &mut String, name: &str) -> Result<(), AllocError> {
+    path.push('/')?;
+    path.push_str(name)
 }
 
 /// Whether this is `/` and one name.

@@ -1,16 +1,16 @@
 //! What a loss of power must leave: the contents of durable commits that answered, and the lookups of their keys.
-use crate::history::{DURABLE, HOME, KEYS, bytes_of};
+use crate::history::{DURABLE, HOME, KEYS};
 use crate::loss::Loss;
 use crate::places::Places;
 use cacache_core::integrity::{Algorithm, Integrity, IntegrityOpts};
-use cacache_core::keeping::let_go;
+use cacache_core::keeping::{beside, let_go};
 use cacache_core::text::Text;
 use cacache_disk::Luck;
 use cacache_entry::latest;
 use cacache_jobs::{bucket_path, content_path};
 use cacache_store::store::{Answer, PlainAnswer, PlainStep, Step};
 use cacache_table::{Command, Reply};
-use cacache_world::Record;
+use cacache_world::{Record, World};
 use std::alloc::{AllocError, Global};
 
 /// An entry that was appended.
@@ -100,24 +100,36 @@ fn holds_entry(line: &[u8], left: usize) -> bool {
     }
 }
 
+/// So many callers without a call.
+fn idle<'h>(alloc: Global, callers: usize) -> Result<Vec<Call<'h>>, AllocError> {
+    let mut calls = Vec::new(alloc);
+    for _ in 0..callers {
+        calls.push(Call {
+            command: None,
+            entry: 0,
+        })?;
+    }
+    Ok(calls)
+}
+
+/// The keys without an entry.
+fn blank_keys(alloc: Global) -> Result<Vec<Entries>, AllocError> {
+    let mut keys = Vec::new(alloc);
+    for key in KEYS {
+        keys.push(Entries {
+            key,
+            all: Vec::new(alloc),
+            fixed: 0,
+        })?;
+    }
+    Ok(keys)
+}
+
 impl<'h> Story<'h> {
     /// Nothing happened yet, to so many callers.
-    pub(crate) fn new(alloc: Global, callers: usize) -> Result<Story<'h>, AllocError> {
-        let mut calls = Vec::new(alloc);
-        for _ in 0..callers {
-            calls.push(Call {
-                command: None,
-                entry: 0,
-            })?;
-        }
-        let mut keys = Vec::new(alloc);
-        for key in KEYS {
-            keys.push(Entries {
-                key,
-                all: Vec::new(alloc),
-                fixed: 0,
-            })?;
-        }
+    fn new(alloc: Global, callers: usize) -> Result<Story<'h>, AllocError> {
+        let calls = idle(alloc, callers)?;
+        let (keys, calls) = beside(blank_keys(alloc), calls)?;
         Ok(Story {
             alloc,
             places: Places::new(alloc),
@@ -125,6 +137,13 @@ impl<'h> Story<'h> {
             keys,
             stored: Vec::new(alloc),
         })
+    }
+
+    /// What happened in a world.
+    pub(crate) fn of(alloc: Global, world: &'h World) -> Result<Story<'h>, AllocError> {
+        let mut story = Story::new(alloc, world.callers())?;
+        story.follow_all(world.history())?;
+        Ok(story)
     }
 
     /// A caller's call is this one, or none.
@@ -135,18 +154,52 @@ impl<'h> Story<'h> {
         }
     }
 
-    /// A caller's call added its entry.
-    fn add(&mut self, caller: usize) -> Result<(), AllocError> {
-        let Some(call) = self.calls.get_mut(caller) else {
-            return Ok(());
-        };
-        let Some((key, added, _)) = call.command.and_then(said) else {
-            return Ok(());
-        };
+    /// A caller's call and the number of its entry, if it has a call.
+    fn call_of(&self, caller: usize) -> Option<(&'h Command, usize)> {
+        let call = self.calls.get(caller)?;
+        Some((call.command?, call.entry))
+    }
+
+    /// One entry more of a key: its number, counted from 1; 0 where this is none of the keys.
+    fn add_entry(&mut self, key: &str, added: Added) -> Result<usize, AllocError> {
         for entries in &mut self.keys {
             if entries.key == key {
                 entries.all.push(added)?;
-                call.entry = entries.all.len();
+                return Ok(entries.all.len());
+            }
+        }
+        Ok(0)
+    }
+
+    /// A caller's call added its entry.
+    fn add(&mut self, caller: usize) -> Result<(), AllocError> {
+        let Some((command, _)) = self.call_of(caller) else {
+            return Ok(());
+        };
+        let Some((key, added, _)) = said(command) else {
+            return Ok(());
+        };
+        let entry = self.add_entry(key, added)?;
+        if let Some(call) = self.calls.get_mut(caller) {
+            call.entry = entry;
+        }
+        Ok(())
+    }
+
+    /// So many of the entries of a key are fixed.
+    fn fix_entries(&mut self, key: &str, count: usize) {
+        for entries in &mut self.keys {
+            if entries.key == key {
+                entries.fixed = entries.fixed.max(count);
+            }
+        }
+    }
+
+    /// A durable commit stored these data.
+    fn store(&mut self, data: &[u8]) -> Result<(), AllocError> {
+        for text in DURABLE {
+            if text.as_bytes() == data {
+                self.stored.push(text)?;
             }
         }
         Ok(())
@@ -154,32 +207,29 @@ impl<'h> Story<'h> {
 
     /// A caller's durable call answered: its entry is fixed, and so is its content.
     fn fix(&mut self, caller: usize) -> Result<(), AllocError> {
-        let Some(call) = self.calls.get(caller) else {
-            return Ok(());
-        };
-        let (Some(command), entry) = (call.command, call.entry) else {
+        let Some((command, entry)) = self.call_of(caller) else {
             return Ok(());
         };
         let Some((key, _, true)) = said(command) else {
             return Ok(());
         };
-        for entries in &mut self.keys {
-            if entries.key == key {
-                entries.fixed = entries.fixed.max(entry);
-            }
+        self.fix_entries(key, entry);
+        match command {
+            Command::Put(put) => self.store(put.data.as_slice()),
+            _ => Ok(()),
         }
-        if let Command::Put(put) = command {
-            for text in DURABLE {
-                if text.as_bytes() == put.data.as_slice() {
-                    self.stored.push(text)?;
-                }
-            }
+    }
+
+    /// The whole history.
+    fn follow_all(&mut self, records: &'h [Record]) -> Result<(), AllocError> {
+        for record in records {
+            self.follow(record)?;
         }
         Ok(())
     }
 
     /// The next record of the history.
-    pub(crate) fn follow(&mut self, record: &'h Record) -> Result<(), AllocError> {
+    fn follow(&mut self, record: &'h Record) -> Result<(), AllocError> {
         match record {
             Record::Began(caller, command) => {
                 self.set_call(*caller, Some(command));
@@ -222,22 +272,41 @@ impl<'h> Story<'h> {
         }
     }
 
-    /// What is wrong after a loss, if anything.
-    pub(crate) fn wrong_after(&self, loss: &Loss) -> Result<Option<String>, AllocError> {
+    /// Whether a loss leaves the content of these data.
+    fn is_left(&self, loss: &Loss, text: &str) -> Result<bool, AllocError> {
+        let path = path_of_content(self.alloc, text)?;
+        let left = self.places.lost(loss, HOME, path.as_str())?;
+        Ok(left.as_ref().map(|bytes| bytes.as_slice()) == Some(text.as_bytes()))
+    }
+
+    /// Which durable content a loss doesn't leave, if there is one.
+    fn missing_after(&self, loss: &Loss) -> Result<Option<&str>, AllocError> {
         for text in &self.stored {
-            let path = path_of_content(self.alloc, text)?;
-            let left = self.places.lost(loss, HOME, path.as_str())?;
-            if left.as_ref().map(|bytes| bytes.as_slice()) != Some(text.as_bytes()) {
-                return Ok(Some(format!(in self.alloc; "the content {text} is lost")?));
-            }
-        }
-        for entries in &self.keys {
-            let found = looked_up(self.alloc, &self.places, loss, entries.key)?;
-            if !entries.allow(found) {
-                return Ok(Some(format!(in self.alloc; "{} finds {found:?}", entries.key)?));
+            if !self.is_left(loss, text)? {
+                return Ok(Some(*text));
             }
         }
         Ok(None)
+    }
+
+    /// Which lookup finds something wrong after a loss, if there is one.
+    fn misled_after(&self, loss: &Loss) -> Result<Option<String>, AllocError> {
+        for entries in &self.keys {
+            let key = entries.key;
+            let found = looked_up(self.alloc, &self.places, loss, key)?;
+            if !entries.allow(found) {
+                return Ok(Some(format!(in self.alloc; "{key} finds {found:?}")?));
+            }
+        }
+        Ok(None)
+    }
+
+    /// What is wrong after a loss, if anything.
+    pub(crate) fn wrong_after(&self, loss: &Loss) -> Result<Option<String>, AllocError> {
+        match self.missing_after(loss)? {
+            Some(text) => Ok(Some(format!(in self.alloc; "the content {text} is lost")?)),
+            None => self.misled_after(loss),
+        }
     }
 
     /// How many contents are lost.
@@ -308,6 +377,21 @@ fn integrity_of(alloc: Global, text: &str) -> Result<Integrity, AllocError> {
     }
 }
 
+/// The moment of the entry that a lookup of a key finds in a bucket.
+fn found_in(alloc: Global, bytes: &[u8], key: &str) -> Result<Option<u128>, AllocError> {
+    match latest(alloc, bytes, key) {
+        Ok(lookup) => {
+            let found = lookup.found.as_ref().map(|found| found.time);
+            let_go(lookup);
+            Ok(found)
+        }
+        Err(error) => {
+            let_go(error);
+            Err(AllocError)
+        }
+    }
+}
+
 /// The moment of the entry that a lookup of a key finds after a loss.
 pub(crate) fn looked_up(
     alloc: Global,
@@ -316,14 +400,8 @@ pub(crate) fn looked_up(
     key: &str,
 ) -> Result<Option<u128>, AllocError> {
     let path = bucket_path(alloc, HOME, key)?;
-    let Some(bytes) = places.lost(loss, HOME, path.as_str())? else {
-        return Ok(None);
-    };
-    match latest(alloc, bytes.as_slice(), key) {
-        Ok(lookup) => Ok(lookup.found.map(|found| found.time)),
-        Err(error) => {
-            let_go(error);
-            Err(AllocError)
-        }
+    match places.lost(loss, HOME, path.as_str())? {
+        Some(bytes) => found_in(alloc, bytes.as_slice(), key),
+        None => Ok(None),
     }
 }

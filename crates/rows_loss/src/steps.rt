@@ -1,6 +1,5 @@
 //! What a step of a history does to the places.
-use crate::places::{File, Node, Places};
-use cacache_core::bytes::Bytes;
+use crate::places::Places;
 use cacache_disk::Luck;
 use cacache_store::store::{Answer, PlainAnswer, PlainStep, Step};
 use std::alloc::AllocError;
@@ -24,41 +23,32 @@ fn left_a_file(luck: Luck, answer: &PlainAnswer) -> bool {
 }
 
 impl Places {
-    /// What a step that was done does, beside folders and appends.
-    fn done(&mut self, step: &PlainStep, answer: &PlainAnswer) -> Result<(), AllocError> {
+    /// What a step that was done does to what is fixed.
+    fn fix(&mut self, step: &PlainStep, answer: &PlainAnswer) {
         match (step, answer) {
-            (Step::CreateTemp(path), Answer::Temp(_)) => {
-                let bytes = Bytes::new(self.alloc, Vec::new(self.alloc))?;
-                let (fixed, whole) = (0, false);
-                let node = Node::File(File {
-                    bytes,
-                    fixed,
-                    whole,
-                });
-                self.put(path.as_str(), Some(node))
-            }
-            (Step::Write(_, _), Answer::Wrote(temp, _)) => {
-                self.write(temp.path.as_str());
-                Ok(())
-            }
+            (Step::Write(_, _), Answer::Wrote(temp, _)) => self.write(temp.path.as_str()),
             (Step::SyncTemp(_), Answer::Synced(temp)) => {
                 let size = temp.bytes.as_ref().map(|bytes| bytes.len());
                 self.sync_file(temp.path.as_str(), size);
-                Ok(())
             }
+            (Step::SyncFile(path), Answer::Done) => self.sync_file(path.as_str(), None),
+            (Step::SyncDir(path), Answer::Done) => self.sync_folder(path.as_str()),
+            _ => {}
+        }
+    }
+
+    /// What a step that was done does, beside folders and appends.
+    fn done(&mut self, step: &PlainStep, answer: &PlainAnswer) -> Result<(), AllocError> {
+        match (step, answer) {
+            (Step::CreateTemp(path), Answer::Temp(_)) => self.make_file(path.as_str()),
             (Step::Persist(temp, path), Answer::Done) => match &temp.bytes {
                 Some(bytes) => self.move_file(temp.path.as_str(), path.as_str(), bytes),
                 None => Ok(()),
             },
-            (Step::SyncFile(path), Answer::Done) => {
-                self.sync_file(path.as_str(), None);
+            _ => {
+                self.fix(step, answer);
                 Ok(())
             }
-            (Step::SyncDir(path), Answer::Done) => {
-                self.sync_folder(path.as_str());
-                Ok(())
-            }
-            _ => Ok(()),
         }
     }
 

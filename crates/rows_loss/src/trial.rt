@@ -1,6 +1,7 @@
 //! What a row asks for, and what came.
 use crate::history::{HOME, play, put_of, world_of};
 use crate::loss::Loss;
+use crate::places::Places;
 use crate::promised::{Story, looked_up, path_of_content};
 use crate::worlds::differs;
 use cacache_core::keeping::let_go;
@@ -8,7 +9,7 @@ use cacache_disk::Luck;
 use cacache_jobs::bucket_path;
 use cacache_world::{Move, World};
 use rows::random::Random;
-use rows::words::{column, cut, number_of, string_of, written_out};
+use rows::words::{cut, number_of, written_out};
 use rows::{Flaw, Outcome, Trial};
 use std::alloc::{AllocError, Global};
 
@@ -25,6 +26,15 @@ impl Losses {
     }
 }
 
+/// What a row of random lists asks for.
+#[derive(Clone, Copy)]
+struct Lists {
+    count: usize,
+    seed: usize,
+    callers: usize,
+    events: usize,
+}
+
 /// What was counted of random losses.
 #[derive(Drop)]
 struct Count {
@@ -32,46 +42,85 @@ struct Count {
     lookups: u64,
 }
 
-/// One random history and a loss at its end: how it differs from what must be there, if it does.
-fn lost_in(
-    alloc: Global,
+/// How a loss at the end of a history differs from what must be there, if it does. What else it took is counted.
+fn judged(
     world: &World,
+    story: &Story<'_>,
+    loss: &Loss,
+    count: &mut Count,
+) -> Result<Option<String>, AllocError> {
+    match differs(world, &story.places, loss)? {
+        Some(text) => Ok(Some(text)),
+        None => {
+            let contents = story.lost_contents(loss)?;
+            let lookups = story.lost_lookups(loss)?;
+            count.contents = count.contents.saturating_add(contents);
+            count.lookups = count.lookups.saturating_add(lookups);
+            story.wrong_after(loss)
+        }
+    }
+}
+
+/// A random loss at the end of a history: how it differs from what must be there, if it does.
+fn lost_after(
+    world: &World,
+    story: &Story<'_>,
     random: &mut Random,
     count: &mut Count,
 ) -> Result<Option<String>, AllocError> {
-    let mut story = Story::new(alloc, world.callers())?;
-    for record in world.history() {
-        story.follow(record)?;
-    }
     let loss = Loss::random(&story.places, random)?;
-    if let Some(text) = differs(world, &story.places, &loss)? {
-        return Ok(Some(text));
-    }
-    let contents = story.lost_contents(&loss)?;
-    let lookups = story.lost_lookups(&loss)?;
-    count.contents = count.contents.saturating_add(contents);
-    count.lookups = count.lookups.saturating_add(lookups);
-    story.wrong_after(&loss)
+    judged(world, story, &loss, count)
+}
+
+/// Random events in a world and a random loss at their end: how it differs from what must be there, if it does.
+fn lost_in(
+    alloc: Global,
+    world: &mut World,
+    random: &mut Random,
+    events: usize,
+    count: &mut Count,
+) -> Result<Option<String>, AllocError> {
+    play(alloc, world, random, events)?;
+    let story = Story::of(alloc, world)?;
+    lost_after(world, &story, random, count)
+}
+
+/// One random history in a world of its own, with a loss at a random moment.
+fn lost_of(
+    alloc: Global,
+    asked: Lists,
+    random: &mut Random,
+    count: &mut Count,
+) -> Result<Option<String>, Flaw> {
+    let Some(mut world) = world_of(alloc, asked.callers) else {
+        return Err(Flaw::Refused);
+    };
+    let until = random.below(asked.events);
+    Ok(lost_in(alloc, &mut world, random, until, count)?)
+}
+
+/// The random lists that these words ask for.
+fn lists_of(words: &str) -> Result<Lists, Flaw> {
+    let (count, rest) = cut(words);
+    let (seed, rest) = cut(rest);
+    let (callers, events) = cut(rest);
+    Ok(Lists {
+        count: number_of(count)?,
+        seed: number_of(seed)?,
+        callers: number_of(callers)?,
+        events: number_of(events)?,
+    })
 }
 
 /// So many random histories, each with a loss at a random moment, or how the first one differs that does.
-fn all_lost(alloc: Global, words: &str) -> Result<String, Flaw> {
-    let (lists, rest) = cut(words);
-    let (seed, rest) = cut(rest);
-    let (callers, events) = cut(rest);
-    let (callers, events) = (number_of(callers)?, number_of(events)?);
-    let mut random = Random::new(number_of(seed)? as u64);
+fn all_lost(alloc: Global, asked: Lists) -> Result<String, Flaw> {
+    let mut random = Random::new(asked.seed as u64);
     let mut count = Count {
         contents: 0,
         lookups: 0,
     };
-    for number in 0..number_of(lists)? {
-        let Some(mut world) = world_of(alloc, callers) else {
-            return Err(Flaw::Refused);
-        };
-        let until = random.below(events);
-        play(alloc, &mut world, &mut random, until)?;
-        if let Some(text) = lost_in(alloc, &world, &mut random, &mut count)? {
+    for number in 0..asked.count {
+        if let Some(text) = lost_of(alloc, asked, &mut random, &mut count)? {
             return Ok(format!(in alloc; "list {number}: {text}")?);
         }
     }
@@ -79,28 +128,23 @@ fn all_lost(alloc: Global, words: &str) -> Result<String, Flaw> {
     Ok(format!(in alloc; "{contents} contents and {lookups} lookups lost")?)
 }
 
-/// A caller makes a put, or so many of its moves.
-fn put(alloc: Global, world: &mut World, act: &str, moment: u128) -> Result<(), Flaw> {
-    let (kind, rest) = cut(act);
-    let (key, rest) = cut(rest);
-    let (text, moves) = cut(rest);
-    let moves = if moves.is_empty() {
-        99
-    } else {
-        number_of(moves)?
-    };
-    let command = put_of(alloc, key, text, moment, kind == "durable")?;
-    if world.begin(0, command).is_err() {
-        return Err(Flaw::Refused);
+/// The caller makes a move: whether its call is over.
+fn is_over(world: &mut World) -> Result<bool, Flaw> {
+    match world.move_one(0, Luck::Plain) {
+        Ok(moved) => {
+            let over = matches!(&moved, Move::Done(_));
+            let_go(moved);
+            Ok(over)
+        }
+        Err(_) => Err(Flaw::Refused),
     }
+}
+
+/// The caller makes so many moves, and stops where its call isn't over then.
+fn move_on(world: &mut World, moves: usize) -> Result<(), Flaw> {
     for _ in 0..moves {
-        match world.move_one(0, Luck::Plain) {
-            Ok(Move::Done(reply)) => {
-                let_go(reply);
-                return Ok(());
-            }
-            Ok(moved) => let_go(moved),
-            Err(_) => return Err(Flaw::Refused),
+        if is_over(world)? {
+            return Ok(());
         }
     }
     match world.stop(0) {
@@ -109,22 +153,100 @@ fn put(alloc: Global, world: &mut World, act: &str, moment: u128) -> Result<(), 
     }
 }
 
+/// How many moves these words ask for: more than a put has, where there are none.
+fn moves_of(words: &str) -> Result<usize, Flaw> {
+    if words.is_empty() {
+        return Ok(99);
+    }
+    number_of(words)
+}
+
+/// A caller makes a put, or so many of its moves.
+fn put(alloc: Global, world: &mut World, act: &str, moment: u128) -> Result<(), Flaw> {
+    let (kind, rest) = cut(act);
+    let (key, rest) = cut(rest);
+    let (text, moves) = cut(rest);
+    let moves = moves_of(moves)?;
+    let command = put_of(alloc, key, text, moment, kind == "durable")?;
+    match world.begin(0, command) {
+        Ok(()) => move_on(world, moves),
+        Err(_) => Err(Flaw::Refused),
+    }
+}
+
+/// What a loss leaves of the file at a path.
+fn left_at(alloc: Global, places: &Places, loss: &Loss, path: &str) -> Result<String, AllocError> {
+    match places.lost(loss, HOME, path)? {
+        Some(bytes) => String::from_str(alloc, str::from_utf8(bytes.as_slice()).unwrap_or("?")),
+        None => String::from_str(alloc, "nothing"),
+    }
+}
+
+/// What a loss leaves of the data `one`.
+fn content_left(alloc: Global, places: &Places, loss: &Loss) -> Result<String, AllocError> {
+    let path = path_of_content(alloc, "one")?;
+    left_at(alloc, places, loss, path.as_str())
+}
+
+/// What a loss leaves of the bucket of the key `a`.
+fn bucket_left(alloc: Global, places: &Places, loss: &Loss) -> Result<String, AllocError> {
+    let path = bucket_path(alloc, HOME, "a")?;
+    let text = left_at(alloc, places, loss, path.as_str())?;
+    written_out(alloc, text.as_str())
+}
+
 /// What a loss leaves of the data `one`, of the key `a` and of its bucket.
-fn seen(alloc: Global, story: &Story<'_>, loss: &Loss) -> Result<String, AllocError> {
-    let content = path_of_content(alloc, "one")?;
-    let content = match story.places.lost(loss, HOME, content.as_str())? {
-        Some(bytes) => String::from_str(alloc, str::from_utf8(bytes.as_slice()).unwrap_or("?"))?,
-        None => String::from_str(alloc, "nothing")?,
-    };
-    let bucket = bucket_path(alloc, HOME, "a")?;
-    let bucket = match story.places.lost(loss, HOME, bucket.as_str())? {
-        Some(bytes) => written_out(alloc, str::from_utf8(bytes.as_slice()).unwrap_or("?"))?,
-        None => String::from_str(alloc, "nothing")?,
-    };
-    match looked_up(alloc, &story.places, loss, "a")? {
+fn seen(alloc: Global, places: &Places, loss: &Loss) -> Result<String, AllocError> {
+    let found = looked_up(alloc, places, loss, "a")?;
+    let content = content_left(alloc, places, loss)?;
+    let bucket = bucket_left(alloc, places, loss)?;
+    match found {
         Some(moment) => format!(in alloc; "content {content}; finds {moment}; bucket {bucket}"),
         None => format!(in alloc; "content {content}; finds nothing; bucket {bucket}"),
     }
+}
+
+/// The loss that these words ask for.
+fn loss_of(alloc: Global, places: &Places, words: &str) -> Result<Loss, AllocError> {
+    let (undone, rest) = cut(words);
+    let (content, rest) = cut(rest);
+    let (bucket, tail) = cut(rest);
+    let path = path_of_content(alloc, "one")?;
+    let undone = if undone == "content" {
+        path.as_str()
+    } else {
+        undone
+    };
+    let tails = [(path.as_str(), content), (bucket, tail)];
+    Loss::of(places, undone, &tails)
+}
+
+/// What is seen after the loss that these words ask for.
+fn seen_after(
+    alloc: Global,
+    world: &World,
+    places: &Places,
+    words: &str,
+) -> Result<String, AllocError> {
+    let loss = loss_of(alloc, places, words)?;
+    match differs(world, places, &loss)? {
+        Some(text) => Ok(text),
+        None => seen(alloc, places, &loss),
+    }
+}
+
+/// What is seen of a world after the loss that these words ask for.
+fn seen_of(alloc: Global, world: &World, words: &str) -> Result<String, AllocError> {
+    let story = Story::of(alloc, world)?;
+    seen_after(alloc, world, &story.places, words)
+}
+
+/// What is seen of some puts in a world after a loss.
+fn case_in(alloc: Global, world: &mut World, acts: &str, loss: &str) -> Result<String, Flaw> {
+    for (number, act) in acts.split("; ").enumerate() {
+        put(alloc, world, act, number as u128)?;
+    }
+    Ok(seen_of(alloc, world, loss)?)
 }
 
 /// What is seen of some puts after a loss.
@@ -132,32 +254,7 @@ fn case(alloc: Global, acts: &str, loss: &str) -> Result<String, Flaw> {
     let Some(mut world) = world_of(alloc, 1) else {
         return Err(Flaw::Refused);
     };
-    for (number, act) in acts.split("; ").enumerate() {
-        put(alloc, &mut world, act, number as u128)?;
-    }
-    let mut story = Story::new(alloc, 1)?;
-    for record in world.history() {
-        story.follow(record)?;
-    }
-    let (undone, rest) = cut(loss);
-    let (content, rest) = cut(rest);
-    let (bucket, tail) = cut(rest);
-    let (content_tail, bucket_tail) = (string_of(alloc, content)?, string_of(alloc, tail)?);
-    let path = path_of_content(alloc, "one")?;
-    let undone = if undone == "content" {
-        path.as_str()
-    } else {
-        undone
-    };
-    let tails = [
-        (path.as_str(), content_tail.as_str()),
-        (bucket, bucket_tail.as_str()),
-    ];
-    let loss = Loss::of(&story.places, undone, &tails)?;
-    if let Some(text) = differs(&world, &story.places, &loss)? {
-        return Ok(text);
-    }
-    Ok(seen(alloc, &story, &loss)?)
+    case_in(alloc, &mut world, acts, loss)
 }
 
 /// What came of a row.
@@ -166,7 +263,7 @@ fn tried(alloc: Global, act: &str) -> Result<String, Flaw> {
         Some((acts, loss)) => case(alloc, acts, loss),
         None => {
             let (_, words) = cut(act);
-            all_lost(alloc, words)
+            all_lost(alloc, lists_of(words)?)
         }
     }
 }
