@@ -3,7 +3,7 @@ use crate::outside::{random_export, random_target};
 use cacache_core::bytes::Bytes;
 use cacache_core::errors::Fault;
 use cacache_core::integrity::{Algorithm, Integrity, IntegrityOpts};
-use cacache_core::keeping::let_go;
+use cacache_core::keeping::{beside, let_go};
 use cacache_core::text::Text;
 use cacache_disk::Luck;
 use cacache_table::{Command, Delete, Insert, Json, Link, Options, Put, Source};
@@ -141,6 +141,27 @@ fn options_of(
     }
 }
 
+/// The bytes of a text.
+fn bytes_of(alloc: Global, text: &str) -> Result<Bytes, AllocError> {
+    Bytes::new(alloc, Vec::from_slice(alloc, text.as_bytes())?)
+}
+
+/// The bytes of a text, or none.
+fn raw_of(alloc: Global, text: &str, wanted: bool) -> Result<Option<Bytes>, AllocError> {
+    if wanted {
+        return Ok(Some(bytes_of(alloc, text)?));
+    }
+    Ok(None)
+}
+
+/// A key of this name, or none.
+fn key_of(alloc: Global, name: &str, wanted: bool) -> Result<Option<Text>, AllocError> {
+    if wanted {
+        return Ok(Some(Text::from_str(alloc, name)?));
+    }
+    Ok(None)
+}
+
 /// A link to a random target. It asks to be durable, which links ignore.
 fn link_of(
     alloc: Global,
@@ -149,9 +170,10 @@ fn link_of(
     algorithm: Algorithm,
     moment: u128,
 ) -> Result<Command, AllocError> {
+    let (target, key) = beside(random_target(alloc, random), key)?;
     Ok(Command::Link(Link {
         key,
-        target: random_target(alloc, random)?,
+        target,
         moment,
         options: options_of(algorithm, None, None, true),
     }))
@@ -196,6 +218,15 @@ fn on_hash(alloc: Global, kind: &str, sample: Sample) -> Result<Command, AllocEr
     })
 }
 
+/// What an export takes: the key's content, or this one.
+fn source_of(alloc: Global, kind: &str, name: &str, sample: Sample) -> Result<Source, AllocError> {
+    let (_, _, text) = sample;
+    match kind {
+        "export" => Ok(Source::Key(Text::from_str(alloc, name)?)),
+        _ => Ok(Source::Hash(integrity_of(alloc, text)?)),
+    }
+}
+
 /// An export of the key's content, or of this one.
 fn export_of(
     alloc: Global,
@@ -205,11 +236,7 @@ fn export_of(
     sample: Sample,
 ) -> Result<Command, AllocError> {
     let export = random_export(alloc, random)?;
-    let (_, _, text) = sample;
-    let source = match kind {
-        "export" => Source::Key(Text::from_str(alloc, name)?),
-        _ => Source::Hash(integrity_of(alloc, text)?),
-    };
+    let (source, export) = beside(source_of(alloc, kind, name, sample), export)?;
     Ok(Command::Export(source, export))
 }
 
@@ -222,12 +249,8 @@ fn put_of(
     moment: u128,
 ) -> Result<Command, AllocError> {
     let (text, algorithm, _) = sample;
-    let key = if kind == "put_hash" {
-        None
-    } else {
-        Some(Text::from_str(alloc, name)?)
-    };
-    let data = Bytes::new(alloc, Vec::from_slice(alloc, text.as_bytes())?)?;
+    let key = key_of(alloc, name, kind != "put_hash")?;
+    let (data, key) = beside(bytes_of(alloc, text), key)?;
     Ok(Command::Put(Put {
         key,
         data,
@@ -245,18 +268,34 @@ fn insert_of(
     moment: u128,
 ) -> Result<Command, AllocError> {
     let (text, algorithm, integrity) = sample;
-    let raw = if kind == "insert_raw" {
-        Some(Bytes::new(alloc, Vec::from_slice(alloc, text.as_bytes())?)?)
-    } else {
-        None
-    };
-    let integrity = integrity_of(alloc, integrity)?;
-    let key = Text::from_str(alloc, name)?;
+    let raw = raw_of(alloc, text, kind == "insert_raw")?;
+    let (integrity, raw) = beside(integrity_of(alloc, integrity), raw)?;
+    let (key, (integrity, raw)) = beside(Text::from_str(alloc, name), (integrity, raw))?;
     Ok(Command::Insert(Insert {
         key,
         moment,
         options: options_of(algorithm, Some(integrity), raw, kind == "insert_durable"),
     }))
+}
+
+/// A call of this kind that stores, links or inserts this content.
+fn on_content(
+    alloc: Global,
+    random: &mut Random,
+    kind: &str,
+    name: &str,
+    sample: Sample,
+    moment: u128,
+) -> Result<Command, AllocError> {
+    match kind {
+        "link" | "link_hash" => {
+            let key = key_of(alloc, name, kind == "link")?;
+            let (_, algorithm, _) = sample;
+            link_of(alloc, random, key, algorithm, moment)
+        }
+        "insert" | "insert_raw" | "insert_durable" => insert_of(alloc, kind, name, sample, moment),
+        _ => put_of(alloc, kind, name, sample, moment),
+    }
 }
 
 /// A call of this kind on a random key and content.
@@ -274,17 +313,7 @@ pub(crate) fn random_command(
         "delete" | "find" | "get" | "remove_fully" => on_key(alloc, kind, name, moment),
         "get_hash" | "exists" | "remove_hash" => on_hash(alloc, kind, sample),
         "export" | "export_hash" => export_of(alloc, random, kind, name, sample),
-        "link" | "link_hash" => {
-            let key = if kind == "link" {
-                Some(Text::from_str(alloc, name)?)
-            } else {
-                None
-            };
-            let (_, algorithm, _) = sample;
-            link_of(alloc, random, key, algorithm, moment)
-        }
-        "insert" | "insert_raw" | "insert_durable" => insert_of(alloc, kind, name, sample, moment),
-        _ => put_of(alloc, kind, name, sample, moment),
+        _ => on_content(alloc, random, kind, name, sample, moment),
     }
 }
 

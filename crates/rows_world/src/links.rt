@@ -6,6 +6,7 @@ use crate::story::Story;
 use crate::value::Value;
 use cacache_core::bytes::Bytes;
 use cacache_core::errors::Error;
+use cacache_core::integrity::Integrity;
 use cacache_core::keeping::{let_go, set};
 use cacache_core::text::Text;
 use cacache_disk::Luck;
@@ -44,7 +45,17 @@ impl<'h> Story<'h> {
         };
         let count = bytes.len();
         let integrity = integrity_under(self.alloc, link.options.algorithm, bytes.as_slice())?;
-        if value.content(&integrity)?.is_none() {
+        self.linked_as(value, &integrity, count)
+    }
+
+    /// The same, where so many bytes of this integrity were read.
+    fn linked_as(
+        &mut self,
+        value: &Value,
+        integrity: &Integrity,
+        count: usize,
+    ) -> Result<(), AllocError> {
+        if value.content(integrity)?.is_none() {
             return self.want("no link at another place");
         }
         if count != self.size {

@@ -70,6 +70,42 @@ fn world_of(alloc: Global, callers: usize) -> Option<World> {
     World::new(alloc, callers, cache, outside).ok()
 }
 
+/// A caller's call moves, if it has one: whether it does.
+fn moves(world: &mut World, caller: usize, luck: Luck) -> Result<bool, AllocError> {
+    match world.move_one(caller, luck) {
+        Ok(moved) => {
+            let_go(moved);
+            Ok(true)
+        }
+        Err(WorldFault::Idle) => Ok(false),
+        Err(_) => Err(AllocError),
+    }
+}
+
+/// A caller begins a random call: whether it does where it may, and doesn't where it may not.
+fn begins(
+    alloc: Global,
+    world: &mut World,
+    random: &mut Random,
+    caller: usize,
+    begun: &mut Tally,
+) -> Result<bool, AllocError> {
+    let kind = random_kind(random);
+    let command = random_command(alloc, random, kind)?;
+    let may = may_begin(&command);
+    match world.begin(caller, command) {
+        Ok(()) => {
+            begun.count(kind)?;
+            Ok(may)
+        }
+        Err(WorldFault::BadCommand) => {
+            begun.count("refused")?;
+            Ok(!may)
+        }
+        Err(_) => Err(AllocError),
+    }
+}
+
 /// A random event of a caller: it stops its call, moves it, or begins one. Whether it is one that may be.
 fn event(
     alloc: Global,
@@ -82,53 +118,48 @@ fn event(
         counts.events.count("stopped")?;
         return Ok(true);
     }
-    match world.move_one(caller, random_luck(random)) {
-        Ok(moved) => {
-            let_go(moved);
-            return Ok(true);
-        }
-        Err(WorldFault::Idle) => {}
-        Err(_) => return Err(AllocError),
+    if moves(world, caller, random_luck(random))? {
+        return Ok(true);
     }
-    let kind = random_kind(random);
-    let command = random_command(alloc, random, kind)?;
-    let may = may_begin(&command);
-    match world.begin(caller, command) {
-        Ok(()) => {
-            counts.begun.count(kind)?;
-            Ok(may)
-        }
-        Err(WorldFault::BadCommand) => {
-            counts.begun.count("refused")?;
-            Ok(!may)
-        }
-        Err(_) => Err(AllocError),
+    begins(alloc, world, random, caller, &mut counts.begun)
+}
+
+/// What is counted of a luck.
+fn name_of(luck: Luck) -> &'static str {
+    match luck {
+        Luck::Plain => "plain",
+        Luck::Take(_) => "taken in part",
+        Luck::Fail(_, _) => "made to fail",
+    }
+}
+
+/// What is counted of a step beside its luck, if anything.
+fn told_of(step: &PlainStep, answer: &PlainAnswer) -> Option<&'static str> {
+    match (step, answer) {
+        (Step::Append(_, bytes), Answer::Took(count)) if *count < bytes.len() => Some(
+            "torn appends",
+        ),
+        (Step::Persist(_, _), Answer::Failed(_)) => Some("refused persists"),
+        (Step::RemoveFile(_), Answer::Done) => Some("removed files"),
+        (Step::Symlink(_, _), Answer::Done) => Some("links"),
+        (Step::Copy(_, _), Answer::Took(_)) => Some("copies"),
+        (Step::Reflink(_, _), Answer::Done) => Some("reflinks"),
+        (Step::HardLink(_, _), Answer::Done) => Some("hard links"),
+        _ => None,
     }
 }
 
 /// Counts a step.
 fn count_step(
-    counts: &mut Counts,
+    events: &mut Tally,
     step: &PlainStep,
     luck: Luck,
     answer: &PlainAnswer,
 ) -> Result<(), AllocError> {
-    counts.events.count(match luck {
-        Luck::Plain => "plain",
-        Luck::Take(_) => "taken in part",
-        Luck::Fail(_, _) => "made to fail",
-    })?;
-    match (step, answer) {
-        (Step::Append(_, bytes), Answer::Took(count)) if *count < bytes.len() => {
-            counts.events.count("torn appends")
-        }
-        (Step::Persist(_, _), Answer::Failed(_)) => counts.events.count("refused persists"),
-        (Step::RemoveFile(_), Answer::Done) => counts.events.count("removed files"),
-        (Step::Symlink(_, _), Answer::Done) => counts.events.count("links"),
-        (Step::Copy(_, _), Answer::Took(_)) => counts.events.count("copies"),
-        (Step::Reflink(_, _), Answer::Done) => counts.events.count("reflinks"),
-        (Step::HardLink(_, _), Answer::Done) => counts.events.count("hard links"),
-        _ => Ok(()),
+    events.count(name_of(luck))?;
+    match told_of(step, answer) {
+        Some(name) => events.count(name),
+        None => Ok(()),
     }
 }
 
@@ -205,7 +236,7 @@ impl<'h> Model<'h> {
         answer: &PlainAnswer,
         counts: &mut Counts,
     ) -> Result<Option<String>, AllocError> {
-        count_step(counts, step, luck, answer)?;
+        count_step(&mut counts.events, step, luck, answer)?;
         if self.value.files.is_wrong(step, luck, answer) {
             return Ok(Some(format!(in self.alloc; "{step:?} gave {answer:?}")?));
         }

@@ -10,6 +10,7 @@ use cacache_core::integrity::Integrity;
 use cacache_core::keeping::{let_go, set};
 use cacache_core::text::Text;
 use cacache_disk::Luck;
+use cacache_entry::SerializableMetadata;
 use cacache_store::store::{Answer, PlainAnswer, PlainStep, Step};
 use cacache_table::{Command, Source};
 use std::alloc::{AllocError, Global};
@@ -51,14 +52,6 @@ fn hidden_by(answer: &PlainAnswer) -> Option<Fault> {
     fault_in(answer).filter(|fault| *fault != Fault::NotFound)
 }
 
-/// The integrity of this text, if there is one.
-fn found_in(alloc: Global, text: &Option<String>) -> Result<Option<Integrity>, AllocError> {
-    match text {
-        Some(text) => Ok(Some(integrity_of(alloc, text.as_str())?)),
-        None => Ok(None),
-    }
-}
-
 impl<'h> Story<'h> {
     /// A call that begins. Only a listing has a reply before it did anything.
     pub(crate) fn new(alloc: Global, command: &'h Command) -> Result<Story<'h>, AllocError> {
@@ -92,6 +85,18 @@ impl<'h> Story<'h> {
         self.wanted.push_str(item)
     }
 
+    /// The listing is to have the bucket's newest entry more, if there is one.
+    fn list_newest(&mut self, value: &Value, path: &Text) -> Result<(), AllocError> {
+        match value.newest(path)? {
+            Some(entry) => {
+                let shown = shown_entry(self.alloc, &entry);
+                let_go(entry);
+                self.item(shown?.as_str())
+            }
+            None => Ok(()),
+        }
+    }
+
     /// After a step of a listing: the bucket's newest entry, or why nothing could be read.
     fn list(
         &mut self,
@@ -100,14 +105,7 @@ impl<'h> Story<'h> {
         answer: &PlainAnswer,
     ) -> Result<(), AllocError> {
         match (step, fault_in(answer)) {
-            (Step::ReadAll(path), None | Some(Fault::NotFound)) => {
-                if let Some(entry) = value.newest(path)? {
-                    let shown = shown_entry(self.alloc, &entry);
-                    let_go(entry);
-                    return self.item(shown?.as_str());
-                }
-                Ok(())
-            }
+            (Step::ReadAll(path), None | Some(Fault::NotFound)) => self.list_newest(value, path),
             (_, Some(fault)) => self.item(shown_fault(self.alloc, fault)?.as_str()),
             (_, None) => Ok(()),
         }
@@ -122,21 +120,24 @@ impl<'h> Story<'h> {
         if let Some(fault) = hidden_by(answer) {
             return self.fail(fault);
         }
-        let Some(entry) = value.newest(path)? else {
-            return self.want(none);
-        };
-        let shown = shown_entry(self.alloc, &entry);
-        let found = found_in(self.alloc, &entry.integrity);
-        let_go(entry);
-        self.find(shown?.as_str(), found?)
+        match value.newest(path)? {
+            Some(entry) => {
+                let seen = self.find(&entry);
+                let_go(entry);
+                seen
+            }
+            None => self.want(none),
+        }
     }
 
-    /// The lookup finds this, of this content.
-    fn find(&mut self, shown: &str, found: Option<Integrity>) -> Result<(), AllocError> {
-        if found.is_some() {
-            set(&mut self.found, found);
+    /// The lookup finds this entry.
+    fn find(&mut self, entry: &SerializableMetadata) -> Result<(), AllocError> {
+        if let Some(text) = &entry.integrity {
+            let found = integrity_of(self.alloc, text.as_str())?;
+            set(&mut self.found, Some(found));
         }
-        self.want(shown)
+        let shown = shown_entry(self.alloc, entry)?;
+        self.want(shown.as_str())
     }
 
     /// After a content was read.
@@ -180,9 +181,7 @@ impl<'h> Story<'h> {
     /// After a step by which the content of a put is at its place. One that was only asked for may be a link to other bytes.
     fn placed(&mut self, value: &Value, data: &Bytes, asked: bool) -> Result<(), AllocError> {
         let text = text_of(data.as_slice());
-        let integrity = integrity_of(self.alloc, text)?;
-        let content = value.content(&integrity)?;
-        if content == Some(data) || (asked && content.is_some()) {
+        if value.has(text, data, asked)? {
             self.may_add = true;
         }
         self.want(format!(in self.alloc; "stored {text}")?.as_str())
@@ -190,9 +189,14 @@ impl<'h> Story<'h> {
 
     /// After all of a line was appended: the bucket's newest entry is that of the commit.
     fn added(&mut self, value: &Value, path: &Text) -> Result<(), AllocError> {
-        let Some(text) = value.newest(path)?.and_then(|entry| entry.integrity) else {
-            return self.want("done");
-        };
+        match value.newest_text(path)? {
+            None => self.want("done"),
+            Some(text) => self.added_of(text.as_str()),
+        }
+    }
+
+    /// The same, where that entry names this content.
+    fn added_of(&mut self, text: &str) -> Result<(), AllocError> {
         if !self.may_add {
             return self.want("no entry before its content");
         }

@@ -33,6 +33,12 @@ fn left_by(luck: Luck, answer: &PlainAnswer) -> Option<usize> {
     }
 }
 
+/// Where the content of this integrity lies.
+fn path_of_content(alloc: Global, text: &str) -> Result<Text, AllocError> {
+    let integrity = integrity_of(alloc, text)?;
+    content_path(alloc, CACHE, &integrity)
+}
+
 impl Value {
     /// That of a cache which holds nothing, beside the outside files.
     pub(crate) fn empty(alloc: Global) -> Result<Value, AllocError> {
@@ -40,21 +46,31 @@ impl Value {
             alloc,
             files: Files::new(alloc),
         };
-        for name in &KEYS {
-            let path = bucket_path(alloc, CACHE, name)?;
-            value.files.put(path.as_str(), None)?;
-        }
-        value.name_contents()?;
-        value.name_destinations()?;
-        value.plant()?;
+        value.fill()?;
         Ok(value)
+    }
+
+    /// All places, with the outside files alone.
+    fn fill(&mut self) -> Result<(), AllocError> {
+        self.name_buckets()?;
+        self.name_contents()?;
+        self.name_destinations()?;
+        self.plant()
+    }
+
+    /// The places of the buckets, with nothing there.
+    fn name_buckets(&mut self) -> Result<(), AllocError> {
+        for name in &KEYS {
+            let path = bucket_path(self.alloc, CACHE, name)?;
+            self.files.put(path.as_str(), None)?;
+        }
+        Ok(())
     }
 
     /// The places of the contents, with nothing there.
     fn name_contents(&mut self) -> Result<(), AllocError> {
         for (_, _, text) in &CONTENTS {
-            let integrity = integrity_of(self.alloc, text)?;
-            let path = content_path(self.alloc, CACHE, &integrity)?;
+            let path = path_of_content(self.alloc, text)?;
             self.files.put(path.as_str(), None)?;
         }
         Ok(())
@@ -93,6 +109,13 @@ impl Value {
         Ok(self.bytes(&path))
     }
 
+    /// Whether the content of an integrity is there, as these bytes or, if it is asked for alone, as any.
+    pub(crate) fn has(&self, text: &str, data: &Bytes, asked: bool) -> Result<bool, AllocError> {
+        let integrity = integrity_of(self.alloc, text)?;
+        let content = self.content(&integrity)?;
+        Ok(content == Some(data) || (asked && content.is_some()))
+    }
+
     /// The newest entry of the bucket at a path, if that is no tombstone.
     pub(crate) fn newest(&self, path: &Text) -> Result<Option<SerializableMetadata>, AllocError> {
         let Some(bytes) = self.bytes(path) else {
@@ -107,6 +130,11 @@ impl Value {
         }
     }
 
+    /// The content that the newest entry of the bucket at a path names, if that is no tombstone.
+    pub(crate) fn newest_text(&self, path: &Text) -> Result<Option<String>, AllocError> {
+        Ok(self.newest(path)?.and_then(|entry| entry.integrity))
+    }
+
     /// Puts more bytes behind those at a path.
     fn append(&mut self, path: &Text, more: &[u8]) -> Result<(), AllocError> {
         let mut bytes = match self.bytes(path) {
@@ -117,6 +145,17 @@ impl Value {
         self.files.put(path.as_str(), Some(Node::File(bytes)))
     }
 
+    /// A temporary file with these bytes comes to a path. Nothing changes where they aren't known.
+    fn persist(&mut self, path: &Text, bytes: Option<&Bytes>) -> Result<(), AllocError> {
+        match bytes {
+            Some(bytes) => {
+                let node = Node::File(bytes.share()?);
+                self.files.put(path.as_str(), Some(node))
+            }
+            None => Ok(()),
+        }
+    }
+
     /// What a step did, by its luck and its answer.
     pub(crate) fn change(
         &mut self,
@@ -125,21 +164,16 @@ impl Value {
         answer: &PlainAnswer,
     ) -> Result<(), AllocError> {
         match (step, answer) {
-            (Step::Persist(file, path), Answer::Done) => {
-                if let Some(bytes) = &file.bytes {
-                    let node = Node::File(bytes.share()?);
-                    self.files.put(path.as_str(), Some(node))?;
-                }
-            }
-            (Step::RemoveFile(path), Answer::Done) => self.files.put(path.as_str(), None)?,
+            (Step::Persist(file, path), Answer::Done) => self.persist(path, file.bytes.as_ref()),
+            (Step::RemoveFile(path), Answer::Done) => self.files.put(path.as_str(), None),
             (Step::Append(path, bytes), answer) => {
-                if let Some(count) = left_by(luck, answer) {
-                    let bytes = bytes.as_slice();
-                    self.append(path, bytes.get(..count).unwrap_or(bytes))?;
-                }
+                let Some(count) = left_by(luck, answer) else {
+                    return Ok(());
+                };
+                let bytes = bytes.as_slice();
+                self.append(path, bytes.get(..count).unwrap_or(bytes))
             }
-            _ => self.files.change(step, luck, answer)?,
+            _ => self.files.change(step, luck, answer),
         }
-        Ok(())
     }
 }
