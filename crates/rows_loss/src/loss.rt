@@ -1,8 +1,7 @@
 //! A loss of power: which names stand as they did before, and what the files that weren't synced end in.
-use crate::places::{File, Node, Places, enter};
+use crate::places::{Node, Places};
 use cacache_core::text::Text;
 use rows::random::Random;
-use rows::words::string_of;
 use std::alloc::{AllocError, Global};
 
 /// For each place, whether what stood there before stands there again, and what follows its file's fixed bytes.
@@ -29,28 +28,6 @@ const TAILS: [&str; 5] = [
     "\n0a18ff2771f47bc242a042b2f6842aed",
     "\n\t{\"key\":\"a\"}",
 ];
-
-/// The tail at a path: the last of these.
-fn tail_at<'a>(tails: &[(&str, &'a str)], path: &str) -> &'a str {
-    let mut tail = "";
-    for (name, text) in tails {
-        if *name == path {
-            tail = *text;
-        }
-    }
-    tail
-}
-
-/// What a loss leaves of a file, which ends in this tail where it isn't whole.
-fn left_of(alloc: Global, file: &File, tail: &str) -> Result<Vec<u8>, AllocError> {
-    let bytes = file.bytes.as_slice();
-    if file.whole {
-        return Vec::from_slice(alloc, bytes);
-    }
-    let mut left = Vec::from_slice(alloc, bytes.get(..file.fixed).unwrap_or(bytes))?;
-    left.extend_from_slice(tail.as_bytes())?;
-    Ok(left)
-}
 
 impl Loss {
     /// No place yet.
@@ -82,7 +59,7 @@ impl Loss {
         }
     }
 
-    /// The loss of this name, or of all names, with tails at some paths, in the words of rows.
+    /// The loss of this name, or of all names, with tails at some paths.
     pub(crate) fn of(
         places: &Places,
         undone: &str,
@@ -91,9 +68,13 @@ impl Loss {
         let mut loss = Loss::new(places.alloc);
         for place in &places.all {
             let path = place.path.as_str();
-            let tail = string_of(places.alloc, tail_at(tails, path))?;
-            let is_undone = undone == "all" || undone == path;
-            loss.push(places.alloc, is_undone, tail.as_str())?;
+            let mut tail = "";
+            for (name, text) in tails {
+                if *name == path {
+                    tail = *text;
+                }
+            }
+            loss.push(places.alloc, undone == "all" || undone == path, tail)?;
         }
         Ok(loss)
     }
@@ -124,21 +105,19 @@ impl Places {
         Some((node, loss.tail(number)))
     }
 
-    /// Whether a folder stands at a path after a loss.
-    fn is_folder(&self, loss: &Loss, home: &str, path: &str) -> bool {
-        matches!(self.left_at(loss, home, path), Some((Node::Folder, _)))
-    }
-
     /// Whether a folder stands at each name above a path after a loss.
     fn is_reached(&self, loss: &Loss, home: &str, path: &str) -> Result<bool, AllocError> {
         let mut at = String::new(self.alloc);
         for name in path.split('/') {
-            let above = at.as_str();
-            if !above.is_empty() && above != path && !self.is_folder(loss, home, above) {
-                return Ok(false);
+            if !at.is_empty() && at.as_str() != path {
+                match self.left_at(loss, home, at.as_str()) {
+                    Some((Node::Folder, _)) => {}
+                    _ => return Ok(false),
+                }
             }
             if !name.is_empty() {
-                enter(&mut at, name)?;
+                at.push('/')?;
+                at.push_str(name)?;
             }
         }
         Ok(true)
@@ -154,9 +133,15 @@ impl Places {
         if !self.is_reached(loss, home, path)? {
             return Ok(None);
         }
-        match self.left_at(loss, home, path) {
-            Some((Node::File(file), tail)) => Ok(Some(left_of(self.alloc, file, tail)?)),
-            _ => Ok(None),
+        let Some((Node::File(file), tail)) = self.left_at(loss, home, path) else {
+            return Ok(None);
+        };
+        let bytes = file.bytes.as_slice();
+        if file.whole {
+            return Ok(Some(Vec::from_slice(self.alloc, bytes)?));
         }
+        let mut left = Vec::from_slice(self.alloc, bytes.get(..file.fixed).unwrap_or(bytes))?;
+        left.extend_from_slice(tail.as_bytes())?;
+        Ok(Some(left))
     }
 }

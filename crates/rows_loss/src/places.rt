@@ -161,23 +161,17 @@ impl Places {
         let mut left = count;
         let mut at = String::new(self.alloc);
         for name in path.split('/') {
-            if !name.is_empty() {
-                enter(&mut at, name)?;
-                if left > 0 && self.make_folder(at.as_str())? {
-                    left = left.saturating_sub(1);
-                }
+            if name.is_empty() {
+                continue;
+            }
+            at.push('/')?;
+            at.push_str(name)?;
+            if left > 0 && !self.is_taken(at.as_str()) {
+                self.put(at.as_str(), Some(Node::Folder))?;
+                left = left.saturating_sub(1);
             }
         }
         Ok(())
-    }
-
-    /// Makes the folder at a path where nothing stands: whether it did.
-    fn make_folder(&mut self, path: &str) -> Result<bool, AllocError> {
-        if self.is_taken(path) {
-            return Ok(false);
-        }
-        self.put(path, Some(Node::Folder))?;
-        Ok(true)
     }
 
     /// Makes a file at a path.
@@ -250,12 +244,6 @@ impl Places {
         self.put(to, Some(node))?;
         self.put(from, None)
     }
-}
-
-/// Goes on to a name in the folder at a path.
-pub(crate) fn enter(path: &mut String, name: &str) -> Result<(), AllocError> {
-    path.push('/')?;
-    path.push_str(name)
 }
 
 /// Whether this is `/` and one name.

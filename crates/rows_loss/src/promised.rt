@@ -154,36 +154,39 @@ impl<'h> Story<'h> {
         }
     }
 
-    /// A caller's call and the number of its entry, if it has a call.
-    fn call_of(&self, caller: usize) -> Option<(&'h Command, usize)> {
-        let call = self.calls.get(caller)?;
-        Some((call.command?, call.entry))
-    }
-
-    /// One entry more of a key: its number, counted from 1; 0 where this is none of the keys.
-    fn add_entry(&mut self, key: &str, added: Added) -> Result<usize, AllocError> {
+    /// A caller's call added its entry.
+    fn add(&mut self, caller: usize) -> Result<(), AllocError> {
+        let Some(call) = self.calls.get_mut(caller) else {
+            return Ok(());
+        };
+        let Some((key, added, _)) = call.command.and_then(said) else {
+            return Ok(());
+        };
         for entries in &mut self.keys {
             if entries.key == key {
                 entries.all.push(added)?;
-                return Ok(entries.all.len());
+                call.entry = entries.all.len();
             }
         }
-        Ok(0)
+        Ok(())
     }
 
-    /// A caller's call added its entry.
-    fn add(&mut self, caller: usize) -> Result<(), AllocError> {
-        let Some((command, _)) = self.call_of(caller) else {
+    /// A caller's durable call answered: its entry is fixed, and so is its content.
+    fn fix(&mut self, caller: usize) -> Result<(), AllocError> {
+        let Some(call) = self.calls.get(caller) else {
             return Ok(());
         };
-        let Some((key, added, _)) = said(command) else {
+        let (Some(command), entry) = (call.command, call.entry) else {
             return Ok(());
         };
-        let entry = self.add_entry(key, added)?;
-        if let Some(call) = self.calls.get_mut(caller) {
-            call.entry = entry;
+        let Some((key, _, true)) = said(command) else {
+            return Ok(());
+        };
+        self.fix_entries(key, entry);
+        match command {
+            Command::Put(put) => self.store(put.data.as_slice()),
+            _ => Ok(()),
         }
-        Ok(())
     }
 
     /// So many of the entries of a key are fixed.
@@ -203,21 +206,6 @@ impl<'h> Story<'h> {
             }
         }
         Ok(())
-    }
-
-    /// A caller's durable call answered: its entry is fixed, and so is its content.
-    fn fix(&mut self, caller: usize) -> Result<(), AllocError> {
-        let Some((command, entry)) = self.call_of(caller) else {
-            return Ok(());
-        };
-        let Some((key, _, true)) = said(command) else {
-            return Ok(());
-        };
-        self.fix_entries(key, entry);
-        match command {
-            Command::Put(put) => self.store(put.data.as_slice()),
-            _ => Ok(()),
-        }
     }
 
     /// The whole history.
@@ -377,9 +365,18 @@ fn integrity_of(alloc: Global, text: &str) -> Result<Integrity, AllocError> {
     }
 }
 
-/// The moment of the entry that a lookup of a key finds in a bucket.
-fn found_in(alloc: Global, bytes: &[u8], key: &str) -> Result<Option<u128>, AllocError> {
-    match latest(alloc, bytes, key) {
+/// The moment of the entry that a lookup of a key finds after a loss.
+pub(crate) fn looked_up(
+    alloc: Global,
+    places: &Places,
+    loss: &Loss,
+    key: &str,
+) -> Result<Option<u128>, AllocError> {
+    let path = bucket_path(alloc, HOME, key)?;
+    let Some(bytes) = places.lost(loss, HOME, path.as_str())? else {
+        return Ok(None);
+    };
+    match latest(alloc, bytes.as_slice(), key) {
         Ok(lookup) => {
             let found = lookup.found.as_ref().map(|found| found.time);
             let_go(lookup);
@@ -389,19 +386,5 @@ fn found_in(alloc: Global, bytes: &[u8], key: &str) -> Result<Option<u128>, Allo
             let_go(error);
             Err(AllocError)
         }
-    }
-}
-
-/// The moment of the entry that a lookup of a key finds after a loss.
-pub(crate) fn looked_up(
-    alloc: Global,
-    places: &Places,
-    loss: &Loss,
-    key: &str,
-) -> Result<Option<u128>, AllocError> {
-    let path = bucket_path(alloc, HOME, key)?;
-    match places.lost(loss, HOME, path.as_str())? {
-        Some(bytes) => found_in(alloc, bytes.as_slice(), key),
-        None => Ok(None),
     }
 }

@@ -23,32 +23,32 @@ fn left_a_file(luck: Luck, answer: &PlainAnswer) -> bool {
 }
 
 impl Places {
-    /// What a step that was done does to what is fixed.
-    fn fix(&mut self, step: &PlainStep, answer: &PlainAnswer) {
-        match (step, answer) {
-            (Step::Write(_, _), Answer::Wrote(temp, _)) => self.write(temp.path.as_str()),
-            (Step::SyncTemp(_), Answer::Synced(temp)) => {
-                let size = temp.bytes.as_ref().map(|bytes| bytes.len());
-                self.sync_file(temp.path.as_str(), size);
-            }
-            (Step::SyncFile(path), Answer::Done) => self.sync_file(path.as_str(), None),
-            (Step::SyncDir(path), Answer::Done) => self.sync_folder(path.as_str()),
-            _ => {}
-        }
-    }
-
     /// What a step that was done does, beside folders and appends.
     fn done(&mut self, step: &PlainStep, answer: &PlainAnswer) -> Result<(), AllocError> {
         match (step, answer) {
             (Step::CreateTemp(path), Answer::Temp(_)) => self.make_file(path.as_str()),
+            (Step::Write(_, _), Answer::Wrote(temp, _)) => {
+                self.write(temp.path.as_str());
+                Ok(())
+            }
+            (Step::SyncTemp(_), Answer::Synced(temp)) => {
+                let size = temp.bytes.as_ref().map(|bytes| bytes.len());
+                self.sync_file(temp.path.as_str(), size);
+                Ok(())
+            }
             (Step::Persist(temp, path), Answer::Done) => match &temp.bytes {
                 Some(bytes) => self.move_file(temp.path.as_str(), path.as_str(), bytes),
                 None => Ok(()),
             },
-            _ => {
-                self.fix(step, answer);
+            (Step::SyncFile(path), Answer::Done) => {
+                self.sync_file(path.as_str(), None);
                 Ok(())
             }
+            (Step::SyncDir(path), Answer::Done) => {
+                self.sync_folder(path.as_str());
+                Ok(())
+            }
+            _ => Ok(()),
         }
     }
 

@@ -9,7 +9,7 @@ use cacache_disk::Luck;
 use cacache_jobs::bucket_path;
 use cacache_world::{Move, World};
 use rows::random::Random;
-use rows::words::{cut, number_of, written_out};
+use rows::words::{cut, number_of, string_of, written_out};
 use rows::{Flaw, Outcome, Trial};
 use std::alloc::{AllocError, Global};
 
@@ -153,20 +153,16 @@ fn move_on(world: &mut World, moves: usize) -> Result<(), Flaw> {
     }
 }
 
-/// How many moves these words ask for: more than a put has, where there are none.
-fn moves_of(words: &str) -> Result<usize, Flaw> {
-    if words.is_empty() {
-        return Ok(99);
-    }
-    number_of(words)
-}
-
 /// A caller makes a put, or so many of its moves.
 fn put(alloc: Global, world: &mut World, act: &str, moment: u128) -> Result<(), Flaw> {
     let (kind, rest) = cut(act);
     let (key, rest) = cut(rest);
     let (text, moves) = cut(rest);
-    let moves = moves_of(moves)?;
+    let moves = if moves.is_empty() {
+        99
+    } else {
+        number_of(moves)?
+    };
     let command = put_of(alloc, key, text, moment, kind == "durable")?;
     match world.begin(0, command) {
         Ok(()) => move_on(world, moves),
@@ -212,12 +208,17 @@ fn loss_of(alloc: Global, places: &Places, words: &str) -> Result<Loss, AllocErr
     let (content, rest) = cut(rest);
     let (bucket, tail) = cut(rest);
     let path = path_of_content(alloc, "one")?;
+    let content_tail = string_of(alloc, content)?;
+    let bucket_tail = string_of(alloc, tail)?;
     let undone = if undone == "content" {
         path.as_str()
     } else {
         undone
     };
-    let tails = [(path.as_str(), content), (bucket, tail)];
+    let tails = [
+        (path.as_str(), content_tail.as_str()),
+        (bucket, bucket_tail.as_str()),
+    ];
     Loss::of(places, undone, &tails)
 }
 
@@ -235,18 +236,13 @@ fn seen_after(
     }
 }
 
-/// What is seen of a world after the loss that these words ask for.
-fn seen_of(alloc: Global, world: &World, words: &str) -> Result<String, AllocError> {
-    let story = Story::of(alloc, world)?;
-    seen_after(alloc, world, &story.places, words)
-}
-
 /// What is seen of some puts in a world after a loss.
 fn case_in(alloc: Global, world: &mut World, acts: &str, loss: &str) -> Result<String, Flaw> {
     for (number, act) in acts.split("; ").enumerate() {
         put(alloc, world, act, number as u128)?;
     }
-    Ok(seen_of(alloc, world, loss)?)
+    let story = Story::of(alloc, world)?;
+    Ok(seen_after(alloc, world, &story.places, loss)?)
 }
 
 /// What is seen of some puts after a loss.
