@@ -24,8 +24,8 @@ fn refused(alloc: Global, error: Error) -> Result<String, AllocError> {
     written_out(alloc, text?.as_str())
 }
 
-/// Whether something was done.
-fn is_done(alloc: Global, is_done: bool) -> Result<String, AllocError> {
+/// The line on whether something was done.
+fn done(alloc: Global, is_done: bool) -> Result<String, AllocError> {
     String::from_str(alloc, if is_done { "done" } else { "not done" })
 }
 
@@ -68,8 +68,8 @@ pub(crate) fn made<S: Store>(env: &mut On<S>, act: &str, input: &str) -> Result<
         "write_sync" => told(alloc, cacache::write_vec_sync(env, cache, rest, bytes)),
         "remove_sync" => told(alloc, cacache::remove_sync(env, cache, rest)),
         "remove_hash_sync" => return removed(env, cache, rest),
-        "plant" => is_done(alloc, plant(env, cache, bytes)?),
-        "link" => is_done(alloc, link(env, cache, rest)?),
+        "plant" => done(alloc, plant(env, cache, bytes)?),
+        "link" => done(alloc, link(env, cache, rest)?),
         "cacache-keep" => ran(env, words),
         _ => return Err(Flaw::NotRead),
     };
