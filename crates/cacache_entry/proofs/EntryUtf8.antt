@@ -6,9 +6,9 @@ use Rattle.std.proofs.lemmas.Str.{IsUtf8-append, IsUtf8-from_ascii, IsUtf8-nil}
 use Rattle.json.specs.Print.{quoted}
 use Rattle.json.proofs.Printed.Utf8.{are_ascii, IsUtf8-are_ascii, IsUtf8-quoted}
 use Rattle.serde_json.specs.Written.{comma_if, compact_text, items_text}
-use Rattle.cacache_entry.specs.Entry.{Entry, text_or_null, byte_items, bytes_or_null, text_of}
+use Rattle.cacache_entry.specs.Entry.{Entry, text_or_null, byte_items, bytes_or_null, front_of, text_of}
 use Rattle.cacache_entry.specs.FittingEntries.{EachIsByte, AreBytes, IsUtf8IfAny, IsEntry}
-use Rattle.cacache_entry.proofs.TextParts.{put, front, text-parts}
+use Rattle.cacache_entry.proofs.TextParts.{front-text}
 
 IsUtf8-decimal : (n : ℕ) → n < 2 ^ 64 → IsUtf8 (decimal n)
 IsUtf8-decimal n h = IsUtf8-from_ascii (decimal n) (IsAscii-decimal n h)
@@ -32,25 +32,24 @@ IsUtf8-bytes_or_null None h = IsUtf8-are_ascii _ refl
 IsUtf8-bytes_or_null (Some bs) h = IsUtf8-append (91 ∷ []) _ (IsUtf8-are_ascii (91 ∷ []) refl) (IsUtf8-byte_items false bs h)
 
 -- an ASCII name and a UTF-8 value behind UTF-8 are UTF-8
-IsUtf8-put : (old name value : List ℕ) → are_ascii name ≡ true → IsUtf8 value → IsUtf8 old → IsUtf8 (put old name value)
-IsUtf8-put old name value plain h before = IsUtf8-append old (name ++ value) before (IsUtf8-append name value (IsUtf8-are_ascii name plain) h)
+-- a name, its value and what follows
+IsUtf8-member : (name value rest : List ℕ) → are_ascii name ≡ true → IsUtf8 value → IsUtf8 rest → IsUtf8 (name ++ (value ++ rest))
+IsUtf8-member name value rest ascii h after = IsUtf8-append name (value ++ rest) (IsUtf8-are_ascii name ascii) (IsUtf8-append value rest h after)
 
-IsUtf8-front : (e : Entry) → IsEntry e → e.time < 2 ^ 64 → IsUtf8 (front e)
-IsUtf8-front e h early =
+IsUtf8-front_of : (e : Entry) → IsEntry e → e.time < 2 ^ 64 → IsUtf8 (front_of e)
+IsUtf8-front_of e h early =
     let integrity = compact_text (text_or_null e.integrity) in
-    IsUtf8-append _ (codes ",\"metadata\":")
-    (IsUtf8-put _ (codes ",\"size\":") (decimal e.size) refl (IsUtf8-decimal e.size h.size)
-    (IsUtf8-put _ (codes ",\"time\":") (decimal e.time) refl (IsUtf8-decimal e.time early)
-    (IsUtf8-put _ (codes ",\"integrity\":") integrity refl (IsUtf8-text_or_null e.integrity h.integrity)
-    (IsUtf8-put [] (codes "{\"key\":") (quoted e.key) refl (IsUtf8-quoted e.key h.key) IsUtf8-nil))))
-    (IsUtf8-are_ascii (codes ",\"metadata\":") refl)
+    IsUtf8-member (codes "{\"key\":") (quoted e.key) _ refl (IsUtf8-quoted e.key h.key)
+    (IsUtf8-member (codes ",\"integrity\":") integrity _ refl (IsUtf8-text_or_null e.integrity h.integrity)
+    (IsUtf8-member (codes ",\"time\":") (decimal e.time) _ refl (IsUtf8-decimal e.time early)
+    (IsUtf8-member (codes ",\"size\":") (decimal e.size) (codes ",\"metadata\":") refl (IsUtf8-decimal e.size h.size)
+    (IsUtf8-are_ascii (codes ",\"metadata\":") refl))))
 
 -- the text of a well-formed entry with an early time is UTF-8
 pub IsUtf8-text_of : (e : Entry) → IsEntry e → e.time < 2 ^ 64 → IsUtf8 (text_of e)
 IsUtf8-text_of e h early =
     let raw = compact_text (bytes_or_null e.raw_metadata) in
-    subst IsUtf8 (text-parts e)
-    (IsUtf8-append _ (125 ∷ [])
-    (IsUtf8-append _ (codes ",\"raw_metadata\":" ++ raw) (IsUtf8-append (front e) (compact_text e.metadata) (IsUtf8-front e h early) h.metadata.utf8)
-    (IsUtf8-append (codes ",\"raw_metadata\":") raw (IsUtf8-are_ascii (codes ",\"raw_metadata\":") refl) (IsUtf8-bytes_or_null e.raw_metadata h.raw_metadata)))
-    (IsUtf8-are_ascii (125 ∷ []) refl))
+    subst IsUtf8 (front-text e)
+    (IsUtf8-append (front_of e) (compact_text e.metadata ++ (codes ",\"raw_metadata\":" ++ (raw ++ 125 ∷ []))) (IsUtf8-front_of e h early)
+    (IsUtf8-append (compact_text e.metadata) (codes ",\"raw_metadata\":" ++ (raw ++ 125 ∷ [])) h.metadata.utf8
+    (IsUtf8-member (codes ",\"raw_metadata\":") raw (125 ∷ []) refl (IsUtf8-bytes_or_null e.raw_metadata h.raw_metadata) (IsUtf8-are_ascii (125 ∷ []) refl))))

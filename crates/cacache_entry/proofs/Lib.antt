@@ -1,4 +1,5 @@
 pub mod EntryCauses
+pub mod Appends
 pub mod Cuts
 pub mod Digits
 pub mod Lines
@@ -6,6 +7,7 @@ pub mod Levels
 pub mod Lookups
 pub mod TextParts
 pub mod Pieces
+pub mod PlainEntries
 pub mod PlainTexts
 pub mod ReadsBack
 pub mod Torn

@@ -1,5 +1,5 @@
--- An entry's text has no control character.
-use Rattle.std.proofs.Common.{◌≡◌, ℕ, suc, ◌/◌, ◌%◌, ◌<◌, ◌≤◌, pos, negsuc, List, [], ◌∷◌, ◌++◌, Bool, true, false, not, ◌&&◌, ◌||◌, ◌==◌, cond, decimal, refl, ap, arith, inl, inr, ◌⊎◌}
+-- An entry's text has no control character, and a text without those, quotes and backslashes needs no escapes.
+use Rattle.std.proofs.Common.{◌≡◌, ℕ, suc, ◌/◌, ◌%◌, ◌<◌, ◌≤◌, pos, negsuc, List, [], ◌∷◌, ◌++◌, Bool, true, false, not, ◌&&◌, ◌||◌, ◌==◌, cond, decimal, refl, ap, ap₂, arith, inl, inr, ◌⊎◌}
 use Rattle.std.specs.Prelude.{nat_lt, nat_le}
 use Rattle.std.proofs.lemmas.Bool.{ne_eqb, and_parts, and_from, or_cases, le-leb, leb-true, eqb-true, ltb-true, ltb-false}
 use Rattle.std.proofs.lemmas.Fmt.{decimal_is_IsNumeral}
@@ -7,6 +7,7 @@ use Rattle.std.specs.Char.{digit_char, digit_value}
 use Rattle.std.specs.Str.Parse.{AllDigits}
 use Rattle.json.specs.Token.{Token}
 use Rattle.json.specs.Print.{token_text, escape_letter, escape_byte, escape, quoted}
+use Rattle.json.proofs.Printed.Strings.{escape_byte_plain}
 use Rattle.serde_json.specs.Data.{Num, unsigned, negative, float, Data, null, boolean, number, string, array, object, Items, no_items, item, Members, no_members, member}
 use Rattle.serde_json.specs.Written.{number_text, comma_if, compact_text, items_text, members_text}
 use Rattle.cacache_entry.specs.FittingEntries.{IsWholeNumber, IsWhole, ItemsAreWhole, MembersAreWhole}
@@ -105,3 +106,7 @@ mutual
   plain-members_text later (member k d ms) h =
       plain-append (comma_if later) _ (plain-comma_if later)
       (plain-append (quoted k) _ (plain-quoted k) (plain-append (compact_text d) _ (plain-compact_text d h.0) (plain-members_text true ms h.1)))
+
+-- a byte that needs no escape, before bytes that need none
+pub escape-more : (x : ℕ) (xs : List ℕ) → 32 ≤ x → (x ≡ 34 → ⊥) → (x ≡ 92 → ⊥) → escape xs ≡ xs → escape (x ∷ xs) ≡ x ∷ xs
+escape-more x xs printable no_quote no_backslash rest = ap₂ (λ (b bs : List ℕ). b ++ bs) (escape_byte_plain x no_quote no_backslash printable) rest

@@ -1,63 +1,58 @@
 -- An entry's text, as it is put together.
-use Rattle.std.proofs.Common.{◌≡◌, ℕ, List, [], ◌∷◌, ◌++◌, Option, Some, None, codes, decimal, refl, sym, ap, ap₂, ◌∙◌, append_assoc}
+use Rattle.std.proofs.Common.{◌≡◌, ℕ, Option, List, [], ◌∷◌, ◌++◌, codes, decimal, refl, ap, ◌∙◌, append-nil, append_assoc}
 use Rattle.json.specs.Print.{quoted, escape_byte, print, print_from}
-use Rattle.json.specs.Token.{Token}
-use Rattle.json.specs.Tree.{json_tokens, items_tokens}
-use Rattle.serde_json.specs.Written.{compact_text, outline, items_outline}
+use Rattle.json.specs.Token.{Token, begin_array, string}
+use Rattle.json.specs.Tree.{items_tokens}
+use Rattle.serde_json.specs.Data.{array}
+use Rattle.serde_json.specs.Written.{compact_text, items_outline}
 use Rattle.serde_json.proofs.Texts.{print-outline}
-use Rattle.cacache_entry.specs.Entry.{Entry, text_or_null, byte_items, bytes_or_null, text_of}
-use Rattle.cacache_entry.specs.Tokens.{front_tokens, byte_tokens, bytes_tokens}
+use Rattle.cacache_entry.specs.Entry.{Entry, text_or_null, byte_items, bytes_or_null, front_of, plain_entry, text_of}
+use Rattle.cacache_entry.specs.Tokens.{byte_tokens}
 
--- a text with a name and a value after it
-abbrev pub put : List ℕ → List ℕ → List ℕ → List ℕ
-put old name value = old ++ (name ++ value)
+behind : (o a k b i c t d s f : List ℕ) → ((((((((o ++ a) ++ k) ++ b) ++ i) ++ c) ++ t) ++ d) ++ s) ++ f ≡ o ++ (a ++ (k ++ (b ++ (i ++ (c ++ (t ++ (d ++ (s ++ f))))))))
+behind o a k b i c t d s f = simp append_assoc refl
 
--- the text before the metadata
-abbrev pub front : Entry → List ℕ
-front e =
-    put (put (put (put [] (codes "{\"key\":") (quoted e.key)) (codes ",\"integrity\":") (compact_text (text_or_null e.integrity))) (codes ",\"time\":") (decimal e.time)) (codes ",\"size\":") (decimal e.size)
-    ++ codes ",\"metadata\":"
+-- what is put behind bytes, part by part, is the text up to the metadata
+pub front-pushed : (o : List ℕ) (e : Entry)
+    → ((((((((o ++ codes "{\"key\":") ++ quoted e.key) ++ codes ",\"integrity\":") ++ compact_text (text_or_null e.integrity)) ++ codes ",\"time\":") ++ decimal e.time) ++ codes ",\"size\":") ++ decimal e.size) ++ codes ",\"metadata\":" ≡ o ++ front_of e
+front-pushed o e =
+    behind o (codes "{\"key\":") (quoted e.key) (codes ",\"integrity\":") (compact_text (text_or_null e.integrity)) (codes ",\"time\":") (decimal e.time) (codes ",\"size\":") (decimal e.size) (codes ",\"metadata\":")
 
-parts : (a k b i c t d s f m g r z : List ℕ) → (((put (put (put (put [] a k) b i) c t) d s ++ f) ++ m) ++ (g ++ r)) ++ z ≡ a ++ (k ++ (b ++ (i ++ (c ++ (t ++ (d ++ (s ++ (f ++ (m ++ (g ++ (r ++ z)))))))))))
-parts a k b i c t d s f m g r z = simp append_assoc refl
+nested : (a k b i c t d s f m g r z : List ℕ) → (a ++ (k ++ (b ++ (i ++ (c ++ (t ++ (d ++ (s ++ f)))))))) ++ (m ++ (g ++ (r ++ z))) ≡ a ++ (k ++ (b ++ (i ++ (c ++ (t ++ (d ++ (s ++ (f ++ (m ++ (g ++ (r ++ z)))))))))))
+nested a k b i c t d s f m g r z = simp append_assoc refl
 
--- the six members put one after another are the entry's text
-pub text-parts : (e : Entry) → ((front e ++ compact_text e.metadata) ++ (codes ",\"raw_metadata\":" ++ compact_text (bytes_or_null e.raw_metadata))) ++ 125 ∷ [] ≡ text_of e
+-- the text up to the metadata and what follows it are the text
+pub front-text : (e : Entry) → front_of e ++ (compact_text e.metadata ++ (codes ",\"raw_metadata\":" ++ (compact_text (bytes_or_null e.raw_metadata) ++ 125 ∷ []))) ≡ text_of e
 unfolding escape_byte
-text-parts e =
-    parts (codes "{\"key\":") (quoted e.key) (codes ",\"integrity\":") (compact_text (text_or_null e.integrity)) (codes ",\"time\":") (decimal e.time) (codes ",\"size\":") (decimal e.size) (codes ",\"metadata\":") (compact_text e.metadata)
+front-text e =
+    nested (codes "{\"key\":") (quoted e.key) (codes ",\"integrity\":") (compact_text (text_or_null e.integrity)) (codes ",\"time\":") (decimal e.time) (codes ",\"size\":") (decimal e.size) (codes ",\"metadata\":") (compact_text e.metadata)
     (codes ",\"raw_metadata\":") (compact_text (bytes_or_null e.raw_metadata)) (125 ∷ [])
 
-front_parts : (a k b i c t d s f : List ℕ) → put (put (put (put [] a k) b i) c t) d s ++ f ≡ a ++ (k ++ (b ++ (i ++ (c ++ (t ++ (d ++ (s ++ f)))))))
-front_parts a k b i c t d s f = simp append_assoc refl
+-- the parts of an entry without metadata, as they stand in its text
+pub plain-text : (key : List ℕ) (integrity : Option (List ℕ)) (time size : ℕ)
+    → codes "{\"key\":" ++ (quoted key ++ (codes ",\"integrity\":" ++ (compact_text (text_or_null integrity) ++ (codes ",\"time\":" ++ (decimal time ++ 44 ∷ (codes "\"size\":" ++ (decimal size ++ 44 ∷ codes "\"metadata\":null,\"raw_metadata\":null}")))))))
+    ≡ text_of (plain_entry key integrity time size)
+unfolding escape_byte
+plain-text key integrity time size = refl
 
--- what is printed before the metadata
-pub print-front : (e : Entry) → print (front_tokens e) ≡ front e
+text_behind : (o f m g r z : List ℕ) → ((((o ++ f) ++ m) ++ g) ++ r) ++ z ≡ o ++ (f ++ (m ++ (g ++ (r ++ z))))
+text_behind o f m g r z = simp append_assoc refl
+
+-- what is put behind bytes, part by part, is the text
+pub text-pushed : (o : List ℕ) (e : Entry)
+    → ((((o ++ front_of e) ++ compact_text e.metadata) ++ codes ",\"raw_metadata\":") ++ compact_text (bytes_or_null e.raw_metadata)) ++ 125 ∷ [] ≡ o ++ text_of e
+text-pushed o e =
+    text_behind o (front_of e) (compact_text e.metadata) (codes ",\"raw_metadata\":") (compact_text (bytes_or_null e.raw_metadata)) (125 ∷ []) ∙ ap (λ (t : List ℕ). o ++ t) (front-text e)
+
+-- what is printed of one text
+pub print-string : (s : List ℕ) → print (string s ∷ []) ≡ quoted s
 unfolding print_from escape_byte
-print-front e = by e.integrity refl ∙ sym (front_parts (codes "{\"key\":") (quoted e.key) (codes ",\"integrity\":") (compact_text (text_or_null e.integrity)) (codes ",\"time\":") (decimal e.time) (codes ",\"size\":") (decimal e.size) (codes ",\"metadata\":"))
-  where
-    by : (o : Option (List ℕ)) → e.integrity ≡ o → print (front_tokens e) ≡ codes "{\"key\":" ++ (quoted e.key ++ (codes ",\"integrity\":" ++ (compact_text (text_or_null e.integrity) ++ (codes ",\"time\":" ++ (decimal e.time ++ (codes ",\"size\":" ++ (decimal e.size ++ codes ",\"metadata\":")))))))
-    by None h = rw h refl
-    by (Some s) h = rw h refl
+print-string s = append-nil (quoted s)
 
 items_tokens-byte_items : (bs : List ℕ) → byte_tokens bs ≡ items_tokens (items_outline (byte_items bs))
 items_tokens-byte_items [] = refl
 items_tokens-byte_items (b ∷ bs) = ap (λ ts. Token.number (decimal b) ∷ ts) (items_tokens-byte_items bs)
 
-json_tokens-bytes_or_null : (o : Option (List ℕ)) → bytes_tokens o ≡ json_tokens (outline (bytes_or_null o))
-json_tokens-bytes_or_null None = refl
-json_tokens-bytes_or_null (Some bs) = ap (λ ts. Token.begin_array ∷ ts) (items_tokens-byte_items bs)
-
 -- what is printed of raw metadata
-pub print-bytes : (o : Option (List ℕ)) → print (bytes_tokens o) ≡ compact_text (bytes_or_null o)
-print-bytes o = ap print (json_tokens-bytes_or_null o) ∙ print-outline (bytes_or_null o)
-
-one_list : (a f m n r z : List ℕ) → ((((a ++ f) ++ m) ++ n) ++ r) ++ z ≡ a ++ (((f ++ m) ++ (n ++ r)) ++ z)
-one_list a f m n r z = simp append_assoc refl
-
--- what is written behind bytes is the entry's text
-pub text-written : (bytes : List ℕ) (e : Entry)
-    → ((((bytes ++ print (front_tokens e)) ++ compact_text e.metadata) ++ codes ",\"raw_metadata\":") ++ print (bytes_tokens e.raw_metadata)) ++ 125 ∷ [] ≡ bytes ++ text_of e
-text-written bytes e =
-    ap₂ (λ (f r : List ℕ). ((((bytes ++ f) ++ compact_text e.metadata) ++ codes ",\"raw_metadata\":") ++ r) ++ 125 ∷ []) (print-front e) (print-bytes e.raw_metadata)
-    ∙ one_list bytes (front e) (compact_text e.metadata) (codes ",\"raw_metadata\":") (compact_text (bytes_or_null e.raw_metadata)) (125 ∷ []) ∙ ap (λ (t : List ℕ). bytes ++ t) (text-parts e)
+pub print-bytes : (bs : List ℕ) → print (begin_array ∷ byte_tokens bs) ≡ compact_text (array (byte_items bs))
+print-bytes bs = ap (λ ts. print (begin_array ∷ ts)) (items_tokens-byte_items bs) ∙ print-outline (array (byte_items bs))

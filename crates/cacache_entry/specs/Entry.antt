@@ -1,5 +1,6 @@
 -- What an index entry is, its text, and the line that holds it.
-use Rattle.std.specs.Prelude.{ℕ, Bool, if◌then◌else◌, List, [], ◌∷◌, ◌++◌, codes, Option, Some, None}
+use Rattle.std.specs.Prelude.{ℕ, Bool, if◌then◌else◌, List, [], ◌∷◌, ◌++◌, codes, decimal, Option, Some, None}
+use Rattle.json.specs.Print.{quoted}
 use Rattle.serde_json.specs.Data.{unsigned, Data, null, number, string, array, object, Items, no_items, item, Members, no_members, member}
 use Rattle.serde_json.specs.Written.{compact_text}
 use Rattle.cacache_core.specs.Digests.{sha256_hex}
@@ -12,6 +13,17 @@ pub record Entry : Type 0 where
   pub size : ℕ
   pub metadata : Data
   pub raw_metadata : Option (List ℕ)
+
+-- an entry without metadata
+abbrev pub plain_entry : List ℕ → Option (List ℕ) → ℕ → ℕ → Entry
+plain_entry key integrity time size = record {
+  key = key;
+  integrity = integrity;
+  time = time;
+  size = size;
+  metadata = null;
+  raw_metadata = None;
+}
 
 -- a text, or null where there is none
 abbrev pub text_or_null : Option (List ℕ) → Data
@@ -41,6 +53,15 @@ members_of e =
 -- the text of an entry: its members as one compact object
 abbrev pub text_of : Entry → List ℕ
 text_of e = compact_text (object (members_of e))
+
+-- the text of an entry up to its metadata
+abbrev pub front_of : Entry → List ℕ
+front_of e =
+    codes "{\"key\":" ++ (quoted e.key
+    ++ (codes ",\"integrity\":" ++ (compact_text (text_or_null e.integrity)
+    ++ (codes ",\"time\":" ++ (decimal e.time
+    ++ (codes ",\"size\":" ++ (decimal e.size
+    ++ codes ",\"metadata\":")))))))
 
 -- the piece of an entry: the digest of its text, TAB, its text
 abbrev pub piece_of : Entry → List ℕ

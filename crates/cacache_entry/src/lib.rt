@@ -5,6 +5,7 @@ mod laws;
 mod limits;
 mod metadata;
 mod parse;
+mod parts;
 mod printing;
 mod read;
 mod search;

@@ -96,7 +96,7 @@ fn read_piece(alloc: Global, piece: &[u8]) -> Result<Option<SerializableMetadata
 }
 
 /// Whether the digits are the lower-case hex digits of the SHA-256 of the bytes.
-fn is_digest_of(digits: &[u8], bytes: &[u8]) -> bool
+pub(crate) fn is_digest_of(digits: &[u8], bytes: &[u8]) -> bool
     ensures { IsTrue result ↔ (digits.now ≡ sha256_hex bytes.now) }
 {
     let mut hex_digits = [0; 64];

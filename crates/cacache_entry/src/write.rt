@@ -1,17 +1,20 @@
 //! The line of an entry.
-ghost use Rattle.std.specs.Prelude.{◌≡◌, [], ◌∷◌, ◌++◌, ◌≤◌, ◌<◌, ◌^◌, None, IfOk, IfErr, OnOk, false, length, take, drop, string_bytes, option_map};
+ghost use Rattle.std.specs.Prelude.{◌≡◌, [], ◌∷◌, ◌++◌, ◌≤◌, ◌<◌, ◌^◌, None, IfOk, IfErr, OnOk, false, length, take, drop, decimal, string_bytes, option_map};
+ghost use Rattle.json.specs.Print.{quoted};
+ghost use Rattle.json.specs.Token.{begin_array};
 ghost use Rattle.serde_json.specs.Data.{depth};
 ghost use Rattle.serde_json.specs.Read.{max_depth};
 ghost use Rattle.serde_json.specs.Written.{has_float, compact_text};
 ghost use Rattle.serde_json.specs.View.{view};
 ghost use Rattle.cacache_core.specs.Digests.{sha256_hex};
-ghost use Rattle.cacache_entry.specs.Entry.{line_of, text_of};
-ghost use Rattle.cacache_entry.specs.FittingEntries.{AreBytes, IsJson, IsEntry, IsWritable, cause_of as cause_of_entry};
-ghost use Rattle.cacache_entry.specs.Tokens.{text_token, front_tokens, bytes_tokens};
+ghost use Rattle.cacache_entry.specs.Entry.{bytes_or_null, front_of, line_of, text_of, text_or_null};
+ghost use Rattle.cacache_entry.specs.FittingEntries.{AreBytes, EachIsByte, IsJson, IsEntry, IsWritable, cause_of as cause_of_entry};
+ghost use Rattle.cacache_entry.specs.Tokens.{byte_tokens};
 ghost use Rattle.cacache_entry.specs.View.{entry_view, IsRefusal, refusal_text};
 
 use crate::limits::{is_whole, nests_within};
 use crate::metadata::SerializableMetadata;
+use crate::parts::is_plain;
 use cacache_core::errors::{self, Error, SerdeCause};
 use cacache_core::text::Text;
 use json::Writer;
@@ -79,9 +82,9 @@ pub(crate) fn fitting_line(
     ensures entry { OnOk result (IsEntry (entry_view entry.now)) }
     ensures fits { OnOk result (IsWritable (entry_view entry.now)) }
 {
-    let mut room = Vec::with_capacity(alloc, entry.key.len().saturating_add(LINE_ROOM))?;
-    room.extend_from_slice(HEAD)?;
-    let mut line = with_text(alloc, room, entry, entry.time as u64, entry.size)?;
+    let mut line = Vec::with_capacity(alloc, entry.key.len().saturating_add(LINE_ROOM))?;
+    line.extend_from_slice(HEAD)?;
+    push_text(alloc, &mut line, entry, entry.time as u64, entry.size)?;
     fill_digest(&mut line);
     Ok(line)
 }
@@ -98,70 +101,89 @@ fn fill_digest(line: &mut [u8])
     }
 }
 
-/// The bytes with the text of an entry behind them. Time and size come by value, so that their ranges are known.
-fn with_text(
+/// Appends the text of an entry. Time and size come by value, so that their ranges are known.
+fn push_text(
     alloc: Global,
-    bytes: Vec<u8>,
-    entry: &SerializableMetadata,
-    time: u64,
-    size: usize,
-) -> Result<Vec<u8>, AllocError>
-    requires time { time ≡ entry.now.time }
-    requires size { size ≡ entry.now.size }
-    requires whole { has_float (view entry.now.metadata) ≡ false }
-    requires flat { depth (view entry.now.metadata) ≤ max_depth }
-    ensures text { IfOk result (λ out. out.items ≡ bytes.items ++ text_of (entry_view entry.now)) }
-    ensures metadata { OnOk result (IsJson (view entry.now.metadata)) }
-    ensures bytes { OnOk result (AreBytes (entry_view entry.now).raw_metadata) }
-    ensures size { OnOk result (entry.now.size < 2 ^ 64) }
-{
-    let mut front = Writer::new(bytes);
-    write_front(&mut front, entry, time, size)?;
-    let mut out = front.into_inner();
-    push_value(alloc, &mut out, &entry.metadata)?;
-    out.extend_from_slice(b",\"raw_metadata\":")?;
-    let mut back = Writer::new(out);
-    write_bytes(&mut back, &entry.raw_metadata)?;
-    let mut out = back.into_inner();
-    out.push(b'}')?;
-    Ok(out)
-}
-
-/// Writes the text of an entry up to its metadata.
-fn write_front(
-    out: &mut Writer,
+    out: &mut Vec<u8>,
     entry: &SerializableMetadata,
     time: u64,
     size: usize,
 ) -> Result<(), AllocError>
     requires time { time ≡ entry.now.time }
     requires size { size ≡ entry.now.size }
-    requires empty { out.old.tokens ≡ [] }
-    ensures tokens { OnOk result (out.new.tokens ≡ front_tokens (entry_view entry.now)) }
-    ensures before { OnOk result (out.new.before ≡ out.old.before) }
+    requires whole { has_float (view entry.now.metadata) ≡ false }
+    requires flat { depth (view entry.now.metadata) ≤ max_depth }
+    ensures text { OnOk result (out.new.items ≡ out.old.items ++ text_of (entry_view entry.now)) }
+    ensures metadata { OnOk result (IsJson (view entry.now.metadata)) }
+    ensures bytes { OnOk result (AreBytes (entry_view entry.now).raw_metadata) }
+    ensures size { OnOk result (entry.now.size < 2 ^ 64) }
 {
-    out.begin_object()?;
-    out.key("key")?;
-    out.string(entry.key.as_str())?;
-    out.key("integrity")?;
-    write_text(out, &entry.integrity)?;
-    out.key("time")?;
-    out.u64(time)?;
-    out.key("size")?;
-    out.u64(size as u64)?;
-    out.key("metadata")
+    push_front(alloc, out, entry, time, size)?;
+    push_value(alloc, out, &entry.metadata)?;
+    out.extend_from_slice(b",\"raw_metadata\":")?;
+    push_bytes(alloc, out, &entry.raw_metadata)?;
+    out.push(b'}')?;
+    Ok(())
 }
 
-/// Writes a text, or null where there is none.
-fn write_text(out: &mut Writer, text: &Option<String>) -> Result<(), AllocError>
-    ensures tokens { OnOk result (out.new.tokens
-        ≡ out.old.tokens ++ text_token (option_map string_bytes text.now) ∷ []) }
-    ensures before { out.new.before ≡ out.old.before }
+/// Appends the text of an entry up to its metadata.
+fn push_front(
+    alloc: Global,
+    out: &mut Vec<u8>,
+    entry: &SerializableMetadata,
+    time: u64,
+    size: usize,
+) -> Result<(), AllocError>
+    requires time { time ≡ entry.now.time }
+    requires size { size ≡ entry.now.size }
+    ensures { OnOk result (out.new.items ≡ out.old.items ++ front_of (entry_view entry.now)) }
+{
+    out.extend_from_slice(b"{\"key\":")?;
+    push_quoted(alloc, out, entry.key.as_str())?;
+    out.extend_from_slice(b",\"integrity\":")?;
+    push_quoted_or_null(alloc, out, &entry.integrity)?;
+    out.extend_from_slice(b",\"time\":")?;
+    push_number(out, time)?;
+    out.extend_from_slice(b",\"size\":")?;
+    push_number(out, size as u64)?;
+    out.extend_from_slice(b",\"metadata\":")
+}
+
+/// Appends a text in quotes. Most texts need no escapes.
+fn push_quoted(alloc: Global, out: &mut Vec<u8>, text: &str) -> Result<(), AllocError>
+    ensures { OnOk result (out.new.items ≡ out.old.items ++ quoted text.now) }
+{
+    if is_plain(text.as_bytes()) {
+        out.push(b'"')?;
+        out.extend_from_slice(text.as_bytes())?;
+        out.push(b'"')?;
+        return Ok(());
+    }
+    let mut escaped = Writer::new(Vec::new(alloc));
+    escaped.string(text)?;
+    out.extend_from_slice(&escaped.into_inner())
+}
+
+/// Appends a text in quotes, or null where there is none.
+fn push_quoted_or_null(
+    alloc: Global,
+    out: &mut Vec<u8>,
+    text: &Option<String>,
+) -> Result<(), AllocError>
+    ensures { OnOk result (out.new.items
+        ≡ out.old.items ++ compact_text (text_or_null (option_map string_bytes text.now))) }
 {
     match text {
-        Some(text) => out.string(text.as_str()),
-        None => out.null(),
+        Some(text) => push_quoted(alloc, out, text.as_str()),
+        None => out.extend_from_slice(b"null"),
     }
+}
+
+/// Appends a number.
+fn push_number(out: &mut Vec<u8>, number: u64) -> Result<(), AllocError>
+    ensures { OnOk result (out.new.items ≡ out.old.items ++ decimal number) }
+{
+    out.extend_from_slice(itoa::Buffer::new().format(number).as_bytes())
 }
 
 /// Appends a value of whole numbers.
@@ -177,22 +199,32 @@ fn push_value(alloc: Global, out: &mut Vec<u8>, value: &Value) -> Result<(), All
     }
 }
 
-/// Writes bytes as an array of numbers, or null where there are none.
-fn write_bytes(out: &mut Writer, bytes: &Option<Vec<u8>>) -> Result<(), AllocError>
-    requires { out.old.tokens ≡ [] }
-    ensures tokens { OnOk result (out.new.tokens
-        ≡ bytes_tokens (option_map (λ b. b.items) bytes.now)) }
-    ensures before { out.new.before ≡ out.old.before }
+/// Appends bytes as an array of numbers, or null where there are none.
+fn push_bytes(alloc: Global, out: &mut Vec<u8>, bytes: &Option<Vec<u8>>) -> Result<(), AllocError>
+    ensures text { OnOk result (out.new.items ≡ out.old.items
+        ++ compact_text (bytes_or_null (option_map (λ b. b.items) bytes.now))) }
     ensures bytes { OnOk result (AreBytes (option_map (λ b. b.items) bytes.now)) }
 {
     match bytes {
         Some(bytes) => {
-            out.begin_array()?;
-            for byte in bytes {
-                out.u64(u64::from(*byte))?;
-            }
-            out.end_array()
+            let mut array = Writer::new(Vec::new(alloc));
+            write_array(&mut array, bytes)?;
+            out.extend_from_slice(&array.into_inner())
         }
-        None => out.null(),
+        None => out.extend_from_slice(b"null"),
     }
+}
+
+/// Writes bytes as an array of numbers.
+fn write_array(out: &mut Writer, bytes: &[u8]) -> Result<(), AllocError>
+    requires { out.old.tokens ≡ [] }
+    ensures tokens { OnOk result (out.new.tokens ≡ begin_array ∷ byte_tokens bytes.now) }
+    ensures before { out.new.before ≡ out.old.before }
+    ensures bytes { OnOk result (EachIsByte bytes.now) }
+{
+    out.begin_array()?;
+    for byte in bytes {
+        out.u64(u64::from(*byte))?;
+    }
+    out.end_array()
 }

@@ -1,15 +1,11 @@
-use Rattle.std.proofs.Common.{◌≡◌, drop, ap, ◌∙◌}
-use Rattle.cacache_entry.specs.Entry.{piece_of}
-use Rattle.cacache_entry.specs.Bucket.{entry_of_piece}
-use Rattle.cacache_entry.specs.View.{entry_view}
-use Rattle.cacache_entry.proofs.Lines.{entry_of_piece-whole}
+use Rattle.std.proofs.Common.{List, ℕ, option_map}
+use Rattle.std.specs.Borrow.{Bor}
+use Rattle.cacache_entry.proofs.PlainEntries.{piece-is_entry}
 use Rattle.cacache_entry.proofs.written.written_entry.Goals as goal
 
--- the piece is that of the line that was written
-pub returns-then-ends_with_piece : goal.returns-then-ends_with_piece
-returns-then-ends_with_piece c =
-    let e = entry_view c.in_ok-entry.entry in
-    let same : c.args.piece.now ≡ piece_of e =
-    c.ends_with_piece.ensures c.if-ends_with_piece.true
-    ∙ ap (drop 1) (c.deref.ensures.value ∙ c.in_ok-line.ensures.line) in
-    ap entry_of_piece same ∙ entry_of_piece-whole e c.in_ok-line.ensures.entry c.in_ok-line.ensures.fits
+pub returns : goal.returns
+returns c =
+    let parts = c.in-Some.parts in
+    let known = c.in-Some.ensures in
+    piece-is_entry c.in_ok-entry_of.field-0 parts.key.now (option_map (λ (t : Bor (List ℕ)). t.now) parts.integrity) parts.time parts.size c.args.piece.now
+    c.in_ok-entry_of.ensures known.piece known.fits.0 known.fits.1

@@ -1,0 +1,140 @@
+//! The parts of an entry's text, where that has no metadata and is spelled as `line` spells it: they are cut out as they stand.
+ghost use Rattle.std.specs.Prelude.{◌≡◌, ◌∷◌, ◌++◌, ◌<◌, ◌^◌, IsTrue, IfSome, decimal, option_map};
+ghost use Rattle.json.specs.Print.{escape, quoted as quoted_text};
+ghost use Rattle.serde_json.specs.Written.{compact_text};
+ghost use Rattle.cacache_entry.specs.Entry.{plain_entry, piece_of, text_of, text_or_null};
+
+use crate::read::is_digest_of;
+use memchr::memchr;
+
+/// How many digits the digest of a piece has.
+const DIGITS: usize = 64;
+
+/// What follows the size and its comma in the text of an entry without metadata.
+const END: &[u8] = b"\"metadata\":null,\"raw_metadata\":null}";
+
+/// The parts of an entry without metadata.
+#[derive(Clone, Copy)]
+pub(crate) struct Parts<'a> {
+    pub(crate) key: &'a str,
+    pub(crate) integrity: Option<&'a str>,
+    pub(crate) time: u64,
+    pub(crate) size: u64,
+}
+
+/// What follows these bytes, where they stand in front.
+fn after<'a>(front: &[u8], bytes: &'a [u8]) -> Option<&'a [u8]>
+    ensures { IfSome result (λ rest. bytes.now ≡ front.now ++ rest.now) }
+{
+    let (begin, rest) = bytes.split_at_checked(front.len())?;
+    if begin == front { Some(rest) } else { None }
+}
+
+/// What follows this byte, where it stands in front.
+fn after_byte(byte: u8, bytes: &[u8]) -> Option<&[u8]>
+    ensures { IfSome result (λ rest. bytes.now ≡ byte ∷ rest.now) }
+{
+    let (first, rest) = bytes.split_first()?;
+    if *first == byte { Some(rest) } else { None }
+}
+
+/// What stands before the first such byte, as text, and what follows it.
+fn cut(byte: u8, bytes: &[u8]) -> Option<(&str, &[u8])>
+    ensures { IfSome result (λ p. bytes.now ≡ p.0.now ++ byte ∷ p.1.now) }
+{
+    let at = memchr(byte, bytes)?;
+    let (before, rest) = bytes.split_at_checked(at)?;
+    let behind = after_byte(byte, rest)?;
+    let text = str::from_utf8(before).ok()?;
+    Some((text, behind))
+}
+
+/// Whether no byte is a control character, a quote or a backslash, which JSON escapes. There is no way out of the loop,
+/// so that many bytes are looked at at once.
+pub(crate) fn is_plain(text: &[u8]) -> bool
+    ensures { IsTrue result → escape text.now ≡ text.now }
+{
+    let mut plain = true;
+    for byte in text {
+        plain = plain & (*byte >= 32) & (*byte != b'"') & (*byte != b'\\');
+    }
+    plain
+}
+
+/// A text in quotes and what follows it. None where it needs escapes.
+fn quoted(bytes: &[u8]) -> Option<(&str, &[u8])>
+    ensures { IfSome result (λ p. bytes.now ≡ quoted_text p.0.now ++ p.1.now) }
+{
+    let (text, rest) = cut(b'"', after_byte(b'"', bytes)?)?;
+    if is_plain(text.as_bytes()) {
+        Some((text, rest))
+    } else {
+        None
+    }
+}
+
+/// The same, or `null` and what follows that.
+fn quoted_or_null(bytes: &[u8]) -> Option<(Option<&str>, &[u8])>
+    ensures { IfSome result (λ p.
+        bytes.now ≡ compact_text (text_or_null (option_map (λ t. t.now) p.0)) ++ p.1.now) }
+{
+    if let Some(rest) = after(b"null", bytes) {
+        return Some((None, rest));
+    }
+    let (text, rest) = quoted(bytes)?;
+    Some((Some(text), rest))
+}
+
+/// A number in its shortest form and what follows its comma.
+fn number(bytes: &[u8]) -> Option<(u64, &[u8])>
+    ensures digits { IfSome result (λ p. bytes.now ≡ decimal p.0 ++ 44 ∷ p.1.now) }
+    ensures fits { IfSome result (λ p. p.0 < 2 ^ 64) }
+{
+    let (digits, rest) = cut(b',', bytes)?;
+    let number = digits.parse::<u64>().ok()?;
+    let mut buffer = itoa::Buffer::new();
+    if buffer.format(number) == digits {
+        Some((number, rest))
+    } else {
+        None
+    }
+}
+
+/// The parts of the text, where it is one without metadata.
+fn parts_of(text: &[u8]) -> Option<Parts<'_>>
+    ensures text { IfSome result (λ p. text.now
+        ≡ text_of (plain_entry p.key.now (option_map (λ t. t.now) p.integrity) p.time p.size)) }
+    ensures fits { IfSome result (λ p. (p.time < 2 ^ 64) × (p.size < 2 ^ 64)) }
+{
+    let (key, rest) = quoted(after(b"{\"key\":", text)?)?;
+    let (integrity, rest) = quoted_or_null(after(b",\"integrity\":", rest)?)?;
+    let (time, rest) = number(after(b",\"time\":", rest)?)?;
+    let (size, rest) = number(after(b"\"size\":", rest)?)?;
+    if rest == END {
+        Some(Parts {
+            key,
+            integrity,
+            time,
+            size,
+        })
+    } else {
+        None
+    }
+}
+
+/// The parts of the entry that the piece is, where that has no metadata and `line` writes it so. None says nothing of
+/// the piece.
+pub(crate) fn written_parts(piece: &[u8]) -> Option<Parts<'_>>
+    ensures piece { IfSome result (λ p. piece.now
+        ≡ piece_of (plain_entry p.key.now (option_map (λ t. t.now) p.integrity) p.time p.size)) }
+    ensures fits { IfSome result (λ p. (p.time < 2 ^ 64) × (p.size < 2 ^ 64)) }
+{
+    let (digits, rest) = piece.split_at_checked(DIGITS)?;
+    let text = after_byte(b'\t', rest)?;
+    let parts = parts_of(text)?;
+    if is_digest_of(digits, text) {
+        Some(parts)
+    } else {
+        None
+    }
+}
