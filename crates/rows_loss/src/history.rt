@@ -76,21 +76,28 @@ fn insert_of(alloc: Global, key: &str, moment: u128, durable: bool) -> Result<Co
     }))
 }
 
+/// What is asked of a key alone.
+#[derive(Clone, Copy)]
+enum Asked {
+    Delete,
+    Find,
+    Get,
+}
+
 /// A call on a key alone.
-fn on_key(alloc: Global, kind: usize, key: &str, moment: u128) -> Result<Command, AllocError> {
+fn on_key(alloc: Global, asked: Asked, key: &str, moment: u128) -> Result<Command, AllocError> {
     let key = Text::from_str(alloc, key)?;
-    Ok(match kind {
-        12 => Command::Delete(Delete { key, moment }),
-        14 => Command::Find(key),
-        _ => Command::Get(key),
+    Ok(match asked {
+        Asked::Delete => Command::Delete(Delete { key, moment }),
+        Asked::Find => Command::Find(key),
+        Asked::Get => Command::Get(key),
     })
 }
 
 /// A random call; no two have one moment.
 fn command_of(alloc: Global, random: &mut Random, moment: u128) -> Result<Command, AllocError> {
     let key = random.pick(&KEYS).copied().unwrap_or("a");
-    let kind = random.below(16);
-    match kind {
+    match random.below(16) {
         0..=5 => {
             let text = random.pick(&DURABLE).copied().unwrap_or("one");
             put_of(alloc, key, text, moment, true)
@@ -99,9 +106,12 @@ fn command_of(alloc: Global, random: &mut Random, moment: u128) -> Result<Comman
             let text = random.pick(&PASSING).copied().unwrap_or("two");
             put_of(alloc, key, text, moment, false)
         }
-        10 | 11 => insert_of(alloc, key, moment, kind == 10),
+        10 => insert_of(alloc, key, moment, true),
+        11 => insert_of(alloc, key, moment, false),
+        12 => on_key(alloc, Asked::Delete, key, moment),
         13 => Ok(Command::Ls),
-        _ => on_key(alloc, kind, key, moment),
+        14 => on_key(alloc, Asked::Find, key, moment),
+        _ => on_key(alloc, Asked::Get, key, moment),
     }
 }
 
