@@ -1,6 +1,8 @@
 //! What the rows do.
-use crate::place::On;
+use crate::place::{On, on};
 use crate::planting::{link, plant};
+use crate::stuck::Stuck;
+use cacache::env::{Clock, Env, Names};
 use cacache::store::Store;
 use cacache::{Error, Integrity, Result as Answered};
 use cacache_core::keeping::let_go;
@@ -39,7 +41,10 @@ fn words_of(alloc: Global, text: &str) -> Result<Vec<String>, AllocError> {
 }
 
 /// What a run of the program gives: the status, the output and the errors.
-fn ran<S: Store>(env: &mut On<S>, words: &str) -> Result<String, AllocError> {
+fn ran<S: Store, C: Clock, N: Names>(
+    env: &mut Env<S, C, N>,
+    words: &str,
+) -> Result<String, AllocError> {
     let alloc = env.alloc;
     let words = words_of(alloc, words)?;
     let (mut output, mut errors) = (Vec::new(alloc), Vec::new(alloc));
@@ -47,6 +52,15 @@ fn ran<S: Store>(env: &mut On<S>, words: &str) -> Result<String, AllocError> {
     let output = written_out(alloc, word_of(&output))?;
     let errors = written_out(alloc, word_of(&errors))?;
     format!(in alloc; "{status} | {output} | {errors}")
+}
+
+/// The same of a run over a store that removes no file.
+fn ran_stuck<S: Store>(env: &mut On<S>, words: &str) -> Result<String, AllocError> {
+    let stuck = Stuck {
+        store: &mut env.store,
+    };
+    let mut env = on(env.alloc, stuck, env.base.as_str())?;
+    ran(&mut env, words)
 }
 
 /// Removes a content by the text of its integrity.
@@ -71,6 +85,7 @@ pub(crate) fn made<S: Store>(env: &mut On<S>, act: &str, input: &str) -> Result<
         "plant" => done(alloc, plant(env, cache, bytes)?),
         "link" => done(alloc, link(env, cache, rest)?),
         "cacache-keep" => ran(env, words),
+        "stuck" => ran_stuck(env, words),
         _ => return Err(Flaw::NotRead),
     };
     Ok(line?)

@@ -10,6 +10,7 @@
 mod acts;
 mod place;
 mod planting;
+mod stuck;
 
 use place::Places;
 use rows::run;

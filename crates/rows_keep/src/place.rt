@@ -21,7 +21,11 @@ impl Clock for Still {
 pub(crate) type On<S> = Env<S, Still, CountNames>;
 
 /// An environment over this store.
-fn on<S: Store + Drop>(alloc: Global, store: S, base: &str) -> Result<On<S>, AllocError> {
+pub(crate) fn on<S: Store + Drop>(
+    alloc: Global,
+    store: S,
+    base: &str,
+) -> Result<On<S>, AllocError> {
     Env::new(alloc, store, Still {}, CountNames::from(0), base)
 }
 
