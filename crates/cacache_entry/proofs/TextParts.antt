@@ -6,7 +6,9 @@ use Rattle.json.specs.Tree.{items_tokens}
 use Rattle.serde_json.specs.Data.{array}
 use Rattle.serde_json.specs.Written.{compact_text, items_outline}
 use Rattle.serde_json.proofs.Texts.{print-outline}
-use Rattle.cacache_entry.specs.Entry.{Entry, text_or_null, byte_items, bytes_or_null, front_of, plain_entry, text_of}
+use Rattle.cacache_entry.specs.Entry.{Entry, text_or_null, byte_items, bytes_or_null, front_of, text_of}
+use Rattle.cacache_entry.specs.EntryLaws.{bare_entry}
+use Rattle.cacache_entry.specs.EntryParts.{texts_then, numbers_then}
 use Rattle.cacache_entry.specs.Tokens.{byte_tokens}
 
 behind : (o a k b i c t d s f : List ℕ) → ((((((((o ++ a) ++ k) ++ b) ++ i) ++ c) ++ t) ++ d) ++ s) ++ f ≡ o ++ (a ++ (k ++ (b ++ (i ++ (c ++ (t ++ (d ++ (s ++ f))))))))
@@ -29,11 +31,10 @@ front-text e =
     (codes ",\"raw_metadata\":") (compact_text (bytes_or_null e.raw_metadata)) (125 ∷ [])
 
 -- the parts of an entry without metadata, as they stand in its text
-pub plain-text : (key : List ℕ) (integrity : Option (List ℕ)) (time size : ℕ)
-    → codes "{\"key\":" ++ (quoted key ++ (codes ",\"integrity\":" ++ (compact_text (text_or_null integrity) ++ (codes ",\"time\":" ++ (decimal time ++ 44 ∷ (codes "\"size\":" ++ (decimal size ++ 44 ∷ codes "\"metadata\":null,\"raw_metadata\":null}")))))))
-    ≡ text_of (plain_entry key integrity time size)
+pub bare-text : (key : List ℕ) (integrity : Option (List ℕ)) (time size : ℕ)
+    → texts_then key integrity (numbers_then time size (codes "\"metadata\":null,\"raw_metadata\":null}")) ≡ text_of (bare_entry key integrity time size)
 unfolding escape_byte
-plain-text key integrity time size = refl
+bare-text key integrity time size = refl
 
 text_behind : (o f m g r z : List ℕ) → ((((o ++ f) ++ m) ++ g) ++ r) ++ z ≡ o ++ (f ++ (m ++ (g ++ (r ++ z))))
 text_behind o f m g r z = simp append_assoc refl

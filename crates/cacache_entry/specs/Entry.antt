@@ -14,17 +14,6 @@ pub record Entry : Type 0 where
   pub metadata : Data
   pub raw_metadata : Option (List ℕ)
 
--- an entry without metadata
-abbrev pub plain_entry : List ℕ → Option (List ℕ) → ℕ → ℕ → Entry
-plain_entry key integrity time size = record {
-  key = key;
-  integrity = integrity;
-  time = time;
-  size = size;
-  metadata = null;
-  raw_metadata = None;
-}
-
 -- a text, or null where there is none
 abbrev pub text_or_null : Option (List ℕ) → Data
 text_or_null None = null

@@ -2,7 +2,9 @@
 ghost use Rattle.std.specs.Prelude.{◌≡◌, ◌∷◌, ◌++◌, ◌<◌, ◌^◌, IsTrue, IfSome, decimal, option_map};
 ghost use Rattle.json.specs.Print.{escape, quoted as quoted_text};
 ghost use Rattle.serde_json.specs.Written.{compact_text};
-ghost use Rattle.cacache_entry.specs.Entry.{plain_entry, piece_of, text_of, text_or_null};
+ghost use Rattle.cacache_entry.specs.Entry.{piece_of, text_of, text_or_null};
+ghost use Rattle.cacache_entry.specs.EntryLaws.{bare_entry};
+ghost use Rattle.cacache_entry.specs.EntryParts.{texts_then, numbers_then};
 
 use crate::read::is_digest_of;
 use memchr::memchr;
@@ -100,16 +102,34 @@ fn number(bytes: &[u8]) -> Option<(u64, &[u8])>
     }
 }
 
-/// The parts of the text, where it is one without metadata.
-fn parts_of(text: &[u8]) -> Option<Parts<'_>>
-    ensures text { IfSome result (λ p. text.now
-        ≡ text_of (plain_entry p.key.now (option_map (λ t. t.now) p.integrity) p.time p.size)) }
-    ensures fits { IfSome result (λ p. (p.time < 2 ^ 64) × (p.size < 2 ^ 64)) }
+/// The key and the integrity that an entry's text begins with, and what follows them.
+fn texts(text: &[u8]) -> Option<(&str, Option<&str>, &[u8])>
+    ensures { IfSome result (λ p.
+        text.now ≡ texts_then p.0.now (option_map (λ t. t.now) p.1) p.2.now) }
 {
     let (key, rest) = quoted(after(b"{\"key\":", text)?)?;
     let (integrity, rest) = quoted_or_null(after(b",\"integrity\":", rest)?)?;
-    let (time, rest) = number(after(b",\"time\":", rest)?)?;
+    Some((key, integrity, rest))
+}
+
+/// The time and the size that follow an entry's texts, and what follows them.
+fn numbers(bytes: &[u8]) -> Option<(u64, u64, &[u8])>
+    ensures digits { IfSome result (λ p. bytes.now ≡ numbers_then p.0 p.1 p.2.now) }
+    ensures fits { IfSome result (λ p. (p.0 < 2 ^ 64) × (p.1 < 2 ^ 64)) }
+{
+    let (time, rest) = number(after(b",\"time\":", bytes)?)?;
     let (size, rest) = number(after(b"\"size\":", rest)?)?;
+    Some((time, size, rest))
+}
+
+/// The parts of the text, where it is one without metadata.
+fn parts_of(text: &[u8]) -> Option<Parts<'_>>
+    ensures text { IfSome result (λ p. text.now
+        ≡ text_of (bare_entry p.key.now (option_map (λ t. t.now) p.integrity) p.time p.size)) }
+    ensures fits { IfSome result (λ p. (p.time < 2 ^ 64) × (p.size < 2 ^ 64)) }
+{
+    let (key, integrity, rest) = texts(text)?;
+    let (time, size, rest) = numbers(rest)?;
     if rest == END {
         Some(Parts {
             key,
@@ -126,7 +146,7 @@ fn parts_of(text: &[u8]) -> Option<Parts<'_>>
 /// the piece.
 pub(crate) fn written_parts(piece: &[u8]) -> Option<Parts<'_>>
     ensures piece { IfSome result (λ p. piece.now
-        ≡ piece_of (plain_entry p.key.now (option_map (λ t. t.now) p.integrity) p.time p.size)) }
+        ≡ piece_of (bare_entry p.key.now (option_map (λ t. t.now) p.integrity) p.time p.size)) }
     ensures fits { IfSome result (λ p. (p.time < 2 ^ 64) × (p.size < 2 ^ 64)) }
 {
     let (digits, rest) = piece.split_at_checked(DIGITS)?;

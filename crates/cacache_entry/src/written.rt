@@ -1,7 +1,7 @@
 //! The entry of a piece that `line` wrote, which isn't read as JSON.
-ghost use Rattle.std.specs.Prelude.{◌≡◌, ◌<◌, ◌^◌, IfOk, IfSome, Some, option_map, string_bytes};
+ghost use Rattle.std.specs.Prelude.{◌≡◌, IfOk, IfSome, Some, option_map};
 ghost use Rattle.cacache_entry.specs.Bucket.{entry_of_piece};
-ghost use Rattle.cacache_entry.specs.Entry.{plain_entry};
+ghost use Rattle.cacache_entry.specs.EntryLaws.{bare_entry};
 ghost use Rattle.cacache_entry.specs.View.{entry_view};
 
 use crate::metadata::SerializableMetadata;
@@ -12,7 +12,7 @@ use std::alloc::{AllocError, Global};
 /// The entry of these parts.
 fn entry_of(alloc: Global, parts: Parts<'_>) -> Result<SerializableMetadata, AllocError>
     ensures { IfOk result (λ e. entry_view e
-        ≡ plain_entry parts.entry.key.now (option_map (λ t. t.now) parts.entry.integrity) parts.entry.time parts.entry.size) }
+        ≡ bare_entry parts.entry.key.now (option_map (λ t. t.now) parts.entry.integrity) parts.entry.time parts.entry.size) }
 {
     let key = String::from_str(alloc, parts.key)?;
     let integrity = match parts.integrity {

@@ -15,7 +15,6 @@ pub returns-in_ok-write_array-in-Some-clause-text :
     goal.returns-in_ok-write_array-in-Some-clause-text
 returns-in_ok-write_array-in-Some-clause-text c =
     let put = λ (before : List ℕ) (tokens : List Token). before ++ print tokens in
-    let wrote = c.in_ok-write_array-in-Some.ensures in
     let before : c.write_array.new.out.before ≡ [] = search rules in
     let tokens : c.write_array.new.out.tokens ≡ begin_array ∷ byte_tokens c.in-Some.bytes.items = search rules in
     let printed = c.into_inner.ensures.items ∙ ap₂ put before tokens in
