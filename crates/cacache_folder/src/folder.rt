@@ -10,6 +10,7 @@ mod answers;
 mod escaped;
 mod faults;
 mod files;
+mod guess;
 mod listing;
 mod opened;
 mod paths;
@@ -20,6 +21,7 @@ mod whole;
 use answers::{created, given, moved, readable, synced, written};
 use cacache_store::store::{Answer, FileHandle, Step, Store, TempHandle};
 use faults::refused;
+use guess::Guess;
 pub use opened::FolderFile;
 use std::io::ErrorKind;
 use std::rt::Files;
@@ -32,6 +34,7 @@ pub use temp::FolderTemp;
 #[derive(Drop)]
 pub struct FolderStore<R> {
     rt: R,
+    guess: Guess,
 }
 
 impl<R: Files + AllocGlobal + Clone + Drop> FolderStore<R> {
@@ -39,11 +42,14 @@ impl<R: Files + AllocGlobal + Clone + Drop> FolderStore<R> {
     pub fn new(rt: R) -> FolderStore<R>
         ensures { result.rt ≡ rt }
     {
-        FolderStore { rt }
+        FolderStore {
+            rt,
+            guess: Guess::new(),
+        }
     }
 
     /// Does a step that is answered by `Done`. A reflink is not supported.
-    fn change<F: FileHandle, T: TempHandle>(&self, step: &Step<F, T>) -> io::Result<()>
+    fn change<F: FileHandle, T: TempHandle>(&mut self, step: &Step<F, T>) -> io::Result<()>
         ensures { IfOk result (λ _. Fits (plain_step F.seen T.seen step.now) Answer.Done) }
     {
         match step {
@@ -59,7 +65,7 @@ impl<R: Files + AllocGlobal + Clone + Drop> FolderStore<R> {
     }
 
     /// Does a step that asks about files and folders, or one that is answered by `Done`.
-    fn asked<F: FileHandle, T: TempHandle>(&self, step: &Step<F, T>) -> io::Result<Answer<F, T>>
+    fn asked<F: FileHandle, T: TempHandle>(&mut self, step: &Step<F, T>) -> io::Result<Answer<F, T>>
         ensures fits { IfOk result (λ answer.
             Fits (plain_step F.seen T.seen step.now) (plain_answer F.seen T.seen answer)) }
         ensures done { IfOk result (λ answer.
@@ -77,7 +83,7 @@ impl<R: Files + AllocGlobal + Clone + Drop> FolderStore<R> {
     }
 
     /// Does a step that has no file of its own.
-    fn done<F: FileHandle, T: TempHandle>(&self, step: &Step<F, T>) -> io::Result<Answer<F, T>>
+    fn done<F: FileHandle, T: TempHandle>(&mut self, step: &Step<F, T>) -> io::Result<Answer<F, T>>
         ensures fits { IfOk result (λ answer.
             Fits (plain_step F.seen T.seen step.now) (plain_answer F.seen T.seen answer)) }
         ensures done { IfOk result (λ answer.

@@ -6,6 +6,8 @@ mod clock;
 #[cfg(test)]
 mod common;
 #[cfg(test)]
+mod dirs;
+#[cfg(test)]
 mod handles;
 #[cfg(test)]
 mod names;

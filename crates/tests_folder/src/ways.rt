@@ -24,7 +24,7 @@ pub struct Ways {
 }
 
 /// The ways of the system's files.
-const PLAIN: Ways = Ways {
+pub const PLAIN: Ways = Ways {
     fault: None,
     interruptions: 0,
     most: usize::MAX,

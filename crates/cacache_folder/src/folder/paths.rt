@@ -6,18 +6,30 @@ use std::io::ErrorKind;
 use std::rt::Files;
 
 impl<R: Files + AllocGlobal + Clone + Drop> FolderStore<R> {
-    /// Makes every missing folder of the path. A folder that stands costs one question to the system.
-    pub(crate) fn make_dirs(&self, path: &str) -> io::Result<()> {
+    /// Makes every missing folder of the path. A folder that stands costs one question to the system, and one that alone is
+    /// missing costs one call that makes it. A wrong guess which of them it is costs one more.
+    pub(crate) fn make_dirs(&mut self, path: &str) -> io::Result<()> {
+        let was_missing = if self.guess.is_missing(path) || !self.stands(path)? {
+            self.make_missing(path)?
+        } else {
+            false
+        };
+        self.guess.keep(path, was_missing);
+        Ok(())
+    }
+
+    /// Whether the folder stands. Anything else that stands there is an error.
+    fn stands(&self, path: &str) -> io::Result<bool> {
         match self.rt.metadata(path) {
-            Ok(found) if found.is_dir() => Ok(()),
+            Ok(found) if found.is_dir() => Ok(true),
             Ok(_) => Err(io::Error::from(ErrorKind::AlreadyExists)),
-            Err(e) if e.kind() == ErrorKind::NotFound => self.make_missing(path),
+            Err(e) if e.kind() == ErrorKind::NotFound => Ok(false),
             Err(e) => Err(e),
         }
     }
 
-    /// Makes the folder, and those above it where the system misses one.
-    fn make_missing(&self, path: &str) -> io::Result<()> {
+    /// Makes the folder, and those above it where the system misses one. Returns whether it was missing.
+    fn make_missing(&self, path: &str) -> io::Result<bool> {
         match self.make_dir(path) {
             Err(e) if e.kind() == ErrorKind::NotFound => {
                 let Some((above, _)) = path.rsplit_once('/') else {
@@ -30,14 +42,15 @@ impl<R: Files + AllocGlobal + Clone + Drop> FolderStore<R> {
         }
     }
 
-    /// Makes one folder. It may stand already, as where somebody else just made it.
-    fn make_dir(&self, path: &str) -> io::Result<()> {
+    /// Makes one folder. Returns whether it was missing: it may stand already, as where somebody else just made it.
+    fn make_dir(&self, path: &str) -> io::Result<bool> {
         match self.rt.create_dir(path) {
+            Ok(()) => Ok(true),
             Err(e) if e.kind() == ErrorKind::AlreadyExists => match self.rt.metadata(path) {
-                Ok(found) if found.is_dir() => Ok(()),
+                Ok(found) if found.is_dir() => Ok(false),
                 _ => Err(e),
             },
-            made => made,
+            Err(e) => Err(e),
         }
     }
 }
