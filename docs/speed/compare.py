@@ -19,7 +19,7 @@ DEPTHS = [(100, 1000), (1000, 100), (10000, 10)]
 SMALL = ["put", "get", "put-again", "get-hash", "find", "remove", "exists"]
 LISTED = [1000, 100000]
 # What the kit itself takes is measured too: the bench's word floor-KIND makes the same system calls and digests through the kit alone.
-THROUGH_KIT = ["put-again", "get", "find", "remove", "exists"]
+THROUGH_KIT = ["put", "put-again", "get", "find", "remove", "exists"]
 # These are made as futures too, by the bench's word future-KIND.
 AS_FUTURE = ["find", "get"]
 # Blocks of SHA-256 in an operation on 1 KiB: 17 of the content where it is hashed, and 3 of the line's text where there is one
@@ -57,8 +57,8 @@ def run_small(bench, floor, at):
         if kind in AS_FUTURE:
             run(f"{kind} future", [bench, f"future-{kind}", f"{at}/put-ours", str(KEYS)], KEYS)
         if kind in THROUGH_KIT:
-            # floor-get, floor-find and floor-exists read what put wrote; floor-put-again and floor-remove write first what they need
-            where = f"{at}/put-ours" if folder == "put" else f"{at}/{kind}-kit"
+            # floor-get, floor-find and floor-exists read what put wrote; floor-put needs nothing; floor-put-again and floor-remove write first what they need
+            where = f"{at}/{kind}-kit" if folder == kind else f"{at}/{folder}-ours"
             run(f"{kind} kit", [bench, f"floor-{kind}", where, str(KEYS)] + more, KEYS)
 
 

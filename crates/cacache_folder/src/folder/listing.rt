@@ -17,6 +17,9 @@ use std::rt::Files;
 /// How many bytes of names one read asks for. There is room for any name.
 const NAMES: usize = 4096;
 
+/// The most bytes that stand behind a folder's path: a `/` and the longest of the system's names.
+const BEHIND: usize = 256;
+
 /// Whether the name has this byte.
 fn has(name: &str, byte: u8) -> bool
     ensures { result ≡ list_any (λ b. b == byte) name.now }
@@ -93,9 +96,10 @@ fn first_name(names: &[u8]) -> (&[u8], &[u8])
     }
 }
 
-/// The path of the folder with a `/` behind it, so that the system follows a link there.
+/// The path of the folder with a `/` behind it, so that the system follows a link there. There is room for any name.
 fn folder_path(alloc: Global, path: &str) -> Result<String, AllocError> {
-    let mut folder = String::from_str(alloc, path)?;
+    let mut folder = String::with_capacity(alloc, path.len().saturating_add(BEHIND))?;
+    folder.push_str(path)?;
     folder.push('/')?;
     Ok(folder)
 }
