@@ -57,26 +57,36 @@ static void append(const char *path, size_t size) {
     close(fd);
 }
 
-static void make_missing(char *path) {
-    if (mkdir(path, 0777) == 0 || errno == EEXIST) return;
+static int stands(const char *path) {
+    struct statx found;
+    return statx(AT_FDCWD, path, 0, STATX_ALL, &found) == 0;
+}
+
+// Makes the folder and those above it. Returns whether it was missing.
+static int make_missing(char *path) {
+    if (mkdir(path, 0777) == 0) return 1;
     char *slash = strrchr(path, '/');
+    if (errno == EEXIST && stands(path)) return 0;
     if (errno != ENOENT || slash == NULL) fail(path);
     *slash = 0;
     make_missing(path);
     *slash = '/';
     make_dir(path);
+    return 1;
 }
 
-// Makes the folder that ends at `end` of the path.
-static void make_dirs(char *path, size_t end) {
-    struct statx found;
+// Makes the folder that ends at `end` of the path. If the last one of its kind was missing, it is made without a question.
+static void make_dirs(char *path, size_t end, int *missing) {
     char kept = path[end];
     path[end] = 0;
-    if (statx(AT_FDCWD, path, 0, STATX_ALL, &found) != 0) make_missing(path);
+    *missing = (*missing || !stands(path)) && make_missing(path);
     path[end] = kept;
 }
 
 static uint64_t temporary;
+
+// Whether the last folder of a temporary file, a content or a bucket was missing.
+static int tmp_missing, content_missing, bucket_missing;
 
 static void put(uint64_t number, size_t bytes) {
     size_t content_end = name_at(content, content_start, number, 0, 32);
@@ -90,13 +100,13 @@ static void put(uint64_t number, size_t bytes) {
     for (size_t n = bytes; n >= 10; n /= 10) line_size++;
     memcpy(buffer, &number, bytes < 8 ? bytes : 8);
 
-    make_dirs(tmp_folder, strlen(tmp_folder));
+    make_dirs(tmp_folder, strlen(tmp_folder), &tmp_missing);
     int fd = open(tmp_path, O_RDWR | O_CREAT | O_EXCL | O_NOCTTY | O_CLOEXEC, 0666);
     if (fd < 0 || write(fd, buffer, bytes) != (ssize_t)bytes) fail(tmp_path);
-    make_dirs(content, content_end);
+    make_dirs(content, content_end, &content_missing);
     if (rename(tmp_path, content) != 0) fail(content);
     close(fd);
-    make_dirs(bucket, bucket_end);
+    make_dirs(bucket, bucket_end, &bucket_missing);
     append(bucket, line_size);
 }
 
@@ -105,7 +115,7 @@ static void remove_key(uint64_t number) {
     size_t bucket_end = name_at(bucket, bucket_start, number, 1, 20);
     size_t line_size = 164;
     for (uint64_t n = number; n >= 10; n /= 10) line_size++;
-    make_dirs(bucket, bucket_end);
+    make_dirs(bucket, bucket_end, &bucket_missing);
     append(bucket, line_size);
 }
 

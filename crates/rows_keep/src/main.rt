@@ -3,6 +3,11 @@
 //!
 //!     ACT | INPUT | RESULT
 //!
+//! An act is a call with its cache and its key or integrity; or the words of the program, which behind `stuck` run over a
+//! store that removes no file; or what somebody else does: `plant` makes the file at a path anew with the input, and `link`
+//! puts a link to a target in its place, each with the folders above it. The result of the program is its status, its output
+//! and its errors.
+//!
 //! A row holds if the act with this input gives this result at both places. The rows of a group that hold are counted, and
 //! each other row is printed with what was wanted and what came.
 #![tactic(auto)]
