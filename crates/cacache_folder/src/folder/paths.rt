@@ -42,15 +42,16 @@ impl<R: Files + AllocGlobal + Clone + Drop> FolderStore<R> {
         }
     }
 
-    /// Makes one folder. Returns whether it was missing: it may stand already, as where somebody else just made it.
+    /// Makes one folder. Returns whether it was missing. It may stand already, after a wrong guess or where somebody else just
+    /// made it, and not each file system says then that it exists.
     fn make_dir(&self, path: &str) -> io::Result<bool> {
         match self.rt.create_dir(path) {
             Ok(()) => Ok(true),
-            Err(e) if e.kind() == ErrorKind::AlreadyExists => match self.rt.metadata(path) {
+            Err(e) if e.kind() == ErrorKind::NotFound => Err(e),
+            Err(e) => match self.rt.metadata(path) {
                 Ok(found) if found.is_dir() => Ok(false),
                 _ => Err(e),
             },
-            Err(e) => Err(e),
         }
     }
 }
