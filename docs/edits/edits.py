@@ -25,6 +25,9 @@ def fields_of(edit):
 def edited(folder, edit):
     """The file of an edit below the crate's folder, its text with the edit, and why the edit can't be made."""
     path, pairs = fields_of(edit)
+    odd = [line for line in edit.read_text().splitlines() if not line.startswith(("file:", "old:", "new:"))]
+    if odd:
+        return folder / path, "", f"a line that nobody reads: {odd[0]}"
     file = folder / path
     if not file.is_file():
         return file, "", f"no file {path}"
