@@ -17,6 +17,7 @@ MakeDirs /two: Done after create_dir;
 MakeDirs /two: Done after create_dir;metadata;
 MakeDirs /two: Done after metadata;
 MakeDirs /longer: Done after metadata;create_dir;
+MakeDirs /longed: Done after create_dir;
 MakeDirs /six: Done after metadata;create_dir;
 MakeDirs /a/b/c: Done after metadata;create_dir;create_dir;create_dir;create_dir;create_dir;
 MakeDirs /a/b/d: Done after create_dir;
@@ -26,7 +27,10 @@ Append /a/c/e : Took 0 after OpenOptions { read: false, write: false, append: tr
 MakeDirs /a/c/e: Failed AlreadyExists after metadata;
 MakeDirs /a/c/f: Done after metadata;create_dir;
 MakeDirs /a/c/e: Failed AlreadyExists after create_dir;metadata;
-MakeDirs /a/c/g: Done after create_dir;";
+MakeDirs /a/c/g: Done after create_dir;
+MakeDirs /ten: Done after create_dir;
+MakeDirs /shy: Done after create_dir;metadata;
+MakeDirs /p/q/: Done after metadata;create_dir;create_dir;create_dir;create_dir;create_dir;metadata;";
 
 /// The first line that comes otherwise.
 fn first_other(

@@ -41,6 +41,35 @@ fn newer<S: Store>(
     Ok(written(store, path, bytes))
 }
 
+/// Makes a temporary file and writes the bytes `newer` to it. Returns how the line of the write ends.
+pub fn wrote<S: Store>(
+    alloc: Global,
+    root: &str,
+    store: &mut S,
+    path: &str,
+) -> Result<String, AllocError> {
+    let path = below(alloc, root, path)?;
+    let bytes = bytes_of(alloc, "newer")?;
+    match temp_of(store.step(Step::CreateTemp(path))) {
+        Some(temp) => end_of(alloc, store.step(Step::Write(temp, bytes))),
+        None => String::from_str(alloc, "no file"),
+    }
+}
+
+/// Makes a temporary file and syncs it as it is. Returns how the line of the sync ends.
+pub fn synced_empty<S: Store>(
+    alloc: Global,
+    root: &str,
+    store: &mut S,
+    path: &str,
+) -> Result<String, AllocError> {
+    let path = below(alloc, root, path)?;
+    match temp_of(store.step(Step::CreateTemp(path))) {
+        Some(temp) => end_of(alloc, store.step(Step::SyncTemp(temp))),
+        None => String::from_str(alloc, "no file"),
+    }
+}
+
 /// Moves a temporary file, and returns how the line of that step ends.
 fn moved<S: Store>(
     alloc: Global,
@@ -119,5 +148,25 @@ fn a_temporary_file_is_private_and_is_moved_itself(rt: HostRuntime) -> Result<()
     assert_eq!(rt; before.0, 0o600);
     assert_eq!(rt; after, before);
     assert!(rt; !is_left);
+    Ok(())
+}
+
+/// Whether a temporary file that somebody else removed says so when it is to be removed.
+fn misses_below(rt: HostRuntime, root: &str) -> io::Result<bool> {
+    let path = below(rt.alloc(), root, "/temp")?;
+    let step = Step::CreateTemp(path.clone()?);
+    let Some(temp) = temp_of(FolderStore::new(rt).step(step)) else {
+        return Ok(false);
+    };
+    fs::remove_file(&rt, path.as_str())?;
+    Ok(temp.remove(&rt).is_err())
+}
+
+#[test]
+fn a_removal_says_that_it_failed(rt: HostRuntime) -> Result<(), Fail> {
+    let root = fresh(rt, "unremoved")?;
+    let misses = misses_below(rt, root.as_str());
+    fs::remove_dir_all(&rt, root.as_str())?;
+    assert!(rt; misses?);
     Ok(())
 }

@@ -10,6 +10,8 @@ mod dirs;
 #[cfg(test)]
 mod handles;
 #[cfg(test)]
+mod listing;
+#[cfg(test)]
 mod names;
 #[cfg(test)]
 mod pieces;

@@ -72,6 +72,7 @@ HardLink /file /new: Failed AlreadyExists
 HardLink /none /x: Failed NotFound
 Copy /none /x: Failed NotFound
 Copy /a /x: Failed InvalidInput
+Copy /a /a: Failed InvalidInput
 Copy /file /a: Failed IsADirectory
 Reflink /file /x: Failed Unsupported";
 
@@ -87,11 +88,25 @@ Exists /link: There true
 Exists /way: There true
 Exists /lost: There false
 Exists /loop: Failed TooDeep
+MakeDirs /way: Done
+MakeDirs /new: Done
+MakeDirs /way: Done
+RemoveDir /new: Done
+MakeDirs /lost: Failed AlreadyExists
+MakeDirs /loop: Failed TooDeep
+MakeDirs /some: Done
+MakeDirs /loop: Failed TooDeep
+MakeDirs /more: Done
+MakeDirs /lost: Failed AlreadyExists
+RemoveDir /some: Done
+RemoveDir /more: Done
+MakeDirs /lost/x: Failed AlreadyExists
 Size /link: Length 3
 Append /link two: Took 3
 ReadAll /link: Bytes onetwo
 ReadAll /lost: Failed NotFound
 Copy /link /file: Took 6
+Copy /file /link: Took 6
 ReadAll /file: Bytes onetwo
 ReadDir /: Names 1 1 4
 ReadDir /way: Names 0 0 0
@@ -107,6 +122,7 @@ Persist /temp /new: Done
 Persist /temp /none/file: Failed NotFound
 Persist /temp2 /new/file: Failed NotADirectory
 Persist /temp3 /folder: Failed IsADirectory
+ReadAll /temp: Bytes newer
 ReadAll /file: Bytes newer
 ReadAll /new: Bytes newer";
 
@@ -132,7 +148,9 @@ Gives /short: (hel)(lo)()";
 
 const DEVICES: &str = "\
 Append /dev/full one: Failed Device
-ReadAll /proc/self/mem: Failed Device";
+ReadAll /proc/self/mem: Failed Device
+ReadDir : Failed NotFound
+MakeDirs : Failed NotFound";
 
 /// The first line that comes otherwise below a fresh folder.
 fn other_below(rt: HostRuntime, name: &str, lines: &str) -> io::Result<Option<String>> {

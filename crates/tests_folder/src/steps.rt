@@ -1,6 +1,6 @@
 //! Steps as lines of text: `Append /file one: Took 3` is a step, its paths below a folder, and its answer.
 use crate::common::{below, bytes_of};
-use crate::handles::{persisted, synced};
+use crate::handles::{persisted, synced, synced_empty, wrote};
 use crate::pieces::{given, pieces};
 use cacache_core::keeping::let_go;
 use cacache_core::text::Text;
@@ -78,6 +78,7 @@ fn shown<F, T>(alloc: Global, answer: &Answer<F, T>) -> Result<String, AllocErro
         Answer::Temp(_) => String::from_str(alloc, "Temp"),
         Answer::Synced(_) => String::from_str(alloc, "Synced"),
         Answer::File(_) => String::from_str(alloc, "File"),
+        Answer::Wrote(_, count) => format!(in alloc; "Wrote {count}"),
         Answer::Took(count) => format!(in alloc; "Took {count}"),
         Answer::There(is) => format!(in alloc; "There {is}"),
         Answer::Length(size) => format!(in alloc; "Length {size}"),
@@ -129,6 +130,8 @@ pub fn end_after<S: Store>(
     match ask {
         "Persist" => persisted(alloc, root, store, path, other),
         "SyncTemp" => synced(alloc, root, store, path),
+        "SyncEmpty" => synced_empty(alloc, root, store, path),
+        "Write" => wrote(alloc, root, store, path),
         "Pieces" => pieces(alloc, store, below(alloc, root, path)?, other),
         "Gives" => given(alloc, store, below(alloc, root, path)?),
         _ => stepped(alloc, root, store, (ask, path, other)),

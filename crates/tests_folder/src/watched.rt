@@ -29,8 +29,9 @@ pub fn taken(notes: &Notes, alloc: Global) -> String {
         .unwrap_or(String::new(alloc))
 }
 
-/// The system's runtime, but its files behave in ways of their own. No memory is found to open a file `full`, and the
-/// names of each folder are made up: `a`, and in a folder `odd` one more.
+/// The system's runtime, but its files behave in ways of their own. No memory is found to open a file `full`, a file whose
+/// name begins with `bare` has five bytes and no number, and a folder `shy` is made and said to be refused. The names of each
+/// folder are made up: `a`, and more in a folder `odd`, `slow`, `torn` or `late`.
 #[derive(Clone, Drop)]
 pub struct Watched {
     host: HostRuntime,
@@ -142,23 +143,54 @@ impl OpenFile for WatchedFile {
 /// The names of a folder.
 const NAMES: &[u8] = b".\0..\0a\0";
 
-/// The names of a folder, of which the last isn't UTF-8.
-const ODD: &[u8] = b".\0..\0a\0\xff\0";
+/// What the reads of an open folder give, one after another. Behind them it is at its end.
+type Reads = &'static [Result<&'static [u8], ErrorKind>];
 
-/// An open folder with made-up names, of whose bytes so many were given.
+/// All names in one read.
+const PLAIN: Reads = &[Ok(NAMES)];
+
+/// The last name isn't UTF-8.
+const ODD: Reads = &[Ok(b".\0..\0a\0\xff\0")];
+
+/// Some names in each read, fewer than there is room for.
+const SLOW: Reads = &[Ok(b".\0..\0"), Ok(b"longer\0"), Ok(b"a\0")];
+
+/// The second read fails.
+const TORN: Reads = &[Ok(NAMES), Err(ErrorKind::Other)];
+
+/// A signal interrupts the first read.
+const LATE: Reads = &[Err(ErrorKind::Interrupted), Ok(NAMES)];
+
+/// An open folder with made-up names.
 #[derive(Drop)]
 pub struct MadeUp {
-    is_odd: bool,
-    given: usize,
+    reads: Reads,
 }
 
 impl Read for MadeUp {
     fn read(&mut self, buf: &mut [u8]) -> io::Result<usize> {
-        let names = if self.is_odd { ODD } else { NAMES };
-        let mut rest = names.get(self.given..).unwrap_or(b"");
-        let count = rest.read(buf)?;
-        self.given = self.given.saturating_add(count);
-        Ok(count)
+        let Some((first, later)) = self.reads.split_first() else {
+            return Ok(0);
+        };
+        self.reads = later;
+        match *first {
+            Ok(names) => {
+                let mut rest = names;
+                rest.read(buf)
+            }
+            Err(kind) => Err(io::Error::from(kind)),
+        }
+    }
+}
+
+/// What the reads of the folder at this path give.
+fn reads_of(path: &str) -> Reads {
+    match path.trim_end_matches('/').rsplit_once('/') {
+        Some((_, "odd")) => ODD,
+        Some((_, "slow")) => SLOW,
+        Some((_, "torn")) => TORN,
+        Some((_, "late")) => LATE,
+        _ => PLAIN,
     }
 }
 
@@ -180,12 +212,16 @@ impl Files for Watched {
     }
 
     fn open_dir(&self, path: &str) -> io::Result<MadeUp> {
-        let is_odd = path.ends_with("/odd/");
-        Ok(MadeUp { is_odd, given: 0 })
+        Ok(MadeUp {
+            reads: reads_of(path),
+        })
     }
 
     fn metadata(&self, path: &str) -> io::Result<Metadata> {
         note(&self.notes, "metadata")?;
+        if path.contains("/bare") {
+            return Ok(Metadata::of_file(5));
+        }
         self.host.metadata(path)
     }
 
@@ -214,7 +250,11 @@ impl Files for Watched {
 
     fn create_dir(&self, path: &str) -> io::Result<()> {
         note(&self.notes, "create_dir")?;
-        self.host.create_dir(path)
+        self.host.create_dir(path)?;
+        if path.ends_with("/shy") {
+            return Err(io::Error::from(ErrorKind::PermissionDenied));
+        }
+        Ok(())
     }
 
     fn remove_dir(&self, path: &str) -> io::Result<()> {

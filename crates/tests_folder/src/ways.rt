@@ -86,7 +86,7 @@ const CREATE: &str =
 /// A step with its answer, how it opens a file, and what else it asks for.
 type Row = (Ways, &'static str, &'static str, &'static str);
 
-const ASKED: [Row; 13] = [
+const ASKED: [Row; 21] = [
     (PLAIN, "Append /file one: Took 3", APPEND, "write;"),
     (PLAIN, "Append /file two: Took 3", APPEND, "write;"),
     (PLAIN, "ReadAll /file: Bytes onetwo", READ, "read;read;"),
@@ -99,12 +99,42 @@ const ASKED: [Row; 13] = [
     (PLAIN, "RemoveFile /temp: Done", "", "remove_file;"),
     (PLAIN, "ReadDir /: Names 0 0 0", "", "symlink_metadata;"),
     (PLAIN, "ReadDir /odd: Names 1 0 0", "", "symlink_metadata;"),
+    (
+        PLAIN,
+        "ReadDir /slow: Names 0 0 0",
+        "",
+        "symlink_metadata;symlink_metadata;",
+    ),
+    (
+        PLAIN,
+        "ReadDir /torn: Failed Device",
+        "",
+        "symlink_metadata;",
+    ),
+    (PLAIN, "ReadDir /late: Names 0 0 0", "", "symlink_metadata;"),
+    (PLAIN, "Append /bare1 hello: Took 5", APPEND, "write;"),
+    (PLAIN, "Append /bare2 world: Took 5", APPEND, "write;"),
+    (
+        PLAIN,
+        "Copy /bare1 /bare1: Took 5",
+        "",
+        "metadata;metadata;",
+    ),
+    (
+        PLAIN,
+        "Copy /bare1 /bare2: Took 5",
+        "",
+        "metadata;metadata;copy;",
+    ),
+    (PLAIN, "ReadAll /bare2: Bytes hello", READ, "read;read;"),
     (PLAIN, "Persist /temp /moved: Done", CREATE, "write;rename;"),
 ];
 
-const INTERRUPTED: [Row; 9] = [
+const INTERRUPTED: [Row; 11] = [
     (PLAIN, "Append /file hello: Took 5", APPEND, "write;"),
     (SHORT, "Append /none hello: Took 1", APPEND, "write;"),
+    (SHORT, "Write /short: Wrote 1", CREATE, "write;"),
+    (ONCE, "Write /once: Wrote 1", CREATE, "interrupted;write;"),
     (
         ONCE,
         "Append /one hello: Took 1",
@@ -144,7 +174,7 @@ const INTERRUPTED: [Row; 9] = [
     ),
 ];
 
-const FAILED: [Row; 6] = [
+const FAILED: [Row; 10] = [
     (PLAIN, "Append /file hello: Took 5", APPEND, "write;"),
     (
         BROKEN,
@@ -153,6 +183,15 @@ const FAILED: [Row; 6] = [
         "",
     ),
     (BROKEN, "ReadAll /file: Failed NotADirectory", READ, ""),
+    (BROKEN, "Pieces /file 4: ", READ, ""),
+    (BROKEN, "Gives /file: ", READ, ""),
+    (BROKEN, "Write /new: Failed NotADirectory", CREATE, ""),
+    (
+        BROKEN,
+        "SyncEmpty /empty: Failed NotADirectory",
+        CREATE,
+        "sync_all;",
+    ),
     (BROKEN, "ReadDir /: Names 1 0 0", "", "symlink_metadata;"),
     (
         BROKEN,
@@ -163,13 +202,15 @@ const FAILED: [Row; 6] = [
     (BROKEN, "SyncDir /: Failed NotADirectory", READ, "sync_all;"),
 ];
 
-const REFUSED: [Row; 9] = [
+const REFUSED: [Row; 11] = [
     (PLAIN, "Append /file hello: Took 5", APPEND, "write;"),
     (PLAIN, "CreateTemp /full: Failed Device", CREATE, ""),
     (PLAIN, "Append /full one: Failed Device", APPEND, ""),
     (PLAIN, "ReadAll /full: NoMemory", READ, ""),
     (FULL, "Append /file more: Failed Device", APPEND, ""),
     (FULL, "ReadAll /file: NoMemory", READ, ""),
+    (FULL, "Write /new: NoMemory", CREATE, ""),
+    (FULL, "SyncEmpty /empty: Failed Device", CREATE, "sync_all;"),
     (FULL, "SyncFile /file: Failed Device", READ, "sync_all;"),
     (FULL, "SyncDir /: Failed Device", READ, "sync_all;"),
     (FULL, "ReadDir /: NoMemory", "", "symlink_metadata;"),

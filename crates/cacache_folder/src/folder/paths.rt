@@ -48,9 +48,10 @@ impl<R: Files + AllocGlobal + Clone + Drop> FolderStore<R> {
         match self.rt.create_dir(path) {
             Ok(()) => Ok(true),
             Err(e) if e.kind() == ErrorKind::NotFound => Err(e),
-            Err(e) => match self.rt.metadata(path) {
-                Ok(found) if found.is_dir() => Ok(false),
-                _ => Err(e),
+            Err(e) => if self.stands(path)? {
+                Ok(false)
+            } else {
+                Err(e)
             },
         }
     }

@@ -1,0 +1,38 @@
+//! A folder whose names don't fit into one read.
+use crate::common::fresh;
+use crate::steps::end_after;
+use cacache_folder::FolderStore;
+use std::rt::HostRuntime;
+use std::test::Fail;
+use std::{fs, io};
+
+/// What stands before the two digits of a number in a name, so that the name is as long as one may be.
+const FILL: &str = "\
+0000000000000000000000000000000000000000000000000000000000000000\
+0000000000000000000000000000000000000000000000000000000000000000\
+0000000000000000000000000000000000000000000000000000000000000000\
+0000000000000000000000000000000000000000000000000000000000000";
+
+/// Makes forty files with the longest names.
+fn fill(rt: HostRuntime, root: &str) -> io::Result<()> {
+    for number in 10..50 {
+        let path = format!(in rt.alloc(); "{root}/{FILL}{number}")?;
+        fs::write(&rt, path.as_str(), b"")?;
+    }
+    Ok(())
+}
+
+/// How the listing of a folder with forty files ends.
+fn end_below(rt: HostRuntime, root: &str) -> io::Result<String> {
+    fill(rt, root)?;
+    Ok(end_after(rt.alloc(), root, &mut FolderStore::new(rt), "ReadDir /")?)
+}
+
+#[test]
+fn a_long_listing_is_whole(rt: HostRuntime) -> Result<(), Fail> {
+    let root = fresh(rt, "listed")?;
+    let end = end_below(rt, root.as_str());
+    fs::remove_dir_all(&rt, root.as_str())?;
+    assert_eq!(rt; end?.as_str(), "Names 40 0 0");
+    Ok(())
+}
