@@ -143,37 +143,47 @@ impl OpenFile for WatchedFile {
 /// The names of a folder.
 const NAMES: &[u8] = b".\0..\0a\0";
 
-/// What the reads of an open folder give, one after another. Behind them it is at its end.
-type Reads = &'static [Result<&'static [u8], ErrorKind>];
+/// How an open folder gives its names.
+#[derive(Clone, Copy)]
+pub enum Giving {
+    /// All in one read.
+    Whole,
+    /// All in one read, and one more that isn't UTF-8.
+    Odd,
+    /// Some in each read, fewer than there is room for.
+    Slow,
+    /// All, but a further read fails.
+    Torn,
+    /// All, after a signal interrupted the first read.
+    Late,
+}
 
-/// All names in one read.
-const PLAIN: Reads = &[Ok(NAMES)];
-
-/// The last name isn't UTF-8.
-const ODD: Reads = &[Ok(b".\0..\0a\0\xff\0")];
-
-/// Some names in each read, fewer than there is room for.
-const SLOW: Reads = &[Ok(b".\0..\0"), Ok(b"longer\0"), Ok(b"a\0")];
-
-/// The second read fails.
-const TORN: Reads = &[Ok(NAMES), Err(ErrorKind::Other)];
-
-/// A signal interrupts the first read.
-const LATE: Reads = &[Err(ErrorKind::Interrupted), Ok(NAMES)];
-
-/// An open folder with made-up names.
+/// An open folder with made-up names, of which so many reads were made.
 #[derive(Drop)]
 pub struct MadeUp {
-    reads: Reads,
+    giving: Giving,
+    made: usize,
+}
+
+/// What the read after so many others gives.
+fn read_after(giving: Giving, made: usize) -> Result<&'static [u8], ErrorKind> {
+    match (giving, made) {
+        (Giving::Whole, 0) | (Giving::Torn, 0) | (Giving::Late, 1) => Ok(NAMES),
+        (Giving::Odd, 0) => Ok(b".\0..\0a\0\xff\0"),
+        (Giving::Slow, 0) => Ok(b".\0..\0"),
+        (Giving::Slow, 1) => Ok(b"longer\0"),
+        (Giving::Slow, 2) => Ok(b"a\0"),
+        (Giving::Torn, _) => Err(ErrorKind::Other),
+        (Giving::Late, 0) => Err(ErrorKind::Interrupted),
+        _ => Ok(b""),
+    }
 }
 
 impl Read for MadeUp {
     fn read(&mut self, buf: &mut [u8]) -> io::Result<usize> {
-        let Some((first, later)) = self.reads.split_first() else {
-            return Ok(0);
-        };
-        self.reads = later;
-        match *first {
+        let read = read_after(self.giving, self.made);
+        self.made = self.made.saturating_add(1);
+        match read {
             Ok(names) => {
                 let mut rest = names;
                 rest.read(buf)
@@ -183,14 +193,14 @@ impl Read for MadeUp {
     }
 }
 
-/// What the reads of the folder at this path give.
-fn reads_of(path: &str) -> Reads {
+/// How the folder at this path gives its names.
+fn giving_of(path: &str) -> Giving {
     match path.trim_end_matches('/').rsplit_once('/') {
-        Some((_, "odd")) => ODD,
-        Some((_, "slow")) => SLOW,
-        Some((_, "torn")) => TORN,
-        Some((_, "late")) => LATE,
-        _ => PLAIN,
+        Some((_, "odd")) => Giving::Odd,
+        Some((_, "slow")) => Giving::Slow,
+        Some((_, "torn")) => Giving::Torn,
+        Some((_, "late")) => Giving::Late,
+        _ => Giving::Whole,
     }
 }
 
@@ -212,9 +222,8 @@ impl Files for Watched {
     }
 
     fn open_dir(&self, path: &str) -> io::Result<MadeUp> {
-        Ok(MadeUp {
-            reads: reads_of(path),
-        })
+        let giving = giving_of(path);
+        Ok(MadeUp { giving, made: 0 })
     }
 
     fn metadata(&self, path: &str) -> io::Result<Metadata> {
