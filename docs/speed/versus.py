@@ -2,7 +2,7 @@
 """Runs bench and the same words of the Rust crate in turn on tmpfs, and prints least times and ratios.
 
 versus.py BENCH RUST [ROUNDS]: the built binaries of bench and of the program in rust/. Each round runs every word of both, in
-turn first; a ratio is ours over the Rust crate's within a round. Take an even number of rounds: who comes first may pay more.
+turn first; a ratio is ours over the Rust crate's within a round.
 """
 import pathlib
 import re
@@ -29,8 +29,6 @@ def run(program, who, folder, word, *numbers):
 def play_round(programs, number):
     order = PROGRAMS if number % 2 == 0 else PROGRAMS[::-1]
     with tempfile.TemporaryDirectory(dir="/dev/shm") as at:
-        # What comes first pays for the files of the round before, which the system is still taking down.
-        subprocess.run([programs["rust"], "put", f"{at}/first", "2000", "1024"], check=True, capture_output=True)
         for word, *numbers in SMALL + LARGE:
             for who in order:
                 run(programs[who], who, f"{at}/{who}", word, *numbers)
@@ -46,7 +44,7 @@ def main():
     if len(sys.argv) < 3:
         sys.exit(__doc__)
     programs = dict(zip(PROGRAMS, (str(pathlib.Path(word).resolve()) for word in sys.argv[1:3])))
-    for number in range(int(sys.argv[3]) if len(sys.argv) > 3 else 10):
+    for number in range(int(sys.argv[3]) if len(sys.argv) > 3 else 9):
         play_round(programs, number)
     for word, *_ in SMALL + LARGE:
         print(told(word))
