@@ -8,8 +8,8 @@ TRIED = TOP / "docs/edits/TRIED"
 
 
 def fields_of(edit):
-    """The file of an edit, and its pairs of old and new text."""
-    path, pairs = "", []
+    """The file of an edit, its pairs of old and new text, and the lines that are neither."""
+    path, pairs, others = "", [], []
     for line in edit.read_text().splitlines():
         word, _, text = line.partition(":")
         text = text[1:] if text.startswith(" ") else text
@@ -19,16 +19,17 @@ def fields_of(edit):
             pairs.append([text, None])
         elif word == "new" and pairs:
             pairs[-1][1] = text
-    return path, pairs
+        else:
+            others.append(line)
+    return path, pairs, others
 
 
 def edited(folder, edit):
     """The file of an edit below the crate's folder, its text with the edit, and why the edit can't be made."""
-    path, pairs = fields_of(edit)
-    odd = [line for line in edit.read_text().splitlines() if not line.startswith(("file:", "old:", "new:"))]
-    if odd:
-        return folder / path, "", f"a line that nobody reads: {odd[0]}"
+    path, pairs, others = fields_of(edit)
     file = folder / path
+    if others:
+        return file, "", f"a line that nobody reads: {others[0]}"
     if not file.is_file():
         return file, "", f"no file {path}"
     text = file.read_text()
@@ -87,7 +88,7 @@ def note(crate, count, commit):
 
 def function_at(folder, edit):
     """The names by which a check may know the function that an edit changes, the likeliest first; the last is its file's module."""
-    path, pairs = fields_of(edit)
+    path, pairs, _ = fields_of(edit)
     text = (folder / path).read_text()
     words = pathlib.Path(path).with_suffix("").parts[1:]
     module = [] if words in (("lib",), ("main",)) else [it for it in words if it != "mod"]

@@ -1,9 +1,8 @@
 //! What the system is asked for at each step of one store that makes folders.
 use crate::common::fresh;
 use crate::rows::told;
-use crate::steps::end_after;
-use crate::watched::{Notes, Watched, taken};
-use crate::ways::PLAIN;
+use crate::watched::{Notes, Watched};
+use crate::ways::{PLAIN, asked_of};
 use cacache_folder::FolderStore;
 use std::alloc::AllocError;
 use std::rt::HostRuntime;
@@ -42,9 +41,7 @@ fn first_other(
     let alloc = rt.alloc();
     for line in GUESSED.lines() {
         let (words, wanted) = line.split_once(": ").unwrap_or((line, ""));
-        let end = end_after(alloc, root, store, words)?;
-        let calls = taken(notes, alloc);
-        let came = format!(in alloc; "{end} after {calls}")?;
+        let came = asked_of(alloc, root, store, notes, words)?;
         if came.as_str() != wanted {
             return Ok(Some(format!(in alloc; "{words}: {came}")?));
         }

@@ -23,22 +23,29 @@ fn temp_of<F: Drop, T: Drop>(answer: Answer<F, T>) -> Option<T> {
     }
 }
 
-/// Makes a temporary file and writes the bytes to it in one step.
-fn written<S: Store>(store: &mut S, path: Text, bytes: Bytes) -> Option<S::Temp> {
-    let temp = temp_of(store.step(Step::CreateTemp(path)))?;
-    temp_of(store.step(Step::Write(temp, bytes)))
-}
-
-/// Makes a temporary file with the bytes `newer`.
-fn newer<S: Store>(
+/// Makes an empty temporary file.
+fn empty<S: Store>(
     alloc: Global,
     root: &str,
     store: &mut S,
     path: &str,
 ) -> Result<Option<S::Temp>, AllocError> {
     let path = below(alloc, root, path)?;
+    Ok(temp_of(store.step(Step::CreateTemp(path))))
+}
+
+/// Makes a temporary file with the bytes `newer`, written in one step.
+fn newer<S: Store>(
+    alloc: Global,
+    root: &str,
+    store: &mut S,
+    path: &str,
+) -> Result<Option<S::Temp>, AllocError> {
     let bytes = bytes_of(alloc, "newer")?;
-    Ok(written(store, path, bytes))
+    match empty(alloc, root, store, path)? {
+        Some(temp) => Ok(temp_of(store.step(Step::Write(temp, bytes)))),
+        None => Ok(None),
+    }
 }
 
 /// Makes a temporary file and writes the bytes `newer` to it. Returns how the line of the write ends.
@@ -48,24 +55,9 @@ pub fn wrote<S: Store>(
     store: &mut S,
     path: &str,
 ) -> Result<String, AllocError> {
-    let path = below(alloc, root, path)?;
     let bytes = bytes_of(alloc, "newer")?;
-    match temp_of(store.step(Step::CreateTemp(path))) {
+    match empty(alloc, root, store, path)? {
         Some(temp) => end_of(alloc, store.step(Step::Write(temp, bytes))),
-        None => String::from_str(alloc, "no file"),
-    }
-}
-
-/// Makes a temporary file and syncs it as it is. Returns how the line of the sync ends.
-pub fn synced_empty<S: Store>(
-    alloc: Global,
-    root: &str,
-    store: &mut S,
-    path: &str,
-) -> Result<String, AllocError> {
-    let path = below(alloc, root, path)?;
-    match temp_of(store.step(Step::CreateTemp(path))) {
-        Some(temp) => end_of(alloc, store.step(Step::SyncTemp(temp))),
         None => String::from_str(alloc, "no file"),
     }
 }
@@ -95,6 +87,18 @@ pub fn persisted<S: Store>(
     }
 }
 
+/// Syncs a temporary file, and returns how the line of that step ends.
+fn sync_end<S: Store>(
+    alloc: Global,
+    store: &mut S,
+    temp: Option<S::Temp>,
+) -> Result<String, AllocError> {
+    match temp {
+        Some(temp) => end_of(alloc, store.step(Step::SyncTemp(temp))),
+        None => String::from_str(alloc, "no file"),
+    }
+}
+
 /// Makes a temporary file with the bytes `newer` and syncs it. Returns how the line of the sync ends.
 pub fn synced<S: Store>(
     alloc: Global,
@@ -102,10 +106,19 @@ pub fn synced<S: Store>(
     store: &mut S,
     path: &str,
 ) -> Result<String, AllocError> {
-    match newer(alloc, root, store, path)? {
-        Some(temp) => end_of(alloc, store.step(Step::SyncTemp(temp))),
-        None => String::from_str(alloc, "no file"),
-    }
+    let temp = newer(alloc, root, store, path)?;
+    sync_end(alloc, store, temp)
+}
+
+/// Makes an empty temporary file and syncs it. Returns how the line of the sync ends.
+pub fn synced_empty<S: Store>(
+    alloc: Global,
+    root: &str,
+    store: &mut S,
+    path: &str,
+) -> Result<String, AllocError> {
+    let temp = empty(alloc, root, store, path)?;
+    sync_end(alloc, store, temp)
 }
 
 /// The mode of a file without what kind of file it is, and its number in the file system.
@@ -154,8 +167,7 @@ fn a_temporary_file_is_private_and_is_moved_itself(rt: HostRuntime) -> Result<()
 /// Whether a temporary file that somebody else removed says so when it is to be removed.
 fn misses_below(rt: HostRuntime, root: &str) -> io::Result<bool> {
     let path = below(rt.alloc(), root, "/temp")?;
-    let step = Step::CreateTemp(path.clone()?);
-    let Some(temp) = temp_of(FolderStore::new(rt).step(step)) else {
+    let Some(temp) = empty(rt.alloc(), root, &mut FolderStore::new(rt), "/temp")? else {
         return Ok(false);
     };
     fs::remove_file(&rt, path.as_str())?;

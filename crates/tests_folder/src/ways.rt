@@ -2,9 +2,9 @@
 use crate::common::fresh;
 use crate::rows::told;
 use crate::steps::end_after;
-use crate::watched::{Watched, taken};
+use crate::watched::{Notes, Watched, taken};
 use cacache_folder::FolderStore;
-use std::alloc::AllocError;
+use std::alloc::{AllocError, Global};
 use std::io::ErrorKind;
 use std::rt::HostRuntime;
 use std::test::Fail;
@@ -216,13 +216,29 @@ const REFUSED: [Row; 11] = [
     (FULL, "ReadDir /: NoMemory", "", "symlink_metadata;"),
 ];
 
-/// Does the step of a line, and returns how the line ends and what was asked for.
-pub fn asked(rt: HostRuntime, root: &str, ways: Ways, words: &str) -> Result<String, AllocError> {
-    let alloc = rt.alloc();
-    let (watched, notes) = Watched::new(rt, ways)?;
-    let end = end_after(alloc, root, &mut FolderStore::new(watched), words)?;
-    let calls = taken(&notes, alloc);
+/// Does the step of a line on this store, and returns how the line ends and what was asked for.
+pub fn asked_of(
+    alloc: Global,
+    root: &str,
+    store: &mut FolderStore<Watched>,
+    notes: &Notes,
+    words: &str,
+) -> Result<String, AllocError> {
+    let end = end_after(alloc, root, store, words)?;
+    let calls = taken(notes, alloc);
     format!(in alloc; "{end} after {calls}")
+}
+
+/// The same on a store of its own.
+pub fn asked(rt: HostRuntime, root: &str, ways: Ways, words: &str) -> Result<String, AllocError> {
+    let (watched, notes) = Watched::new(rt, ways)?;
+    asked_of(
+        rt.alloc(),
+        root,
+        &mut FolderStore::new(watched),
+        &notes,
+        words,
+    )
 }
 
 /// How the row came, if it came otherwise.
