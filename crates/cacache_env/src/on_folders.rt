@@ -20,7 +20,7 @@ pub type Folders = Env<FolderStore<HostRuntime>, SystemClock<HostRuntime>, Proce
 pub type FolderReader = SyncReader<FolderFile<File>>;
 
 /// A content that is being written into a cache in real folders.
-pub type FolderWriter = SyncWriter<FolderTemp<File>>;
+pub type FolderWriter = SyncWriter<FolderTemp<HostRuntime>>;
 
 /// An open file that is to become a content of a cache in real folders by a link.
 pub type FolderLinker = SyncToLinker<FolderFile<File>>;

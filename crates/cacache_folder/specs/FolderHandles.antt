@@ -10,5 +10,5 @@ abbrev pub seen_file : {F : Type 0} → FolderFile F → PlainFile
 seen_file f = record { left = f.left; bytes = None }
 
 -- a temporary file
-abbrev pub seen_temp : {F : Type 0} → FolderTemp F → PlainTemp
+abbrev pub seen_temp : {R F D : Type 0} → FolderTemp R F D → PlainTemp
 seen_temp t = record { path = t.path; bytes = None }

@@ -1,3 +1,4 @@
 pub mod FolderHandles
 pub mod PartialSteps
 pub mod Escaped
+pub mod Reasons

@@ -4,22 +4,27 @@ ghost use Rattle.cacache_store.specs.Plain.{plain_step, plain_answer};
 ghost use Rattle.cacache_store.specs.Fits.{Fits, is_no_memory};
 ghost use Rattle.cacache_folder.specs.FolderHandles.{seen_file, seen_temp};
 ghost use Rattle.cacache_folder.specs.PartialSteps.{HandsBackWhole};
+ghost use Rattle.cacache_folder.specs.Reasons.{Explains};
 
 mod again;
 mod answers;
+mod descent;
 mod escaped;
 mod faults;
 mod files;
 mod guess;
 mod listing;
+mod node;
 mod opened;
 mod paths;
+mod removing;
 mod syncing;
 mod temp;
 mod whole;
 
 use answers::{created, given, moved, readable, synced, written};
 use cacache_store::store::{Answer, FileHandle, Step, Store, TempHandle};
+use descent::Descent;
 use faults::refused;
 use guess::Guess;
 pub use opened::FolderFile;
@@ -35,6 +40,8 @@ pub use temp::FolderTemp;
 pub struct FolderStore<R> {
     rt: R,
     guess: Guess,
+    descent: Descent,
+    reason: Option<ErrorKind>,
 }
 
 impl<R: Files + AllocGlobal + Clone + Drop> FolderStore<R> {
@@ -42,22 +49,34 @@ impl<R: Files + AllocGlobal + Clone + Drop> FolderStore<R> {
     pub fn new(rt: R) -> FolderStore<R>
         ensures { result.rt ≡ rt }
     {
+        let descent = Descent::new(rt.alloc());
         FolderStore {
             rt,
             guess: Guess::new(),
+            descent,
+            reason: None,
         }
+    }
+
+    /// The system's kind of error behind the last step that failed, which says more than a `Fault` does: a full disk, a
+    /// missing right and another device have kinds of their own. None before any step failed.
+    pub fn reason(&self) -> Option<ErrorKind>
+        ensures { result ≡ self.now.reason }
+    {
+        self.reason
     }
 
     /// Does a step that is answered by `Done`. A reflink is not supported.
     fn change<F: FileHandle, T: TempHandle>(&mut self, step: &Step<F, T>) -> io::Result<()>
-        ensures { IfOk result (λ _. Fits (plain_step F.seen T.seen step.now) Answer.Done) }
+        ensures fits { IfOk result (λ _. Fits (plain_step F.seen T.seen step.now) Answer.Done) }
+        ensures kept { self.new.reason ≡ self.old.reason }
     {
         match step {
             Step::MakeDirs(path) => self.make_dirs(path.as_str()),
             Step::Symlink(target, path) => self.rt.symlink(target.as_str(), path.as_str()),
             Step::HardLink(from, to) => self.rt.hard_link(from.as_str(), to.as_str()),
-            Step::RemoveFile(path) => self.rt.remove_file(path.as_str()),
-            Step::RemoveDir(path) => self.rt.remove_dir(path.as_str()),
+            Step::RemoveFile(path) => self.remove_file(path.as_str()),
+            Step::RemoveDir(path) => self.remove_dir(path.as_str()),
             Step::SyncFile(path) => self.sync_file(path.as_str()),
             Step::SyncDir(path) => self.sync_dir(path.as_str()),
             _ => Err(io::Error::from(ErrorKind::Unsupported)),
@@ -70,6 +89,9 @@ impl<R: Files + AllocGlobal + Clone + Drop> FolderStore<R> {
             Fits (plain_step F.seen T.seen step.now) (plain_answer F.seen T.seen answer)) }
         ensures done { IfOk result (λ answer.
             is_no_memory (plain_answer F.seen T.seen answer) ≡ false) }
+        ensures explains { IfOk result (λ answer. Explains self.old.reason self.new.reason
+            (plain_answer F.seen T.seen answer)) }
+        ensures kept { self.new.reason ≡ self.old.reason }
     {
         Ok(match step {
             Step::Exists(path) => Answer::There(self.exists(path.as_str())?),
@@ -88,6 +110,9 @@ impl<R: Files + AllocGlobal + Clone + Drop> FolderStore<R> {
             Fits (plain_step F.seen T.seen step.now) (plain_answer F.seen T.seen answer)) }
         ensures done { IfOk result (λ answer.
             is_no_memory (plain_answer F.seen T.seen answer) ≡ false) }
+        ensures explains { IfOk result (λ answer. Explains self.old.reason self.new.reason
+            (plain_answer F.seen T.seen answer)) }
+        ensures kept { self.new.reason ≡ self.old.reason }
     {
         Ok(match step {
             Step::Append(path, bytes) => {
@@ -103,7 +128,7 @@ impl<R: Files + AllocGlobal + Clone + Drop> FolderStore<R> {
 impl<R: Files + AllocGlobal + Clone + Drop> Store for FolderStore<R> {
     type File = FolderFile<R::File>;
 
-    type Temp = FolderTemp<R::File>;
+    type Temp = FolderTemp<R>;
 
     ghost log = { λ _. None };
 
@@ -112,26 +137,28 @@ impl<R: Files + AllocGlobal + Clone + Drop> Store for FolderStore<R> {
             (plain_answer seen_file seen_temp result) }
         ensures whole { HandsBackWhole (plain_step seen_file seen_temp step)
             (plain_answer seen_file seen_temp result) }
+        ensures explains { Explains self.old.reason self.new.reason
+            (plain_answer seen_file seen_temp result) }
     {
         match step {
             Step::CreateTemp(path) => {
                 let file = self.create_temp(path.as_str());
-                created(file, path)
+                created(file, path, &mut self.reason)
             }
-            Step::Write(temp, bytes) => written(temp, bytes),
-            Step::SyncTemp(temp) => synced(temp),
+            Step::Write(temp, bytes) => written(temp, bytes, &mut self.reason),
+            Step::SyncTemp(temp) => synced(temp, &mut self.reason),
             Step::Persist(temp, path) => {
                 let done = fs::rename(&self.rt, temp.path(), path.as_str());
-                moved(done, temp, path)
+                moved(done, temp, path, &mut self.reason)
             }
             Step::Open(path) => {
                 let file = self.open(path.as_str());
-                readable(file, path)
+                readable(file, path, &mut self.reason)
             }
-            Step::Read(file, max) => given(self.rt.alloc(), file, max),
+            Step::Read(file, max) => given(self.rt.alloc(), file, max, &mut self.reason),
             step => match self.done(&step) {
                 Ok(answer) => answer,
-                Err(error) => refused(error, step),
+                Err(error) => refused(error, step, &mut self.reason),
             },
         }
     }

@@ -1,21 +1,20 @@
-//! Numbers for temporary names that the processes of one machine don't share.
+//! Numbers for temporary names that no two environments share.
 ghost use Rattle.std.specs.Prelude.{◌≡◌, ◌+◌, ◌*◌, ◌%◌, ◌^◌};
 
 use crate::clock::SystemClock;
 use cacache_store::env::{Clock, Names};
 use std::marker::Model;
-use std::process;
+use std::random::RandomSource;
 use std::rt::HostRuntime;
+use std::{io, process};
 
-/// How many processes are told apart by their numbers.
-const PROCESSES: u64 = 65536;
+/// How far each number is from the one before.
+const STRIDE: u64 = 65536;
 
-/// Numbers for the temporary files of one process. The first is the time in milliseconds since the start of 1970
-/// times 65536, plus the process's number modulo 65536; each next one is 65536 more. All are taken modulo 2^64.
+/// Numbers for temporary files. The first is 64 random bits of the system; each next one is 65536 more, modulo 2^64.
 ///
-/// So two processes give different numbers if their process numbers differ modulo 65536, and a process that starts
-/// later gives other numbers than one that crashed. Make one for a whole process: two that are made in the same
-/// millisecond give the same numbers. Contracts see the number that comes next.
+/// So two environments give different numbers, whatever threads, processes, containers or machines they are of, but with a
+/// chance of less than one in 2^40 where each gives fewer than a million. Contracts see the number that comes next.
 #[derive(Debug, Drop)]
 pub struct ProcessNames {
     next: u64,
@@ -29,19 +28,36 @@ impl Model for ProcessNames {
     ghost view = { λ names. names.next };
 }
 
+/// 64 random bits.
+fn random_bits<R: RandomSource>(source: &R) -> io::Result<u64> {
+    let mut bits = [0; 8];
+    source.fill_bytes(&mut bits)?;
+    Ok(u64::from_le_bytes(bits))
+}
+
 impl ProcessNames {
-    /// The numbers of this process, from the present time on.
+    /// The numbers from 64 random bits on. Where the system has none, they start at the present time and this process.
     pub fn new(rt: HostRuntime) -> ProcessNames {
-        ProcessNames::starting(SystemClock::new(rt).now(), process::id(rt.process()))
+        ProcessNames::random(&rt, SystemClock::new(rt).now(), process::id(rt.process()))
     }
 
-    /// The numbers of the process with this number, from a time in milliseconds since the start of 1970 (UTC) on.
+    /// The numbers from 64 bits of a source on; where it fails, those that start at this time and process.
+    pub fn random<R: RandomSource>(source: &R, millis: u64, process: u32) -> ProcessNames {
+        match random_bits(source) {
+            Ok(next) => ProcessNames { next },
+            Err(_) => ProcessNames::starting(millis, process),
+        }
+    }
+
+    /// The numbers that start at a time in milliseconds since the start of 1970 (UTC) and a process's number: the time times
+    /// 65536, plus the number modulo 65536, all modulo 2^64. Two processes give different ones if their numbers differ modulo
+    /// 65536.
     pub fn starting(millis: u64, process: u32) -> ProcessNames
         ensures { result ≡ (millis * 65536 + process % 65536) % 2 ^ 64 }
     {
-        let process = u64::from(process) % PROCESSES;
+        let process = u64::from(process) % STRIDE;
         ProcessNames {
-            next: millis.wrapping_mul(PROCESSES).wrapping_add(process),
+            next: millis.wrapping_mul(STRIDE).wrapping_add(process),
         }
     }
 }
@@ -53,7 +69,7 @@ impl Names for ProcessNames {
         ensures own { self.new % 65536 ≡ self.old % 65536 }
     {
         let number = self.next;
-        self.next = number.wrapping_add(PROCESSES);
+        self.next = number.wrapping_add(STRIDE);
         number
     }
 }

@@ -7,9 +7,10 @@ ghost use Rattle.cacache_program.specs.WordWrite.{Writes};
 use crate::output::{call_failed, put_out, stream_failed};
 use cacache::Integrity;
 use cacache::env::{Clock, Env, Names};
+use cacache::errors::Error;
 use cacache::store::Store;
 use std::alloc::Global;
-use std::io::{Read, Write};
+use std::io::{ErrorKind, Read, Write};
 
 /// Prints the integrity's text and a line feed, and returns the status.
 fn print<W: Write, E: Write>(
@@ -28,6 +29,16 @@ fn print<W: Write, E: Write>(
     }
 }
 
+/// Prints why the input couldn't be read, and returns the status.
+fn input_failed<E: Write>(errors: &mut E, kind: ErrorKind) -> u8
+    ensures { result ≡ 1 }
+{
+    if kind == ErrorKind::OutOfMemory {
+        return call_failed(errors, &Error::OutOfMemory);
+    }
+    stream_failed(errors, b"input failed\n")
+}
+
 /// Stores all that the input gives under the key, and prints the integrity and a line feed.
 pub(crate) fn write<S: Store, C: Clock, N: Names, R: Read, W: Write, E: Write>(
     env: &mut Env<S, C, N>,
@@ -42,8 +53,8 @@ pub(crate) fn write<S: Store, C: Clock, N: Names, R: Read, W: Write, E: Write>(
     ensures quiet { result ≡ 0 → errors.new ≡ errors.old }
 {
     let mut data = Vec::new(env.alloc);
-    if input.read_to_end(&mut data).is_err() {
-        return stream_failed(errors, b"input failed\n");
+    if let Err(error) = input.read_to_end(&mut data) {
+        return input_failed(errors, error.kind());
     }
     match cacache::write_vec_sync(env, cache, key, data) {
         Ok(integrity) => print(env.alloc, &integrity, output, errors),

@@ -23,7 +23,7 @@ visit_of (visits.RemoveFolder path) = remove_folder path
 -- a task, as the table has it
 abbrev pub task_of : Task → states.Task
 task_of (tasks.Visit v) = visit (visit_of v)
-task_of (tasks.Stumble fault) = stumble fault
+task_of (tasks.Stumble fault path) = stumble fault
 
 -- the tasks of a stack: the table has the next one first, and the stack has it last
 abbrev pub pending : List Task → List states.Task

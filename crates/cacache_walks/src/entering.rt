@@ -26,14 +26,14 @@ fn task_at(clears: bool, level: u8, path: Text, kind: Kind) -> Task
             if level < DEEPEST {
                 return Task::Visit(Visit::Enter(path, level + 1));
             }
-            Task::Stumble(Fault::TooDeep)
+            Task::Stumble(Fault::TooDeep, path)
         }
         Kind::File => {
             if !clears {
                 return Task::Visit(Visit::ReadBucket(path));
             }
             if level == 0 {
-                return Task::Stumble(Fault::NotADirectory);
+                return Task::Stumble(Fault::NotADirectory, path);
             }
             Task::Visit(Visit::RemoveFile(path))
         }
@@ -134,7 +134,7 @@ impl Walk {
                 let message = if self.clears && level == 0 {
                     messages::clearing_folder(alloc, &self.top)
                 } else {
-                    self.message(alloc)
+                    self.message(alloc, &folder)
                 };
                 self.missed(alloc, refusal, message)
             }

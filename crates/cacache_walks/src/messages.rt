@@ -8,8 +8,8 @@ pub(crate) fn clearing_folder(alloc: Global, path: &Text) -> Result<Text, AllocE
     )?))
 }
 
-pub(crate) fn clearing(alloc: Global, cache: &Text) -> Result<Text, AllocError> {
-    Ok(Text::new(format!(in alloc; "Failed to clear cache at {cache}")?))
+pub(crate) fn clearing(alloc: Global, path: &Text) -> Result<Text, AllocError> {
+    Ok(Text::new(format!(in alloc; "Failed to clear cache at {path}")?))
 }
 
 pub(crate) fn listing_folder(alloc: Global, path: &Text) -> Result<Text, AllocError> {

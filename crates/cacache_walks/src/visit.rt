@@ -27,8 +27,8 @@ pub enum Visit {
 pub enum Task {
     /// It makes this visit.
     Visit(Visit),
-    /// It stumbles over something, which takes no step.
-    Stumble(Fault),
+    /// It stumbles over what lies at a path, which takes no step.
+    Stumble(Fault, Text),
 }
 
 impl Visit {

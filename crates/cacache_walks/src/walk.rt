@@ -86,10 +86,10 @@ impl Walk {
         Reply::Listed(Items::new(items))
     }
 
-    /// What a fault is told as, wherever the walk is, at a step that isn't a bucket's.
-    pub(crate) fn message(&self, alloc: Global) -> Result<Text, AllocError> {
+    /// What a fault is told as at this path, at a step that isn't a bucket's. A listing names its own folder.
+    pub(crate) fn message(&self, alloc: Global, path: &Text) -> Result<Text, AllocError> {
         if self.clears {
-            return messages::clearing(alloc, &self.top);
+            return messages::clearing(alloc, path);
         }
         messages::listing_folder(alloc, &self.top)
     }
@@ -105,7 +105,7 @@ impl Walk {
             (length self.new.items.items ≡ length self.old.items.items + 1) }
         ensures todo { OnOk result (self.new.todo.items ≡ self.old.todo.items) }
     {
-        let error = Error::IoError(Fault::TooDeep, self.message(alloc)?);
+        let error = Error::IoError(Fault::TooDeep, self.message(alloc, &self.top)?);
         if self.clears {
             return Err(error);
         }
@@ -160,8 +160,8 @@ impl Walk {
         while let Some(task) = self.todo.pop() {
             match task {
                 Task::Visit(visit) => return Ok(Some(visit)),
-                Task::Stumble(fault) => {
-                    let message = self.message(alloc);
+                Task::Stumble(fault, path) => {
+                    let message = self.message(alloc, &path);
                     match self.miss(alloc, fault, message) {
                         Ok(true) => {}
                         Ok(false) => return Ok(None),
@@ -226,14 +226,19 @@ impl Walk {
     }
 
     /// After a file or a folder was to be removed.
-    fn removed(&mut self, alloc: Global, done: Result<(), Refusal>) -> errors::Result<Option<Visit>>
+    fn removed(
+        &mut self,
+        alloc: Global,
+        path: Text,
+        done: Result<(), Refusal>,
+    ) -> errors::Result<Option<Visit>>
         ensures { GoesOn self.old self.new result
             (λ w todo. go_on done (miss_of w (walk_on_of todo)) (λ _. walk_on_of todo w)) }
     {
         match done {
             Ok(()) => self.walk_on(alloc),
             Err(refusal) => {
-                let message = messages::clearing(alloc, &self.top);
+                let message = messages::clearing(alloc, &path);
                 self.missed(alloc, refusal, message)
             }
         }
@@ -259,8 +264,8 @@ impl Walk {
                 names_of(answer),
             ),
             Visit::ReadBucket(bucket) => self.read(alloc, bucket, bytes_of(answer)),
-            Visit::RemoveFile(_path) => self.removed(alloc, done_of(answer)),
-            Visit::RemoveFolder(_path) => self.removed(alloc, done_of(answer)),
+            Visit::RemoveFile(path) => self.removed(alloc, path, done_of(answer)),
+            Visit::RemoveFolder(path) => self.removed(alloc, path, done_of(answer)),
         }
     }
 }

@@ -11,9 +11,9 @@ pub trait RemovableTemp<R>: TempFile {
     fn remove(self, rt: &R) -> Result<(), Fault>;
 }
 
-impl<R: Files> RemovableTemp<R> for FolderTemp<R::File> {
-    fn remove(self, rt: &R) -> Result<(), Fault> {
-        match FolderTemp::remove(self, rt) {
+impl<R: Files + Drop> RemovableTemp<R> for FolderTemp<R> {
+    fn remove(self, _rt: &R) -> Result<(), Fault> {
+        match FolderTemp::remove(self) {
             Ok(()) => Ok(()),
             Err(error) => Err(Fault::from(error.kind())),
         }

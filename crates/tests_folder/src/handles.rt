@@ -171,7 +171,7 @@ fn misses_below(rt: HostRuntime, root: &str) -> io::Result<bool> {
         return Ok(false);
     };
     fs::remove_file(&rt, path.as_str())?;
-    Ok(temp.remove(&rt).is_err())
+    Ok(temp.remove().is_err())
 }
 
 #[test]

@@ -20,6 +20,8 @@ mod rows;
 #[cfg(test)]
 mod steps;
 #[cfg(test)]
+mod swapped;
+#[cfg(test)]
 mod watched;
 #[cfg(test)]
 mod ways;

@@ -1,7 +1,9 @@
-//! Numbers for temporary files, against the clock and the number of the process.
-use cacache_folder::{ProcessNames, SystemClock};
-use cacache_store::env::{Clock, Names};
-use std::process;
+//! Numbers for temporary files, against random bits, the clock and the number of the process.
+use cacache_folder::ProcessNames;
+use cacache_store::env::Names;
+use std::io;
+use std::io::ErrorKind;
+use std::random::RandomSource;
 use std::rt::HostRuntime;
 
 /// The first three numbers.
@@ -21,18 +23,29 @@ fn numbers_of_a_process_wrap(rt: HostRuntime) {
     }
 }
 
-/// The time before and after a number is made, in milliseconds, and the number.
-fn timed(rt: HostRuntime) -> (u64, u64, u64) {
-    let before = SystemClock::new(rt).now();
-    let number = ProcessNames::new(rt).fresh();
-    (before, SystemClock::new(rt).now(), number)
+/// A source that gives the same byte each time, or none.
+struct Same(Option<u8>);
+
+impl RandomSource for Same {
+    fn fill_bytes(&self, buf: &mut [u8]) -> io::Result<()> {
+        match self.0 {
+            Some(byte) => {
+                buf.fill(byte);
+                Ok(())
+            }
+            None => Err(io::Error::from(ErrorKind::Unsupported)),
+        }
+    }
 }
 
 #[test]
-fn numbers_start_at_the_time_with_the_process(rt: HostRuntime) {
-    let (before, after, number) = timed(rt);
-    let time = number / 65536;
-    assert!(rt; before <= time && time <= after, "{number}");
-    let process = u64::from(process::id(rt.process()));
-    assert_eq!(rt; number % 65536, process % 65536);
+fn numbers_start_at_random_bits_or_else_at_the_time_and_the_process(rt: HostRuntime) {
+    let numbers = first_three(&mut ProcessNames::random(&Same(Some(1)), 1, 2));
+    let first = 0x0101_0101_0101_0101;
+    assert_eq!(rt; numbers, [first, first + 65536, first + 131072]);
+    let numbers = first_three(&mut ProcessNames::random(&Same(None), 1, 2));
+    assert_eq!(rt; numbers, [65538, 131074, 196610]);
+    let first = ProcessNames::new(rt).fresh();
+    let second = ProcessNames::new(rt).fresh();
+    assert!(rt; first != second, "{first}");
 }

@@ -17,7 +17,7 @@ Open /a/b/file: File
 Append /empty : Took 0
 ReadAll /empty: Bytes 
 CreateTemp /a/temp: Temp
-Exists /a/temp: There true
+Exists /a/temp: There false
 Exists /a/b: There true
 Exists /a/none: There false
 Exists /empty/none: There false";
@@ -110,6 +110,9 @@ Copy /file /link: Took 6
 ReadAll /file: Bytes onetwo
 ReadDir /: Names 1 1 4
 ReadDir /way: Names 0 0 0
+ReadDir /lost: Failed NotADirectory
+ReadDir /lost/x: Failed NotFound
+ReadDir /loop: Failed TooDeep
 RemoveFile /link: Done
 RemoveDir /a: Done
 ReadDir /: Names 1 0 3";
@@ -122,7 +125,9 @@ Persist /temp /new: Done
 Persist /temp /none/file: Failed NotFound
 Persist /temp2 /new/file: Failed NotADirectory
 Persist /temp3 /folder: Failed IsADirectory
-ReadAll /temp: Bytes newer
+Exists /temp: There false
+Exists /temp2: There false
+Exists /temp3: There false
 ReadAll /file: Bytes newer
 ReadAll /new: Bytes newer";
 

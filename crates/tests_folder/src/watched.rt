@@ -30,7 +30,8 @@ pub fn taken(notes: &Notes, alloc: Global) -> String {
 }
 
 /// The system's runtime, but its files behave in ways of their own. No memory is found to open a file `full`, a file whose
-/// name begins with `bare` has five bytes and no number, and a folder `shy` is made and said to be refused. The names of each
+/// name begins with `bare` has five bytes and no number, a file `kept` isn't removed, and a folder `shy` is made and said to be
+/// refused. The names of each
 /// folder are made up: `a`, and more in a folder `odd`, `slow`, `torn` or `late`.
 #[derive(Clone, Drop)]
 pub struct Watched {
@@ -222,6 +223,12 @@ impl Files for Watched {
     }
 
     fn open_dir(&self, path: &str) -> io::Result<MadeUp> {
+        let call = if path.ends_with('/') {
+            "open_dir/"
+        } else {
+            "open_dir"
+        };
+        note(&self.notes, call)?;
         let giving = giving_of(path);
         Ok(MadeUp { giving, made: 0 })
     }
@@ -249,11 +256,17 @@ impl Files for Watched {
 
     fn rename(&self, from: &str, to: &str) -> io::Result<()> {
         note(&self.notes, "rename")?;
-        self.host.rename(from, to)
+        match self.ways.rename {
+            Some(kind) => Err(io::Error::from(kind)),
+            None => self.host.rename(from, to),
+        }
     }
 
     fn remove_file(&self, path: &str) -> io::Result<()> {
         note(&self.notes, "remove_file")?;
+        if path.ends_with("/kept") {
+            return Err(io::Error::from(ErrorKind::PermissionDenied));
+        }
         self.host.remove_file(path)
     }
 

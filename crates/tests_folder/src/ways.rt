@@ -21,6 +21,8 @@ pub struct Ways {
     pub most: usize,
     /// What the file says of its size, if it isn't to say its true size.
     pub size: Option<u64>,
+    /// Why each rename fails.
+    pub rename: Option<ErrorKind>,
 }
 
 /// The ways of the system's files.
@@ -29,6 +31,7 @@ pub const PLAIN: Ways = Ways {
     interruptions: 0,
     most: usize::MAX,
     size: None,
+    rename: None,
 };
 
 /// Each read and write fails.
@@ -37,6 +40,7 @@ const BROKEN: Ways = Ways {
     interruptions: 0,
     most: usize::MAX,
     size: None,
+    rename: None,
 };
 
 /// Each read and write is refused for memory.
@@ -45,6 +49,19 @@ const FULL: Ways = Ways {
     interruptions: 0,
     most: usize::MAX,
     size: None,
+    rename: None,
+};
+
+/// Each rename fails.
+const UNMOVED: Ways = Ways {
+    rename: Some(ErrorKind::PermissionDenied),
+    ..PLAIN
+};
+
+/// Each rename is refused for memory.
+const CROWDED: Ways = Ways {
+    rename: Some(ErrorKind::OutOfMemory),
+    ..PLAIN
 };
 
 /// Each read and write moves one byte.
@@ -53,6 +70,7 @@ const SHORT: Ways = Ways {
     interruptions: 0,
     most: 1,
     size: None,
+    rename: None,
 };
 
 /// The same, but the first is interrupted.
@@ -61,6 +79,7 @@ const ONCE: Ways = Ways {
     interruptions: 1,
     most: 1,
     size: None,
+    rename: None,
 };
 
 /// The same, but the first five are interrupted.
@@ -69,6 +88,7 @@ const OFTEN: Ways = Ways {
     interruptions: 5,
     most: 1,
     size: None,
+    rename: None,
 };
 
 /// How a file is opened to append to it.
@@ -86,32 +106,57 @@ const CREATE: &str =
 /// A step with its answer, how it opens a file, and what else it asks for.
 type Row = (Ways, &'static str, &'static str, &'static str);
 
-const ASKED: [Row; 21] = [
+const ASKED: [Row; 22] = [
     (PLAIN, "Append /file one: Took 3", APPEND, "write;"),
     (PLAIN, "Append /file two: Took 3", APPEND, "write;"),
     (PLAIN, "ReadAll /file: Bytes onetwo", READ, "read;read;"),
     (PLAIN, "SyncFile /file: Done", READ, "sync_all;"),
     (PLAIN, "SyncDir /: Done", READ, "sync_all;"),
-    (PLAIN, "SyncTemp /synced: Synced", CREATE, "write;sync_all;"),
+    (
+        PLAIN,
+        "SyncTemp /synced: Synced",
+        CREATE,
+        "write;sync_all;remove_file;",
+    ),
     (PLAIN, "Exists /file: There true", "", "metadata;"),
-    (PLAIN, "CreateTemp /temp: Temp", CREATE, ""),
-    (PLAIN, "CreateTemp /temp: Failed AlreadyExists", CREATE, ""),
-    (PLAIN, "RemoveFile /temp: Done", "", "remove_file;"),
-    (PLAIN, "ReadDir /: Names 0 0 0", "", "symlink_metadata;"),
-    (PLAIN, "ReadDir /odd: Names 1 0 0", "", "symlink_metadata;"),
+    (PLAIN, "CreateTemp /temp: Temp", CREATE, "remove_file;"),
+    (PLAIN, "CreateTemp /file: Failed AlreadyExists", CREATE, ""),
+    (
+        PLAIN,
+        "RemoveFile /temp: Failed NotFound",
+        "",
+        "remove_file;",
+    ),
+    (
+        PLAIN,
+        "ReadDir /: Names 0 0 0",
+        "",
+        "open_dir/;symlink_metadata;",
+    ),
+    (
+        PLAIN,
+        "ReadDir /odd: Names 1 0 0",
+        "",
+        "open_dir;symlink_metadata;",
+    ),
     (
         PLAIN,
         "ReadDir /slow: Names 0 0 0",
         "",
-        "symlink_metadata;symlink_metadata;",
+        "open_dir;symlink_metadata;symlink_metadata;",
     ),
     (
         PLAIN,
         "ReadDir /torn: Failed Device",
         "",
-        "symlink_metadata;",
+        "open_dir;symlink_metadata;",
     ),
-    (PLAIN, "ReadDir /late: Names 0 0 0", "", "symlink_metadata;"),
+    (
+        PLAIN,
+        "ReadDir /late: Names 0 0 0",
+        "",
+        "open_dir;symlink_metadata;",
+    ),
     (PLAIN, "Append /bare1 hello: Took 5", APPEND, "write;"),
     (PLAIN, "Append /bare2 world: Took 5", APPEND, "write;"),
     (
@@ -128,13 +173,19 @@ const ASKED: [Row; 21] = [
     ),
     (PLAIN, "ReadAll /bare2: Bytes hello", READ, "read;read;"),
     (PLAIN, "Persist /temp /moved: Done", CREATE, "write;rename;"),
+    (PLAIN, "RemoveFile /moved: Done", "", "remove_file;"),
 ];
 
 const INTERRUPTED: [Row; 11] = [
     (PLAIN, "Append /file hello: Took 5", APPEND, "write;"),
     (SHORT, "Append /none hello: Took 1", APPEND, "write;"),
-    (SHORT, "Write /short: Wrote 1", CREATE, "write;"),
-    (ONCE, "Write /once: Wrote 1", CREATE, "interrupted;write;"),
+    (SHORT, "Write /short: Wrote 1", CREATE, "write;remove_file;"),
+    (
+        ONCE,
+        "Write /once: Wrote 1",
+        CREATE,
+        "interrupted;write;remove_file;",
+    ),
     (
         ONCE,
         "Append /one hello: Took 1",
@@ -174,7 +225,7 @@ const INTERRUPTED: [Row; 11] = [
     ),
 ];
 
-const FAILED: [Row; 10] = [
+const FAILED: [Row; 8] = [
     (PLAIN, "Append /file hello: Took 5", APPEND, "write;"),
     (
         BROKEN,
@@ -185,14 +236,12 @@ const FAILED: [Row; 10] = [
     (BROKEN, "ReadAll /file: Failed NotADirectory", READ, ""),
     (BROKEN, "Pieces /file 4: ", READ, ""),
     (BROKEN, "Gives /file: ", READ, ""),
-    (BROKEN, "Write /new: Failed NotADirectory", CREATE, ""),
     (
         BROKEN,
-        "SyncEmpty /empty: Failed NotADirectory",
-        CREATE,
-        "sync_all;",
+        "ReadDir /: Failed NotADirectory",
+        "",
+        "open_dir/;symlink_metadata;",
     ),
-    (BROKEN, "ReadDir /: Names 1 0 0", "", "symlink_metadata;"),
     (
         BROKEN,
         "SyncFile /file: Failed NotADirectory",
@@ -202,18 +251,69 @@ const FAILED: [Row; 10] = [
     (BROKEN, "SyncDir /: Failed NotADirectory", READ, "sync_all;"),
 ];
 
-const REFUSED: [Row; 11] = [
+/// Each step with a temporary file that fails or is refused for memory, and what is left of the file.
+const GIVEN_UP: [Row; 14] = [
+    (
+        BROKEN,
+        "Write /new: Failed NotADirectory",
+        CREATE,
+        "remove_file;",
+    ),
+    (PLAIN, "Exists /new: There false", "", "metadata;"),
+    (FULL, "Write /new: NoMemory", CREATE, "remove_file;"),
+    (PLAIN, "Exists /new: There false", "", "metadata;"),
+    (
+        BROKEN,
+        "SyncEmpty /new: Failed NotADirectory",
+        CREATE,
+        "sync_all;remove_file;",
+    ),
+    (PLAIN, "Exists /new: There false", "", "metadata;"),
+    (
+        FULL,
+        "SyncEmpty /new: Failed Device",
+        CREATE,
+        "sync_all;remove_file;",
+    ),
+    (PLAIN, "Exists /new: There false", "", "metadata;"),
+    (
+        UNMOVED,
+        "Persist /new /file: Failed Device",
+        CREATE,
+        "write;rename;remove_file;",
+    ),
+    (PLAIN, "Exists /new: There false", "", "metadata;"),
+    (
+        CROWDED,
+        "Persist /new /file: NoMemory",
+        CREATE,
+        "write;rename;remove_file;",
+    ),
+    (PLAIN, "Exists /new: There false", "", "metadata;"),
+    (
+        BROKEN,
+        "Write /kept: Failed NotADirectory",
+        CREATE,
+        "remove_file;",
+    ),
+    (PLAIN, "Exists /kept: There true", "", "metadata;"),
+];
+
+const REFUSED: [Row; 9] = [
     (PLAIN, "Append /file hello: Took 5", APPEND, "write;"),
     (PLAIN, "CreateTemp /full: Failed Device", CREATE, ""),
     (PLAIN, "Append /full one: Failed Device", APPEND, ""),
     (PLAIN, "ReadAll /full: NoMemory", READ, ""),
     (FULL, "Append /file more: Failed Device", APPEND, ""),
     (FULL, "ReadAll /file: NoMemory", READ, ""),
-    (FULL, "Write /new: NoMemory", CREATE, ""),
-    (FULL, "SyncEmpty /empty: Failed Device", CREATE, "sync_all;"),
     (FULL, "SyncFile /file: Failed Device", READ, "sync_all;"),
     (FULL, "SyncDir /: Failed Device", READ, "sync_all;"),
-    (FULL, "ReadDir /: NoMemory", "", "symlink_metadata;"),
+    (
+        FULL,
+        "ReadDir /: NoMemory",
+        "",
+        "open_dir/;symlink_metadata;",
+    ),
 ];
 
 /// Does the step of a line on this store, and returns how the line ends and what was asked for.
@@ -290,6 +390,11 @@ fn an_interrupted_call_is_tried_again(rt: HostRuntime) -> Result<(), Fail> {
 #[test]
 fn a_failed_read_or_write_is_an_error(rt: HostRuntime) -> Result<(), Fail> {
     all_come(rt, "failed", &FAILED)
+}
+
+#[test]
+fn a_step_that_fails_leaves_no_temporary_file(rt: HostRuntime) -> Result<(), Fail> {
+    all_come(rt, "given-up", &GIVEN_UP)
 }
 
 #[test]

@@ -2,7 +2,7 @@
 use crate::common::{below, fresh};
 use crate::steps::end_after;
 use crate::watched::Watched;
-use crate::ways::Ways;
+use crate::ways::{PLAIN, Ways};
 use cacache_core::bytes::Bytes;
 use cacache_core::keeping::let_go;
 use cacache_core::text::Text;
@@ -19,20 +19,17 @@ const FIRST_READ: usize = 128 * 1024;
 /// A file that says this of its size.
 fn sized(size: usize) -> Ways {
     Ways {
-        fault: None,
-        interruptions: 0,
-        most: usize::MAX,
         size: u64::try_from(size).ok(),
+        ..PLAIN
     }
 }
 
 /// The same, but it is interrupted once, and then gives three bytes at a time.
 fn slow(size: usize) -> Ways {
     Ways {
-        fault: None,
         interruptions: 1,
         most: 3,
-        size: u64::try_from(size).ok(),
+        ..sized(size)
     }
 }
 

@@ -3,30 +3,33 @@ ghost use Rattle.std.specs.Prelude.{◌≤◌, IfOk, length};
 
 use crate::folder::FolderStore;
 use crate::folder::again::write_again;
+use crate::folder::node::Node;
 use crate::folder::whole::read_whole;
 use cacache_core::bytes::Bytes;
 use std::fs::{File, Metadata, OpenFile};
 use std::io;
 use std::io::ErrorKind;
-use std::os::unix::fs::{MetadataExt, OpenOptionsExt};
+use std::os::unix::fs::OpenOptionsExt;
 use std::rt::Files;
 
 /// The mode of a temporary file: its owner alone may read and write it.
 const PRIVATE: u32 = 0o600;
 
-/// Whether both are of one file. A runtime that isn't the system's may number no file.
+/// Whether both are of one file.
 fn is_same(one: &Metadata, other: &Metadata) -> bool {
-    one.ino() != 0 && one.ino() == other.ino() && one.dev() == other.dev()
+    Node::of(one).is_same(Node::of(other))
 }
 
 impl<R: Files + AllocGlobal + Clone + Drop> FolderStore<R> {
-    /// A new empty file that only its owner may read and write.
-    pub(crate) fn create_temp(&self, path: &str) -> io::Result<R::File> {
-        File::options()
+    /// A new empty file that only its owner may read and write, with a runtime that can remove it.
+    pub(crate) fn create_temp(&self, path: &str) -> io::Result<(R, R::File)> {
+        let rt = self.rt.clone()?;
+        let file = File::options()
             .write(true)
             .create_new(true)
             .mode(PRIVATE)
-            .open(&self.rt, path)
+            .open(&self.rt, path)?;
+        Ok((rt, file))
     }
 
     /// Appends to the file at the path in one write.

@@ -6,7 +6,10 @@ ghost use Rattle.cacache_store.specs.Fits.{AreProperNames};
 
 use crate::folder::FolderStore;
 use crate::folder::again::read_again;
+use crate::folder::descent::Folder;
 use crate::folder::escaped::text_of_name;
+use crate::folder::node::Node;
+use cacache_core::text::Text;
 use cacache_store::store::{Kind, Listing, Name};
 use std::alloc::{AllocError, Global};
 use std::fs::FileType;
@@ -66,19 +69,6 @@ fn looked<T>(found: io::Result<T>) -> Looked<T>
     }
 }
 
-/// The kind that an entry is listed with; None if it was removed since the folder was read. An entry whose kind can't
-/// be had is listed as a file: the step on it will say why.
-fn listed_kind(found: Looked<Kind>) -> Looked<Option<Kind>>
-    ensures memory { IfErr result (λ kind. kind ≡ ErrorKind.OutOfMemory) }
-{
-    match found {
-        Ok(kind) => Ok(Some(kind)),
-        Err(ErrorKind::NotFound) => Ok(None),
-        Err(ErrorKind::OutOfMemory) => Err(ErrorKind::OutOfMemory),
-        Err(_) => Ok(Some(Kind::File)),
-    }
-}
-
 /// The first of some names, each of which is ended by a NUL, and those behind it.
 fn first_name(names: &[u8]) -> (&[u8], &[u8])
     requires { 0 < length names.now }
@@ -100,7 +90,9 @@ fn first_name(names: &[u8]) -> (&[u8], &[u8])
 fn folder_path(alloc: Global, path: &str) -> Result<String, AllocError> {
     let mut folder = String::with_capacity(alloc, path.len().saturating_add(BEHIND))?;
     folder.push_str(path)?;
-    folder.push('/')?;
+    if !path.ends_with('/') {
+        folder.push('/')?;
+    }
     Ok(folder)
 }
 
@@ -111,6 +103,17 @@ fn named(alloc: Global, name: &[u8], kind: Kind) -> Looked<Name>
     match text_of_name(alloc, name) {
         Ok(name) if is_proper(name.as_str()) => Ok(Name { name, kind }),
         Ok(_) => Err(ErrorKind::InvalidFilename),
+        Err(_) => Err(ErrorKind::OutOfMemory),
+    }
+}
+
+/// Notes a folder.
+fn note(alloc: Global, folders: &mut Vec<Folder>, path: &str, node: Node) -> Looked<()> {
+    let Ok(path) = Text::from_str(alloc, path) else {
+        return Err(ErrorKind::OutOfMemory);
+    };
+    match folders.push(Folder { path, node }) {
+        Ok(()) => Ok(()),
         Err(_) => Err(ErrorKind::OutOfMemory),
     }
 }
@@ -126,59 +129,81 @@ fn push(names: &mut Vec<Name>, entry: Name) -> Looked<()>
     }
 }
 
+/// What a listing of a folder gathers.
+#[derive(Drop)]
+struct Listed {
+    names: Vec<Name>,
+    /// Those of the names that are folders.
+    folders: Vec<Folder>,
+}
+
 impl<R: Files + AllocGlobal + Clone + Drop> FolderStore<R> {
-    /// What kind of thing stands at a path of any bytes. The runtime is asked by texts alone.
-    fn kind_at(&self, path: &[u8]) -> Looked<Kind> {
-        match std::str::from_utf8(path) {
-            Ok(path) => match self.rt.symlink_metadata(path) {
-                Ok(found) => Ok(kind_of(found.file_type())),
-                Err(error) => Err(error.kind()),
+    /// What kind of thing stands at the path; None if it was removed since the folder was read. A folder is noted.
+    fn kind_at(&self, folders: &mut Vec<Folder>, path: &str) -> Looked<Option<Kind>> {
+        let found = match self.rt.symlink_metadata(path) {
+            Ok(found) => found,
+            Err(error) => match error.kind() {
+                ErrorKind::NotFound => return Ok(None),
+                kind => return Err(kind),
             },
-            Err(_) => Err(ErrorKind::Unsupported),
+        };
+        let kind = kind_of(found.file_type());
+        if matches!(kind, Kind::Folder) {
+            note(self.rt.alloc(), folders, path, Node::of(&found))?;
         }
+        Ok(Some(kind))
     }
 
-    /// The kind of what stands under a name of a folder, whose path ends in a `/`; None if it was removed.
-    fn kind_below(&self, folder: &mut Vec<u8>, name: &[u8]) -> Looked<Option<Kind>> {
+    /// The same under a name of a folder, whose path ends in a `/`. The runtime is asked by texts alone: what has a name
+    /// that is none counts as a file.
+    fn kind_below(
+        &self,
+        folders: &mut Vec<Folder>,
+        folder: &mut Vec<u8>,
+        name: &[u8],
+    ) -> Looked<Option<Kind>> {
         let top = folder.len();
         if folder.extend_from_slice(name).is_err() {
             return Err(ErrorKind::OutOfMemory);
         }
-        let kind = listed_kind(self.kind_at(folder.as_slice()));
+        let kind = match std::str::from_utf8(folder.as_slice()) {
+            Ok(path) => self.kind_at(folders, path),
+            Err(_) => Ok(Some(Kind::File)),
+        };
         folder.truncate(top);
         kind
     }
 
     /// Adds what stands under a name of a folder, whose path ends in a `/`, unless it was removed since the folder was
     /// read.
-    fn add(&self, names: &mut Vec<Name>, folder: &mut Vec<u8>, name: &[u8]) -> Looked<()>
-        ensures { AreProperNames names.old.items → AreProperNames names.new.items }
+    fn add(&self, listed: &mut Listed, folder: &mut Vec<u8>, name: &[u8]) -> Looked<()>
+        ensures { AreProperNames listed.old.names.items → AreProperNames listed.new.names.items }
     {
         if matches!(name, b"" | b"." | b"..") {
             return Ok(());
         }
-        match self.kind_below(folder, name)? {
-            Some(kind) => push(names, named(self.rt.alloc(), name, kind)?),
+        match self.kind_below(&mut listed.folders, folder, name)? {
+            Some(kind) => push(&mut listed.names, named(self.rt.alloc(), name, kind)?),
             None => Ok(()),
         }
     }
 
     /// Adds what stands under some names, each of which is ended by a NUL.
-    fn add_all(&self, names: &mut Vec<Name>, folder: &mut Vec<u8>, read: &[u8]) -> Looked<()>
-        ensures { AreProperNames names.old.items → AreProperNames names.new.items }
+    fn add_all(&self, listed: &mut Listed, folder: &mut Vec<u8>, read: &[u8]) -> Looked<()>
+        ensures { AreProperNames listed.old.names.items → AreProperNames listed.new.names.items }
     {
         let mut rest = read;
         'names: while !rest.is_empty() {
             let (name, later) = first_name(rest);
-            self.add(names, folder, name)?;
+            self.add(listed, folder, name)?;
             rest = later;
         }
         Ok(())
     }
 
     /// Adds what stands under the names that an open folder gives, whose path ends in a `/`.
-    fn fill<D: Read>(&self, names: &mut Vec<Name>, open: &mut D, folder: &mut Vec<u8>) -> Looked<()>
-        ensures { AreProperNames names.old.items → AreProperNames names.new.items }
+    fn fill<D: Read>(&self, listed: &mut Listed, open: &mut D, folder: &mut Vec<u8>) -> Looked<()>
+        ensures { AreProperNames listed.old.names.items → AreProperNames listed.new.names.items }
     {
         let mut buf = [0; NAMES];
         for _ in 0..u64::MAX {
@@ -186,30 +211,48 @@ impl<R: Files + AllocGlobal + Clone + Drop> FolderStore<R> {
             if count == 0 {
                 return Ok(());
             }
-            self.add_all(names, folder, &buf[..count])?;
+            self.add_all(listed, folder, &buf[..count])?;
         }
         Err(ErrorKind::FileTooLarge)
     }
 
     /// The names that an open folder gives, whose path ends in a `/`.
-    fn names_from<D: Read + Drop>(
-        &self,
-        open: io::Result<D>,
-        folder: &mut Vec<u8>,
-    ) -> Looked<Vec<Name>>
-        ensures { IfOk result (λ names. AreProperNames names.items) }
+    fn names_from<D: Read + Drop>(&self, open: D, folder: String) -> Looked<Listed>
+        ensures { IfOk result (λ listed. AreProperNames listed.names.items) }
     {
-        let mut open = looked(open)?;
-        let mut names = Vec::new(self.rt.alloc());
-        match self.fill(&mut names, &mut open, folder) {
-            Ok(()) => Ok(names),
+        let alloc = self.rt.alloc();
+        let mut open = open;
+        let mut folder = folder.into_bytes();
+        let mut listed = Listed {
+            names: Vec::new(alloc),
+            folders: Vec::new(alloc),
+        };
+        match self.fill(&mut listed, &mut open, &mut folder) {
+            Ok(()) => Ok(listed),
             Err(kind) => Err(kind),
         }
     }
 
+    /// Opens a folder. One that a listing named has to be a folder still, and no link; elsewhere a link is followed, and one
+    /// that leads to nothing is no folder. `folder` is the path with a `/` behind it.
+    fn open_folder(&self, path: &str, folder: &str, was_named: bool) -> Looked<R::Dir> {
+        match looked(self.rt.open_dir(path)) {
+            Err(ErrorKind::NotADirectory | ErrorKind::FilesystemLoop) if was_named => {
+                Err(ErrorKind::NotADirectory)
+            }
+            Err(ErrorKind::NotADirectory | ErrorKind::FilesystemLoop) => {
+                match looked(self.rt.open_dir(folder)) {
+                    Err(ErrorKind::NotFound) => Err(ErrorKind::NotADirectory),
+                    opened => opened,
+                }
+            }
+            opened => opened,
+        }
+    }
+
     /// The names in the folder.
-    fn names_in(&self, path: &str) -> Looked<Vec<Name>>
-        ensures { IfOk result (λ names. AreProperNames names.items) }
+    fn names_in(&self, path: &str, was_named: bool) -> Looked<Listed>
+        ensures { IfOk result (λ listed. AreProperNames listed.names.items) }
     {
         if path.is_empty() {
             return Err(ErrorKind::NotFound);
@@ -217,16 +260,22 @@ impl<R: Files + AllocGlobal + Clone + Drop> FolderStore<R> {
         let Ok(folder) = folder_path(self.rt.alloc(), path) else {
             return Err(ErrorKind::OutOfMemory);
         };
-        let open = self.rt.open_dir(folder.as_str());
-        self.names_from(open, &mut folder.into_bytes())
+        let open = self.open_folder(path, folder.as_str(), was_named)?;
+        self.names_from(open, folder)
     }
 
-    /// What is in the folder, in the system's order. A name that isn't UTF-8 is listed as an escaped one.
-    pub(crate) fn read_dir(&self, path: &str) -> io::Result<Listing>
-        ensures { IfOk result (λ listing. AreProperNames listing) }
+    /// What is in the folder, in the system's order. A name that isn't UTF-8 is listed as an escaped one. What was removed
+    /// meanwhile is left out; the kind of all else has to be had.
+    pub(crate) fn read_dir(&mut self, path: &str) -> io::Result<Listing>
+        ensures proper { IfOk result (λ listing. AreProperNames listing) }
+        ensures kept { self.new.reason ≡ self.old.reason }
     {
-        match self.names_in(path) {
-            Ok(names) => Ok(Listing::new(names)),
+        let next = self.descent.next(path);
+        match self.names_in(path, next.is_some()) {
+            Ok(Listed { names, folders }) => {
+                self.descent.list(self.rt.alloc(), path, next, folders)?;
+                Ok(Listing::new(names))
+            }
             Err(kind) => Err(io::Error::from(kind)),
         }
     }

@@ -1,4 +1,5 @@
 //! Folders that are made with those on their way.
+ghost use Rattle.std.specs.Prelude.{◌≡◌};
 
 use crate::folder::FolderStore;
 use std::io;
@@ -8,7 +9,9 @@ use std::rt::Files;
 impl<R: Files + AllocGlobal + Clone + Drop> FolderStore<R> {
     /// Makes every missing folder of the path. A folder that stands costs one question to the system, and one that alone is
     /// missing costs one call that makes it. A wrong guess which of them it is costs one more.
-    pub(crate) fn make_dirs(&mut self, path: &str) -> io::Result<()> {
+    pub(crate) fn make_dirs(&mut self, path: &str) -> io::Result<()>
+        ensures kept { self.new.reason ≡ self.old.reason }
+    {
         let was_missing = if self.guess.is_missing(path) || !self.stands(path)? {
             self.make_missing(path)?
         } else {

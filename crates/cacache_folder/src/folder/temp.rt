@@ -10,19 +10,27 @@ use std::io;
 use std::io::Write;
 use std::rt::Files;
 
-/// A temporary file of real folders. Dropping it closes the file and leaves it there.
-#[derive(Drop)]
-pub struct FolderTemp<F> {
-    file: F,
+/// A temporary file of real folders. Dropping it closes the file and removes it; where that fails, nobody is told.
+pub struct FolderTemp<R: Files + Drop> {
+    rt: R,
+    file: R::File,
     path: Text,
 }
 
-impl<F: Write + Drop> FolderTemp<F> {
-    /// The temporary file at this path.
-    pub(crate) fn new(file: F, path: Text) -> FolderTemp<F>
+impl<R: Files + Drop> Drop for FolderTemp<R> {
+    fn drop(self) {
+        let FolderTemp { rt, file, path } = self;
+        let_go(file);
+        let _ = rt.remove_file(path.as_str());
+    }
+}
+
+impl<R: Files + Drop> FolderTemp<R> {
+    /// The temporary file at this path, which the runtime made.
+    pub(crate) fn new(rt: R, file: R::File, path: Text) -> FolderTemp<R>
         ensures { result.path ≡ path }
     {
-        FolderTemp { file, path }
+        FolderTemp { rt, file, path }
     }
 
     /// The path of the file.
@@ -33,22 +41,28 @@ impl<F: Write + Drop> FolderTemp<F> {
     }
 
     /// Syncs the bytes that were written so far.
-    pub(crate) fn sync(&self) -> io::Result<()>
-    where
-        F: OpenFile,
-    {
+    pub(crate) fn sync(&self) -> io::Result<()> {
         self.file.sync_all()
     }
 
+    /// Closes the file, which was moved: nothing is left to remove.
+    pub(crate) fn close(self) {
+        let FolderTemp {
+            rt: _rt,
+            file: _file,
+            path: _path,
+        } = self;
+    }
+
     /// Closes the file and removes it. The error says why it wasn't removed.
-    pub fn remove<R: Files<File = F>>(self, rt: &R) -> io::Result<()> {
-        let FolderTemp { file, path } = self;
+    pub fn remove(self) -> io::Result<()> {
+        let FolderTemp { rt, file, path } = self;
         let_go(file);
         rt.remove_file(path.as_str())
     }
 }
 
-impl<F: Write + Drop> Write for FolderTemp<F> {
+impl<R: Files + Drop> Write for FolderTemp<R> {
     fn write(&mut self, buf: &[u8]) -> io::Result<usize> {
         self.write_some(buf)
     }
@@ -58,13 +72,13 @@ impl<F: Write + Drop> Write for FolderTemp<F> {
     }
 }
 
-impl<F: Write + Drop> TempHandle for FolderTemp<F> {
+impl<R: Files + Drop> TempHandle for FolderTemp<R> {
     ghost use Rattle.cacache_folder.specs.FolderHandles.{seen_temp};
 
     ghost seen = { seen_temp };
 }
 
-impl<F: Write + Drop> TempFile for FolderTemp<F> {
+impl<R: Files + Drop> TempFile for FolderTemp<R> {
     fn write_some(&mut self, buf: &[u8]) -> io::Result<usize> {
         write_again(&mut self.file, buf)
     }

@@ -3,7 +3,7 @@ use Rattle.cacache_store.specs.Fits.{AreProperNames}
 use Rattle.cacache_folder.proofs.folder.FolderStore.add_all.Given as goal
 
 abbrev pub invariant-names : goal.invariant-names
-invariant-names g l = AreProperNames l.initial.names.items → AreProperNames l.names.items
+invariant-names g l = AreProperNames l.initial.listed.names.items → AreProperNames l.listed.names.items
 
 -- the names that are left
 abbrev pub decreases-names : goal.decreases-names
