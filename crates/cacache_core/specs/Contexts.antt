@@ -1,8 +1,9 @@
 -- Which fault an io error is, and which error a failure becomes under a context.
-use Rattle.std.specs.Prelude.{◌≡◌, Result, MatchResult}
+use Rattle.std.specs.Prelude.{◌≡◌, Option, None, Some, Result, MatchResult}
 use Rattle.std.specs.declared.io.ErrorKind.{ErrorKind}
 use Rattle.std.specs.declared.io.ErrorKind.TheVariants as kind
 use Rattle.cacache_core.specs.declared.errors.Error.{Error}
+use Rattle.cacache_core.specs.declared.errors.Error.TheVariants as error
 use Rattle.cacache_core.specs.declared.errors.Fault.{Fault}
 use Rattle.cacache_core.specs.declared.errors.Fault.TheVariants.{NotFound, AlreadyExists, NotADirectory, IsADirectory, NotEmpty, Unsupported, InvalidInput, WriteZero, TooDeep, Device}
 
@@ -18,6 +19,15 @@ fault_of kind.InvalidInput = InvalidInput
 fault_of kind.WriteZero = WriteZero
 fault_of kind.FilesystemLoop = TooDeep
 fault_of _ = Device
+
+-- the fault of a step that failed: no other error has one
+abbrev pub fault_in : Error → Option Fault
+fault_in (error.EntryNotFound cache key) = None
+fault_in (error.SizeMismatch wanted found) = None
+fault_in (error.IoError fault text) = Some fault
+fault_in (error.SerdeError cause text) = None
+fault_in (error.IntegrityError fault) = None
+fault_in error.OutOfMemory = None
 
 -- the error is made with the text that a context returned, or is the context's own error
 abbrev pub IsContextError : {S : Type 0} → (Result S Error → Type 0) → (S → Error → Type 0)

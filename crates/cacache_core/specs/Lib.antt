@@ -10,5 +10,6 @@ pub mod PathNames
 pub mod PathLaws
 pub mod TextLaws
 pub mod Contexts
+pub mod FaultTexts
 pub mod Meeting
 pub mod IntegrityLaws

@@ -1,6 +1,7 @@
 //! Why calls fail.
-ghost use Rattle.std.specs.Prelude.{◌≡◌};
-ghost use Rattle.cacache_core.specs.Contexts.{fault_of};
+ghost use Rattle.std.specs.Prelude.{◌≡◌, Some};
+ghost use Rattle.cacache_core.specs.Contexts.{fault_of, fault_in};
+ghost use Rattle.cacache_core.specs.FaultTexts.{fault_text};
 ghost use Rattle.cacache_core.specs.declared.errors.Error.TheVariants.{OutOfMemory, IntegrityError};
 
 mod context;
@@ -9,6 +10,7 @@ use crate::integrity::Integrity;
 use crate::text::Text;
 pub use context::{IoErrorExt, io_error};
 use std::alloc::{AllocError, AllocFailed};
+use std::fmt;
 use std::io::ErrorKind;
 use thiserror::Error as ErrorTexts;
 
@@ -64,6 +66,40 @@ impl From<ErrorKind> for Fault {
     }
 }
 
+impl Fault {
+    /// A few plain words that say the fault, as `not found`.
+    fn words(self) -> &'static str
+        ensures { result.now ≡ fault_text self }
+    {
+        match self {
+            Fault::NotFound => "not found",
+            Fault::AlreadyExists => "already there",
+            Fault::NotADirectory => "not a folder",
+            Fault::IsADirectory => "a folder",
+            Fault::NotEmpty => "folder not empty",
+            Fault::Unsupported => "not supported",
+            Fault::InvalidInput => "not a valid path",
+            Fault::WriteZero => "nothing was written",
+            Fault::ShortAppend => "only a part was appended",
+            Fault::Closed => "already closed",
+            Fault::OtherBytes => "other bytes than those under way",
+            Fault::Cancelled => "cancelled",
+            Fault::TooDeep => "too deep or too many links",
+            Fault::Device => "device or system error",
+        }
+    }
+}
+
+/// A few plain words in lower case, with no full stop, as `not found` or `folder not empty`. Takes
+/// no memory.
+impl fmt::Display for Fault {
+    ghost output = { λ fault. Some (fault_text fault) };
+
+    fn fmt<W: fmt::Write>(&self, f: &mut fmt::Formatter<W>) -> fmt::Result {
+        f.write_str(self.words())
+    }
+}
+
 /// Why an entry can't be written.
 #[derive(Clone, Copy, Debug, PartialEq, Eq)]
 pub enum SerdeCause {
@@ -110,6 +146,19 @@ pub enum Error {
     /// There was no memory left for the call.
     #[error("out of memory")]
     OutOfMemory,
+}
+
+impl Error {
+    /// Which fault made a step fail: that of an `IoError`. None for each other error. Takes no
+    /// memory.
+    pub fn fault(&self) -> Option<Fault>
+        ensures { result ≡ fault_in self.now }
+    {
+        match self {
+            Error::IoError(fault, _) => Some(*fault),
+            _ => None,
+        }
+    }
 }
 
 /// What most calls return.

@@ -1,0 +1,21 @@
+-- What a fault is called.
+use Rattle.std.specs.Prelude.{ℕ, List, codes}
+use Rattle.cacache_core.specs.declared.errors.Fault.{Fault}
+use Rattle.cacache_core.specs.declared.errors.Fault.TheVariants.{NotFound, AlreadyExists, NotADirectory, IsADirectory, NotEmpty, Unsupported, InvalidInput, WriteZero, ShortAppend, Closed, OtherBytes, Cancelled, TooDeep, Device}
+
+-- a few plain words for each fault
+abbrev pub fault_text : Fault → List ℕ
+fault_text NotFound = codes "not found"
+fault_text AlreadyExists = codes "already there"
+fault_text NotADirectory = codes "not a folder"
+fault_text IsADirectory = codes "a folder"
+fault_text NotEmpty = codes "folder not empty"
+fault_text Unsupported = codes "not supported"
+fault_text InvalidInput = codes "not a valid path"
+fault_text WriteZero = codes "nothing was written"
+fault_text ShortAppend = codes "only a part was appended"
+fault_text Closed = codes "already closed"
+fault_text OtherBytes = codes "other bytes than those under way"
+fault_text Cancelled = codes "cancelled"
+fault_text TooDeep = codes "too deep or too many links"
+fault_text Device = codes "device or system error"
