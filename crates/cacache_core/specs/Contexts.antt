@@ -35,3 +35,8 @@ abbrev pub IsContextError : {S : Type 0} → (Result S Error → Type 0) → (S 
 IsContextError {S} returned made e =
     (answer : Result S Error) × returned answer
     × MatchResult answer (λ text. made text e) (λ own. e ≡ own)
+
+-- the error is the one with a plain text, or memory for the text was refused
+abbrev pub IsTextError : (Error → Type 0) → Error → Type 0
+IsTextError made error.OutOfMemory = Unit {0}
+IsTextError made e = made e

@@ -3,10 +3,11 @@ ghost use Rattle.std.specs.Prelude.{◌≡◌, ℕ, List, Ok, IsErr, IsErrAnd, M
 ghost use Rattle.std.specs.IoError.{error_kind};
 ghost use Rattle.cacache_core.specs.declared.errors.Error.{Error};
 ghost use Rattle.cacache_core.specs.declared.errors.Error.TheVariants.{IoError, SerdeError};
-ghost use Rattle.cacache_core.specs.Contexts.{fault_of, IsContextError};
+ghost use Rattle.cacache_core.specs.Contexts.{fault_of, IsContextError, IsTextError};
 
 use crate::errors::{Error, Fault, Result, SerdeCause};
 use crate::text::Text;
+use std::alloc::Global;
 use std::io::{self, ErrorKind};
 
 /// Turns a failure of a step or of an entry into an `Error` whose text says what failed.
@@ -27,6 +28,12 @@ pub trait IoErrorExt<T> {
         ensures { MatchResult result (holds self)
             (λ e. fails self × IsContextError (F.post f)
             (λ text. becomes self (string_bytes text)) e) };
+
+    /// The value, or the failure as an `Error` with this text. The text is copied for a failure
+    /// alone, and where there was no memory for that the error is `OutOfMemory`.
+    fn context(self, alloc: Global, text: &str) -> Result<T>
+        ensures { MatchResult result (holds self)
+            (λ e. fails self × IsTextError (becomes self text.now) e) };
 }
 
 /// `IoError` with the fault of the error's kind.
@@ -47,6 +54,16 @@ impl<T> IoErrorExt<T> for std::result::Result<T, io::Error> {
             }
         }
     }
+
+    fn context(self, alloc: Global, text: &str) -> Result<T> {
+        match self {
+            Ok(value) => Ok(value),
+            Err(error) => {
+                let text = Text::from_str(alloc, text)?;
+                Err(Error::IoError(Fault::from(error.kind()), text))
+            }
+        }
+    }
 }
 
 /// `SerdeError` with the same cause.
@@ -64,6 +81,13 @@ impl<T> IoErrorExt<T> for std::result::Result<T, SerdeCause> {
                 let text = f()?;
                 Err(Error::SerdeError(cause, Text::new(text)))
             }
+        }
+    }
+
+    fn context(self, alloc: Global, text: &str) -> Result<T> {
+        match self {
+            Ok(value) => Ok(value),
+            Err(cause) => Err(Error::SerdeError(cause, Text::from_str(alloc, text)?)),
         }
     }
 }
