@@ -5,6 +5,7 @@ pub mod Paths
 pub mod Hashers
 pub mod Refusals
 pub mod Same
+pub mod Comparing
 pub mod Pieces
 pub mod PathNames
 pub mod PathLaws

@@ -4,14 +4,19 @@ ghost use Rattle.std.specs.Bool.{nat_eq};
 ghost use Rattle.std.specs.Cmp;
 ghost use Rattle.std.specs.Fmt.{debug_list, decimal};
 ghost use Rattle.std.specs.Cmp.Lexicographic.{pointwise, nat_list_eq_equiv};
-ghost use Rattle.cacache_core.specs.Same.{same_hash, same_hash-equiv};
+ghost use Rattle.std.proofs.Common.{refl};
+ghost use Rattle.std.specs.Hash as fed;
+ghost use Rattle.cacache_core.specs.Comparing.{hash_cmp, hash_cmp-po, hash_cmp-total, hash_cmp-ties, hash_fed};
+ghost use Rattle.cacache_core.specs.Same.{same_hash, same_hash-Decides, same_hash-equiv};
 ghost use Rattle.cacache_core.specs.Texts.{hash_text};
 
 use crate::integrity::algorithm::Algorithm;
 use base64::display::Base64Display;
 use base64::engine::general_purpose::STANDARD;
 use std::alloc::AllocError;
+use std::cmp::Ordering;
 use std::fmt;
+use std::hash::{Hash as StdHash, Hasher as StdHasher};
 use std::marker::Model;
 
 /// The bytes of a digest.
@@ -109,6 +114,44 @@ impl PartialEq for Hash {
 
 impl Eq for Hash {
     ghost laws = { same_hash-equiv };
+}
+
+impl PartialOrd for Hash {
+    ghost partial_cmp = { λ h g. Some (hash_cmp h g) };
+
+    ghost laws = { hash_cmp-po };
+
+    fn partial_cmp(&self, other: &Hash) -> Option<Ordering> {
+        Some(self.cmp(other))
+    }
+}
+
+/// The stronger algorithm first, and then by the digests' bytes.
+impl Ord for Hash {
+    ghost cmp = { hash_cmp };
+
+    ghost total = { hash_cmp-total };
+
+    ghost matches_partial_cmp = { λ h g. refl };
+
+    ghost matches_eq = { hash_cmp-ties };
+
+    fn cmp(&self, other: &Hash) -> Ordering {
+        let algorithms = self.algorithm.cmp(&other.algorithm);
+        algorithms.then(self.digest.as_slice().cmp(other.digest.as_slice()))
+    }
+}
+
+/// Equal hashes feed a map's hasher alike.
+impl StdHash for Hash {
+    ghost hash_input = { hash_fed };
+
+    ghost respects_eq = { (fed.same_Alike hash_fed same_hash-Decides).fed };
+
+    fn hash<H: StdHasher>(&self, state: &mut H) {
+        state.write_u8(self.algorithm as u8);
+        self.digest.as_slice().hash(state);
+    }
 }
 
 impl fmt::Display for Hash {
