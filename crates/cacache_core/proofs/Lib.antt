@@ -11,3 +11,5 @@ pub mod Printed
 pub mod Decoded
 pub mod Relation
 pub mod Meeting
+pub mod Joining
+pub mod HexDigits

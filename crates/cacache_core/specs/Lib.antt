@@ -13,4 +13,5 @@ pub mod TextLaws
 pub mod Contexts
 pub mod FaultTexts
 pub mod Meeting
+pub mod Joining
 pub mod IntegrityLaws

@@ -9,6 +9,7 @@ ghost use Rattle.cacache_core.specs.Refusals.{IsCheckFailure, IsReadFailure};
 ghost use Rattle.cacache_core.specs.Same.{same_hashes, same_hashes-equiv};
 ghost use Rattle.cacache_core.specs.Texts.{integrity_text, long_hash, read_integrity};
 
+mod making;
 mod order;
 
 use crate::errors::{Error, IntegrityFault, Result};

@@ -1,0 +1,34 @@
+-- What hex digits read as, from what their bytes do.
+use Rattle.std.proofs.Common.{inl, inr, ◌≡◌, ◌≤◌, ℕ, List, [], ◌∷◌, length, nat_lt, refl, ap, arith}
+use Rattle.std.proofs.lemmas.Bool.{cases_Bool, ltb-true}
+use Rattle.std.specs.Prelude.{Result, Ok}
+use Rattle.hex.specs.Hex.{decode_of}
+use Rattle.cacache_core.specs.declared.errors.Error.{Error}
+use Rattle.cacache_core.specs.declared.errors.Error.TheVariants.{EntryNotFound, SizeMismatch, IoError, SerdeError, IntegrityError, OutOfMemory}
+use Rattle.cacache_core.specs.declared.errors.IntegrityFault.{IntegrityFault}
+use Rattle.cacache_core.specs.declared.integrity.algorithm.Algorithm.{Algorithm}
+use Rattle.cacache_core.specs.declared.integrity.digest.Hash.{Hash}
+use Rattle.cacache_core.specs.Integrity.{hash_of, IsHash}
+use Rattle.cacache_core.specs.Joining.{only_hash, read_hex}
+use Rattle.cacache_core.specs.Refusals.{IsReadFailure}
+use Rattle.cacache_core.specs.Texts.{long_hash}
+
+long : (a : Algorithm) (d : List ℕ) → 3 ≤ length d → only_hash (long_hash a d) ≡ Ok (hash_of a d ∷ [])
+long a d enough = elim (cases_Bool (nat_lt (length d) 3)) [
+  | inl short ↦ absurd (omega (arith, ltb-true (length d) 3 short))
+  | inr not ↦ rw not refl
+]
+
+pub read_ok : (a : Algorithm) (t d : List ℕ) → decode_of t ≡ Ok d → IsHash (hash_of a d) → read_hex a t ≡ Ok (hash_of a d ∷ [])
+read_ok a t d decoded is = rw decoded (long a d is.long_enough)
+
+refused : (r : Result Hash IntegrityFault) (e : Error) → IsReadFailure r e → IsReadFailure (only_hash r) e
+refused r (EntryNotFound c k) f = f
+refused r (SizeMismatch w n) f = f
+refused r (IoError fault t) f = f
+refused r (SerdeError cause t) f = f
+refused r (IntegrityError fault) f = ap only_hash f
+refused r OutOfMemory f = tt
+
+pub read_refused : (a : Algorithm) (t d : List ℕ) (e : Error) → decode_of t ≡ Ok d → IsReadFailure (long_hash a d) e → IsReadFailure (read_hex a t) e
+read_refused a t d e decoded f = rw decoded (refused (long_hash a d) e f)

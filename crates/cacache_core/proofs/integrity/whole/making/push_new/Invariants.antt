@@ -1,0 +1,8 @@
+use Rattle.std.proofs.Common.{◌≡◌, take}
+use Rattle.std.specs.List.{fold}
+use Rattle.cacache_core.specs.Joining.{with_hash}
+use Rattle.cacache_core.proofs.integrity.whole.making.push_new.Given as goal
+
+abbrev pub invariant-loop-hash : goal.invariant-loop-hash
+invariant-loop-hash l =
+    l.kept.items ≡ fold with_hash l.fn.kept.items (take l.hash-index l.hashes)
