@@ -41,6 +41,7 @@ fn of_others(alloc: Global, act: &str, given: &str) -> Result<String, Flaw> {
         "kind" => errors::kind(alloc, given),
         "fault" => errors::fault(alloc, given),
         "context" => errors::context(alloc, given),
+        "plain-context" => errors::plain_context(alloc, given),
         _ => of_entries(alloc, act, given),
     }
 }
@@ -56,6 +57,8 @@ fn got(alloc: Global, act: &str, given: &str) -> Result<String, Flaw> {
         "length" => integrities::length(alloc, given),
         "address" => integrities::address(alloc, given),
         "of-digest" => integrities::of_digest(alloc, given),
+        "of-hex" => integrities::of_hex(alloc, given),
+        "both" => integrities::both(alloc, given),
         "check" => integrities::check(alloc, given),
         "shares" => integrities::shares(alloc, given),
         "build" => integrities::build(alloc, given),

@@ -1,5 +1,5 @@
 //! What errors say, and errors with a context.
-use crate::words::{Debugged, column, given, printed};
+use crate::words::{Debugged, column, given, printed, two};
 use cacache_core::errors::{Error, Fault, IntegrityFault, IoErrorExt, SerdeCause, io_error};
 use cacache_core::integrity::Integrity;
 use cacache_core::text::Text;
@@ -71,9 +71,10 @@ pub(crate) fn kind(alloc: Global, word: &str) -> Result<String, Flaw> {
     printed(alloc, Debugged(failure(word).kind()))
 }
 
-/// The fault that an io error is.
+/// The fault that an io error is, and what the fault says.
 pub(crate) fn fault(alloc: Global, word: &str) -> Result<String, Flaw> {
-    printed(alloc, Debugged(Fault::from(failure(word).kind())))
+    let fault = Fault::from(failure(word).kind());
+    two(alloc, Debugged(fault), fault)
 }
 
 /// What a result becomes that is given a context: 7 if it is `fine`, too deep an entry if it is `TooDeep`, and else an io error.
@@ -89,4 +90,16 @@ pub(crate) fn context(alloc: Global, columns: &str) -> Result<String, Flaw> {
         )?)),
     };
     printed(alloc, Debugged(came))
+}
+
+/// What an io error becomes that is given a plain text, and its fault.
+pub(crate) fn plain_context(alloc: Global, columns: &str) -> Result<String, Flaw> {
+    let (word, text) = column(columns);
+    match Err::<u8, io::Error>(failure(word)).context(alloc, text) {
+        Ok(_) => Err(Flaw::NotRead),
+        Err(error) => {
+            let fault = error.fault();
+            two(alloc, Debugged(fault), error)
+        }
+    }
 }

@@ -64,6 +64,23 @@ pub(crate) fn of_digest(alloc: Global, columns: &str) -> Result<String, Flaw> {
     told(alloc, Integrity::from_digest(alloc, algorithm, digest))
 }
 
+/// The same, where the integrity is asked to read the digits.
+pub(crate) fn of_hex(alloc: Global, columns: &str) -> Result<String, Flaw> {
+    let (name, digits) = column(columns);
+    told(
+        alloc,
+        Integrity::from_hex(alloc, plain(digits), named(name)?),
+    )
+}
+
+/// The integrity that has the hashes of two.
+pub(crate) fn both(alloc: Global, columns: &str) -> Result<String, Flaw> {
+    let (one, other) = column(columns);
+    let one = read(alloc, one)?;
+    let other = read(alloc, other)?;
+    told(alloc, one.concat(alloc, &other))
+}
+
 /// The algorithm and the digits of an integrity's address, and whether a copy of the integrity is equal.
 pub(crate) fn address(alloc: Global, text: &str) -> Result<String, Flaw> {
     let integrity = read(alloc, text)?;
