@@ -20,7 +20,7 @@ use futures::task::{Context, Poll};
 use std::sync::Wait;
 
 /// A content that is written by polls: a worker writes its temporary file. A writer that is dropped ends its workers, and
-/// leaves its file for `clear`.
+/// leaves its file to the store: on real folders it is removed, and on a disk in memory it stays for `clear`.
 #[derive(Drop)]
 pub struct Writer<T> {
     pub(crate) file: PolledFile<T>,
