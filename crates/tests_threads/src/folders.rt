@@ -1,7 +1,7 @@
-//! Eight threads at one real folder, with keys of their own and a common one.
-use cacache::Result;
-use cacache::env::{Env, Names, SystemClock};
+//! Eight threads at one real folder, each with an environment of its own, and writers with like environments.
+use cacache::env::{Env, FolderWriter, Folders, ProcessNames, SystemClock, folders};
 use cacache::store::FolderStore;
+use cacache::{Result, SyncWriter};
 use std::alloc::{AllocError, Global};
 use std::env::temp_dir;
 use std::rt::HostRuntime;
@@ -12,50 +12,22 @@ use std::{fs, io, thread};
 /// How many threads there are, and how many keys each has.
 const THREADS: usize = 8;
 
-const KEYS: usize = 5;
+const KEYS: usize = 1000;
 
-/// The folder of the cache.
-const CACHE: &str = "c";
+/// How many keys a thread writes for each write of the common one.
+const ROUND: usize = 100;
 
 /// The key that each thread writes and reads.
 const COMMON: &str = "common";
 
-/// Numbers from one on: those of two threads lie far apart.
-#[derive(Drop)]
-struct Numbers {
-    next: u64,
-}
-
-impl Names for Numbers {
-    fn fresh(&mut self) -> u64 {
-        let number = self.next;
-        self.next = number.wrapping_add(1);
-        number
-    }
-}
-
-/// The environment of a thread: the folders are those below the base.
-type Place = Env<FolderStore<HostRuntime>, SystemClock<HostRuntime>, Numbers>;
-
-/// A thread's environment.
-fn place(rt: HostRuntime, base: &str, thread: usize) -> std::result::Result<Place, AllocError> {
-    let numbers = Numbers {
-        next: (thread as u64).wrapping_mul(1_000_000),
-    };
-    Env::new(
-        rt.alloc(),
-        FolderStore::new(rt),
-        SystemClock::new(rt),
-        numbers,
-        base,
-    )
-}
+/// How many writers are open at once.
+const WRITERS: usize = 320;
 
 /// A folder that nothing else uses.
-fn fresh_folder(rt: HostRuntime) -> io::Result<String> {
+fn fresh_folder(rt: HostRuntime, name: &str) -> io::Result<String> {
     let base = temp_dir(&rt)?;
     let number = std::process::id(rt.process());
-    let root = format!(in rt.alloc(); "{}/tests_threads-{number}", base.as_str())?;
+    let root = format!(in rt.alloc(); "{}/tests_threads-{name}-{number}", base.as_str())?;
     fs::create_dir(&rt, root.as_str())?;
     Ok(root)
 }
@@ -66,50 +38,57 @@ fn text_of(alloc: Global, thread: usize, key: usize) -> std::result::Result<Stri
 }
 
 /// Whether a key's content is this text.
-fn holds(env: &mut Place, key: &str, text: &str) -> Result<bool> {
-    let bytes = cacache::read_sync(env, CACHE, key)?;
+fn holds(env: &mut Folders, cache: &str, key: &str, text: &str) -> Result<bool> {
+    let bytes = cacache::read_sync(env, cache, key)?;
     Ok(bytes.as_slice() == text.as_bytes())
 }
 
 /// Whether the common key's content is one of those that threads write there, if it can be read.
-fn is_common(env: &mut Place) -> bool {
-    match cacache::read_sync(env, CACHE, COMMON) {
-        Ok(bytes) => matches!(bytes.as_slice(), [b't', b'0'..=b'7', b'k', b'0'..=b'4']),
+fn is_common(env: &mut Folders, cache: &str) -> bool {
+    match cacache::read_sync(env, cache, COMMON) {
+        Ok(bytes) => match bytes.as_slice() {
+            [b't', b'0'..=b'7', b'k', key @ ..] => key.iter().all(|byte| byte.is_ascii_digit()),
+            _ => false,
+        },
         Err(_) => true,
     }
 }
 
-/// Writes a key of the thread, and the common key with the same text, and reads both.
-fn write_and_read(env: &mut Place, text: &str) -> Result<bool> {
-    cacache::write_sync(env, CACHE, text, text.as_bytes())?;
-    cacache::write_sync(env, CACHE, COMMON, text.as_bytes())?;
-    Ok(holds(env, text, text)? && is_common(env))
+/// Writes a key of the thread, and at each round's beginning the common key with the same text. Whether the common key had
+/// a right content then.
+fn write(env: &mut Folders, cache: &str, text: &str, key: usize) -> Result<bool> {
+    cacache::write_sync(env, cache, text, text.as_bytes())?;
+    if key % ROUND != 0 {
+        return Ok(true);
+    }
+    cacache::write_sync(env, cache, COMMON, text.as_bytes())?;
+    Ok(is_common(env, cache))
 }
 
 /// One thread's work: whether each write was acknowledged, and each read had right bytes.
-fn works(env: &mut Place, thread: usize) -> Result<bool> {
+fn works(env: &mut Folders, cache: &str, thread: usize) -> Result<bool> {
     for key in 0..KEYS {
         let text = text_of(env.alloc, thread, key)?;
-        if !write_and_read(env, text.as_str())? {
+        if !write(env, cache, text.as_str(), key)? {
             return Ok(false);
         }
     }
     Ok(true)
 }
 
-/// One thread's work at the folder.
-fn works_at(rt: HostRuntime, base: &str, thread: usize) -> bool {
-    match place(rt, base, thread) {
-        Ok(mut env) => works(&mut env, thread).unwrap_or(false),
+/// One thread's work at the cache, in an environment of its own.
+fn works_at(rt: HostRuntime, cache: &str, thread: usize) -> bool {
+    match folders(rt, ".") {
+        Ok(mut env) => works(&mut env, cache, thread).unwrap_or(false),
         Err(_) => false,
     }
 }
 
 /// Whether a thread's keys are all there.
-fn are_there(env: &mut Place, thread: usize) -> Result<bool> {
+fn are_there(env: &mut Folders, cache: &str, thread: usize) -> Result<bool> {
     for key in 0..KEYS {
         let text = text_of(env.alloc, thread, key)?;
-        if !holds(env, text.as_str(), text.as_str())? {
+        if !holds(env, cache, text.as_str(), text.as_str())? {
             return Ok(false);
         }
     }
@@ -117,32 +96,73 @@ fn are_there(env: &mut Place, thread: usize) -> Result<bool> {
 }
 
 /// Whether all threads' keys are there, and one of their texts under the common key.
-fn all_are_there(env: &mut Place) -> Result<bool> {
+fn all_are_there(rt: HostRuntime, cache: &str) -> Result<bool> {
+    let mut env = folders(rt, ".")?;
     for thread in 0..THREADS {
-        if !are_there(env, thread)? {
+        if !are_there(&mut env, cache, thread)? {
             return Ok(false);
         }
     }
-    let bytes = cacache::read_sync(env, CACHE, COMMON)?;
-    Ok(bytes.len() == 4 && is_common(env))
+    let bytes = cacache::read_sync(&mut env, cache, COMMON)?;
+    Ok(bytes.len() > 3 && is_common(&mut env, cache))
 }
 
 /// Whether each thread did its work.
 fn together<R: Threads + Sync>(
     rt: &R,
     host: HostRuntime,
-    base: &str,
+    cache: &str,
 ) -> std::result::Result<bool, AllocError> {
-    let all = thread::map_indices(rt, host.alloc(), THREADS, &|i| works_at(host, base, i))?;
+    let all = thread::map_indices(rt, host.alloc(), THREADS, &|i| works_at(host, cache, i))?;
     Ok(all.iter().all(|is_well| *is_well))
 }
 
 #[test]
 fn eight_threads_share_a_folder(rt: HostRuntime) -> std::result::Result<(), Fail> {
-    let root = fresh_folder(rt)?;
-    assert!(rt; together(&rt, rt, root.as_str())?);
-    let mut env = place(rt, root.as_str(), THREADS)?;
-    assert!(rt; all_are_there(&mut env).unwrap_or(false));
-    fs::remove_dir_all(&rt, root.as_str())?;
+    let cache = fresh_folder(rt, "shared")?;
+    let is_well = together(&rt, rt, cache.as_str())?;
+    let is_whole = all_are_there(rt, cache.as_str()).unwrap_or(false);
+    fs::remove_dir_all(&rt, cache.as_str())?;
+    assert!(rt; is_well);
+    assert!(rt; is_whole);
+    Ok(())
+}
+
+/// A writer in an environment of its own, of a process that has the same number as all others and began at the same time.
+fn writer(rt: HostRuntime, cache: &str) -> Result<FolderWriter> {
+    let names = ProcessNames::random(&rt, 1, 1);
+    let store = FolderStore::new(rt);
+    let mut env = Env::new(rt.alloc(), store, SystemClock::new(rt), names, ".")?;
+    SyncWriter::create(&mut env, cache, "key")
+}
+
+/// How many temporary files lie there while so many writers are open, and once they are dropped.
+fn temps_of(rt: HostRuntime, cache: &str) -> Result<(usize, usize)> {
+    let mut writers = Vec::new(rt.alloc());
+    for _ in 0..WRITERS {
+        writers.push(writer(rt, cache)?)?;
+    }
+    let open = count_below(rt, cache);
+    writers.clear();
+    Ok((open, count_below(rt, cache)))
+}
+
+/// How many files are in the folder of temporary files.
+fn count_below(rt: HostRuntime, cache: &str) -> usize {
+    let Ok(path) = format!(in rt.alloc(); "{cache}/tmp") else {
+        return 0;
+    };
+    match fs::read_dir(&rt, path.as_str()) {
+        Ok(names) => names.count(),
+        Err(_) => 0,
+    }
+}
+
+#[test]
+fn like_environments_share_no_number(rt: HostRuntime) -> std::result::Result<(), Fail> {
+    let cache = fresh_folder(rt, "like")?;
+    let temps = temps_of(rt, cache.as_str());
+    fs::remove_dir_all(&rt, cache.as_str())?;
+    assert_eq!(rt; temps?, (WRITERS, 0));
     Ok(())
 }
