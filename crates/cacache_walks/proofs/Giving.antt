@@ -36,8 +36,8 @@ module _ (taken xs ys : List Item) (room : ℕ) (counts : length taken + length 
   given_over clears left next = rw (too_long, kept) refl
 
 -- a stumble that comes next is missed
-pub stumbled : (taken : List Item) (w : walks.Walk) (rest : List Task) (fault : Fault) → w.todo.items ≡ rest ++ Stumble fault ∷ [] → walk_on (pending w.todo.items) (walk_of taken w) ≡ miss (walk_of taken w) (walk_on (pending rest)) fault
-stumbled taken w rest fault e = rw (e, pending_push rest (Stumble fault)) refl
+pub stumbled : (taken : List Item) (w : walks.Walk) (rest : List Task) (fault : Fault) (path : List ℕ) → w.todo.items ≡ rest ++ Stumble fault path ∷ [] → walk_on (pending w.todo.items) (walk_of taken w) ≡ miss (walk_of taken w) (walk_on (pending rest)) fault
+stumbled taken w rest fault path e = rw (e, pending_push rest (Stumble fault path)) refl
 
 -- a walk that can't go on is over
 pub gave_no : (taken : List Item) (w : walks.Walk) (next : Walk → State) (s : State) (b : Bool) → b ≡ false → WalkGives taken (Ok b) w next s → Bounds taken w × (s ≡ walk_ends (walk_of taken w))

@@ -23,13 +23,23 @@ const COMMON: &str = "common";
 /// How many writers are open at once.
 const WRITERS: usize = 320;
 
-/// A folder that nothing else uses.
-fn fresh_folder(rt: HostRuntime, name: &str) -> io::Result<String> {
-    let base = temp_dir(&rt)?;
+/// A folder of the system that is in memory: thousands of files would take a disk too long.
+const MEMORY: &str = "/dev/shm";
+
+/// Makes a folder that nothing else uses.
+fn fresh_below(rt: HostRuntime, base: &str, name: &str) -> io::Result<String> {
     let number = std::process::id(rt.process());
-    let root = format!(in rt.alloc(); "{}/tests_threads-{name}-{number}", base.as_str())?;
+    let root = format!(in rt.alloc(); "{base}/tests_threads-{name}-{number}")?;
     fs::create_dir(&rt, root.as_str())?;
     Ok(root)
+}
+
+/// The same in memory where the system has such a folder, and else with other temporary files.
+fn fresh_folder(rt: HostRuntime, name: &str) -> io::Result<String> {
+    match fresh_below(rt, MEMORY, name) {
+        Ok(root) => Ok(root),
+        Err(_) => fresh_below(rt, temp_dir(&rt)?.as_str(), name),
+    }
 }
 
 /// A thread's key, and its content.
