@@ -1,0 +1,175 @@
+"""What `api` and `cited` share: the crates' sources, as `rt fmt` lays them out, and what they declare."""
+import collections
+import functools
+import pathlib
+import re
+import sys
+
+sys.path.insert(0, str(pathlib.Path(__file__).resolve().parent / "edits"))
+
+from edits import TOP, crates
+
+KINDS = "fn|struct|enum|trait|type|const|static|mod"
+VISIBLE = r"(?:pub(?:\([^)]*\))? )?"
+QUALIFIERS = r"(?:(?:const|unsafe) )*"
+SILENT = r"'\w+|(?:\w+ = )?(?:[A-Z]|Self)(?:::\w+)?"  # arguments of a type that say nothing: `'a`, `S`, `S::File`, `Temp = T`
+SPEAKING = {"Option", "Poll", "Result", "Vec"}  # types that say too little without their arguments
+OPENS, CLOSES = "([{<", ")]}>"
+
+# An `impl` block: its trait (empty if it is of none), the crate and the name of its type, that type as it is written, and
+# its file with the places where its body begins and ends.
+Block = collections.namedtuple("Block", "trait crate name type file start end")
+
+
+@functools.cache
+def source(file):
+    """The text of a file, with each arrow as one sign, so that a `>` always closes; empty if there is no such file."""
+    return file.read_text().replace("->", "→") if file.is_file() else ""
+
+
+@functools.cache
+def files(crate):
+    """The files of a crate's code."""
+    return sorted((TOP / "crates" / crate / "src").rglob("*.rt"))
+
+
+def file_of(crate, module):
+    """The file of a module, which is given by the words of its path."""
+    src = TOP / "crates" / crate / "src"
+    return src.joinpath(*module).with_suffix(".rt") if module else src / "lib.rt"
+
+
+def behind(text, at):
+    """The place behind the bracket that closes the one at this place."""
+    depth = 0
+    for place in range(at, len(text)):
+        depth += (text[place] in OPENS) - (text[place] in CLOSES)
+        if depth == 0:
+            return place + 1
+    raise ValueError(f"never closed: {text[at:at + 40]}")
+
+
+def split(text):
+    """The parts between the commas that stand in no bracket."""
+    parts, depth = [""], 0
+    for sign in text:
+        depth += (sign in OPENS) - (sign in CLOSES)
+        if sign == "," and depth == 0:
+            parts.append("")
+        else:
+            parts[-1] += sign
+    return [part.strip() for part in parts if part.strip()]
+
+
+def body(text, at):
+    """From where to where the first block that opens behind this place goes, if it closes at a line's beginning."""
+    return re.compile(r"(?ms)[^{]*\{(\}|.*?^\})").match(text, at).span(1)
+
+
+def leaves(tree, before=()):
+    """Each path that a `use` names, as its words, with the name that it gives it."""
+    words, brace, inner = tree.partition("{")
+    path, _, name = words.partition(" as ")
+    path = [*before, *(word.strip() for word in path.split("::") if word.strip())]
+    if brace:
+        for part in split(inner.rpartition("}")[0]):
+            yield from leaves(part, path)
+    else:
+        path = path[:-1] if path[-1] == "self" and len(path) > 1 else path
+        yield path, name.strip() or path[-1]
+
+
+@functools.cache
+def uses(text, visible="pub "):
+    """What a file re-exports, or with `VISIBLE` all that it imports: each path, with the name that it has here."""
+    return [leaf for tree in re.findall(rf"(?m)^{visible}use ([^;]+);", text) for leaf in leaves(tree)]
+
+
+def declared(crate, module, name):
+    """The crate, the module and the declaration of an item; or the name of a crate of the kit; or None if it can't be followed."""
+    text = source(file_of(crate, module))
+    found = re.search(rf"(?m)^pub {QUALIFIERS}({KINDS}) ({re.escape(name)})\b", text)
+    if found:
+        return crate, module, found
+    path = next((path for path, known in uses(text) if known == name), None)
+    if path is None:
+        return None
+    head, *rest = path
+    if re.search(rf"(?m)^{VISIBLE}mod {re.escape(head)};", text):
+        rest = [*module, *path]
+    elif head in ("crate", "self", "super"):
+        rest = {"crate": [], "self": module, "super": module[:-1]}[head] + rest
+    elif (TOP / "crates" / head).is_dir():
+        crate = head
+    elif head in (*crates()[crate], "std"):
+        return head
+    else:
+        return None
+    return declared(crate, rest[:-1], rest[-1]) if rest else None
+
+
+def block_of(crate, file, head, span):
+    """The block with this head, from the word behind `impl` on."""
+    trait, _, kind = head.rpartition(" for ")
+    name = re.match(r"[\w:]+", kind)[0].split("::")[-1]
+    paths = (path for path, known in uses(source(file), VISIBLE) if known == name)
+    owner = next((path[0] for path in paths if (TOP / "crates" / path[0]).is_dir()), crate)
+    return Block(trait.strip(), owner, name, kind.strip(), file, *span)
+
+
+@functools.cache
+def blocks():
+    """All `impl` blocks of the crates."""
+    found = []
+    for crate in crates():
+        for file in files(crate):
+            text = source(file)
+            for block in re.finditer(r"(?m)^impl\b([^{]*)", text):
+                head = block[1].strip()
+                head = head[behind(head, 0):].strip() if head[0] == "<" else head
+                found.append(block_of(crate, file, head, body(text, block.end())))
+    return found
+
+
+def docs_of(text, at):
+    """The lines of the docs above the declaration that begins at this place."""
+    lines = []
+    for line in reversed(text[:at].splitlines()):
+        if line.strip().startswith("///"):
+            lines.insert(0, line.strip()[3:].removeprefix(" ").rstrip())
+        elif not line.strip().startswith("#["):
+            break
+    return lines
+
+
+def short(text):
+    """A type on one line, without lifetimes and without the arguments that say nothing."""
+    text = re.sub(r"&'(?!static)\w+ ", "&", " ".join(text.split()))
+    text = re.sub(r"\b(?:errors|std::result)::(?=Result\b)", "", text)
+    found = re.search(r"(\w+)<", text)
+    if not found:
+        return text
+    after = behind(text, found.end(1))
+    kept = [short(it) for it in split(text[found.end():after - 1])
+            if not re.fullmatch(SILENT, it) or found[1] in SPEAKING and it[0] != "'"]
+    return text[:found.end(1)] + (f"<{', '.join(kept)}>" if kept else "") + short(text[after:])
+
+
+def signature(text, at, name):
+    """A function on one line, whose name ends at this place: its name, its arguments and its result."""
+    bounds = {}
+    if text[at] == "<":
+        after = behind(text, at)
+        pairs = (it.partition(":")[::2] for it in split(text[at + 1:after - 1]) if ":" in it)
+        bounds, at = {generic: f"impl {short(bound.strip())}" for generic, bound in pairs}, after
+    after = behind(text, at)
+    arguments = []
+    for argument in split(text[at + 1:after - 1]):
+        argument = "env" if re.match(r"env: &(?:'\w+ )?mut Env<", argument) else short(argument.removeprefix("mut "))
+        for generic, bound in bounds.items():
+            inner = f"({bound})" if "+" in bound else bound
+            argument = re.sub(rf"&(mut )?{generic}\b(?!::)", lambda it: f"&{it[1] or ''}{inner}", argument)
+            argument = re.sub(rf"\b{generic}\b(?!::)", bound, argument)
+        arguments.append(argument)
+    result = re.match(r"(?s)\s*→\s*(.*?)\s*(?:[{;]|\b(?:requires|ensures|where)\b)", text[after:])
+    return f"{name}({', '.join(arguments)})" + (f" → {short(result[1])}" if result else "")
