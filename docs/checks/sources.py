@@ -1,14 +1,15 @@
-"""What `api` and `cited` share: the crates' sources, as `rt fmt` lays them out, and what they declare."""
+"""What `docs/api` and `docs/cited` share: the crates' sources, as `rt fmt` lays them out, and what they declare."""
 import collections
 import functools
 import pathlib
 import re
 import sys
 
-sys.path.insert(0, str(pathlib.Path(__file__).resolve().parent / "edits"))
+sys.path.insert(0, str(pathlib.Path(__file__).resolve().parent.parent / "edits"))
 
 from edits import TOP, crates
 
+ROOTS = ["cacache", "cacache_keep"]  # the crates whose public paths users name
 KINDS = "fn|struct|enum|trait|type|const|static|mod"
 VISIBLE = r"(?:pub(?:\([^)]*\))? )?"
 QUALIFIERS = r"(?:(?:const|unsafe) )*"
@@ -106,6 +107,30 @@ def declared(crate, module, name):
     else:
         return None
     return declared(crate, rest[:-1], rest[-1]) if rest else None
+
+
+def modules(path, crate, module):
+    """Each module from this one on: its path, its file, and its items, each with the name that it has there."""
+    text = source(file_of(crate, module))
+    names = [known for _, known in uses(text)] + re.findall(rf"(?m)^pub {QUALIFIERS}(?:{KINDS}) (\w+)", text)
+    items = [(name, declared(crate, module, name)) for name in sorted(names, key=lambda it: (it.lower(), it))]
+    below = [(name, it) for name, it in items if isinstance(it, tuple) and it[2][1] == "mod"]
+    yield "::".join(path), file_of(crate, module), [it for it in items if it not in below]
+    for name, (place, inside, item) in below:
+        yield from modules([*path, name], place, [*inside, item[2]])
+
+
+@functools.cache
+def public_modules():
+    """The modules of the crates whose public paths users name."""
+    return [it for root in ROOTS for it in modules([root], root, [])]
+
+
+@functools.cache
+def public_paths():
+    """Each public path, with the crate, the module and the name of its item."""
+    return [(f"{path}::{name}", (it[0], it[1], it[2][2])) for path, _, items in public_modules()
+            for name, it in items if isinstance(it, tuple)]
 
 
 def block_of(crate, file, head, span):

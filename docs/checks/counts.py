@@ -1,0 +1,141 @@
+"""Where the documents state a count, or list what the tree has: each is compared with the tree."""
+import re
+
+from sources import TOP, crates, files, source
+
+NUMBERS = dict(zip("one two three four five six seven eight nine ten eleven twelve thirteen fourteen fifteen sixteen seventeen "
+                   "eighteen nineteen twenty".split(), range(1, 21)))
+
+
+def number(word):
+    """The number that a word or digits stand for, or None."""
+    return int(word.replace(",", "")) if word[0].isdigit() else NUMBERS.get(word.lower())
+
+
+def read(name):
+    """The text of a file of the repository."""
+    return (TOP / name).read_text()
+
+
+def told(name, form):
+    """What a file has in the place of the group of a form, which must stand there."""
+    found = re.search(form, read(name))
+    if not found:
+        raise LookupError(f"{name}: nothing like {form}")
+    return found[1]
+
+
+def table_below(name, head):
+    """The first cells of the table whose head follows these words, or begins with them."""
+    rows = told(name, rf"(?s){re.escape(head)}.*?\n\|[-|]*\|\n((?:\|[^\n]*(?:\n|\Z))+)")
+    return [row.split("|")[1].strip() for row in rows.strip().split("\n")]
+
+
+def compared(name, what, stated, there):
+    """What a document says too much or too little of."""
+    stated, there = list(stated), list(there)
+    wrong = [f"{name}: {what}: {it} is missing" for it in there if it not in stated]
+    wrong += [f"{name}: {what}: {it} isn't there" for it in stated if it not in there]
+    return wrong + [f"{name}: {what}: {it} twice" for it in set(stated) if stated.count(it) > 1]
+
+
+def crate_tables():
+    """The tables of crates, and the list of the kit's crates, against crates.txt."""
+    listed = list(crates())
+    plain = [[it.strip("`") for it in table_below(name, head)] for name, head in
+             [("docs/ARCHITECTURE.md", "| Crate | Holds |"), ("docs/ARCHITECTURE.md", "| Crate | Shows or tests |"),
+              ("docs/GATE.md", "| Crate | Lines |"), ("CONTRIBUTING.md", "| Crate | A row is |")]]
+    trusted = told("README.md", r"(?s)its contracts for (.*?), the C library")
+    kit = {it for below in crates().values() for it in below} - set(listed)
+    return [*compared("docs/ARCHITECTURE.md", "crates", plain[0] + plain[1], listed),
+            *compared("docs/GATE.md", "crates", plain[2], [*listed, "all"]),
+            *compared("CONTRIBUTING.md", "crates of rows", plain[3], [it for it in listed if it.startswith("rows_")]),
+            *compared("README.md", "crates of the kit", re.findall(r"`(\w+)`(?! also)", trusted), kit)]
+
+
+def usage(crate):
+    """The words of a program, as its usage text has them."""
+    text = told(f"crates/{crate}/src/output.rt", r'USAGE: &str =\s*"usage: [\w-]+ (.*?)\\n"')
+    for part in text.split(" | "):
+        names, *arguments = part.split()
+        yield from (" ".join([name, *arguments]) for name in names.split("|"))
+
+
+def words():
+    """The words of the two programs, against their usage texts."""
+    cells = table_below("README.md", "The program `cacache` has these words:")
+    stated = [it for cell in cells for it in re.findall("`([^`]+)`", cell)]
+    options = re.findall(r'"(--\w+)" =>', source(TOP / "crates/cacache_program/src/about.rt"))
+    wrong = compared("README.md", "words of cacache", stated, [*usage("cacache_program"), *options])
+    shown = told("README.md", r"(?s)In `crates/cacache_keep_cli`.*?\n\n(.*?)\n\n")
+    names = [it.split()[0] for it in usage("cacache_keep_program")]
+    return wrong + compared("README.md", "words of cacache-keep", re.findall(r"rt try -- (\w+)", shown), names)
+
+
+def documents():
+    """The lists of documents, against the files."""
+    there = [it.name for it in TOP.glob("docs/*.md")]
+    wrong = []
+    for name, head in [("README.md", "| Question | Document |"), ("CONTRIBUTING.md", "| Fact | Document |")]:
+        links = re.findall(r"\]\(docs/([\w.]+)\)", told(name, rf"(?s){re.escape(head)}(.*?)(?:\n\n|\Z)"))
+        wrong += compared(name, "documents", links, there)
+    return wrong
+
+
+def rows():
+    """The numbers of rows that PROMISES states, against what the programs of rows print."""
+    text = " ".join(read("docs/PROMISES.md").split())
+    for stated, crate in re.findall(r"by ([\d,]+) rows[^(]*\(`(rows_\w+)/stdin`", text):
+        there = told(f"crates/{crate}/stdout", r"(?m)^all: (\d+) rows hold$")
+        if number(stated) != int(there):
+            yield f"docs/PROMISES.md: {stated} rows of {crate}, and there are {there}"
+
+
+def lists(name):
+    """Each text that begins with a number, as `Five programs .. :`, against the list that follows, or the names behind the colon."""
+    beginning = r"(?m)^(?:- )?([A-Z]\w+) (\w+)[^:\n]*:"
+    for it in re.finditer(rf"{beginning}(?=(.*(?:\n(?!- ).+)*)((?:\n\n?- (?:.|\n(?!\n|#))*)*))", read(name)):
+        if it[1].lower() in NUMBERS and (it[3].strip() or it[4]):
+            there = len(re.findall(r"`\w+`", it[3])) if it[3].strip() else len(re.findall(r"(?m)^- ", it[4]))
+            if there and there != number(it[1]):
+                yield f"{name}: {it[1]} {it[2]}, and there are {there}"
+
+
+def variants(file, kind, form):
+    """How many variants or constructors a type has."""
+    return len(re.findall(form, told(file, rf"(?ms)^pub {kind}\b(.*?)(?=^\S|\Z)")))
+
+
+def stated():
+    """Single numbers in a document, each behind its words, with what there is."""
+    edits = list(TOP.glob("crates/*/must-fail/*.edit"))
+    play = told("crates/cacache_world/src/playing.rt", r"(?s)pub fn play\((.*?)\n    \{")
+    shown = told("README.md", r"(?s)pub fn play\((.*?)```")
+    steps = variants("crates/cacache_store/src/store/step.rt", "enum Step", r"(?m)^    [A-Z]")
+    states = variants("crates/cacache_table/specs/State.antt", "data State", r"(?m)^  \w+ :")
+    for name, form, there in [
+            ("docs/GATE.md", r"names: (\w+) in \w+ crates", len(edits)),
+            ("docs/GATE.md", r"names: \w+ in (\w+) crates", len({it.parent for it in edits})),
+            ("README.md", r"(\w+) of its \w+:", shown.count("ensures")),
+            ("README.md", r"\w+ of its (\w+):", play.count("ensures")),
+            ("docs/ARCHITECTURE.md", r"`Step` has (\w+) kinds", steps),
+            ("docs/ARCHITECTURE.md", r"at once: (\w+) \*\*states\*\*", states),
+            ("docs/PROMISES.md", r"the table of the (\w+) steps", steps),
+            ("docs/DEFINITIONS.md", r"the table of the (\w+) steps", steps)]:
+        found = re.search(form, " ".join(read(name).split()))
+        if not found or number(found[1]) != there:
+            yield f"{name}: {found[0] if found else f'nothing like {form}'}, and there are {there}"
+
+
+def all_lists():
+    """The lists of the documents that state how long they are."""
+    return (it for name in ("README.md", "CONTRIBUTING.md", "CHANGELOG.md") for it in lists(name))
+
+
+def wrong_counts():
+    """All that is wrong."""
+    for check in (crate_tables, words, documents, rows, all_lists, stated):
+        try:
+            yield from check()
+        except LookupError as missing:
+            yield str(missing.args[0])
