@@ -1,9 +1,11 @@
 """Which clauses the functions of the crates have, and whether the last column of a table of PROMISES names clauses that are there.
 
-A cell is read so: parts between semicolons, each with names of functions, a colon, and names of their clauses. `A`'s `b` is the
-function `b` of the type `A`, or all those of its trait `b`. "The same" stands for the functions of the row before, "both" for those
-of the row's first cell. Where a part names no function, its names are clauses of what the text above the table names: a function, a
-type or a record. What is left, as "the public calls", must be a clause somewhere.
+A cell is read so: parts between semicolons, each with names of functions, a colon, and names of their clauses. Each function must
+have each of them, as `ensures NAME`, as a field of a record that a clause cites, or as what is said beside the functions of its
+type or trait. `A`'s `b` is the function `b` of the type `A`, or all those of its trait `b`. "The same" stands for the functions of
+the row before; "both" for those of the row's first cell, of which one must have the clause. In brackets and behind "with" stand
+definitions. Where no cell of a table has a colon, its names are clauses of the first function that the paragraph above the table
+names, or fields of its record. Where words stand for functions, as "the public calls", the clause must be one of any function.
 """
 import collections
 import functools
@@ -233,9 +235,9 @@ def definitions():
 
 def undefined(text, owners):
     """Which names behind a `with` are no definitions, nor what contracts see of a type."""
-    found = Subject(text, (), owners)
-    plain = [it for it in re.findall(rf"{SPAN}(?!'s)", text) if "/" not in it] if "'s" not in text else []
-    return (found.wrong if "'s" in text else []) + [f"no definition {it}" for it in plain if it not in definitions()]
+    if "'s" in text:
+        return Subject(text, (), owners).wrong
+    return [f"no definition {it}" for it in re.findall(SPAN, text) if "/" not in it and it not in definitions()]
 
 
 def tables(text):
@@ -254,6 +256,6 @@ def tables(text):
 def wrong_rows(text):
     """Each wrong name in the tables of a text: the line's number, and what is wrong."""
     for above, rows in tables(text):
-        if rows[0][1][1] in ("Clause", "Field", "Call"):
+        if rows[0][1][1:2] in (["Clause"], ["Field"], ["Call"]):
             table = Table(above, [cells[1] for _, cells in rows])
             yield from ((number, fault) for number, cells in rows[2:] for fault in table.row(cells[1], cells[0]))
