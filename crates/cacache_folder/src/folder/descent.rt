@@ -6,8 +6,8 @@ use crate::folder::node::Node;
 use cacache_core::text::Text;
 use std::alloc::{AllocError, Global};
 
-/// After so many steps of a walk, the folder that it removes from is looked at before the next removal. A look before each
-/// one would cost a clearing a tenth of its time.
+/// After so many steps of a walk, the folder that it removes a folder from is looked at before. A look each time would cost the
+/// clearing of a cache a tenth of its time, and an empty folder is all that is removed through a link.
 const STEPS: u32 = 8;
 
 /// A folder by its path, and what it was when a listing named it.
@@ -26,6 +26,8 @@ pub(crate) struct Descent {
     named: Vec<Folder>,
     /// How many steps were made since a folder was looked at.
     steps: u32,
+    /// Whether the last step listed the last of the folders that the walk is in.
+    is_fresh: bool,
 }
 
 /// Whether the path names something in the folder.
@@ -41,6 +43,7 @@ impl Descent {
             entered: Vec::new(alloc),
             named: Vec::new(alloc),
             steps: 0,
+            is_fresh: false,
         }
     }
 
@@ -94,6 +97,7 @@ impl Descent {
             None => self.begin(alloc, path)?,
         }
         self.steps = self.steps.saturating_add(1);
+        self.is_fresh = true;
         let mut named = named;
         for _ in 0..named.len() {
             if let Some(folder) = named.pop() {
@@ -103,14 +107,28 @@ impl Descent {
         Ok(())
     }
 
-    /// Before a removal: whether the folder that it removes from is to be looked at, which the walk is in.
-    pub(crate) fn is_due(&mut self, path: &str) -> bool {
+    /// Whether the path names something in the last of the folders that the walk is in.
+    fn is_within(&self, path: &str) -> bool {
+        matches!(self.entered.last(), Some(last) if is_in(path, last.path.as_str()))
+    }
+
+    /// Before a file or a link is removed: whether its folder is to be looked at. It is in each folder that the walk is in,
+    /// unless that was listed by the step before.
+    pub(crate) fn is_due_for_file(&mut self, path: &str) -> bool {
+        let is_fresh = self.is_fresh;
+        self.is_fresh = false;
+        self.steps = self.steps.saturating_add(1);
+        !is_fresh && self.is_within(path)
+    }
+
+    /// Before a folder is removed, which the walk leaves then: whether the folder that it lies in is to be looked at.
+    pub(crate) fn is_due_for_folder(&mut self, path: &str) -> bool {
+        self.is_fresh = false;
         self.steps = self.steps.saturating_add(1);
         if matches!(self.entered.last(), Some(last) if last.path.as_str() == path) {
             let _left = self.entered.pop();
         }
-        self.steps > STEPS
-            && matches!(self.entered.last(), Some(last) if is_in(path, last.path.as_str()))
+        self.steps > STEPS && self.is_within(path)
     }
 
     /// The folders that the walk is in, below the one where it began.

@@ -26,13 +26,10 @@ impl<R: Files + AllocGlobal + Clone + Drop> FolderStore<R> {
         Ok(true)
     }
 
-    /// Before a removal in a walk: refuses it where somebody put a link in the place of a folder on the way.
-    fn look(&mut self, path: &str) -> io::Result<()>
+    /// Looks at the folders that a walk is in, and refuses where somebody put a link in the place of one.
+    fn look(&mut self) -> io::Result<()>
         ensures kept { self.new.reason ≡ self.old.reason }
     {
-        if !self.descent.is_due(path) {
-            return Ok(());
-        }
         if !self.stays()? {
             return Err(io::Error::from(ErrorKind::NotADirectory));
         }
@@ -44,7 +41,9 @@ impl<R: Files + AllocGlobal + Clone + Drop> FolderStore<R> {
     pub(crate) fn remove_file(&mut self, path: &str) -> io::Result<()>
         ensures kept { self.new.reason ≡ self.old.reason }
     {
-        self.look(path)?;
+        if self.descent.is_due_for_file(path) {
+            self.look()?;
+        }
         self.rt.remove_file(path)
     }
 
@@ -52,7 +51,9 @@ impl<R: Files + AllocGlobal + Clone + Drop> FolderStore<R> {
     pub(crate) fn remove_dir(&mut self, path: &str) -> io::Result<()>
         ensures kept { self.new.reason ≡ self.old.reason }
     {
-        self.look(path)?;
+        if self.descent.is_due_for_folder(path) {
+            self.look()?;
+        }
         self.rt.remove_dir(path)
     }
 }
