@@ -63,11 +63,13 @@ unfolding apply
 read_answer t path = answer_of (file_at t path IsADirectory) t
 
 module _ (site : Site) (home : Names) (t : Tree) (h : Hash) (blob : Blob) (is : home_of site.cache ≡ Some home) (rooted : Rooted t) (hash : IsHash h) (stands : (value_of_tree (Some home) t).contents h ≡ Some blob) where
-  content_answer : (apply t (ReadAll (content_path site.cache (h ∷ []))) Plain).0 ≡ said (blob_bytes t ((value_of_tree (Some home) t).contents h))
+  -- what the content's path leads to has the bytes that the cache holds there
+  pub content_file : file_at t (content_path site.cache (h ∷ [])) IsADirectory ≡ blob_bytes t ((value_of_tree (Some home) t).contents h)
   unfolding content_path
-  content_answer =
-      read_answer t (joined site.cache (content_names h))
-      ∙ ap said (leaf_read t (joined site.cache (content_names h)) (home ++ content_names h) (look t (home ++ content_names h)) blob rooted (content_named site.cache home h is hash) refl stands)
+  content_file = leaf_read t (joined site.cache (content_names h)) (home ++ content_names h) (look t (home ++ content_names h)) blob rooted (content_named site.cache home h is hash) refl stands
+
+  content_answer : (apply t (ReadAll (content_path site.cache (h ∷ []))) Plain).0 ≡ said (blob_bytes t ((value_of_tree (Some home) t).contents h))
+  content_answer = read_answer t (content_path site.cache (h ∷ [])) ∙ ap said content_file
 
   told : (moves : Moves) (reply : Reply) (a : PlainAnswer) → moves ≡ (ReadAll (content_path site.cache (h ∷ [])), a) ∷ [] → reply ≡ content_reply (h ∷ []) (bytes_in a) → AnsweredBy t moves → ((bytes : List ℕ) × (reply ≡ Read bytes)) ↔ (is_good home t h ≡ true)
   told moves reply a made e answered =
