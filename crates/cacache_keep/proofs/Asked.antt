@@ -1,10 +1,9 @@
--- Reads, questions and listings, one after another.
-use Rattle.std.proofs.Common.{◌≡◌, ◌+◌, ℕ, List, [], ◌∷◌, ◌++◌, Bool, true, false, Option, Ok, Err, Result, IfOk, inl, refl, sym, ap, subst, ◌∙◌, map, length, length-append, arith}
+-- Questions and listings, one after another.
+use Rattle.std.proofs.Common.{◌≡◌, ℕ, List, [], ◌∷◌, ◌++◌, Bool, true, false, Option, Ok, Err, Result, IfOk, inl, refl, sym, ap, subst, ◌∙◌, map}
 use Rattle.std.specs.List.{filter}
 use Rattle.std.proofs.lemmas.List.{map-append}
 use Rattle.std.proofs.lemmas.List.Elements.{filter-append}
 use Rattle.std.specs.Prelude.{not}
-use Rattle.cacache_core.specs.declared.integrity.digest.Hash.{Hash}
 use Rattle.cacache_store.specs.declared.env.Env.{Env}
 use Rattle.cacache_store.specs.declared.store.log.LogItem.{LogItem}
 use Rattle.cacache_entry.specs.Latest.{Found}
@@ -17,7 +16,7 @@ use Rattle.cacache_table.specs.Table.{opening}
 use Rattle.cacache_table.specs.Runs.{Ran, plain_item}
 use Rattle.cacache_jobs.specs.Environment.{KeepsRest}
 use Rattle.cacache_jobs.specs.Sites.{site_of}
-use Rattle.cacache_keep.specs.Calls.{AsksEach, ListsEntries, Made, ReadsEach, SaysGood, has_bytes, question_of, read_of, tells_damage}
+use Rattle.cacache_keep.specs.Calls.{AsksEach, ListsEntries, Made, question_of}
 
 -- ---- the environment
 
@@ -50,45 +49,6 @@ passed p xs x is = filter-append p xs (x ∷ []) ∙ ap (λ more. filter p xs ++
     append_none : {X : Type 0} (xs : List X) → xs ++ [] ≡ xs
     append_none [] = refl
     append_none (x ∷ xs) = ap (λ l. x ∷ l) (append_none xs)
-
--- ---- contents that are read
-
-abbrev pub Reads : Site → List (List Hash) → List (List Hash) → Option (List LogItem) → Option (List LogItem) → Type 0
-Reads site addresses damaged old new = (good : ℕ) × ReadsEach site addresses good damaged old new
-
-pub none_read : (site : Site) (damaged : List (List Hash)) (log : Option (List LogItem)) → damaged ≡ [] → Reads site [] damaged log log
-none_read site damaged log none = (0, record { reads = []; each = refl; reading = refl; whole = refl; broken = none; counts = omega (arith, ap length none) })
-
-pub good_read : (site : Site) (addresses damaged : List (List Hash)) (i : List Hash) (old mid new : Option (List LogItem)) → Reads site addresses damaged old mid → SaysGood site i true mid new → Reads site (addresses ++ i ∷ []) damaged old new
-good_read site addresses damaged i old mid new g says =
-    let r = g.1 in
-    let more : List Hash × Reply = (i, says.0) in (
-      g.0 + 1,
-      record {
-        reads = r.reads ++ more ∷ [];
-        each = map-append (λ (x : List Hash × Reply). x.0) r.reads (more ∷ []) ∙ ap (λ (l : List (List Hash)). l ++ i ∷ []) r.each;
-        reading = mapped_on site read_of r.reads more old mid new r.reading says.2;
-        whole = ap (λ n. n + 1) r.whole ∙ sym (ap length (kept (λ (x : List Hash × Reply). has_bytes x.1) r.reads more says.1.0) ∙ length-append (filter (λ (x : List Hash × Reply). has_bytes x.1) r.reads) (more ∷ []));
-        broken = r.broken ∙ ap (λ (l : List (List Hash × Reply)). map (λ x. x.0) l) (sym (passed (λ (x : List Hash × Reply). tells_damage x.1) r.reads more says.1.1));
-        counts = omega (arith, r.counts, length-append addresses (i ∷ []));
-      },
-    )
-
-pub damaged_read : (site : Site) (addresses damaged : List (List Hash)) (i : List Hash) (old mid new : Option (List LogItem)) → Reads site addresses damaged old mid → SaysGood site i false mid new → Reads site (addresses ++ i ∷ []) (damaged ++ i ∷ []) old new
-damaged_read site addresses damaged i old mid new g says =
-    let r = g.1 in
-    let more : List Hash × Reply = (i, says.0) in
-    let broken : List (List Hash × Reply) = filter (λ (x : List Hash × Reply). tells_damage x.1) r.reads in (
-      g.0,
-      record {
-        reads = r.reads ++ more ∷ [];
-        each = map-append (λ (x : List Hash × Reply). x.0) r.reads (more ∷ []) ∙ ap (λ (l : List (List Hash)). l ++ i ∷ []) r.each;
-        reading = mapped_on site read_of r.reads more old mid new r.reading says.2;
-        whole = r.whole ∙ ap length (sym (passed (λ (x : List Hash × Reply). has_bytes x.1) r.reads more says.1.0));
-        broken = ap (λ (l : List (List Hash)). l ++ i ∷ []) r.broken ∙ sym (map-append (λ (x : List Hash × Reply). x.0) broken (more ∷ [])) ∙ ap (λ (l : List (List Hash × Reply)). map (λ x. x.0) l) (sym (kept (λ (x : List Hash × Reply). tells_damage x.1) r.reads more says.1.1));
-        counts = omega (arith, r.counts, length-append addresses (i ∷ []), length-append damaged (i ∷ []));
-      },
-    )
 
 -- ---- entries whose content is asked for
 
@@ -139,8 +99,3 @@ ran_at cache base before command given reply answered old new same asks says ran
     subst (λ (r : Reply). Ran (opening (site_of cache base 0) command) r old new) says
     (subst (λ (k : Command). Ran (opening (site_of cache base 0) k) answered old new) asks
     (subst (λ (b : List ℕ). Ran (opening (site_of cache b 0) given) answered old new) same ran))
-
-pub says_at : (cache base before : List ℕ) (i : List Hash) (good said : Bool) (old new : Option (List LogItem)) → before ≡ base → said ≡ good → SaysGood (site_of cache before 0) i said old new → SaysGood (site_of cache base 0) i good old new
-says_at cache base before i good said old new same is says =
-    subst (λ (b : Bool). SaysGood (site_of cache base 0) i b old new) is
-    (subst (λ (b : List ℕ). SaysGood (site_of cache b 0) i said old new) same says)

@@ -1,128 +1,225 @@
--- Which contents the replies to reads count as good, and which entries questions count as dangling.
-use Rattle.std.proofs.Common.{◌≡◌, inl, inr, ◌+◌, ◌≤◌, ℕ, List, [], ◌∷◌, Bool, true, false, cond, Some, Ok, Err, map, length, filter, refl, sym, ap, ap₂, subst, ◌∙◌, arith}
+-- Which contents their reads count as good, and which entries questions count as dangling.
+use Rattle.std.proofs.Common.{◌≡◌, ◌==◌, ◌<◌, inl, inr, ℕ, zero, suc, List, [], ◌∷◌, ◌++◌, Bool, true, false, cond, Option, Some, Result, Ok, Err, map, length, filter, take, drop, take-append-drop, append_assoc, refl, sym, ap, ap₂, subst, ◌∙◌, arith}
 use Rattle.std.specs.Prelude.{not}
 use Rattle.cacache_core.specs.declared.errors.Error.TheVariants as errors
-use Rattle.cacache_core.specs.declared.errors.Fault.TheVariants.{NotFound}
+use Rattle.cacache_core.specs.declared.errors.Fault.{Fault}
+use Rattle.cacache_core.specs.declared.errors.Fault.TheVariants.{Closed, IsADirectory, NotFound}
 use Rattle.cacache_core.specs.declared.integrity.digest.Hash.{Hash}
 use Rattle.cacache_core.specs.Integrity.{IsHash}
 use Rattle.cacache_core.specs.PathNames.{Names, home_of}
 use Rattle.cacache_store.specs.declared.store.answer.Answer.TheVariants as answers
+use Rattle.cacache_store.specs.declared.store.log.LogItem.{LogItem}
+use Rattle.cacache_store.specs.declared.store.plain.PlainFile.{PlainFile}
+use Rattle.cacache_store.specs.declared.store.step.Step.TheVariants as steps
 use Rattle.cacache_store.specs.Plain.{PlainAnswer}
+use Rattle.cacache_disk.specs.declared.luck.Luck.TheVariants.{Plain}
+use Rattle.cacache_disk.specs.Apply.{apply, given, opened, rest_of, unless}
+use Rattle.cacache_disk.specs.LedTo.{file_at}
 use Rattle.cacache_disk.specs.Tree.{Tree}
 use Rattle.cacache_disk.specs.Rooted.{Rooted}
 use Rattle.cacache_entry.specs.Latest.{Found}
 use Rattle.cacache_table.specs.declared.command.Command.TheVariants as commands
-use Rattle.cacache_table.specs.declared.reply.Reply.{Reply}
 use Rattle.cacache_table.specs.declared.reply.Reply.TheVariants as replies
 use Rattle.cacache_table.specs.Answers.{there_in}
 use Rattle.cacache_table.specs.Replies.{there_reply}
+use Rattle.cacache_table.specs.Runs.{Moves, Gains}
 use Rattle.cacache_table.specs.State.{Site, Item}
+use Rattle.cacache_table.specs.StepPaths.{content_path}
+use Rattle.cacache_table.specs.Table.{piece}
 use Rattle.cacache_table.proofs.Replies.{exists_shown}
+use Rattle.cacache_history.specs.Sequence.{AreAnswered, tree_on}
 use Rattle.cacache_keep_laws.specs.Contents.{IsHeld}
 use Rattle.cacache_keep_laws.specs.Answers.{AnsweredBy, AnswersOn}
 use Rattle.cacache_keep_laws.specs.Index.{IndexLists, entries_in, is_bad}
-use Rattle.cacache_keep_laws.specs.Verifying.{is_good, says_yes, has_content}
+use Rattle.cacache_keep_laws.specs.Verifying.{is_good, is_met, says_yes, has_content}
+use Rattle.cacache_keep_laws.proofs.Logged.{answered_rest, answered_split, gains_join, tree_rest}
 use Rattle.cacache_keep_laws.proofs.Members.{Member, member_contains}
-use Rattle.cacache_keep_laws.proofs.Verified.{reads_tell_good}
-use Rattle.cacache_keep.specs.Calls.{AreEntries, has_bytes, question_of, read_of, tells_damage}
-use Rattle.cacache_keep.proofs.Parts.{EachOn}
+use Rattle.cacache_keep_laws.proofs.Verified.{content_file}
+use Rattle.cacache_keep.specs.Calls.{AreEntries, question_of}
+use Rattle.cacache_keep.specs.Reading.{Judged, Pieces, SaysGood, SaysOfEach}
+use Rattle.cacache_keep.proofs.Parts.{EachOn, gains_none}
 
--- ---- filters of two lists, in step
+-- ---- reads of an open file
 
-same_count : {X Y : Type 0} (b c : Bool) (x : X) (y : Y) (xs : List X) (ys : List Y) → b ≡ c → length xs ≡ length ys → length (cond b (x ∷ xs) xs) ≡ length (cond c (y ∷ ys) ys)
-same_count true true x y xs ys e h = omega (arith, h)
-same_count false false x y xs ys e h = h
-same_count true false x y xs ys e h = absurd cc
-same_count false true x y xs ys e h = absurd cc
+read_keeps : (t : Tree) (f : PlainFile) (size : ℕ) → (apply t (steps.Read f size) Plain).1 ≡ t
+unfolding apply
+read_keeps t f size = refl
 
-pub same_kept : {X Y Z : Type 0} (f : X → Z) (g : Y → Z) (b c : Bool) (x : X) (y : Y) (xs : List X) (ys : List Y) → b ≡ c → f x ≡ g y → map f xs ≡ map g ys → map f (cond b (x ∷ xs) xs) ≡ map g (cond c (y ∷ ys) ys)
-same_kept f g true true x y xs ys e one h = ap₂ (λ a l. a ∷ l) one h
-same_kept f g false false x y xs ys e one h = h
-same_kept f g true false x y xs ys e one h = absurd cc
-same_kept f g false true x y xs ys e one h = absurd cc
+-- bytes and a file, or the answer of a closed one
+abbrev got_or_closed : Bool → List ℕ → ℕ → PlainAnswer
+got_or_closed whole all size = cond whole (answers.Got (rest_of all size) (take size all)) (answers.Failed Closed)
 
-same_bool : (b c : Bool) → (b ≡ true → c ≡ true) → (c ≡ true → b ≡ true) → b ≡ c
-same_bool true c f g = sym (f refl)
-same_bool false false f g = refl
-same_bool false true f g = g refl
+abbrev got : PlainFile → List ℕ → PlainAnswer
+got g b = answers.Got g b
 
--- ---- each reply says one of the two
+given_gives : (f g : PlainFile) (size : ℕ) (all b : List ℕ) → answers.Got g b ≡ given f size (Some all) → (b ≡ take size all) × (g.bytes ≡ Some (drop size all))
+given_gives f g size all b = by (f.left == length all)
+  where
+    by : (whole : Bool) → got g b ≡ got_or_closed whole all size → (b ≡ take size all) × (g.bytes ≡ Some (drop size all))
+    by true e = let same : g ≡ rest_of all size = cc in (cc, ap (λ (x : PlainFile). x.bytes) same)
+    by false e = absurd cc
 
-abbrev pub Told : List (List Hash × Reply) → Type 0
-Told [] = Unit {0}
-Told (r ∷ rs) = (tells_damage r.1 ≡ not (has_bytes r.1)) × Told rs
+read_gives : (t : Tree) (f g : PlainFile) (size : ℕ) (all b : List ℕ) → f.bytes ≡ Some all → answers.Got g b ≡ (apply t (steps.Read f size) Plain).0 → (b ≡ take size all) × (g.bytes ≡ Some (drop size all))
+unfolding apply
+read_gives t f g size all b known e = given_gives f g size all b (e ∙ ap (given f size) known)
 
-exclusive : (r : Reply) → has_bytes r ≡ true → tells_damage r ≡ false
-exclusive (replies.Read bytes) e = refl
-exclusive other e = absurd cc
+-- the bytes that were given, and those that are left, are all that there were; the tree stays
+record AllGiven (t : Tree) (left : PlainFile) (moves : Moves) (bytes all : List ℕ) : Type 0 where
+  pub rest : List ℕ
+  pub known : left.bytes ≡ Some rest
+  pub whole : bytes ++ rest ≡ all
+  pub stays : tree_on t moves ≡ t
 
-both_at_most : (p q : Bool) (r : List Hash × Reply) (F G rs : List (List Hash × Reply)) → (p ≡ true → q ≡ false) → length F + length G ≤ length rs → length (cond p (r ∷ F) F) + length (cond q (r ∷ G) G) ≤ length (r ∷ rs)
-both_at_most true true r F G rs apart h = let wrong : true ≡ false = apart refl in absurd cc
-both_at_most true false r F G rs apart h = omega (arith, h)
-both_at_most false true r F G rs apart h = omega (arith, h)
-both_at_most false false r F G rs apart h = omega (arith, h)
+pieces_given : (t : Tree) (file left : PlainFile) (moves : Moves) (bytes all : List ℕ) → file.bytes ≡ Some all → Pieces file moves bytes left → AreAnswered t moves → AllGiven t left moves bytes all
+pieces_given t file left [] bytes all known h a = record {
+  rest = all;
+  known = ap (λ (x : PlainFile). x.bytes) h.1 ∙ known;
+  whole = ap (λ (l : List ℕ). l ++ all) h.0;
+  stays = refl;
+}
+pieces_given t file left ((steps.Read f most, answers.Got g (b ∷ bs)) ∷ moves) bytes all known h a =
+    let gives = read_gives t f g most all (b ∷ bs) (ap (λ (x : PlainFile). x.bytes) h.0 ∙ known) a.0 in
+    let stays = read_keeps t f most in
+    let more = pieces_given t g left moves h.2 (drop most all) gives.1 h.4 (subst (λ (x : Tree). AreAnswered x moves) stays a.1) in
+    record {
+      rest = more.rest;
+      known = more.known;
+      whole = ap (λ (l : List ℕ). l ++ more.rest) h.3 ∙ append_assoc (b ∷ bs) h.2 more.rest ∙ ap (λ (l : List ℕ). (b ∷ bs) ++ l) more.whole ∙ ap (λ (l : List ℕ). l ++ drop most all) gives.0 ∙ take-append-drop most all;
+      stays = ap (λ (x : Tree). tree_on x moves) stays ∙ more.stays;
+    }
+pieces_given t file left moves bytes all known h a = absurd h
 
-abbrev with_bytes : List (List Hash × Reply) → List (List Hash × Reply)
-with_bytes rs = filter (λ r. has_bytes r.1) rs
+no_rest : (size : ℕ) (rest : List ℕ) → 0 < size → [] ≡ take size rest → rest ≡ []
+no_rest zero rest lt e = absurd (omega (arith, lt))
+no_rest (suc size) [] lt e = refl
+no_rest (suc size) (b ∷ bs) lt e = absurd cc
 
-abbrev with_damage : List (List Hash × Reply) → List (List Hash × Reply)
-with_damage rs = filter (λ r. tells_damage r.1) rs
+-- ---- the opening
 
-at_most : (rs : List (List Hash × Reply)) → length (with_bytes rs) + length (with_damage rs) ≤ length rs
-at_most [] = omega arith
-at_most (r ∷ rs) = both_at_most (has_bytes r.1) (tells_damage r.1) r (with_bytes rs) (with_damage rs) rs (exclusive r.1) (at_most rs)
+open_keeps : (t : Tree) (path : List ℕ) → (apply t (steps.Open path) Plain).1 ≡ t
+unfolding apply
+open_keeps t path = by (file_at t path IsADirectory)
+  where
+    by : (r : Result (List ℕ) Fault) → (unless r t (λ bytes. (answers.File (opened bytes), t))).1 ≡ t
+    by (Ok bytes) = refl
+    by (Err fault) = refl
 
-one_told : (p q : Bool) (r : List Hash × Reply) (F G rs : List (List Hash × Reply)) → (p ≡ true → q ≡ false) → length F + length G ≤ length rs → length (cond p (r ∷ F) F) + length (cond q (r ∷ G) G) ≡ length (r ∷ rs) → (q ≡ not p) × (length F + length G ≡ length rs)
-one_told true true r F G rs apart h e = let wrong : true ≡ false = apart refl in absurd cc
-one_told true false r F G rs apart h e = (refl, omega (arith, e))
-one_told false true r F G rs apart h e = (refl, omega (arith, e))
-one_told false false r F G rs apart h e = absurd (omega (arith, e, h))
+open_gives : (t : Tree) (path : List ℕ) (file : PlainFile) → answers.File file ≡ (apply t (steps.Open path) Plain).0 → (all : List ℕ) × (file_at t path IsADirectory ≡ Ok all) × (file.bytes ≡ Some all)
+unfolding apply
+open_gives t path file = by (file_at t path IsADirectory)
+  where
+    by : (r : Result (List ℕ) Fault) → answers.File file ≡ (unless r t (λ bytes. (answers.File (opened bytes), t))).0 → (all : List ℕ) × (r ≡ Ok all) × (file.bytes ≡ Some all)
+    by (Ok bytes) e = let same : file ≡ opened bytes = cc in (bytes, refl, ap (λ (x : PlainFile). x.bytes) same)
+    by (Err fault) e = absurd cc
 
-pub told_all : (rs : List (List Hash × Reply)) → length (with_bytes rs) + length (with_damage rs) ≡ length rs → Told rs
-told_all [] e = tt
-told_all (r ∷ rs) e =
-    let one = one_told (has_bytes r.1) (tells_damage r.1) r (with_bytes rs) (with_damage rs) rs (exclusive r.1) (at_most rs) e in
-    (one.0, told_all rs one.1)
+open_finds_none : (t : Tree) (path : List ℕ) → answers.Failed NotFound ≡ (apply t (steps.Open path) Plain).0 → file_at t path IsADirectory ≡ Err NotFound
+unfolding apply
+open_finds_none t path = by (file_at t path IsADirectory)
+  where
+    by : (r : Result (List ℕ) Fault) → answers.Failed NotFound ≡ (unless r t (λ bytes. (answers.File (opened bytes), t))).0 → r ≡ Err NotFound
+    by (Ok bytes) e = absurd cc
+    by (Err fault) e = let same : fault ≡ NotFound = cc in ap Err same
 
--- ---- reads
-
-bytes_of : (r : Reply) → has_bytes r ≡ true → (bytes : List ℕ) × (r ≡ replies.Read bytes)
-bytes_of (replies.Read bytes) e = (bytes, refl)
-bytes_of other e = absurd cc
-
-has_of : (r : Reply) → ((bytes : List ℕ) × (r ≡ replies.Read bytes)) → has_bytes r ≡ true
-has_of r k = ap has_bytes k.1
+-- ---- contents
 
 module _ (site : Site) (home : Names) (t : Tree) (is : home_of site.cache ≡ Some home) (rooted : Rooted t) where
-  good_told : (h : Hash) (r : Reply) → IsHash h → IsHeld home t h → AnswersOn site t (commands.GetHash (h ∷ [])) r → tells_damage r ≡ not (has_bytes r) → has_bytes r ≡ is_good home t h
-  good_told h r hash held on told = elim (reads_tell_good site home t h held.0 on.0 r is rooted hash held.1 on.1 on.2) [
-    | inl memory ↦ absurd (let wrong : false ≡ true = ap tells_damage (sym memory) ∙ told ∙ ap (λ x. not (has_bytes x)) memory in cc)
-    | inr both ↦ same_bool (has_bytes r) (is_good home t h) (λ e. both.0 (bytes_of r e)) (λ e. has_of r (both.1 e))
-  ]
+  -- Moves that a log gained. On a tree that holds the content and answers them they say whether it
+  -- is good, and it stays.
+  record Tells (h : Hash) (good : Bool) (old new : Option (List LogItem)) : Type 0 where
+    pub moves : Moves
+    pub gains : Gains old new moves
+    pub tells : IsHash h × IsHeld home t h → AreAnswered t moves → (good ≡ is_good home t h) × (tree_on t moves ≡ t)
 
-  abbrev one : Hash → List Hash
-  one h = h ∷ []
-
-  -- the good ones are counted, and the others are named
-  pub record Judged (hs : List Hash) (reads : List (List Hash × Reply)) : Type 0 where
-    pub count : length (with_bytes reads) ≡ length (filter (is_good home t) hs)
-    pub named : map (λ r. r.0) (with_damage reads) ≡ map (λ h. h ∷ []) (filter (λ h. not (is_good home t h)) hs)
-
-  pub reads_judged : (hs : List Hash) (reads : List (List Hash × Reply)) → ((h : Hash) → Member h hs → IsHash h × IsHeld home t h) → map (λ r. r.0) reads ≡ map (λ h. h ∷ []) hs → EachOn site t (map read_of reads) → Told reads → Judged hs reads
-  reads_judged [] [] held each on told = record { count = refl; named = refl }
-  reads_judged [] (r ∷ rs) held each on told = absurd cc
-  reads_judged (h ∷ hs) [] held each on told = absurd cc
-  reads_judged (h ∷ hs) (r ∷ rs) held each on told =
-      let first : r.0 ≡ h ∷ [] = cc in
-      let later : map (λ (x : List Hash × Reply). x.0) rs ≡ map (λ (x : Hash). x ∷ []) hs = cc in
-      let here = held h (inl refl) in
-      let good = good_told h r.1 here.0 here.1 (subst (λ i. AnswersOn site t (commands.GetHash i) r.1) first on.0) told.0 in
-      let rest = reads_judged hs rs (λ x m. held x (inr m)) later on.1 told.1 in
+  good_told : (h : Hash) (good : Bool) (old new : Option (List LogItem)) → SaysGood site.cache (h ∷ []) good old new → Tells h good old new
+  good_told h good old new (inl (bytes, met, read)) =
+      let file = read.0 in
+      let mid = read.1 in
+      let left = read.3.0 in
+      let last = read.3.1 in
+      let late = read.3.2 in
+      let gave = read.3.3 in
+      let path = content_path site.cache (h ∷ []) in
+      let opening : Moves = (steps.Open path, answers.File file) ∷ [] in
+      let ending : Moves = (steps.Read left piece, answers.Got last []) ∷ [] in
       record {
-        count = same_count (has_bytes r.1) (is_good home t h) r h (with_bytes rs) (filter (is_good home t) hs) good rest.count;
-        named = same_kept (λ (x : List Hash × Reply). x.0) (λ (x : Hash). x ∷ []) (tells_damage r.1) (not (is_good home t h)) r h (with_damage rs) (filter (λ x. not (is_good home t x)) hs)
-            (told.0 ∙ ap not good) first rest.named;
+        moves = opening ++ (gave.0 ++ ending);
+        gains = gains_join old mid new opening (gave.0 ++ ending) read.2 (gains_join mid late new gave.0 ending gave.2 read.3.4);
+        tells = λ held a.
+            let there = content_file site home t h held.1.0 is rooted held.0 held.1.1 in
+            let stays = open_keeps t path in
+            let opened_as = open_gives t path file a.0 in
+            let behind = subst (λ (x : Tree). AreAnswered x (gave.0 ++ ending)) stays a.1 in
+            let parts = answered_split t gave.0 ending behind in
+            let given_all = pieces_given t file left gave.0 bytes opened_as.0 opened_as.2 gave.1 parts.0 in
+            let late_part = answered_rest t gave.0 ending given_all.stays behind in
+            let at_end = read_gives t left last piece given_all.rest [] given_all.known late_part.0 in
+            let none = no_rest piece given_all.rest (omega arith) at_end.0 in
+            let all_bytes : bytes ≡ opened_as.0 = sym (append_nil bytes) ∙ ap (λ (l : List ℕ). bytes ++ l) (sym none) ∙ given_all.whole in (
+              met ∙ ap (λ (r : Result (List ℕ) Fault). is_met (h ∷ []) r) (ap Ok all_bytes ∙ sym opened_as.1 ∙ there),
+              ap (λ (x : Tree). tree_on x (gave.0 ++ ending)) stays ∙ tree_rest t gave.0 ending given_all.stays ∙ read_keeps t left piece,
+            );
       }
+    where
+      append_nil : (l : List ℕ) → l ++ [] ≡ l
+      append_nil [] = refl
+      append_nil (x ∷ l) = ap (λ (k : List ℕ). x ∷ k) (append_nil l)
+  good_told h good old new (inr (bad, finds)) =
+      let path = content_path site.cache (h ∷ []) in
+      record {
+        moves = (steps.Open path, answers.Failed NotFound) ∷ [];
+        gains = finds;
+        tells = λ held a.
+            let there = content_file site home t h held.1.0 is rooted held.0 held.1.1 in
+            (bad ∙ ap (λ (r : Result (List ℕ) Fault). is_met (h ∷ []) r) (sym (open_finds_none t path a.0) ∙ there), open_keeps t path);
+      }
+
+  abbrev pub judged : Hash → Judged
+  judged h = (h ∷ [], is_good home t h)
+
+  -- Moves that a log gained. On a tree that holds these contents and answers them they judge them,
+  -- and it stays.
+  pub record JudgesEach (hs : List Hash) (reads : List Judged) (old new : Option (List LogItem)) : Type 0 where
+    pub moves : Moves
+    pub gains : Gains old new moves
+    pub tells : ((h : Hash) → Member h hs → IsHash h × IsHeld home t h) → AreAnswered t moves → (reads ≡ map judged hs) × (tree_on t moves ≡ t)
+
+  pub reads_judged : (hs : List Hash) (reads : List Judged) (old new : Option (List LogItem)) → map (λ r. r.0) reads ≡ map (λ h. h ∷ []) hs → SaysOfEach site.cache reads old new → JudgesEach hs reads old new
+  reads_judged [] [] old new each says = record { moves = []; gains = gains_none old new says; tells = λ held a. (refl, refl) }
+  reads_judged [] (r ∷ rs) old new each says = absurd cc
+  reads_judged (h ∷ hs) [] old new each says = absurd cc
+  reads_judged (h ∷ hs) (r ∷ rs) old new each says =
+      let first : r.0 ≡ h ∷ [] = cc in
+      let later : map (λ (x : Judged). x.0) rs ≡ map (λ (x : Hash). x ∷ []) hs = cc in
+      let one = good_told h r.1 old says.0 (subst (λ (i : List Hash). SaysGood site.cache i r.1 old says.0) first says.1) in
+      let more = reads_judged hs rs says.0 new later says.2 in
+      record {
+        moves = one.moves ++ more.moves;
+        gains = gains_join old says.0 new one.moves more.moves one.gains more.gains;
+        tells = λ held a.
+            let told = one.tells (held h (inl refl)) (answered_split t one.moves more.moves a).0 in
+            let rest = more.tells (λ x m. held x (inr m)) (answered_rest t one.moves more.moves told.1 a) in (
+              ap₂ (λ (x : Judged) (l : List Judged). x ∷ l) (ap₂ (λ (i : List Hash) (b : Bool). (i, b)) first told.0) rest.0,
+              tree_rest t one.moves more.moves told.1 ∙ rest.1,
+            );
+      }
+
+  -- ---- the good ones are counted, and the others are named
+
+  pub good_counted : (hs : List Hash) → length (filter (λ (r : Judged). r.1) (map judged hs)) ≡ length (filter (is_good home t) hs)
+  good_counted [] = refl
+  good_counted (h ∷ hs) = by (is_good home t h) _ _ (good_counted hs)
+    where
+      by : (b : Bool) (F : List Judged) (G : List Hash) → length F ≡ length G → length (cond b (judged h ∷ F) F) ≡ length (cond b (h ∷ G) G)
+      by true F G e = omega (arith, e)
+      by false F G e = e
+
+  pub others_named : (hs : List Hash) → map (λ (r : Judged). r.0) (filter (λ (r : Judged). not r.1) (map judged hs)) ≡ map (λ h. h ∷ []) (filter (λ h. not (is_good home t h)) hs)
+  others_named [] = refl
+  others_named (h ∷ hs) = by (not (is_good home t h)) _ _ (others_named hs)
+    where
+      by : (b : Bool) (F : List Judged) (G : List Hash) → map (λ (r : Judged). r.0) F ≡ map (λ (x : Hash). x ∷ []) G → map (λ (r : Judged). r.0) (cond b (judged h ∷ F) F) ≡ map (λ (x : Hash). x ∷ []) (cond b (h ∷ G) G)
+      by true F G e = ap (λ (l : List (List Hash)). (h ∷ []) ∷ l) e
+      by false F G e = e
 
 -- ---- questions
 

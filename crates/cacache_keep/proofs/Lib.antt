@@ -6,3 +6,5 @@ mod Parts
 mod Judged
 mod Verdicts
 mod Leaving
+mod Gives
+mod InTurn

@@ -7,7 +7,6 @@ use Rattle.cacache_core.specs.declared.errors.Error.{Error}
 use Rattle.cacache_core.specs.declared.errors.Error.TheVariants.{EntryNotFound, SizeMismatch, IoError, SerdeError, IntegrityError, OutOfMemory}
 use Rattle.cacache_core.specs.declared.errors.Fault.{Fault}
 use Rattle.cacache_core.specs.declared.errors.Fault.TheVariants.{NotFound}
-use Rattle.cacache_core.specs.declared.integrity.digest.Hash.{Hash}
 use Rattle.cacache_store.specs.declared.store.log.LogItem.{LogItem}
 use Rattle.cacache_entry.specs.Latest.{Found}
 use Rattle.cacache_table.specs.declared.command.Command.{Command}
@@ -18,7 +17,7 @@ use Rattle.cacache_table.specs.State.{Site, Item}
 use Rattle.cacache_table.specs.Table.{opening}
 use Rattle.cacache_table.specs.Runs.{Ran, plain_item, without_message}
 use Rattle.cacache_jobs.specs.Sites.{site_of}
-use Rattle.cacache_keep.specs.Calls.{AsksEach, EndsAll, IsFirstError, IsMissing, IsReading, ListsEntries, Made, ReadsEach, SaysWhy, StopsReading, question_of, read_of}
+use Rattle.cacache_keep.specs.Calls.{AsksEach, IsFirstError, IsMissing, IsReading, ListsEntries, Made, SaysWhy, StopsReading, question_of}
 
 -- ---- calls behind calls
 
@@ -29,7 +28,7 @@ made_both site (c ∷ calls) more old mid new made after = (made.0, made.1, made
 why_on : (calls more : List (Command × Reply)) (e : Error) → SaysWhy more e → SaysWhy (calls ++ more) e
 why_on calls more e (inl memory) = inl memory
 why_on calls more e (inr last) =
-    inr (calls ++ last.0, last.1, ap (λ (l : List (Command × Reply)). calls ++ l) last.2 ∙ sym (append_assoc calls last.0 (last.1 ∷ [])), last.3, last.4)
+    inr (calls ++ last.0, last.1, ap (λ (l : List (Command × Reply)). calls ++ l) last.2 ∙ sym (append_assoc calls last.0 (last.1 ∷ [])), last.3)
 
 -- the error ends what begins with these calls
 pub stops_on : (site : Site) (calls : List (Command × Reply)) (e : Error) (old mid new : Option (List LogItem)) → Made site calls old mid → All (λ (c : Command × Reply). IsReading c.0) calls → StopsReading site e mid new → StopsReading site e old new
@@ -45,18 +44,15 @@ pub stops_lost : (site : Site) (calls : List (Command × Reply)) (old new : Opti
 stops_lost site calls old new made harmless = record { calls = calls; made = made; harmless = harmless; why = inl refl }
 
 -- this call was refused
-pub stops_at : (site : Site) (command : Command) (e : Error) (old new : Option (List LogItem)) → IsReading command → EndsAll command e → Ran (opening site command) (replies.Refused (without_message e)) old new → StopsReading site e old new
-stops_at site command e old new reading ends ran = record {
+pub stops_at : (site : Site) (command : Command) (e : Error) (old new : Option (List LogItem)) → IsReading command → Ran (opening site command) (replies.Refused (without_message e)) old new → StopsReading site e old new
+stops_at site command e old new reading ran = record {
   calls = (command, replies.Refused (without_message e)) ∷ [];
   made = (new, ran, refl);
   harmless = All-cons (λ (c : Command × Reply). IsReading c.0) (command, replies.Refused (without_message e)) [] reading (All-nil (λ (c : Command × Reply). IsReading c.0));
-  why = inr ([], (command, replies.Refused (without_message e)), refl, refl, ends);
+  why = inr ([], (command, replies.Refused (without_message e)), refl, refl);
 }
 
--- ---- reads, questions, listings
-
-pub reads_harmless : (reads : List (List Hash × Reply)) → All (λ (c : Command × Reply). IsReading c.0) (map read_of reads)
-reads_harmless reads = All-map (λ (c : Command × Reply). IsReading c.0) read_of reads (λ k d below. tt)
+-- ---- questions, listings
 
 pub asks_harmless : (asks : List (Found × Bool)) → All (λ (c : Command × Reply). IsReading c.0) (map question_of asks)
 asks_harmless asks = All-map (λ (c : Command × Reply). IsReading c.0) question_of asks (λ k d below. tt)
@@ -75,7 +71,7 @@ item_stops site items e old new ran there why = record {
   harmless = listing_harmless (map plain_item items);
   why = elim why [
     | inl memory ↦ inl memory
-    | inr first ↦ inr ([], (commands.Ls, replies.Listed (map plain_item items)), refl, (first_plain items e first, λ missing. there (missing_too items missing)), tt)
+    | inr first ↦ inr ([], (commands.Ls, replies.Listed (map plain_item items)), refl, (first_plain items e first, λ missing. there (missing_too items missing)))
   ];
 }
   where
@@ -105,9 +101,6 @@ item_stops site items e old new ran there why = record {
 pub first_error : (items : List Item) (entries : List Found) (e : Error) (k : ℕ) → k < length items → map Ok entries ≡ take k items → Err e ≡ get_or items k (Err e) → IsFirstError items e
 first_error items entries e k below before is =
     (entries, drop (k + 1) items, sym (take-append-drop k items) ∙ ap (λ (l : List Item). take k items ++ l) (drop_more items k (Err e) below ∙ ap (λ (x : Item). x ∷ drop (k + 1) items) (sym is)) ∙ ap (λ (l : List Item). l ++ Err e ∷ drop (k + 1) items) (sym before))
-
-pub reads_stop : (site : Site) (addresses damaged : List (List Hash)) (good : ℕ) (e : Error) (old mid new : Option (List LogItem)) → ReadsEach site addresses good damaged old mid → StopsReading site e mid new → StopsReading site e old new
-reads_stop site addresses damaged good e old mid new r s = stops_on site (map read_of r.reads) e old mid new r.reading (reads_harmless r.reads) s
 
 pub asks_stop : (site : Site) (entries dangling : List Found) (e : Error) (old mid new : Option (List LogItem)) → AsksEach site entries dangling old mid → StopsReading site e mid new → StopsReading site e old new
 asks_stop site entries dangling e old mid new r s = stops_on site (map question_of r.asks) e old mid new r.asking (asks_harmless r.asks) s

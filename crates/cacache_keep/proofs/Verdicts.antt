@@ -1,7 +1,6 @@
 -- A listing lists, and a verification judges, what the cache holds in the tree of the log.
-use Rattle.std.proofs.Common.{◌≡◌, ◌+◌, ℕ, List, [], ◌∷◌, ◌++◌, Some, map, length, sym, ap, ◌∙◌, arith, filter}
-use Rattle.std.proofs.lemmas.List.{length-map}
-use Rattle.std.specs.Prelude.{Bool, not}
+use Rattle.std.proofs.Common.{◌≡◌, Bool, ℕ, List, [], ◌∷◌, ◌++◌, Some, map, length, ap, ◌∙◌, filter}
+use Rattle.std.specs.Prelude.{not}
 use Rattle.cacache_core.specs.declared.integrity.digest.Hash.{Hash}
 use Rattle.cacache_core.specs.PathNames.{Names, home_of}
 use Rattle.cacache_store.specs.declared.store.log.LogItem.{LogItem}
@@ -9,7 +8,6 @@ use Rattle.cacache_disk.specs.Tree.{Tree}
 use Rattle.cacache_memory.specs.Replay.{tree_of, IsLog}
 use Rattle.cacache_entry.specs.Latest.{Found}
 use Rattle.cacache_table.specs.declared.command.Command.TheVariants as commands
-use Rattle.cacache_table.specs.declared.reply.Reply.{Reply}
 use Rattle.cacache_table.specs.declared.reply.Reply.TheVariants as replies
 use Rattle.cacache_table.specs.State.{Site}
 use Rattle.cacache_history.proofs.InParts.{logs_lead}
@@ -20,10 +18,11 @@ use Rattle.cacache_keep_laws.specs.Verifying.{Judges, has_content}
 use Rattle.cacache_keep_laws.proofs.Members.{contains_member}
 use Rattle.cacache_keep_laws.proofs.Held.{holds_just}
 use Rattle.cacache_keep_laws.proofs.Logged.{answered_rest, answered_split, gains_join, log_rooted, looked, tree_rest, walked}
-use Rattle.cacache_keep.specs.Calls.{question_of, read_of, tells_damage}
+use Rattle.cacache_keep.specs.Calls.{question_of}
 use Rattle.cacache_keep.specs.Keeping.{Verifies}
 use Rattle.cacache_keep.specs.Kept.{LeavesTree, ListsHold, VerdictsJudge}
-use Rattle.cacache_keep.proofs.Judged.{asks_told, index_lists, reads_judged, told_all}
+use Rattle.cacache_keep.specs.Reading.{Judged}
+use Rattle.cacache_keep.proofs.Judged.{asks_told, good_counted, index_lists, others_named, reads_judged}
 use Rattle.cacache_keep.proofs.Parts.{AllLook, made_looks}
 
 pub lists_hold : ListsHold
@@ -33,10 +32,6 @@ lists_hold cache home addresses strange old new is logged lists order =
       (order.hashes, order.single, holds_just cache home (tree_of old) lists.0 is (log_rooted old) lists.2 walk.0 addresses strange lists.3 order),
       lead.1 ∙ walk.1,
     )
-
-all_reads : (reads : List (List Hash × Reply)) → AllLook (map read_of reads)
-all_reads [] = tt
-all_reads (r ∷ rs) = (tt, all_reads rs)
 
 all_questions : (asks : List (Found × Bool)) → AllLook (map question_of asks)
 all_questions [] = tt
@@ -53,7 +48,7 @@ module _ (site : Site) (home : Names) (good : ℕ) (damaged : List (List Hash)) 
   judges : Judges site home t good damaged dangling strange × LeavesTree old new
   judges =
       let c = v.contents in
-      let r = made_looks site t (map read_of v.reading.reads) v.found v.read (all_reads v.reading.reads) v.reading.reading in
+      let r = reads_judged site home t is (log_rooted old) hashes v.reading.reads v.found v.read (v.reading.each ∙ v.order.single) v.reading.reading in
       let l = v.listing.2 in
       let a = made_looks site t (map question_of v.asking.asks) v.listed (Some new) (all_questions v.asking.asks) v.asking.asking in
       let behind = r.moves ++ (l.0 ++ a.moves) in
@@ -61,30 +56,24 @@ module _ (site : Site) (home : Names) (good : ℕ) (damaged : List (List Hash)) 
       let lead = logs_lead old new (c.0 ++ behind) gains logged in
       let walk = walked t c.0 (first (contents_folder site.cache) ∷ []) c.2 (answered_split t c.0 behind lead.0).0 in
       let after_walk = answered_rest t c.0 behind walk.1 lead.0 in
-      let reads = r.tells (answered_split t r.moves (l.0 ++ a.moves) after_walk).0 in
+      let holds : HoldsJust site.cache home t hashes strange = holds_just site.cache home t c.0 is (log_rooted old) c.2 walk.0 v.addresses strange c.3 v.order in
+      let reads = r.tells
+      (λ h m. let k = contains_member h hashes m in (holds.formed h k, (holds.held h (holds.formed h k)).0 k))
+      (answered_split t r.moves (l.0 ++ a.moves) after_walk).0 in
       let after_reads = answered_rest t r.moves (l.0 ++ a.moves) reads.1 after_walk in
       let index = looked site t commands.Ls (replies.Listed v.listing.0) l.0 tt l.1 (answered_split t l.0 a.moves after_reads).0 in
-      let asks = a.tells (answered_rest t l.0 a.moves index.1 after_reads) in
-      let holds : HoldsJust site.cache home t hashes strange = holds_just site.cache home t c.0 is (log_rooted old) c.2 walk.0 v.addresses strange c.3 v.order in
-      let told = told_all v.reading.reads
-      (sym (ap₂+ v.reading.whole (ap length v.reading.broken ∙ length-map (filter (λ r. tells_damage r.1) v.reading.reads) (λ r. r.0))) ∙ v.reading.counts ∙ ap length (sym v.reading.each) ∙ length-map v.reading.reads (λ r. r.0)) in
-      let judged = reads_judged site home t is (log_rooted old) hashes v.reading.reads
-      (λ h m. let k = contains_member h hashes m in (holds.formed h k, (holds.held h (holds.formed h k)).0 k))
-      (v.reading.each ∙ v.order.single) reads.0 told in (
+      let asks = a.tells (answered_rest t l.0 a.moves index.1 after_reads) in (
         record {
           hashes = hashes;
           contents = holds;
-          counted = v.reading.whole ∙ judged.count;
-          broken = v.reading.broken ∙ judged.named;
+          counted = v.reading.whole ∙ ap (λ (l : List Judged). length (filter (λ (x : Judged). x.1) l)) reads.0 ∙ good_counted site home t is (log_rooted old) hashes;
+          broken = v.reading.broken ∙ ap (λ (l : List Judged). map (λ (x : Judged). x.0) (filter (λ (x : Judged). not x.1) l)) reads.0 ∙ others_named site home t is (log_rooted old) hashes;
           entries = v.entries;
           index = index_lists site t v.listing.0 v.entries v.listing.1 index.0;
           absent = v.asking.absent ∙ asks_told site t v.asking.asks asks.0 ∙ ap (λ l. filter (λ f. not (has_content site.cache t f)) l) v.asking.each;
         },
         lead.1 ∙ tree_rest t c.0 behind walk.1 ∙ tree_rest t r.moves (l.0 ++ a.moves) reads.1 ∙ tree_rest t l.0 a.moves index.1 ∙ asks.1,
       )
-    where
-      ap₂+ : {a b c d : ℕ} → a ≡ b → c ≡ d → a + c ≡ b + d
-      ap₂+ e f = omega (arith, e, f)
 
 pub verdicts_judge : VerdictsJudge
 verdicts_judge site home good damaged dangling strange old new is logged v = judges site home good damaged dangling strange old new is logged v

@@ -1,7 +1,7 @@
 -- What a verification and a collection ask of a cache, call by call.
-use Rattle.std.specs.Prelude.{◌≡◌, ◌⊎◌, ◌++◌, ◌+◌, ◌≤◌, All, ℕ, List, [], ◌∷◌, Bool, true, false, Option, Ok, Err, Vec, filter, length, map, not}
+use Rattle.std.specs.Prelude.{◌≡◌, ◌⊎◌, ◌++◌, ◌≤◌, All, ℕ, List, [], ◌∷◌, Bool, false, Option, Ok, Err, Vec, filter, length, map, not}
 use Rattle.cacache_core.specs.declared.errors.Error.{Error}
-use Rattle.cacache_core.specs.declared.errors.Error.TheVariants.{IoError, IntegrityError, OutOfMemory}
+use Rattle.cacache_core.specs.declared.errors.Error.TheVariants.{IoError, OutOfMemory}
 use Rattle.cacache_core.specs.declared.errors.Fault.TheVariants.{NotFound}
 use Rattle.cacache_core.specs.declared.integrity.digest.Hash.{Hash}
 use Rattle.cacache_core.specs.Integrity.{IsIntegrity}
@@ -24,50 +24,6 @@ Made site [] old new = new ≡ old
 Made site (call ∷ calls) old new =
     (next : Option (List LogItem)) × Ran (opening site call.0) call.1 old next
     × Made site calls next new
-
--- ---- contents that are read
-
--- the error says that a content is damaged: its bytes don't meet the address, or it is gone
-abbrev pub is_damage : Error → Bool
-is_damage (IntegrityError fault) = true
-is_damage (IoError NotFound message) = true
-is_damage error = false
-
--- a reply with the bytes of a content, which are good
-abbrev pub has_bytes : Reply → Bool
-has_bytes (replies.Read bytes) = true
-has_bytes reply = false
-
--- a reply that says that a content is damaged
-abbrev pub tells_damage : Reply → Bool
-tells_damage (replies.Refused error) = is_damage error
-tells_damage reply = false
-
--- a reply that says which of the two it is
-abbrev pub Tells : Reply → Bool → Type 0
-Tells reply good = (has_bytes reply ≡ good) × (tells_damage reply ≡ not good)
-
--- the log gained a read of the content, which says so of it
-abbrev pub SaysGood :
-    Site → List Hash → Bool → Option (List LogItem) → Option (List LogItem) → Type 0
-SaysGood site i good old new =
-    (reply : Reply) × Tells reply good × Ran (opening site (commands.GetHash i)) reply old new
-
--- an address and the reply to a read of it, as a call
-abbrev pub read_of : List Hash × Reply → Command × Reply
-read_of r = (commands.GetHash r.0, r.1)
-
--- The log gained a read of each of these addresses, in turn: so many contents are good, and these
--- are damaged. Together they are all of them.
-pub record ReadsEach
-    (site : Site) (addresses : List (List Hash)) (good : ℕ) (damaged : List (List Hash))
-    (old new : Option (List LogItem)) : Type 0 where
-  pub reads : List (List Hash × Reply)
-  pub each : map (λ r. r.0) reads ≡ addresses
-  pub reading : Made site (map read_of reads) old new
-  pub whole : good ≡ length (filter (λ r. has_bytes r.1) reads)
-  pub broken : damaged ≡ map (λ r. r.0) (filter (λ r. tells_damage r.1) reads)
-  pub counts : good + length damaged ≡ length addresses
 
 -- ---- the index
 
@@ -137,7 +93,6 @@ pub record AreOthers (live : List Hash) (addresses others : List (List Hash)) : 
 
 -- the command reads, and changes nothing
 abbrev pub IsReading : Command → Type 0
-IsReading (commands.GetHash i) = Unit {0}
 IsReading (commands.Exists i) = Unit {0}
 IsReading commands.Ls = Unit {0}
 IsReading command = ⊥
@@ -154,17 +109,12 @@ SaysError (replies.Listed items) e =
     IsFirstError items (without_message e) × (IsMissing items → ⊥)
 SaysError reply e = ⊥
 
--- the error of such a call ends all: that of a content's read does, unless it says damage
-abbrev pub EndsAll : Command → Error → Type 0
-EndsAll (commands.GetHash i) e = is_damage e ≡ false
-EndsAll command e = Unit {0}
-
 -- the last of the calls says the error, or memory ran out
 abbrev pub SaysWhy : List (Command × Reply) → Error → Type 0
 SaysWhy calls e =
     (e ≡ OutOfMemory)
     ⊎ ((before : List (Command × Reply)) × (last : Command × Reply)
-    × (calls ≡ before ++ last ∷ []) × SaysError last.1 e × EndsAll last.0 e)
+    × (calls ≡ before ++ last ∷ []) × SaysError last.1 e)
 
 -- the log gained runs of calls that read, which the error ended
 pub record StopsReading

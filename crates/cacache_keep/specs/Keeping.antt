@@ -6,10 +6,11 @@ use Rattle.cacache_store.specs.declared.store.log.LogItem.{LogItem}
 use Rattle.cacache_entry.specs.Latest.{Found}
 use Rattle.cacache_table.specs.State.{Site}
 use Rattle.cacache_contents.specs.Listing.{IsByHash, ListsContents, StopsListing}
-use Rattle.cacache_keep.specs.Calls.{AreUnused, AsksEach, ListsEntries, Made, ReadsEach, StopsReading, StopsRemoving, removal}
+use Rattle.cacache_keep.specs.Calls.{AreUnused, AsksEach, ListsEntries, Made, StopsReading, StopsRemoving, removal}
+use Rattle.cacache_keep.specs.Reading.{ReadsEach, StopsEach}
 
--- The contents are listed, each is read, the index is listed, and of each entry is asked whether
--- its content is there.
+-- The contents are listed, each is read in pieces, the index is listed, and of each entry is asked
+-- whether its content is there.
 pub record Verifies
     (site : Site) (good : ℕ) (damaged : List (List Hash)) (dangling : List Found)
     (strange : List (List ℕ)) (old new : Option (List LogItem)) : Type 0 where
@@ -18,7 +19,7 @@ pub record Verifies
   pub found : Option (List LogItem)
   pub contents : ListsContents site.cache addresses strange old found
   pub read : Option (List LogItem)
-  pub reading : ReadsEach site addresses good damaged found read
+  pub reading : ReadsEach site.cache addresses good damaged found read
   pub entries : List Found
   pub listed : Option (List LogItem)
   pub listing : ListsEntries site entries read listed
@@ -46,6 +47,22 @@ Collects site kept dropped old new =
     × Made site (map removal dropped) chosen new
 
 -- ---- errors
+
+-- the contents were read, and the error ended calls after them that read and change nothing
+abbrev pub StopsAfterReads :
+    Site → List (List Hash) → Error → Option (List LogItem) → Option (List LogItem) → Type 0
+StopsAfterReads site addresses e old new =
+    (good : ℕ) × (damaged : List (List Hash)) × (read : Option (List LogItem))
+    × ReadsEach site.cache addresses good damaged old read × StopsReading site e read new
+
+-- the error ended the listing of the contents, the reading of one, or the calls after it
+abbrev pub StopsVerifying :
+    Site → Error → Option (List LogItem) → Option (List LogItem) → Type 0
+StopsVerifying site e old new =
+    StopsListing site.cache e old new
+    ⊎ ((addresses : List (List Hash)) × (strange : List (List ℕ))
+    × (found : Option (List LogItem)) × ListsContents site.cache addresses strange old found
+    × (StopsEach site.cache addresses e found new ⊎ StopsAfterReads site addresses e found new))
 
 -- the error ended the listing of the contents, or calls after it that read and change nothing
 abbrev pub StopsEarly : Site → Error → Option (List LogItem) → Option (List LogItem) → Type 0

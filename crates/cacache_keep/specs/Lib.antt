@@ -1,3 +1,4 @@
 pub mod Calls
 pub mod Keeping
 pub mod Kept
+pub mod Reading

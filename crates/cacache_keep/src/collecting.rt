@@ -14,7 +14,7 @@ use cacache_store::env::{Clock, Env, Names};
 use cacache_store::store::Store;
 
 /// What a collection did.
-#[derive(Drop)]
+#[derive(Debug, Drop)]
 pub struct Collected {
     /// How many contents were left.
     pub kept: u64,

@@ -2,7 +2,7 @@
 ghost use Rattle.std.specs.Prelude.{◌≡◌, IfOk, IfErr, map, string_bytes};
 ghost use Rattle.cacache_entry.specs.View.{found_view};
 ghost use Rattle.cacache_jobs.specs.Sites.{site_of};
-ghost use Rattle.cacache_keep.specs.Keeping.{StopsEarly, Verifies};
+ghost use Rattle.cacache_keep.specs.Keeping.{StopsVerifying, Verifies};
 
 use crate::asking::dangling_of;
 use crate::index::entries;
@@ -15,7 +15,7 @@ use cacache_store::env::{Clock, Env, Names};
 use cacache_store::store::Store;
 
 /// What a verification found.
-#[derive(Drop)]
+#[derive(Debug, Drop)]
 pub struct Verdict {
     /// How many contents have the bytes that their address says.
     pub good: u64,
@@ -28,24 +28,24 @@ pub struct Verdict {
 }
 
 /// Reads each content of a cache, and asks of each entry whether its content is there. Nothing
-/// changes.
+/// changes. A content is read in pieces of 8 KiB, of which one is in memory at a time.
 ///
 /// A content whose bytes don't meet its address is damaged, and so is one that was gone when it was
-/// to be read. Errors are those of `cacache_contents::list`, of any other read that failed, and the
-/// first error among the items of the index; a folder of the index that isn't there has no items.
-/// `OutOfMemory` may come at any time.
+/// to be opened. Errors are those of `cacache_contents::list`, of an opening or a read that failed
+/// otherwise, and the first error among the items of the index; a folder of the index that isn't
+/// there has no items. `OutOfMemory` may come at any time.
 pub fn verify<S: Store, C: Clock, N: Names>(env: &mut Env<S, C, N>, cache: &str) -> Result<Verdict>
     ensures verifies { IfOk result (λ v. Verifies (site_of cache.now env.old.base 0)
         v.good v.damaged.items (map found_view v.dangling.items) (map string_bytes v.strange.items)
         (S.log env.old.store) (S.log env.new.store)) }
-    ensures stops { IfErr result (λ e. StopsEarly (site_of cache.now env.old.base 0) e
+    ensures stops { IfErr result (λ e. StopsVerifying (site_of cache.now env.old.base 0) e
         (S.log env.old.store) (S.log env.new.store)) }
     ensures clock { env.new.clock ≡ env.old.clock }
     ensures names { env.new.names ≡ env.old.names }
     ensures base { env.new.base ≡ env.old.base }
 {
     let Contents { addresses, strange } = list(env, cache)?;
-    let Read { good, damaged } = read_each(env, cache, addresses)?;
+    let Read { good, damaged } = read_each(env.alloc, &mut env.store, cache, addresses)?;
     let entries = entries(env, cache)?;
     let dangling = dangling_of(env, cache, entries)?;
     Ok(Verdict {

@@ -55,7 +55,7 @@ returns-in_err-exists_sync-clause-stops g c =
     let found = c.in-Some.found in
     let e = c.in_err-exists_sync.field-0.0 in
     let ran = ran_at c.args.cache.now c.args.env.now.base c.loop-found.env.base (commands.Exists found.integrity) _ (replies.Refused (without_message e)) _ mid new i.0.2 (ap (λ (f : Found). commands.Exists f.integrity) c.as_metadata.ensures) refl c.in_err-exists_sync.ensures.ran.0.0 in
-    error_as (λ x. StopsReading site x old new) c.from_residual.result e c.from_residual.ensures.1 (asks_stop site c.loop-found.yielded (map found_view c.loop-found.dangling.items) e old mid new i.1 (stops_at site (commands.Exists found.integrity) e mid new tt tt ran))
+    error_as (λ x. StopsReading site x old new) c.from_residual.result e c.from_residual.ensures.1 (asks_stop site c.loop-found.yielded (map found_view c.loop-found.dangling.items) e old mid new i.1 (stops_at site (commands.Exists found.integrity) e mid new tt ran))
 
 pub returns-in_err-push-clause-stops : goal.returns-in_err-push-clause-stops
 returns-in_err-push-clause-stops g c =

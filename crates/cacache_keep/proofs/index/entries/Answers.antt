@@ -22,4 +22,4 @@ returns-in_err-items-clause-stops g c =
     let old = g.S.Store.log c.args.env.now.store in
     let new = g.S.Store.log c.items.new.env.store in
     let e = c.in_err-items.field-0.0 in
-    error_as (λ x. StopsReading site x old new) c.from_residual.result e c.from_residual.ensures.1 (stops_at site Ls e old new tt tt c.in_err-items.ensures.0.0)
+    error_as (λ x. StopsReading site x old new) c.from_residual.result e c.from_residual.ensures.1 (stops_at site Ls e old new tt c.in_err-items.ensures.0.0)

@@ -1,13 +1,13 @@
 use Rattle.std.proofs.Common.{inl, inr, map, string_bytes, ◌∙◌}
 use Rattle.cacache_jobs.specs.Sites.{site_of}
-use Rattle.cacache_keep.specs.Calls.{ListsEntries, ReadsEach, StopsReading}
-use Rattle.cacache_keep.specs.Keeping.{StopsEarly}
-use Rattle.cacache_keep.proofs.Stopped.{at_base, entries_stop, error_as, reads_stop}
+use Rattle.cacache_keep.specs.Calls.{ListsEntries, StopsReading}
+use Rattle.cacache_keep.specs.Keeping.{StopsVerifying}
+use Rattle.cacache_keep.proofs.Stopped.{at_base, entries_stop, error_as}
 use Rattle.cacache_keep.proofs.verifying.verify.Goals as goal
 
 pub returns-in_err-addresses-clause-stops : goal.returns-in_err-addresses-clause-stops
 returns-in_err-addresses-clause-stops g c =
-    error_as (λ x. StopsEarly (site_of c.args.cache.now c.args.env.now.base 0) x (g.S.Store.log c.args.env.now.store) (g.S.Store.log c.list.new.env.store)) c.from_residual.result c.in_err-addresses.field-0.0 c.from_residual.ensures.1 (inl c.in_err-addresses.ensures.stops)
+    error_as (λ x. StopsVerifying (site_of c.args.cache.now c.args.env.now.base 0) x (g.S.Store.log c.args.env.now.store) (g.S.Store.log c.list.new.env.store)) c.from_residual.result c.in_err-addresses.field-0.0 c.from_residual.ensures.1 (inl c.in_err-addresses.ensures.stops)
 
 pub returns-in_err-good-clause-stops : goal.returns-in_err-good-clause-stops
 returns-in_err-good-clause-stops g c =
@@ -16,9 +16,8 @@ returns-in_err-good-clause-stops g c =
     let site = site_of cache base 0 in
     let log = g.S.Store.log in
     let e = c.in_err-good.field-0.0 in
-    let stop = at_base (λ s. StopsReading s e (log c.list.new.env.store) (log c.read_each.new.env.store)) cache base c.list.new.env.base c.list.ensures.base c.in_err-good.ensures.stops in
-    error_as (λ x. StopsEarly site x (log c.args.env.now.store) (log c.read_each.new.env.store)) c.from_residual-in_err-good.result e c.from_residual-in_err-good.ensures.1
-    (inr (c.in_ok-addresses.field-0.addresses.items, map string_bytes c.in_ok-addresses.field-0.strange.items, log c.list.new.env.store, c.in_ok-addresses.ensures.lists, stop))
+    error_as (λ x. StopsVerifying site x (log c.args.env.now.store) (log c.read_each.new.store)) c.from_residual-in_err-good.result e c.from_residual-in_err-good.ensures.1
+    (inr (c.in_ok-addresses.field-0.addresses.items, map string_bytes c.in_ok-addresses.field-0.strange.items, log c.list.new.env.store, c.in_ok-addresses.ensures.lists, inl c.in_err-good.ensures.stops))
 
 pub returns-in_err-entries-clause-stops : goal.returns-in_err-entries-clause-stops
 returns-in_err-entries-clause-stops g c =
@@ -26,15 +25,12 @@ returns-in_err-entries-clause-stops g c =
     let base = c.args.env.now.base in
     let site = site_of cache base 0 in
     let log = g.S.Store.log in
-    let found = log c.list.new.env.store in
-    let read = log c.read_each.new.env.store in
+    let read = log c.read_each.new.store in
     let new = log c.entries.new.env.store in
     let e = c.in_err-entries.field-0.0 in
-    let addresses = c.in_ok-addresses.field-0.addresses.items in
-    let reads = at_base (λ s. ReadsEach s addresses c.in_ok-good.field-0.good c.in_ok-good.field-0.damaged.items found read) cache base c.list.new.env.base c.list.ensures.base c.in_ok-good.ensures.reads in
-    let stop = at_base (λ s. StopsReading s e read new) cache base c.read_each.new.env.base (c.read_each.ensures.rest.2 ∙ c.list.ensures.base) c.in_err-entries.ensures.stops in
-    error_as (λ x. StopsEarly site x (log c.args.env.now.store) new) c.from_residual-in_err-entries.result e c.from_residual-in_err-entries.ensures.1
-    (inr (addresses, map string_bytes c.in_ok-addresses.field-0.strange.items, found, c.in_ok-addresses.ensures.lists, reads_stop site addresses _ _ e found read new reads stop))
+    let stop = at_base (λ s. StopsReading s e read new) cache base c.list.new.env.base c.list.ensures.base c.in_err-entries.ensures.stops in
+    error_as (λ x. StopsVerifying site x (log c.args.env.now.store) new) c.from_residual-in_err-entries.result e c.from_residual-in_err-entries.ensures.1
+    (inr (c.in_ok-addresses.field-0.addresses.items, map string_bytes c.in_ok-addresses.field-0.strange.items, log c.list.new.env.store, c.in_ok-addresses.ensures.lists, inr (_, _, read, c.in_ok-good.ensures.reads, stop)))
 
 pub returns-in_err-dangling-clause-stops : goal.returns-in_err-dangling-clause-stops
 returns-in_err-dangling-clause-stops g c =
@@ -42,15 +38,11 @@ returns-in_err-dangling-clause-stops g c =
     let base = c.args.env.now.base in
     let site = site_of cache base 0 in
     let log = g.S.Store.log in
-    let found = log c.list.new.env.store in
-    let read = log c.read_each.new.env.store in
+    let read = log c.read_each.new.store in
     let listed = log c.entries.new.env.store in
     let new = log c.dangling_of.new.env.store in
     let e = c.in_err-dangling.field-0.0 in
-    let addresses = c.in_ok-addresses.field-0.addresses.items in
-    let same = c.read_each.ensures.rest.2 ∙ c.list.ensures.base in
-    let reads = at_base (λ s. ReadsEach s addresses c.in_ok-good.field-0.good c.in_ok-good.field-0.damaged.items found read) cache base c.list.new.env.base c.list.ensures.base c.in_ok-good.ensures.reads in
-    let lists = at_base (λ s. ListsEntries s c.in_ok-entries.entries.items read listed) cache base c.read_each.new.env.base same c.in_ok-entries.ensures.lists in
-    let stop = at_base (λ s. StopsReading s e listed new) cache base c.entries.new.env.base (c.entries.ensures.rest.2 ∙ same) c.in_err-dangling.ensures.stops in
-    error_as (λ x. StopsEarly site x (log c.args.env.now.store) new) c.from_residual-in_err-dangling.result e c.from_residual-in_err-dangling.ensures.1
-    (inr (addresses, map string_bytes c.in_ok-addresses.field-0.strange.items, found, c.in_ok-addresses.ensures.lists, reads_stop site addresses _ _ e found read new reads (entries_stop site _ e read listed new lists stop)))
+    let lists = at_base (λ s. ListsEntries s c.in_ok-entries.entries.items read listed) cache base c.list.new.env.base c.list.ensures.base c.in_ok-entries.ensures.lists in
+    let stop = at_base (λ s. StopsReading s e listed new) cache base c.entries.new.env.base (c.entries.ensures.rest.2 ∙ c.list.ensures.base) c.in_err-dangling.ensures.stops in
+    error_as (λ x. StopsVerifying site x (log c.args.env.now.store) new) c.from_residual-in_err-dangling.result e c.from_residual-in_err-dangling.ensures.1
+    (inr (c.in_ok-addresses.field-0.addresses.items, map string_bytes c.in_ok-addresses.field-0.strange.items, log c.list.new.env.store, c.in_ok-addresses.ensures.lists, inr (_, _, read, c.in_ok-good.ensures.reads, entries_stop site _ e read listed new lists stop)))

@@ -1,0 +1,133 @@
+-- Contents that are read in pieces, and which of them are good.
+use Rattle.std.specs.Prelude.{◌≡◌, ◌⊎◌, ◌++◌, ◌+◌, ℕ, List, [], ◌∷◌, Bool, true, false, Option, filter, length, map, not}
+use Rattle.cacache_core.specs.declared.errors.Error.{Error}
+use Rattle.cacache_core.specs.declared.errors.Error.TheVariants.{IoError, OutOfMemory}
+use Rattle.cacache_core.specs.declared.errors.Fault.TheVariants.{NotFound}
+use Rattle.cacache_core.specs.declared.integrity.digest.Hash.{Hash}
+use Rattle.cacache_core.specs.Meeting.{meets}
+use Rattle.cacache_store.specs.declared.store.answer.Answer.TheVariants as answers
+use Rattle.cacache_store.specs.declared.store.log.LogItem.{LogItem}
+use Rattle.cacache_store.specs.declared.store.plain.PlainFile.{PlainFile}
+use Rattle.cacache_store.specs.declared.store.step.Step.TheVariants as steps
+use Rattle.cacache_table.specs.declared.answers.Refusal.{Refusal}
+use Rattle.cacache_table.specs.declared.answers.Refusal.TheVariants as refusals
+use Rattle.cacache_table.specs.Runs.{Moves, Gains}
+use Rattle.cacache_table.specs.SingleSteps.{Does, FailsAt}
+use Rattle.cacache_table.specs.StepPaths.{content_path}
+use Rattle.cacache_table.specs.Table.{piece}
+
+-- ---- an open file
+
+-- each of the moves is a read of a piece; they gave these bytes, and this is what is left of the file
+abbrev pub Pieces : PlainFile → Moves → List ℕ → PlainFile → Type 0
+Pieces file [] bytes left = (bytes ≡ []) × (left ≡ file)
+Pieces file ((steps.Read f most, answers.Got g (b ∷ bs)) ∷ moves) bytes left =
+    (f ≡ file) × (most ≡ piece)
+    × (more : List ℕ) × (bytes ≡ (b ∷ bs) ++ more) × Pieces g moves more left
+Pieces file moves bytes left = ⊥
+
+-- the log gained such reads
+abbrev pub Gave :
+    PlainFile → List ℕ → PlainFile → Option (List LogItem) → Option (List LogItem) → Type 0
+Gave file bytes left old new = (moves : Moves) × Pieces file moves bytes left × Gains old new moves
+
+-- and then a read that gave nothing: these are all the bytes of the file
+abbrev pub GaveAll : PlainFile → List ℕ → Option (List LogItem) → Option (List LogItem) → Type 0
+GaveAll file bytes old new =
+    (left last : PlainFile) × (mid : Option (List LogItem)) × Gave file bytes left old mid
+    × Does (steps.Read left piece) (answers.Got last []) mid new
+
+-- the next read failed
+abbrev pub FailsToGive : PlainFile → Error → Option (List LogItem) → Option (List LogItem) → Type 0
+FailsToGive file e old new =
+    (bytes : List ℕ) × (left : PlainFile) × (mid : Option (List LogItem))
+    × Gave file bytes left old mid × FailsAt (steps.Read left piece) e mid new
+
+-- so it did, or memory ran out once all was read
+abbrev pub StopsGiving : PlainFile → Error → Option (List LogItem) → Option (List LogItem) → Type 0
+StopsGiving file e old new =
+    FailsToGive file e old new
+    ⊎ ((e ≡ OutOfMemory) × (bytes : List ℕ) × GaveAll file bytes old new)
+
+-- ---- a content
+
+-- the error says that nothing was found
+abbrev pub is_gone : Error → Bool
+is_gone (IoError NotFound message) = true
+is_gone error = false
+
+-- a step was refused because nothing was found
+abbrev pub finds_none : Refusal → Bool
+finds_none (refusals.Fault NotFound) = true
+finds_none refusal = false
+
+module _ (cache : List ℕ) (i : List Hash) where
+  -- the log gained an opening of the content, which gave this file
+  abbrev pub Opens : PlainFile → Option (List LogItem) → Option (List LogItem) → Type 0
+  Opens file old new = Does (steps.Open (content_path cache i)) (answers.File file) old new
+
+  -- it is gone
+  abbrev pub FindsNone : Option (List LogItem) → Option (List LogItem) → Type 0
+  FindsNone old new = Does (steps.Open (content_path cache i)) (answers.Failed NotFound) old new
+
+  -- it was opened and read to its end, and gave these bytes
+  abbrev pub ReadsWhole : List ℕ → Option (List LogItem) → Option (List LogItem) → Type 0
+  ReadsWhole bytes old new =
+      (file : PlainFile) × (mid : Option (List LogItem)) × Opens file old mid
+      × GaveAll file bytes mid new
+
+  -- the content is good exactly where its bytes meet the address; one that is gone isn't
+  abbrev pub SaysGood : Bool → Option (List LogItem) → Option (List LogItem) → Type 0
+  SaysGood good old new =
+      ((bytes : List ℕ) × (good ≡ meets i bytes) × ReadsWhole bytes old new)
+      ⊎ ((good ≡ false) × FindsNone old new)
+
+  -- the error ended that: the content couldn't be opened though it isn't gone, or not be read
+  abbrev pub StopsContent : Error → Option (List LogItem) → Option (List LogItem) → Type 0
+  StopsContent e old new =
+      ((is_gone e ≡ false) × FailsAt (steps.Open (content_path cache i)) e old new)
+      ⊎ ((file : PlainFile) × (mid : Option (List LogItem)) × Opens file old mid
+      × StopsGiving file e mid new)
+
+-- ---- contents, one after another
+
+-- a content's address, and whether it is good
+abbrev pub Judged : Type 0
+Judged = List Hash × Bool
+
+-- the log gained what says so of each of these contents, in turn
+abbrev pub SaysOfEach :
+    List ℕ → List Judged → Option (List LogItem) → Option (List LogItem) → Type 0
+SaysOfEach cache [] old new = new ≡ old
+SaysOfEach cache (r ∷ reads) old new =
+    (next : Option (List LogItem)) × SaysGood cache r.0 r.1 old next
+    × SaysOfEach cache reads next new
+
+-- The contents at these addresses were read, each in turn: so many are good, and these are damaged.
+-- Together they are all of them.
+pub record ReadsEach
+    (cache : List ℕ) (addresses : List (List Hash)) (good : ℕ) (damaged : List (List Hash))
+    (old new : Option (List LogItem)) : Type 0 where
+  pub reads : List Judged
+  pub each : map (λ r. r.0) reads ≡ addresses
+  pub reading : SaysOfEach cache reads old new
+  pub whole : good ≡ length (filter (λ r. r.1) reads)
+  pub broken : damaged ≡ map (λ r. r.0) (filter (λ r. not r.1) reads)
+  pub counts : good + length damaged ≡ length addresses
+
+-- the error ended the reading of the first of these contents; or there is none, and memory ran out
+abbrev pub StopsNext :
+    List ℕ → List (List Hash) → Error → Option (List LogItem) → Option (List LogItem) → Type 0
+StopsNext cache [] e old new = (e ≡ OutOfMemory) × (new ≡ old)
+StopsNext cache (i ∷ rest) e old new = StopsContent cache i e old new
+
+-- some of the contents at these addresses were read, and the error ended the reading of the next
+pub record StopsEach
+    (cache : List ℕ) (addresses : List (List Hash)) (e : Error)
+    (old new : Option (List LogItem)) : Type 0 where
+  pub reads : List Judged
+  pub rest : List (List Hash)
+  pub split : addresses ≡ map (λ r. r.0) reads ++ rest
+  pub between : Option (List LogItem)
+  pub reading : SaysOfEach cache reads old between
+  pub stop : StopsNext cache rest e between new
