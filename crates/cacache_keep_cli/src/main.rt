@@ -2,19 +2,25 @@
 #![tactic(auto)]
 
 use cacache::env::folders;
-use cacache_keep_program::{USAGE, run};
-use cacache_program::{without_words, words_of};
+use cacache_keep_program::{USAGE, run, tell_about};
+use cacache_program::{Errors, asks_why, without_words, words_of};
 use std::io::Write;
 use std::process::ExitCode;
 
 fn main(rt: HostRuntime) -> ExitCode {
+    let mut errors = Errors::new(rt.stderr());
     let words = match words_of(&rt) {
         Ok(words) => words,
-        Err(error) => return ExitCode::from(without_words(&error, USAGE, &mut rt.stderr())),
+        Err(error) => return ExitCode::from(without_words(&error, USAGE, &mut errors)),
     };
+    let (says_why, words) = asks_why(&words);
+    errors.says_why = says_why;
+    if let Some(status) = tell_about(words, &mut rt.stdout(), &mut errors) {
+        return ExitCode::from(status);
+    }
     let Ok(mut env) = folders(rt, ".") else {
-        let _ = rt.stderr().write_all(b"out of memory\n");
+        let _ = errors.output.write_all(b"out of memory\n");
         return ExitCode::from(1);
     };
-    ExitCode::from(run(&mut env, &words, &mut rt.stdout(), &mut rt.stderr()))
+    ExitCode::from(run(&mut env, words, &mut rt.stdout(), &mut errors))
 }

@@ -1,8 +1,9 @@
 //! What the program `cacache-keep` does with its words and its streams, over any store.
 #![tactic(auto)]
 
+mod about;
 mod output;
 mod program;
 
-pub use output::USAGE;
+pub use about::{HELP, USAGE, VERSION, tell_about};
 pub use program::run;

@@ -1,14 +1,11 @@
-//! What goes to the output and to the errors.
+//! What goes to the output.
 ghost use Rattle.std.specs.Prelude.{◌≡◌, ◌⊎◌};
 
 use cacache::errors::Error;
 use cacache_keep::{Collected, Verdict};
-use cacache_program::call_failed;
+use cacache_program::{Errors, call_failed};
 use std::alloc::{AllocError, Global};
 use std::io::Write;
-
-/// What the program says to wrong words.
-pub const USAGE: &str = "usage: cacache-keep verify|collect CACHE\n";
 
 /// What is printed of a verification.
 pub(crate) fn verdict_text(alloc: Global, verdict: &Verdict) -> Result<String, AllocError> {
@@ -31,18 +28,18 @@ pub(crate) fn put_out<W: Write, E: Write>(
     text: Result<String, AllocError>,
     status: u8,
     output: &mut W,
-    errors: &mut E,
+    errors: &mut Errors<E>,
 ) -> u8
     ensures fails { (result ≡ status) ⊎ (result ≡ 1) }
     ensures quiet { result ≡ 0 → errors.new ≡ errors.old }
 {
     let Ok(text) = text else {
-        return call_failed(errors, &Error::OutOfMemory);
+        return call_failed(errors, &Error::OutOfMemory, None);
     };
     match output.write_all(text.as_bytes()) {
         Ok(()) => status,
         Err(_) => {
-            let _ = errors.write_all(b"output failed\n");
+            let _ = errors.output.write_all(b"output failed\n");
             1
         }
     }

@@ -2,11 +2,11 @@
 ghost use Rattle.std.specs.Prelude.{◌≡◌, ◌≢◌, ◌≤◌, ◌⊎◌};
 ghost use Rattle.cacache_keep_program.specs.Words.{IsWrong};
 
-use crate::output::{USAGE, collected_text, put_out, verdict_text};
+use crate::about::USAGE;
+use crate::output::{collected_text, put_out, verdict_text};
 use cacache::env::{Clock, Env, Names};
-use cacache::store::Store;
 use cacache_keep::{Verdict, collect, verify};
-use cacache_program::{call_failed, misused};
+use cacache_program::{Errors, Reasons, call_failed, misused};
 use std::io::Write;
 
 /// The status of a verification: 0 where all is good, else 3.
@@ -21,11 +21,11 @@ fn status_of(verdict: &Verdict) -> u8
 }
 
 /// Verifies the cache, and prints how many contents are good and damaged, entries dangle, and other files are there.
-fn verified<S: Store, C: Clock, N: Names, W: Write, E: Write>(
+fn verified<S: Reasons, C: Clock, N: Names, W: Write, E: Write>(
     env: &mut Env<S, C, N>,
     cache: &str,
     output: &mut W,
-    errors: &mut E,
+    errors: &mut Errors<E>,
 ) -> u8
     ensures status { (result ≤ 3) × (result ≢ 2) }
     ensures quiet { result ≡ 0 → errors.new ≡ errors.old }
@@ -35,33 +35,33 @@ fn verified<S: Store, C: Clock, N: Names, W: Write, E: Write>(
             let status = status_of(&verdict);
             put_out(verdict_text(env.alloc, &verdict), status, output, errors)
         }
-        Err(error) => call_failed(errors, &error),
+        Err(error) => call_failed(errors, &error, env.store.reason()),
     }
 }
 
 /// Collects the cache, and prints how many contents were kept and dropped.
-fn collected<S: Store, C: Clock, N: Names, W: Write, E: Write>(
+fn collected<S: Reasons, C: Clock, N: Names, W: Write, E: Write>(
     env: &mut Env<S, C, N>,
     cache: &str,
     output: &mut W,
-    errors: &mut E,
+    errors: &mut Errors<E>,
 ) -> u8
     ensures status { result ≤ 1 }
     ensures quiet { result ≡ 0 → errors.new ≡ errors.old }
 {
     match collect(env, cache) {
         Ok(collected) => put_out(collected_text(env.alloc, &collected), 0, output, errors),
-        Err(error) => call_failed(errors, &error),
+        Err(error) => call_failed(errors, &error, env.store.reason()),
     }
 }
 
 /// Does what the words say, and returns the status: 0; 1 if the call or the output failed, which is printed on `errors`; 2
 /// for wrong words; 3 where `verify` found anything but good contents. A failed write to `errors` changes no status.
-pub fn run<S: Store, C: Clock, N: Names, W: Write, E: Write>(
+pub fn run<S: Reasons, C: Clock, N: Names, W: Write, E: Write>(
     env: &mut Env<S, C, N>,
     words: &[String],
     output: &mut W,
-    errors: &mut E,
+    errors: &mut Errors<E>,
 ) -> u8
     ensures status { result ≤ 3 }
     ensures wrong { IsWrong words.now → result ≡ 2 }

@@ -1,6 +1,11 @@
 -- The words of a command line.
 use Rattle.std.specs.Prelude.{◌≡◌, ◌≢◌, ℕ, List, [], ◌∷◌, Option, None, Some, IfNone, IfSome, MatchOption, String, string_bytes, codes}
 
+-- the first word is `--why`
+abbrev pub AsksWhy : {A : Type 0} → List (String A) → Type 0
+AsksWhy [] = ⊥
+AsksWhy (a ∷ more) = string_bytes a ≡ codes "--why"
+
 -- a command's name, its cache and its key, if there is one; of a storm the threads and the keys
 pub record Asked : Type 0 where
   pub name : List ℕ

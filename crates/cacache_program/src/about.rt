@@ -1,50 +1,89 @@
-//! What the program says of itself.
+//! What a program says of itself.
 ghost use Rattle.std.specs.Prelude.{◌≡◌, ◌⊎◌, IfNone, IfSome, IsSomeAnd, codes};
-ghost use Rattle.cacache_program.specs.About.{IsWord, usage_text, version_text};
+ghost use Rattle.cacache_program.specs.About.{IsWord, help_text, version_text};
 ghost use Rattle.cacache_program.specs.Output.{PutsOut};
 
-use crate::output::{USAGE, put_out};
+use crate::errors::Errors;
+use crate::output::put_out;
 use std::io::Write;
 
-/// The program's name and version.
-pub const VERSION: &str = "cacache 13.1.0\n";
+/// What the program says to wrong words.
+pub const USAGE: &str =
+    "usage: cacache write|read|find|remove CACHE KEY | ls|clear CACHE | storm THREADS KEYS\n";
 
-/// What is to be printed, where the only word asks for it.
-fn text_of(words: &[String]) -> Option<&'static str>
+/// What the program says to `--help`: the usage, and a line for each word.
+pub const HELP: &str =
+    "usage: cacache write|read|find|remove CACHE KEY | ls|clear CACHE | storm THREADS KEYS
+  write CACHE KEY     stores standard input under the key, and prints its integrity
+  read CACHE KEY      prints what is stored under the key, once it is verified
+  find CACHE KEY      prints the key's entry, or none
+  remove CACHE KEY    removes the key's entry; what was stored stays
+  ls CACHE            prints the entries of all keys, each on a line
+  clear CACHE         removes all that lies in the folder of the cache
+  storm THREADS KEYS  tries 1 to 64 threads in memory, with 1 to 1000 keys each
+  --why               before these words: says in brackets why a call failed
+  --help              prints this
+  --version           prints the version
+";
+
+/// The program's name and version, and that of the crate that it is a port of.
+pub const VERSION: &str = "cacache 0.1.0 (a port of 13.1.0)\n";
+
+/// Which of these texts the only word asks for.
+fn text_of<'a>(words: &[String], help: &'a str, version: &'a str) -> Option<&'a str>
     ensures help { IsWord words.now (codes "--help")
-        → IsSomeAnd result (λ text. text.now ≡ usage_text) }
+        → IsSomeAnd result (λ text. text.now ≡ help.now) }
     ensures version { IsWord words.now (codes "--version")
-        → IsSomeAnd result (λ text. text.now ≡ version_text) }
+        → IsSomeAnd result (λ text. text.now ≡ version.now) }
     ensures known { IfSome result (λ text. IsWord words.now (codes "--help")
         ⊎ IsWord words.now (codes "--version")) }
 {
     match words {
         [word] => match word.as_str() {
-            "--help" => Some(USAGE),
-            "--version" => Some(VERSION),
+            "--help" => Some(help),
+            "--version" => Some(version),
             _ => None,
         },
         _ => None,
     }
 }
 
-/// Prints the usage where the only word is `--help`, and the version where it is `--version`, and returns the status: 0,
+/// Prints this help where the only word is `--help`, and this version where it is `--version`, and returns the status: 0,
 /// or 1 if the output failed, which is printed on `errors`. Other words get no status here, and nothing is printed.
+pub fn tell<W: Write, E: Write>(
+    words: &[String],
+    help: &str,
+    version: &str,
+    output: &mut W,
+    errors: &mut Errors<E>,
+) -> Option<u8>
+    ensures help { IsWord words.now (codes "--help") → IsSomeAnd result
+        (PutsOut help.now (W.contents output.old) (W.contents output.new)) }
+    ensures version { IsWord words.now (codes "--version") → IsSomeAnd result
+        (PutsOut version.now (W.contents output.old) (W.contents output.new)) }
+    ensures known { IfSome result (λ status. IsWord words.now (codes "--help")
+        ⊎ IsWord words.now (codes "--version")) }
+    ensures other { IfNone result ((output.new ≡ output.old) × (errors.new ≡ errors.old)) }
+{
+    match text_of(words, help, version) {
+        Some(text) => Some(put_out(output, text.as_bytes(), errors)),
+        None => None,
+    }
+}
+
+/// Does what `tell` does, with the help and the version of the program `cacache`.
 pub fn tell_about<W: Write, E: Write>(
     words: &[String],
     output: &mut W,
-    errors: &mut E,
+    errors: &mut Errors<E>,
 ) -> Option<u8>
     ensures help { IsWord words.now (codes "--help") → IsSomeAnd result
-        (PutsOut usage_text (W.contents output.old) (W.contents output.new)) }
+        (PutsOut help_text (W.contents output.old) (W.contents output.new)) }
     ensures version { IsWord words.now (codes "--version") → IsSomeAnd result
         (PutsOut version_text (W.contents output.old) (W.contents output.new)) }
     ensures known { IfSome result (λ status. IsWord words.now (codes "--help")
         ⊎ IsWord words.now (codes "--version")) }
     ensures other { IfNone result ((output.new ≡ output.old) × (errors.new ≡ errors.old)) }
 {
-    match text_of(words) {
-        Some(text) => Some(put_out(output, text.as_bytes(), errors)),
-        None => None,
-    }
+    tell(words, HELP, VERSION, output, errors)
 }

@@ -2,22 +2,22 @@
 ghost use Rattle.std.specs.Prelude.{◌≡◌};
 ghost use Rattle.cacache_program.specs.WordClear.{Clears};
 
-use crate::output::call_failed;
+use crate::errors::{Errors, call_failed};
+use crate::why::Reasons;
 use cacache::env::{Clock, Env, Names};
-use cacache::store::Store;
 use std::io::Write;
 
 /// Removes all that lies in the cache folder, and prints nothing.
-pub(crate) fn clear<S: Store, C: Clock, N: Names, E: Write>(
+pub(crate) fn clear<S: Reasons, C: Clock, N: Names, E: Write>(
     env: &mut Env<S, C, N>,
     cache: &str,
-    errors: &mut E,
+    errors: &mut Errors<E>,
 ) -> u8
     ensures does { Clears S.log cache.now env.old env.new result }
     ensures quiet { result ≡ 0 → errors.new ≡ errors.old }
 {
     match cacache::clear_sync(env, cache) {
         Ok(()) => 0,
-        Err(error) => call_failed(errors, &error),
+        Err(error) => call_failed(errors, &error, env.store.reason()),
     }
 }

@@ -5,9 +5,10 @@ ghost use Rattle.cacache_program.specs.PrintedEntries.{entry_text};
 ghost use Rattle.cacache_program.specs.WordFind.{PrintsFound, found_line};
 
 use crate::entries::entry_text;
-use crate::output::{call_failed, put_out};
+use crate::errors::{Errors, call_failed};
+use crate::output::put_out;
+use crate::why::Reasons;
 use cacache::env::{Clock, Env, Names};
-use cacache::store::Store;
 use cacache::{Metadata, Result};
 use std::alloc::Global;
 use std::io::Write;
@@ -26,12 +27,12 @@ fn line_of(alloc: Global, found: Option<Metadata>) -> Result<Vec<u8>>
 
 /// Prints the text of the key's entry, or `none`, and a line feed.
 #[tactic(auto, using(crate::proofs::Texts::found_line_has_bytes))]
-pub(crate) fn find<S: Store, C: Clock, N: Names, W: Write, E: Write>(
+pub(crate) fn find<S: Reasons, C: Clock, N: Names, W: Write, E: Write>(
     env: &mut Env<S, C, N>,
     cache: &str,
     key: &str,
     output: &mut W,
-    errors: &mut E,
+    errors: &mut Errors<E>,
 ) -> u8
     ensures does { PrintsFound S.log cache.now key.now env.old env.new
         (W.contents output.old) (W.contents output.new) result }
@@ -39,10 +40,10 @@ pub(crate) fn find<S: Store, C: Clock, N: Names, W: Write, E: Write>(
 {
     let found = match cacache::index::find(env, cache, key) {
         Ok(found) => found,
-        Err(error) => return call_failed(errors, &error),
+        Err(error) => return call_failed(errors, &error, env.store.reason()),
     };
     match line_of(env.alloc, found) {
         Ok(line) => put_out(output, &line, errors),
-        Err(error) => call_failed(errors, &error),
+        Err(error) => call_failed(errors, &error, None),
     }
 }

@@ -4,6 +4,7 @@
 mod about;
 mod clearing;
 mod entries;
+mod errors;
 mod finding;
 mod lines;
 mod listing;
@@ -12,10 +13,12 @@ mod program;
 mod reading;
 mod removing;
 mod storming;
+mod why;
 mod words;
 mod writing;
 
-pub use about::{VERSION, tell_about};
-pub use output::{USAGE, call_failed, misused};
+pub use about::{HELP, USAGE, VERSION, tell, tell_about};
+pub use errors::{Errors, call_failed, misused};
 pub use program::run;
+pub use why::{Reasons, Why, asks_why, why_of};
 pub use words::{without_words, words_of};

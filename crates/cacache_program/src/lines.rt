@@ -17,18 +17,20 @@ struct Line {
     text: Vec<u8>,
 }
 
-/// The lines of a listing, and its first error.
+/// The lines of a listing, its first error, and whether there are others.
 #[derive(Drop)]
 struct Lines {
     lines: Vec<Line>,
     first_error: Option<Error>,
+    has_more_errors: bool,
 }
 
-/// What is printed of a listing, and its first error.
+/// What is printed of a listing, its first error, and whether there are others.
 #[derive(Drop)]
 pub(crate) struct Listing {
     pub(crate) text: Vec<u8>,
     pub(crate) first_error: Option<Error>,
+    pub(crate) has_more_errors: bool,
 }
 
 /// The line of an entry that was found.
@@ -53,6 +55,8 @@ impl Lines {
             Err(error) => {
                 if self.first_error.is_none() {
                     self.first_error = Some(error);
+                } else {
+                    self.has_more_errors = true;
                 }
             }
         }
@@ -68,6 +72,7 @@ fn gathered(alloc: Global, items: Vec<std::result::Result<Found, Error>>) -> Res
     let mut lines = Lines {
         lines: Vec::new(alloc),
         first_error: None,
+        has_more_errors: false,
     };
     for item in items {
         lines.add(alloc, item)?;
@@ -98,8 +103,13 @@ pub(crate) fn listing_of(
     let Lines {
         mut lines,
         first_error,
+        has_more_errors,
     } = gathered(alloc, items)?;
     lines.sort_unstable();
     let text = text_of(alloc, &lines)?;
-    Ok(Listing { text, first_error })
+    Ok(Listing {
+        text,
+        first_error,
+        has_more_errors,
+    })
 }

@@ -3,14 +3,16 @@ ghost use Rattle.std.specs.Prelude.{◌≡◌, is_some};
 ghost use Rattle.cacache.specs.Calls.{Calls, reply_of};
 ghost use Rattle.cacache_program.specs.WordLs.{PrintsListing, PutsListing, listed};
 
+use crate::errors::{Errors, call_failed};
 use crate::lines::{Listing, listing_of};
-use crate::output::{call_failed, put_out, write_whole};
+use crate::output::{put_out, write_whole};
+use crate::why::Reasons;
 use cacache::Result;
 use cacache::env::{Clock, Env, Names};
 use cacache::errors::Error;
 use cacache::jobs::{Command, Found, Reply, call};
 use cacache::store::Store;
-use std::io::Write;
+use std::io::{ErrorKind, Write};
 
 /// What the cache lists. Where memory for more is refused, that may count as a refusal of the call.
 fn items<S: Store, C, N>(
@@ -29,8 +31,13 @@ fn items<S: Store, C, N>(
 }
 
 /// Prints the lines and then the first error, if there is one, and returns the status. With an error, a failed output
-/// isn't told.
-fn print<W: Write, E: Write>(listing: &Listing, output: &mut W, errors: &mut E) -> u8
+/// isn't told. The reason of the last failed step is the first error's if there is no other.
+fn print<W: Write, E: Write>(
+    listing: &Listing,
+    reason: Option<ErrorKind>,
+    output: &mut W,
+    errors: &mut Errors<E>,
+) -> u8
     ensures put { PutsListing (is_some listing.now.first_error) listing.now.text.items
         (W.contents output.old) (W.contents output.new) result }
     ensures quiet { result ≡ 0 → errors.new ≡ errors.old }
@@ -38,7 +45,12 @@ fn print<W: Write, E: Write>(listing: &Listing, output: &mut W, errors: &mut E) 
     match &listing.first_error {
         Some(error) => {
             let _is_whole = write_whole(output, &listing.text);
-            call_failed(errors, error)
+            let reason = if listing.has_more_errors {
+                None
+            } else {
+                reason
+            };
+            call_failed(errors, error, reason)
         }
         None => put_out(output, &listing.text, errors),
     }
@@ -46,11 +58,11 @@ fn print<W: Write, E: Write>(listing: &Listing, output: &mut W, errors: &mut E) 
 
 /// Prints the text of each entry on a line of its own, by key and then by text, byte by byte. The first error among the
 /// items comes after them.
-pub(crate) fn ls<S: Store, C: Clock, N: Names, W: Write, E: Write>(
+pub(crate) fn ls<S: Reasons, C: Clock, N: Names, W: Write, E: Write>(
     env: &mut Env<S, C, N>,
     cache: &str,
     output: &mut W,
-    errors: &mut E,
+    errors: &mut Errors<E>,
 ) -> u8
     ensures does { PrintsListing S.log cache.now env.old env.new
         (W.contents output.old) (W.contents output.new) result }
@@ -58,10 +70,10 @@ pub(crate) fn ls<S: Store, C: Clock, N: Names, W: Write, E: Write>(
 {
     let items = match items(env, cache) {
         Ok(items) => items,
-        Err(error) => return call_failed(errors, &error),
+        Err(error) => return call_failed(errors, &error, env.store.reason()),
     };
     match listing_of(env.alloc, items) {
-        Ok(listing) => print(&listing, output, errors),
-        Err(error) => call_failed(errors, &error),
+        Ok(listing) => print(&listing, env.store.reason(), output, errors),
+        Err(error) => call_failed(errors, &error, None),
     }
 }

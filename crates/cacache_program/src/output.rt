@@ -1,38 +1,10 @@
-//! What goes to the output and to the errors.
+//! What goes to the output.
 ghost use Rattle.std.specs.Prelude.{◌≡◌, ◌≤◌, IfSome, IfNone, true, false, [], length, take};
 ghost use Rattle.std.specs.Io.KnownBytes.{Appends};
 ghost use Rattle.cacache_program.specs.Output.{AppendsPart, PutsOut};
 
-use cacache::errors::Error;
+use crate::errors::{Errors, stream_failed};
 use std::io::{ErrorKind, Write};
-
-/// What the program says to wrong words.
-pub const USAGE: &str =
-    "usage: cacache write|read|find|remove CACHE KEY | ls|clear CACHE | storm THREADS KEYS\n";
-
-/// Prints this usage, and returns the status of wrong words.
-pub fn misused<E: Write>(usage: &str, errors: &mut E) -> u8
-    ensures { result ≡ 2 }
-{
-    let _ = errors.write_all(usage.as_bytes());
-    2
-}
-
-/// Prints a call's error on a line of its own, and returns the status of a failed call.
-pub fn call_failed<E: Write>(errors: &mut E, error: &Error) -> u8
-    ensures { result ≡ 1 }
-{
-    let _ = writeln!(errors, "{error}");
-    1
-}
-
-/// Prints that a stream failed, and returns the status of a failed call.
-pub(crate) fn stream_failed<E: Write>(errors: &mut E, message: &[u8]) -> u8
-    ensures { result ≡ 1 }
-{
-    let _ = errors.write_all(message);
-    1
-}
 
 /// Writes some of the bytes, and returns how many: 0 if the write was interrupted. None if the output
 /// failed.
@@ -73,7 +45,11 @@ pub(crate) fn write_whole<W: Write>(output: &mut W, bytes: &[u8]) -> bool
 }
 
 /// Prints the bytes, and returns the status.
-pub(crate) fn put_out<W: Write, E: Write>(output: &mut W, bytes: &[u8], errors: &mut E) -> u8
+pub(crate) fn put_out<W: Write, E: Write>(
+    output: &mut W,
+    bytes: &[u8],
+    errors: &mut Errors<E>,
+) -> u8
     ensures put { PutsOut bytes.now (W.contents output.old) (W.contents output.new) result }
     ensures quiet { result ≡ 0 → errors.new ≡ errors.old }
 {

@@ -9,16 +9,17 @@ ghost use Rattle.cacache_program.specs.WordClear.{Clears};
 ghost use Rattle.cacache_program.specs.WordLs.{PrintsListing};
 ghost use Rattle.cacache_program.specs.WordStorm.{Storms};
 
+use crate::about::USAGE;
 use crate::clearing::clear;
+use crate::errors::{Errors, misused};
 use crate::finding::find;
 use crate::listing::ls;
-use crate::output::{USAGE, misused};
 use crate::reading::read;
 use crate::removing::remove;
 use crate::storming::storm;
+use crate::why::Reasons;
 use crate::writing::write;
 use cacache::env::{Clock, Env, Names};
-use cacache::store::Store;
 use std::io::{Read, Write};
 use std::sync::Wait;
 use std::thread::Threads;
@@ -46,7 +47,7 @@ fn asked(words: &[String]) -> (&str, &str, Option<&str>)
 /// the threads of a storm, and else for nobody.
 pub fn run<
     T: Threads + Wait + time::Clock + AllocGlobal + Sync,
-    S: Store,
+    S: Reasons,
     C: Clock,
     N: Names,
     R: Read,
@@ -58,7 +59,7 @@ pub fn run<
     words: &[String],
     input: &mut R,
     output: &mut W,
-    errors: &mut E,
+    errors: &mut Errors<E>,
 ) -> u8
     ensures status { result ≤ 2 }
     ensures wrong { IsWrong (asked_of words.now) → result ≡ 2 }

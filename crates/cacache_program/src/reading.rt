@@ -2,18 +2,19 @@
 ghost use Rattle.std.specs.Prelude.{◌≡◌};
 ghost use Rattle.cacache_program.specs.WordRead.{Reads};
 
-use crate::output::{call_failed, put_out};
+use crate::errors::{Errors, call_failed};
+use crate::output::put_out;
+use crate::why::Reasons;
 use cacache::env::{Clock, Env, Names};
-use cacache::store::Store;
 use std::io::Write;
 
 /// Prints the bytes of the key, and nothing else.
-pub(crate) fn read<S: Store, C: Clock, N: Names, W: Write, E: Write>(
+pub(crate) fn read<S: Reasons, C: Clock, N: Names, W: Write, E: Write>(
     env: &mut Env<S, C, N>,
     cache: &str,
     key: &str,
     output: &mut W,
-    errors: &mut E,
+    errors: &mut Errors<E>,
 ) -> u8
     ensures does { Reads S.log cache.now key.now env.old env.new
         (W.contents output.old) (W.contents output.new) result }
@@ -21,6 +22,6 @@ pub(crate) fn read<S: Store, C: Clock, N: Names, W: Write, E: Write>(
 {
     match cacache::read_sync(env, cache, key) {
         Ok(bytes) => put_out(output, &bytes, errors),
-        Err(error) => call_failed(errors, &error),
+        Err(error) => call_failed(errors, &error, env.store.reason()),
     }
 }

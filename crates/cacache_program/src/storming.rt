@@ -5,7 +5,9 @@ ghost use Rattle.std.specs.Str.Parse.{digits_value};
 ghost use Rattle.cacache.specs.Shared.{Count};
 ghost use Rattle.cacache_program.specs.WordStorm.{Storms, TellsStorm, storm_text};
 
-use crate::output::{USAGE, call_failed, misused, put_out, stream_failed};
+use crate::about::USAGE;
+use crate::errors::{Errors, call_failed, misused, stream_failed};
+use crate::output::put_out;
 use cacache::errors::Error;
 use cacache::jobs::Open;
 use cacache::world::{Storm, StormFault};
@@ -46,7 +48,7 @@ fn text_of(alloc: Global, moves: u64, live: u64) -> Result<String, AllocError>
 }
 
 /// Prints why a storm failed, and returns the status: that of wrong words for numbers out of range.
-fn storm_failed<E: Write>(errors: &mut E, fault: StormFault) -> u8
+fn storm_failed<E: Write>(errors: &mut Errors<E>, fault: StormFault) -> u8
     ensures count { fault ≡ Count → result ≡ 2 }
     ensures other { fault ≢ Count → result ≡ 1 }
 {
@@ -54,19 +56,24 @@ fn storm_failed<E: Write>(errors: &mut E, fault: StormFault) -> u8
         StormFault::Count => misused(USAGE, errors),
         StormFault::Mismatch => stream_failed(errors, b"storm: mismatch\n"),
         StormFault::Quit => stream_failed(errors, b"storm: quit\n"),
-        StormFault::Failed(error) => call_failed(errors, &error),
+        StormFault::Failed(error) => call_failed(errors, &error, None),
         StormFault::World(_) => stream_failed(errors, b"storm: world\n"),
     }
 }
 
 /// Prints what a storm came to, and returns the status.
-fn tell<W: Write, E: Write>(alloc: Global, storm: Storm, output: &mut W, errors: &mut E) -> u8
+fn tell<W: Write, E: Write>(
+    alloc: Global,
+    storm: Storm,
+    output: &mut W,
+    errors: &mut Errors<E>,
+) -> u8
     ensures tells { TellsStorm (W.contents output.old) (W.contents output.new) result }
     ensures quiet { result ≡ 0 → errors.new ≡ errors.old }
 {
     match text_of(alloc, storm.moves, storm.live) {
         Ok(text) => put_out(output, text.as_bytes(), errors),
-        Err(_) => call_failed(errors, &Error::OutOfMemory),
+        Err(_) => call_failed(errors, &Error::OutOfMemory, None),
     }
 }
 
@@ -77,7 +84,7 @@ pub(crate) fn storm<T: Threads + Wait + Clock + AllocGlobal + Sync, W: Write, E:
     threads: &str,
     keys: &str,
     output: &mut W,
-    errors: &mut E,
+    errors: &mut Errors<E>,
 ) -> u8
     ensures does { Storms threads.now keys.now
         (W.contents output.old) (W.contents output.new) result }

@@ -2,7 +2,7 @@
 ghost use Rattle.std.specs.Prelude.{◌≡◌, ◌≢◌};
 ghost use Rattle.std.specs.IoError.{error_kind};
 
-use crate::output::{misused, stream_failed};
+use crate::errors::{Errors, misused, stream_failed};
 use std::env::{Env, args};
 use std::io::{self, ErrorKind, Write};
 
@@ -17,7 +17,7 @@ pub fn words_of<R: Env + AllocGlobal>(rt: &R) -> io::Result<Vec<String>> {
 
 /// Prints why the words can't be had, and returns the status: 1 if memory ran out, and 2 with this
 /// usage if a word isn't UTF-8.
-pub fn without_words<E: Write>(error: &io::Error, usage: &str, errors: &mut E) -> u8
+pub fn without_words<E: Write>(error: &io::Error, usage: &str, errors: &mut Errors<E>) -> u8
     ensures memory { error_kind error.now ≡ ErrorKind.OutOfMemory → result ≡ 1 }
     ensures wrong { error_kind error.now ≢ ErrorKind.OutOfMemory → result ≡ 2 }
 {

@@ -4,11 +4,12 @@ ghost use Rattle.cacache.specs.Integrities.{integrity_text};
 ghost use Rattle.cacache_program.specs.Output.{PutsOut};
 ghost use Rattle.cacache_program.specs.WordWrite.{Writes};
 
-use crate::output::{call_failed, put_out, stream_failed};
+use crate::errors::{Errors, call_failed, stream_failed};
+use crate::output::put_out;
+use crate::why::Reasons;
 use cacache::Integrity;
 use cacache::env::{Clock, Env, Names};
 use cacache::errors::Error;
-use cacache::store::Store;
 use std::alloc::Global;
 use std::io::{ErrorKind, Read, Write};
 
@@ -17,7 +18,7 @@ fn print<W: Write, E: Write>(
     alloc: Global,
     integrity: &Integrity,
     output: &mut W,
-    errors: &mut E,
+    errors: &mut Errors<E>,
 ) -> u8
     ensures put { PutsOut (integrity_text integrity.now ++ 10 ∷ [])
         (W.contents output.old) (W.contents output.new) result }
@@ -30,23 +31,23 @@ fn print<W: Write, E: Write>(
 }
 
 /// Prints why the input couldn't be read, and returns the status.
-fn input_failed<E: Write>(errors: &mut E, kind: ErrorKind) -> u8
+fn input_failed<E: Write>(errors: &mut Errors<E>, kind: ErrorKind) -> u8
     ensures { result ≡ 1 }
 {
     if kind == ErrorKind::OutOfMemory {
-        return call_failed(errors, &Error::OutOfMemory);
+        return call_failed(errors, &Error::OutOfMemory, None);
     }
     stream_failed(errors, b"input failed\n")
 }
 
 /// Stores all that the input gives under the key, and prints the integrity and a line feed.
-pub(crate) fn write<S: Store, C: Clock, N: Names, R: Read, W: Write, E: Write>(
+pub(crate) fn write<S: Reasons, C: Clock, N: Names, R: Read, W: Write, E: Write>(
     env: &mut Env<S, C, N>,
     cache: &str,
     key: &str,
     input: &mut R,
     output: &mut W,
-    errors: &mut E,
+    errors: &mut Errors<E>,
 ) -> u8
     ensures does { Writes S.log C.given N.given cache.now key.now (R.remaining input.old)
         env.old env.new (W.contents output.old) (W.contents output.new) result }
@@ -58,6 +59,6 @@ pub(crate) fn write<S: Store, C: Clock, N: Names, R: Read, W: Write, E: Write>(
     }
     match cacache::write_vec_sync(env, cache, key, data) {
         Ok(integrity) => print(env.alloc, &integrity, output, errors),
-        Err(error) => call_failed(errors, &error),
+        Err(error) => call_failed(errors, &error, env.store.reason()),
     }
 }

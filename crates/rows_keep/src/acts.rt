@@ -6,7 +6,8 @@ use cacache::env::{Clock, Env, Names};
 use cacache::store::Store;
 use cacache::{Error, Integrity, Result as Answered};
 use cacache_core::keeping::let_go;
-use cacache_keep_program::run;
+use cacache_keep_program::{run, tell_about};
+use cacache_program::{Errors, Reasons, asks_why};
 use rows::Flaw;
 use rows::words::{cut, string_of, word_of, written_out};
 use std::alloc::{AllocError, Global};
@@ -41,16 +42,24 @@ fn words_of(alloc: Global, text: &str) -> Result<Vec<String>, AllocError> {
 }
 
 /// What a run of the program gives: the status, the output and the errors.
-fn ran<S: Store, C: Clock, N: Names>(
+fn ran<S: Reasons, C: Clock, N: Names>(
     env: &mut Env<S, C, N>,
     words: &str,
 ) -> Result<String, AllocError> {
     let alloc = env.alloc;
     let words = words_of(alloc, words)?;
-    let (mut output, mut errors) = (Vec::new(alloc), Vec::new(alloc));
-    let status = run(env, &words, &mut output, &mut errors);
+    let (says_why, words) = asks_why(&words);
+    let mut output = Vec::new(alloc);
+    let mut errors = Errors {
+        output: Vec::new(alloc),
+        says_why,
+    };
+    let status = match tell_about(words, &mut output, &mut errors) {
+        Some(status) => status,
+        None => run(env, words, &mut output, &mut errors),
+    };
     let output = written_out(alloc, word_of(&output))?;
-    let errors = written_out(alloc, word_of(&errors))?;
+    let errors = written_out(alloc, word_of(&errors.output))?;
     format!(in alloc; "{status} | {output} | {errors}")
 }
 
@@ -73,7 +82,7 @@ fn removed<S: Store>(env: &mut On<S>, cache: &str, text: &str) -> Result<String,
 }
 
 /// What an act gives.
-pub(crate) fn made<S: Store>(env: &mut On<S>, act: &str, input: &str) -> Result<String, Flaw> {
+pub(crate) fn made<S: Reasons>(env: &mut On<S>, act: &str, input: &str) -> Result<String, Flaw> {
     let alloc = env.alloc;
     let (name, words) = cut(act);
     let (cache, rest) = cut(words);

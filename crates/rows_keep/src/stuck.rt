@@ -5,6 +5,8 @@ ghost use Rattle.cacache.specs.Stores.{Fits, Logs, plain_step, plain_answer};
 use cacache::errors::Fault;
 use cacache::store::{Answer, Step, Store};
 use cacache_core::keeping::let_go;
+use cacache_program::Reasons;
+use std::io::ErrorKind;
 
 /// Another store, whose files can't be removed.
 #[derive(Drop)]
@@ -30,5 +32,14 @@ impl<'a, S: Store> Store for Stuck<'a, S> {
             return Answer::Failed(Fault::Device);
         }
         self.store.step(step)
+    }
+}
+
+/// What it refuses itself has no reason of a system's.
+impl<'a, S: Store> Reasons for Stuck<'a, S> {
+    ghost known = { λ _. None };
+
+    fn reason(&self) -> Option<ErrorKind> {
+        None
     }
 }

@@ -2,10 +2,9 @@
 use crate::acts::made;
 use crate::place::On;
 use crate::row::Row;
-use crate::streams::{Input, Output};
+use crate::streams::{End, Input, Output};
 use crate::words::{bytes_of, shown, words_of};
-use cacache::store::Store;
-use cacache_program::{USAGE, run, tell_about, without_words};
+use cacache_program::{Errors, Reasons, USAGE, asks_why, run, tell_about, without_words};
 use rows::Flaw;
 use rows::words::{cut, number_of};
 use std::alloc::{AllocError, Global};
@@ -21,26 +20,23 @@ const AMPLE: usize = 1_000_000;
 #[derive(Clone, Copy)]
 struct Run<'a> {
     words: &'a str,
-    is_torn: bool,
+    end: End,
     room: usize,
 }
 
-/// The run that an act asks for: `torn ..` for an input that fails at its end, `full N ..` for an output with room for N
-/// bytes.
+/// The run that an act asks for: `torn ..` for an input that fails at its end, `vast ..` for one that memory is refused
+/// for, `full N ..` for an output with room for N bytes.
 fn run_of(act: &str) -> Result<Run<'_>, Flaw> {
-    let (words, is_torn, room) = match cut(act) {
-        ("torn", words) => (words, true, AMPLE),
+    let (words, end, room) = match cut(act) {
+        ("torn", words) => (words, End::Torn, AMPLE),
+        ("vast", words) => (words, End::Vast, AMPLE),
         ("full", rest) => {
             let (room, words) = cut(rest);
-            (words, false, number_of(room)?)
+            (words, End::Plain, number_of(room)?)
         }
-        _ => (act, false, AMPLE),
+        _ => (act, End::Plain, AMPLE),
     };
-    Ok(Run {
-        words,
-        is_torn,
-        room,
-    })
+    Ok(Run { words, end, room })
 }
 
 /// A status, an output and errors, as a row says them.
@@ -51,7 +47,7 @@ fn told(alloc: Global, status: u8, output: &[u8], errors: &[u8]) -> Result<Strin
 }
 
 /// What a run of the program with these words and this input gives.
-fn ran_with<T: Threads + Wait + Clock + AllocGlobal + Sync, S: Store>(
+fn ran_with<T: Threads + Wait + Clock + AllocGlobal + Sync, S: Reasons>(
     rt: &T,
     env: &mut On<S>,
     words: &[String],
@@ -63,34 +59,34 @@ fn ran_with<T: Threads + Wait + Clock + AllocGlobal + Sync, S: Store>(
         room,
         taken: Vec::new(alloc),
     };
-    let mut errors = Vec::new(alloc);
+    let (says_why, words) = asks_why(words);
+    let mut errors = Errors {
+        output: Vec::new(alloc),
+        says_why,
+    };
     let status = match tell_about(words, &mut output, &mut errors) {
         Some(status) => status,
         None => run(rt, env, words, &mut input, &mut output, &mut errors),
     };
-    told(alloc, status, &output.taken, &errors)
+    told(alloc, status, &output.taken, &errors.output)
 }
 
 /// What a run of the program gives.
-fn ran<T: Threads + Wait + Clock + AllocGlobal + Sync, S: Store>(
+fn ran<T: Threads + Wait + Clock + AllocGlobal + Sync, S: Reasons>(
     rt: &T,
     env: &mut On<S>,
     row: Row<'_>,
 ) -> Result<String, Flaw> {
     let alloc = env.alloc;
-    let Run {
-        words,
-        is_torn,
-        room,
-    } = run_of(row.act)?;
+    let Run { words, end, room } = run_of(row.act)?;
     let words = words_of(alloc, words)?;
     let given = bytes_of(alloc, row.input)?;
     let bytes = given.as_slice();
-    Ok(ran_with(rt, env, &words, Input { bytes, is_torn }, room)?)
+    Ok(ran_with(rt, env, &words, Input { bytes, end }, room)?)
 }
 
 /// What the row's act gives, if it is a run of the program, and else as a call.
-pub(crate) fn ran_or_made<T: Threads + Wait + Clock + AllocGlobal + Sync, S: Store>(
+pub(crate) fn ran_or_made<T: Threads + Wait + Clock + AllocGlobal + Sync, S: Reasons>(
     rt: &T,
     env: &mut On<S>,
     row: Row<'_>,
@@ -108,7 +104,7 @@ pub(crate) fn without(alloc: Global, why: &str) -> Result<String, Flaw> {
         "UTF-8" => ErrorKind::InvalidData,
         _ => return Err(Flaw::NotRead),
     };
-    let mut errors = Vec::new(alloc);
+    let mut errors = Errors::new(Vec::new(alloc));
     let status = without_words(&io::Error::from(kind), USAGE, &mut errors);
-    Ok(told(alloc, status, b"", &errors)?)
+    Ok(told(alloc, status, b"", &errors.output)?)
 }

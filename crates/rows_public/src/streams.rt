@@ -1,11 +1,22 @@
 //! Streams that fail.
 use std::io::{self, ErrorKind, Read, Write};
 
-/// An input that gives its bytes one by one and then fails, or ends.
+/// What comes behind the last byte of an input.
+#[derive(Clone, Copy)]
+pub(crate) enum End {
+    /// Nothing.
+    Plain,
+    /// A failure, as of a pipe that broke.
+    Torn,
+    /// A failure, since memory for more is refused.
+    Vast,
+}
+
+/// An input that gives its bytes one by one and then ends.
 #[derive(Drop)]
 pub(crate) struct Input<'a> {
     pub(crate) bytes: &'a [u8],
-    pub(crate) is_torn: bool,
+    pub(crate) end: End,
 }
 
 impl Read for Input<'_> {
@@ -19,8 +30,11 @@ impl Read for Input<'_> {
                 self.bytes = rest;
                 Ok(1)
             }
-            None if self.is_torn => Err(io::Error::from(ErrorKind::BrokenPipe)),
-            None => Ok(0),
+            None => match self.end {
+                End::Plain => Ok(0),
+                End::Torn => Err(io::Error::from(ErrorKind::BrokenPipe)),
+                End::Vast => Err(io::Error::from(ErrorKind::OutOfMemory)),
+            },
         }
     }
 }

@@ -1,0 +1,24 @@
+-- What the program says of itself.
+use Rattle.std.specs.Prelude.{ℕ, List, ◌++◌, codes}
+
+-- what is said to wrong words
+abbrev pub usage_text : List ℕ
+usage_text = codes "usage: cacache-keep verify|collect CACHE\n"
+
+-- a line for each word
+abbrev pub words_text : List ℕ
+words_text =
+    codes "  verify CACHE   counts good and damaged contents, entries without one, and other files;\n"
+    ++ codes "                 the status is 3 if there are any but good contents\n"
+    ++ codes "  collect CACHE  removes the contents that no entry has, and counts the kept and the dropped\n"
+    ++ codes "  --why          before these words: says in brackets why a call failed\n"
+    ++ codes "  --help         prints this\n"
+    ++ codes "  --version      prints the version\n"
+
+-- what is said to `--help`: the usage, and these lines
+abbrev pub help_text : List ℕ
+help_text = usage_text ++ words_text
+
+-- the program's name and version, and that of the crate that the calls are a port of
+abbrev pub version_text : List ℕ
+version_text = codes "cacache-keep 0.1.0 (a port of 13.1.0)\n"

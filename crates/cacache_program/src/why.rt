@@ -1,0 +1,86 @@
+//! Why a call failed, where the words ask for it.
+ghost use Rattle.std.specs.Prelude.{◌≡◌, ◌≢◌, Option, Some, None, IfSome, true, false, drop};
+ghost use Rattle.std.specs.declared.io.ErrorKind.{ErrorKind};
+ghost use Rattle.cacache_core.specs.Contexts.{fault_in, fault_of};
+ghost use Rattle.cacache_program.specs.declared.why.Why.TheVariants.{Kind, Fault};
+ghost use Rattle.cacache_program.specs.Words.{AsksWhy};
+
+use cacache::errors::{Error, Fault};
+use cacache::store::{FolderStore, MemStore, Store};
+use std::fmt;
+use std::io::ErrorKind;
+use std::rt::Files;
+
+/// A store that may know more of a failed step than its fault.
+pub trait Reasons: Store {
+    /// What it knows.
+    ghost known: { Self → Option ErrorKind };
+
+    /// The system's kind of error behind the last step that failed. None where the store knows none.
+    fn reason(&self) -> Option<ErrorKind>
+        ensures { result ≡ known self.now };
+}
+
+impl<R: Files + AllocGlobal + Clone + Drop> Reasons for FolderStore<R> {
+    ghost known = { λ store. store.reason };
+
+    fn reason(&self) -> Option<ErrorKind> {
+        FolderStore::reason(self)
+    }
+}
+
+impl Reasons for MemStore {
+    ghost known = { λ _. None };
+
+    fn reason(&self) -> Option<ErrorKind> {
+        None
+    }
+}
+
+/// Why a step failed.
+#[derive(Clone, Copy, Debug, PartialEq, Eq)]
+pub enum Why {
+    /// The system's kind of error.
+    Kind(ErrorKind),
+    /// The fault alone, where the system's kind isn't known.
+    Fault(Fault),
+}
+
+/// A few words in lower case, with no full stop, as `permission denied` or `not found`.
+impl fmt::Display for Why {
+    fn fmt<W: fmt::Write>(&self, f: &mut fmt::Formatter<W>) -> fmt::Result {
+        match self {
+            Why::Kind(kind) => kind.fmt(f),
+            Why::Fault(fault) => fault.fmt(f),
+        }
+    }
+}
+
+/// Why a call failed: this reason, if its fault is the error's, and else that fault. None for an error that has no fault.
+pub fn why_of(error: &Error, reason: Option<ErrorKind>) -> Option<Why>
+    ensures none { fault_in error.now ≡ None → result ≡ None }
+    ensures kind { IfSome reason (λ kind. fault_in error.now ≡ Some (fault_of kind)
+        → result ≡ Some (Kind kind)) }
+    ensures fault { IfSome (fault_in error.now) (λ fault. IfSome reason (λ kind.
+        fault_of kind ≢ fault) → result ≡ Some (Fault fault)) }
+{
+    let fault = error.fault()?;
+    match reason {
+        Some(kind) if Fault::from(kind) == fault => Some(Why::Kind(kind)),
+        _ => Some(Why::Fault(fault)),
+    }
+}
+
+/// Whether the first word is `--why`, and the words that say what to do: those behind it, or else all.
+pub fn asks_why(words: &[String]) -> (bool, &[String])
+    ensures yes { AsksWhy words.now → (result.0 ≡ true) × (result.1.now ≡ drop 1 words.now) }
+    ensures no { (AsksWhy words.now → ⊥) → (result.0 ≡ false) × (result.1.now ≡ words.now) }
+{
+    let Some((first, others)) = words.split_first() else {
+        return (false, words);
+    };
+    match first.as_str() {
+        "--why" => (true, others),
+        _ => (false, words),
+    }
+}
