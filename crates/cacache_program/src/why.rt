@@ -2,7 +2,7 @@
 ghost use Rattle.std.specs.Prelude.{◌≡◌, ◌≢◌, Option, Some, None, IfSome, true, false, drop};
 ghost use Rattle.std.specs.declared.io.ErrorKind.{ErrorKind};
 ghost use Rattle.cacache_core.specs.Contexts.{fault_in, fault_of};
-ghost use Rattle.cacache_program.specs.declared.why.Why.TheVariants.{Kind, Fault};
+ghost use Rattle.cacache_program.specs.declared.why.Why.TheVariants.{System, Plain};
 ghost use Rattle.cacache_program.specs.Words.{AsksWhy};
 
 use cacache::errors::{Error, Fault};
@@ -41,17 +41,17 @@ impl Reasons for MemStore {
 #[derive(Clone, Copy, Debug, PartialEq, Eq)]
 pub enum Why {
     /// The system's kind of error.
-    Kind(ErrorKind),
+    System(ErrorKind),
     /// The fault alone, where the system's kind isn't known.
-    Fault(Fault),
+    Plain(Fault),
 }
 
 /// A few words in lower case, with no full stop, as `permission denied` or `not found`.
 impl fmt::Display for Why {
     fn fmt<W: fmt::Write>(&self, f: &mut fmt::Formatter<W>) -> fmt::Result {
         match self {
-            Why::Kind(kind) => kind.fmt(f),
-            Why::Fault(fault) => fault.fmt(f),
+            Why::System(kind) => kind.fmt(f),
+            Why::Plain(fault) => fault.fmt(f),
         }
     }
 }
@@ -60,14 +60,14 @@ impl fmt::Display for Why {
 pub fn why_of(error: &Error, reason: Option<ErrorKind>) -> Option<Why>
     ensures none { fault_in error.now ≡ None → result ≡ None }
     ensures kind { IfSome reason (λ kind. fault_in error.now ≡ Some (fault_of kind)
-        → result ≡ Some (Kind kind)) }
+        → result ≡ Some (System kind)) }
     ensures fault { IfSome (fault_in error.now) (λ fault. IfSome reason (λ kind.
-        fault_of kind ≢ fault) → result ≡ Some (Fault fault)) }
+        fault_of kind ≢ fault) → result ≡ Some (Plain fault)) }
 {
     let fault = error.fault()?;
     match reason {
-        Some(kind) if Fault::from(kind) == fault => Some(Why::Kind(kind)),
-        _ => Some(Why::Fault(fault)),
+        Some(kind) if Fault::from(kind) == fault => Some(Why::System(kind)),
+        _ => Some(Why::Plain(fault)),
     }
 }
 
