@@ -25,9 +25,13 @@ pub struct Collected {
 /// Removes each content of a cache that is the address of no entry. What lies among the contents and
 /// is none stays.
 ///
-/// Errors are those of `cacache_contents::list`, and the first error among the items of the index,
-/// both before anything is removed; a folder of the index that isn't there has no items. A removal
-/// that failed ends the call, and those before it stay done. `OutOfMemory` may come at any time.
+/// A folder of the index that isn't there has no items, so every content is removed then; a link in
+/// its place that leads to nothing is an `IoError`. Collect a cache while nobody writes to it: a
+/// content is stored before its entry.
+///
+/// Errors are those of `content::read::list`, and the first error among the items of the index, both
+/// before anything is removed. A removal that failed ends the call, and those before it stay done.
+/// `OutOfMemory` may come at any time.
 pub fn collect<S: Store, C: Clock, N: Names>(
     env: &mut Env<S, C, N>,
     cache: &str,

@@ -31,9 +31,10 @@ pub struct Verdict {
 /// changes. A content is read in pieces of 8 KiB, of which one is in memory at a time.
 ///
 /// A content whose bytes don't meet its address is damaged, and so is one that was gone when it was
-/// to be opened. Errors are those of `cacache_contents::list`, of an opening or a read that failed
-/// otherwise, and the first error among the items of the index; a folder of the index that isn't
-/// there has no items. `OutOfMemory` may come at any time.
+/// to be opened. Errors are those of `content::read::list`, of an opening or a read that failed
+/// otherwise, and the first error among the items of the index. A folder of the index that isn't
+/// there has no items; a link in its place that leads to nothing is an `IoError`. `OutOfMemory` may
+/// come at any time.
 pub fn verify<S: Store, C: Clock, N: Names>(env: &mut Env<S, C, N>, cache: &str) -> Result<Verdict>
     ensures verifies { IfOk result (λ v. Verifies (site_of cache.now env.old.base 0)
         v.good v.damaged.items (map found_view v.dangling.items) (map string_bytes v.strange.items)
