@@ -55,7 +55,7 @@ def crate_tables():
 
 def usage(crate):
     """The words of a program, as its usage text has them."""
-    text = told(f"crates/{crate}/src/output.rt", r'USAGE: &str =\s*"usage: [\w-]+ (.*?)\\n"')
+    text = told(f"crates/{crate}/src/about.rt", r'USAGE: &str =\s*"usage: [\w-]+ (.*?)\\n"')
     for part in text.split(" | "):
         names, *arguments = part.split()
         yield from (" ".join([name, *arguments]) for name in names.split("|"))
