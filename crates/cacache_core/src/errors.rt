@@ -27,7 +27,7 @@ pub enum Fault {
     IsADirectory,
     /// A folder that was to be removed holds something.
     NotEmpty,
-    /// The store can't do this kind of step.
+    /// The store can't do this kind of step: real folders make no reflinks.
     Unsupported,
     /// The path can't name anything: it has a name `..` or a NUL.
     InvalidInput,

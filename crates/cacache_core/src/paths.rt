@@ -61,6 +61,7 @@ pub fn is_name(piece: &str) -> bool
 pub struct Place {
     /// The folder that holds it.
     pub folder: Text,
+    /// Its own path, of which the folder's is the front.
     pub path: Text,
 }
 

@@ -55,7 +55,7 @@ impl Hash for SerializableMetadata {
     }
 }
 
-/// What a lookup found for a key.
+/// What a lookup found for a key. It comes of the index alone: the content may have been removed since.
 #[derive(Debug, Drop, PartialEq)]
 pub struct Metadata {
     /// The key.

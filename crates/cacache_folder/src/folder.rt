@@ -33,7 +33,8 @@ use std::rt::Files;
 use std::{fs, io};
 pub use temp::FolderTemp;
 
-/// The folders and files of a runtime's file system, by the system's own rules. It keeps no log.
+/// The folders and files of a runtime's file system, by the system's own rules. It keeps no log. Each `Reflink` fails
+/// with `Unsupported`.
 ///
 /// A name that isn't UTF-8 is listed as an escaped name, so that it hides no other one. No step reaches what stands under it.
 #[derive(Drop)]

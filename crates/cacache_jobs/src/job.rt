@@ -20,7 +20,9 @@ use std::mem::replace;
 /// What a job hands out.
 #[derive(Drop)]
 pub enum Next<F, T> {
+    /// The call wants this step, and is to be given its answer.
     Step(Step<F, T>),
+    /// The call is over, with this reply.
     Over(Reply),
 }
 

@@ -12,7 +12,7 @@ use cacache_store::store::Store;
 
 /// The entries of the index, one after another: for each bucket each of its keys once, where the
 /// key's lookup there finds an entry. They come in an open order. No step is made before the first
-/// is asked for.
+/// is asked for. Whether their contents are there isn't asked.
 ///
 /// ```
 /// cacache::write_sync(&mut env, "my-cache", "key", b"my data")?;

@@ -21,14 +21,18 @@ pub enum Refusal {
 /// A temporary file after a write, and how many of the bytes it took.
 #[derive(Drop)]
 pub struct Written<T> {
+    /// The temporary file.
     pub file: T,
+    /// How many bytes it took.
     pub count: usize,
 }
 
 /// An open file after a read, and the bytes that it gave.
 #[derive(Drop)]
 pub struct Got<F> {
+    /// The open file, which stands behind them.
     pub file: F,
+    /// The bytes: none only at its end, or if none were asked for.
     pub bytes: Bytes,
 }
 

@@ -29,37 +29,44 @@ pub struct Options {
 /// Stores bytes as a content; with a key, its entry follows.
 #[derive(Debug, Drop)]
 pub struct Put {
+    /// The key of the entry; without one none is made.
     pub key: Option<Text>,
+    /// The bytes, which become the content.
     pub data: Bytes,
     /// The entry's time, in milliseconds since 1970; without a key it has no effect.
     pub moment: u128,
+    /// What the content is to be, and what its entry says.
     pub options: Options,
 }
 
 /// Makes a content of a link to a file; with a key, its entry follows.
 #[derive(Debug, Drop)]
 pub struct Link {
+    /// The key of the entry; without one none is made.
     pub key: Option<Text>,
     /// The file's path; one without a `/` in front starts at the base folder.
     pub target: Text,
     /// The entry's time, in milliseconds since 1970; without a key it has no effect.
     pub moment: u128,
+    /// What the target is to be, and what its entry says. A size has no effect: the target's own is asked.
     pub options: Options,
 }
 
-/// Adds an entry to the index.
+/// Adds an entry to the index; without an integrity it is a tombstone.
 #[derive(Debug, Drop)]
 pub struct Insert {
+    /// The key of the entry.
     pub key: Text,
     /// The entry's time, in milliseconds since 1970.
     pub moment: u128,
-    /// The size and the integrity are the entry's own; the algorithm has no effect.
+    /// The size and the integrity are the entry's own; the algorithm has no effect. Without a size it records 0.
     pub options: Options,
 }
 
 /// Adds a tombstone to the index.
 #[derive(Debug, Drop)]
 pub struct Delete {
+    /// The key that is deleted.
     pub key: Text,
     /// The tombstone's time, in milliseconds since 1970.
     pub moment: u128,
@@ -68,21 +75,27 @@ pub struct Delete {
 /// How a content is exported.
 #[derive(Clone, Copy, Debug, PartialEq, Eq)]
 pub enum How {
+    /// As a copy of its bytes, over a file that stands there.
     Copy,
+    /// As a file that shares its storage, where nothing stands. Real folders answer `Unsupported`.
     Reflink,
+    /// As one more name of its file, where nothing stands. Whoever then writes to that file damages the cache.
     HardLink,
 }
 
 /// What names the content of an export.
 #[derive(Debug, Drop)]
 pub enum Source {
+    /// The key whose lookup finds it.
     Key(Text),
+    /// Its integrity.
     Hash(Integrity),
 }
 
 /// Gives a content a second place, outside the cache.
 #[derive(Debug, Drop)]
 pub struct Export {
+    /// Whether it is copied or linked.
     pub how: How,
     /// Whether the content is read and verified first.
     pub checked: bool,
@@ -93,11 +106,15 @@ pub struct Export {
 /// A call on a cache.
 #[derive(Debug, Drop)]
 pub enum Command {
+    /// Stores bytes, with a key or without one.
     Put(Put),
+    /// Links to a file, with a key or without one.
     Link(Link),
+    /// Adds an entry to the index.
     Insert(Insert),
+    /// Adds a tombstone to the index; the content stays.
     Delete(Delete),
-    /// The entry that a lookup of the key finds.
+    /// The entry that a lookup of the key finds, whether or not its content is there.
     Find(Text),
     /// The bytes that a key was last put with.
     Get(Text),
@@ -107,8 +124,9 @@ pub enum Command {
     Exists(Integrity),
     /// The entries of all keys.
     Ls,
+    /// Copies or links a content to a place outside the cache.
     Export(Source, Export),
-    /// Removes the content of an integrity.
+    /// Removes the content of an integrity; entries stay.
     RemoveHash(Integrity),
     /// Removes the content that a key's lookup finds, and the key's bucket.
     RemoveFully(Text),

@@ -14,9 +14,14 @@ use std::fmt;
 /// An algorithm of FIPS 180-4. The strongest is the least.
 #[derive(Clone, Copy, Debug, PartialEq, Eq, Hash)]
 pub enum Algorithm {
+    /// SHA-512, whose digests have 64 bytes.
     Sha512,
+    /// SHA-384, whose digests have 48 bytes.
     Sha384,
+    /// SHA-256, whose digests have 32 bytes. Calls that name no algorithm take it.
     Sha256,
+    /// SHA-1, whose digests have 20 bytes. Two files with one digest can be made, so take it only where others
+    /// give the integrity.
     Sha1,
 }
 

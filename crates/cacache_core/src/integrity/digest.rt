@@ -84,7 +84,9 @@ impl fmt::Debug for Digest {
 /// A digest and the algorithm that computed it.
 #[derive(Debug, Drop)]
 pub struct Hash {
+    /// What the digest was computed by.
     pub algorithm: Algorithm,
+    /// The digest's bytes.
     pub digest: Digest,
 }
 

@@ -28,6 +28,7 @@ pub enum TreeNode {
 pub struct TreeItem {
     /// `/` before each name from the top folder down, and alone for the top folder.
     pub path: Text,
+    /// What stands there.
     pub node: TreeNode,
 }
 

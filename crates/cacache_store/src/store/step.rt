@@ -29,7 +29,7 @@ pub enum Step<F, T> {
     Symlink(Text, Text),
     /// Copies the file at the first path to the second path.
     Copy(Text, Text),
-    /// The same with shared storage. The second path must be free.
+    /// The same with shared storage, which real folders can't do. The second path must be free.
     Reflink(Text, Text),
     /// Gives the file at the first path a second name. The second path must be free.
     HardLink(Text, Text),
