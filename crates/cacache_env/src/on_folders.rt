@@ -25,7 +25,8 @@ pub type FolderWriter = SyncWriter<FolderTemp<HostRuntime>>;
 /// An open file that is to become a content of a cache in real folders by a link.
 pub type FolderLinker = SyncToLinker<FolderFile<File>>;
 
-/// The environment of caches in real folders. A relative target of a link starts from the folder `base`.
+/// The environment of caches in real folders. `base` is for links alone: the absolute path of the folder that a
+/// relative target of a link starts from. A relative path of a cache starts from the working folder of the process.
 ///
 /// ```
 /// let env = cacache::env::folders(rt, "/home/me")?;

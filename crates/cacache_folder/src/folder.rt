@@ -61,6 +61,10 @@ impl<R: Files + AllocGlobal + Clone + Drop> FolderStore<R> {
 
     /// The system's kind of error behind the last step that failed, which says more than a `Fault` does: a full disk, a
     /// missing right and another device have kinds of their own. None before any step failed.
+    ///
+    /// It says why a call failed whose `IoError` has this kind's `Fault`. The program `uses_builds` asks it where a
+    /// hard link failed, and copies in its place only where no link can be made: the reason is another device
+    /// (`CrossesDevices`), or a system without hard links (`Unsupported`).
     pub fn reason(&self) -> Option<ErrorKind>
         ensures { result ≡ self.now.reason }
     {

@@ -25,7 +25,8 @@ pub struct Env<S, C, N> {
 }
 
 impl<S: Drop, C: Drop, N: Drop> Env<S, C, N> {
-    /// An environment of these parts. It allocates only for a copy of `base`.
+    /// An environment of these parts. It allocates only for a copy of `base`, which is for links alone: a relative
+    /// target of a link starts from there, and each other path goes to the store as it is.
     pub fn new(
         alloc: Global,
         store: S,
