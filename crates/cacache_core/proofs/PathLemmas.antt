@@ -1,12 +1,12 @@
 -- Names of paths: how digits are cut, and that none is a beginning of another.
-use Rattle.std.proofs.Common.{◌≡◌, ◌*◌, ◌+◌, ℕ, zero, suc, ◌≤◌, List, [], ◌∷◌, Ok, length, get_or, take, drop, codes, refl, sym, ap, ◌∙◌, arith, length-take, length-append, ◌/◌, slice_index, ◌<◌, ◌++◌, ◌%◌, append_assoc, append-nil}
+use Rattle.std.proofs.Common.{◌≡◌, ◌*◌, ◌+◌, ℕ, zero, suc, ◌≤◌, List, [], ◌∷◌, Ok, length, get_or, take, drop, refl, sym, ap, ◌∙◌, arith, length-take, length-append, ◌/◌, slice_index, ◌<◌, ◌++◌, ◌%◌, append_assoc, append-nil}
 use Rattle.std.proofs.lemmas.List.{take_all, drop_all, drop_more}
 use Rattle.std.specs.Int.{w32, to_be_bytes}
 use Rattle.base64.specs.GeneralPurpose.{IsBytes}
 use Rattle.sha1.specs.Sha1.{sha1, digest_bytes, hash_after, padded_message}
 use Rattle.cacache_core.proofs.Decoded.{bytes_append}
 use Rattle.cacache_core.specs.PathLaws.{KeysHaveDigests, NoneBegins, KindsAreApart}
-use Rattle.cacache_core.specs.Paths.{content_names, bucket_names_of, temp_names, Begins, AreApart}
+use Rattle.cacache_core.specs.Paths.{content_area, index_area, temp_area, content_names, bucket_names_of, temp_names, Begins, AreApart}
 use Rattle.hex.specs.Hex.{encode_with, encode_lower, lower_digits, decode_of}
 use Rattle.hex.proofs.HexLemmas.{decode_of-encode_lower}
 
@@ -115,7 +115,7 @@ are_apart x y xs ys apart = (differ x y xs ys apart, differ y x ys xs (λ e. apa
 
 pub kinds_are_apart : KindsAreApart
 kinds_are_apart = record {
-  contents_buckets = λ h d. are_apart (codes "content-v2") (codes "index-v5") _ _ (λ e. omega arith);
-  contents_temporaries = λ h n. are_apart (codes "content-v2") (codes "tmp") _ _ (λ e. omega arith);
-  buckets_temporaries = λ d n. are_apart (codes "index-v5") (codes "tmp") _ _ (λ e. omega arith);
+  contents_buckets = λ h d. are_apart content_area index_area _ _ (λ e. omega arith);
+  contents_temporaries = λ h n. are_apart content_area temp_area _ _ (λ e. omega arith);
+  buckets_temporaries = λ d n. are_apart index_area temp_area _ _ (λ e. omega arith);
 }

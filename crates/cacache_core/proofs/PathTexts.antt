@@ -17,7 +17,7 @@ use Rattle.cacache_core.specs.declared.integrity.digest.Hash.{Hash}
 use Rattle.cacache_core.specs.Integrity.{IsHash, hash_of}
 use Rattle.cacache_core.specs.PathLaws.{IsKeyDigest, PathsDiffer, JoinedTextsSpell}
 use Rattle.cacache_core.specs.PathNames.{ends_name, IsProperName}
-use Rattle.cacache_core.specs.Paths.{join, joined, slashed, cut_digits, content_names, bucket_names_of, temp_names}
+use Rattle.cacache_core.specs.Paths.{join, joined, slashed, cut_digits, content_area, index_area, temp_area, content_names, bucket_names_of, temp_names}
 use Rattle.cacache_core.specs.Texts.{name_of}
 
 -- ---- names after a slash each
@@ -149,13 +149,13 @@ unfolding text_in
 same_content cache h g p q e =
     let hs = name_of h.algorithm ∷ cut_digits (encode_lower h.digest) in
     let gs = name_of g.algorithm ∷ cut_digits (encode_lower g.digest) in
-    same_hash h g p q (same_below cache (codes "content-v2") hs gs proper_content_folder (proper_content h p) (proper_content g q) e)
+    same_hash h g p q (same_below cache content_area hs gs proper_content_folder (proper_content h p) (proper_content g q) e)
 
 -- ---- buckets
 
 same_bucket : (cache d e : List ℕ) → IsKeyDigest d → IsKeyDigest e → joined cache (bucket_names_of d) ≡ joined cache (bucket_names_of e) → d ≡ e
 same_bucket cache d e p q same =
-    let cut = same_below cache (codes "index-v5") (cut_digits (encode_lower d)) (cut_digits (encode_lower e)) proper_bucket_folder (proper_bucket d p) (proper_bucket e q) same in
+    let cut = same_below cache index_area (cut_digits (encode_lower d)) (cut_digits (encode_lower e)) proper_bucket_folder (proper_bucket d p) (proper_bucket e q) same in
     same_bytes d e p.bytes q.bytes (same_digits _ _ (long_digits d (omega (arith, p.size))) (long_digits e (omega (arith, q.size))) cut)
 
 -- ---- temporary files
@@ -172,7 +172,7 @@ same_temp : (cache : List ℕ) (n m : ℕ) → n < 2 ^ 64 → m < 2 ^ 64 → joi
 same_temp cache n m p q same =
     let a = to_be_bytes w64 n in
     let b = to_be_bytes w64 m in
-    let cut = same_below cache (codes "tmp") ((codes ".tmp" ++ encode_lower a) ∷ []) ((codes ".tmp" ++ encode_lower b) ∷ []) proper_temp_folder (proper_temp n) (proper_temp m) same in
+    let cut = same_below cache temp_area ((codes ".tmp" ++ encode_lower a) ∷ []) ((codes ".tmp" ++ encode_lower b) ∷ []) proper_temp_folder (proper_temp n) (proper_temp m) same in
     let bytes = same_bytes a b (be_bytes n) (be_bytes m) (sym (digits_behind-name (encode_lower a)) ∙ ap digits_behind cut ∙ digits_behind-name (encode_lower b)) in
     sym (from_be_bytes-to_be_bytes_8 n p) ∙ ap (from_be_bytes w64) bytes ∙ from_be_bytes-to_be_bytes_8 m q
 

@@ -17,7 +17,7 @@ use Rattle.cacache_core.specs.declared.integrity.digest.Hash.{Hash}
 use Rattle.cacache_core.specs.Integrity.{IsHash}
 use Rattle.cacache_core.specs.PathLaws.{IsKeyDigest, NamesAreProper}
 use Rattle.cacache_core.specs.PathNames.{ends_name, IsProperName}
-use Rattle.cacache_core.specs.Paths.{cut_digits}
+use Rattle.cacache_core.specs.Paths.{content_area, index_area, temp_area, cut_digits}
 use Rattle.cacache_core.specs.Texts.{name_of}
 
 -- NUL, a dot or a slash
@@ -85,8 +85,8 @@ proper_hex d bytes long = proper_digits (encode_lower d) (hex_long d long) (hex_
 
 -- ---- contents
 
-pub proper_content_folder : IsProperName (codes "content-v2")
-proper_content_folder = proper (codes "content-v2") (omega arith) refl
+pub proper_content_folder : IsProperName content_area
+proper_content_folder = proper content_area (omega arith) refl
 
 proper_algorithm : (a : Algorithm) → IsProperName (name_of a)
 proper_algorithm Sha1 = proper (codes "sha1") (omega arith) refl
@@ -101,16 +101,16 @@ proper_content h is =
 
 -- ---- buckets
 
-pub proper_bucket_folder : IsProperName (codes "index-v5")
-proper_bucket_folder = proper (codes "index-v5") (omega arith) refl
+pub proper_bucket_folder : IsProperName index_area
+proper_bucket_folder = proper index_area (omega arith) refl
 
 pub proper_bucket : (d : List ℕ) → IsKeyDigest d → All IsProperName (cut_digits (encode_lower d))
 proper_bucket d is = proper_hex d is.bytes (omega (arith, is.size))
 
 -- ---- temporary files
 
-pub proper_temp_folder : IsProperName (codes "tmp")
-proper_temp_folder = proper (codes "tmp") (omega arith) refl
+pub proper_temp_folder : IsProperName temp_area
+proper_temp_folder = proper temp_area (omega arith) refl
 
 pub be_bytes : (n : ℕ) → IsBytes (to_be_bytes w64 n)
 be_bytes n zero = omega arith
@@ -133,7 +133,7 @@ proper_temp n =
 
 pub names_are_proper : NamesAreProper
 names_are_proper = record {
-  contents = λ h is. All-cons IsProperName (codes "content-v2") (name_of h.algorithm ∷ cut_digits (encode_lower h.digest)) proper_content_folder (proper_content h is);
-  buckets = λ d is. All-cons IsProperName (codes "index-v5") (cut_digits (encode_lower d)) proper_bucket_folder (proper_bucket d is);
-  temporaries = λ n. All-cons IsProperName (codes "tmp") ((codes ".tmp" ++ encode_lower (to_be_bytes w64 n)) ∷ []) proper_temp_folder (proper_temp n);
+  contents = λ h is. All-cons IsProperName content_area (name_of h.algorithm ∷ cut_digits (encode_lower h.digest)) proper_content_folder (proper_content h is);
+  buckets = λ d is. All-cons IsProperName index_area (cut_digits (encode_lower d)) proper_bucket_folder (proper_bucket d is);
+  temporaries = λ n. All-cons IsProperName temp_area ((codes ".tmp" ++ encode_lower (to_be_bytes w64 n)) ∷ []) proper_temp_folder (proper_temp n);
 }

@@ -6,17 +6,29 @@ use Rattle.sha1.specs.Sha1.{sha1}
 use Rattle.cacache_core.specs.declared.integrity.digest.Hash.{Hash}
 use Rattle.cacache_core.specs.Texts.{name_of}
 
+-- the folder of contents, by its name in the cache folder
+abbrev pub content_area : List ℕ
+content_area = codes "content-v2"
+
+-- the folder of buckets
+abbrev pub index_area : List ℕ
+index_area = codes "index-v5"
+
+-- the folder of temporary files
+abbrev pub temp_area : List ℕ
+temp_area = codes "tmp"
+
 -- digits cut as two, two and the rest
 abbrev pub cut_digits : List ℕ → List (List ℕ)
 cut_digits h = take 2 h ∷ take 2 (drop 2 h) ∷ drop 4 h ∷ []
 
 -- the names of a content's path: the folder of contents, the algorithm, the digest's hex digits
 abbrev pub content_names : Hash → List (List ℕ)
-content_names h = codes "content-v2" ∷ name_of h.algorithm ∷ cut_digits (encode_lower h.digest)
+content_names h = content_area ∷ name_of h.algorithm ∷ cut_digits (encode_lower h.digest)
 
 -- the names of a bucket's path: the folder of buckets, the hex digits of the digest of its keys
 abbrev pub bucket_names_of : List ℕ → List (List ℕ)
-bucket_names_of digest = codes "index-v5" ∷ cut_digits (encode_lower digest)
+bucket_names_of digest = index_area ∷ cut_digits (encode_lower digest)
 
 -- the names of the path of a key's bucket
 abbrev pub bucket_names : List ℕ → List (List ℕ)
@@ -24,7 +36,7 @@ bucket_names key = bucket_names_of (sha1 key)
 
 -- the names of a temporary file's path: the folder of such files, its number in 16 hex digits
 abbrev pub temp_names : ℕ → List (List ℕ)
-temp_names number = codes "tmp" ∷ (codes ".tmp" ++ encode_lower (to_be_bytes w64 number)) ∷ []
+temp_names number = temp_area ∷ (codes ".tmp" ++ encode_lower (to_be_bytes w64 number)) ∷ []
 
 -- a path and a name below it
 unfoldable pub join : List ℕ → List ℕ → List ℕ

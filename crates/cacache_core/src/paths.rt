@@ -14,6 +14,15 @@ use crate::text::Text;
 pub use leading::{bucket_folders, content_folders};
 use std::alloc::{AllocError, Global};
 
+/// The folder of contents, by its name in the cache folder.
+pub const CONTENT_AREA: &str = "content-v2";
+
+/// The folder of buckets.
+pub const INDEX_AREA: &str = "index-v5";
+
+/// The folder of temporary files.
+pub const TEMP_AREA: &str = "tmp";
+
 /// Room for the names behind a cache folder in the path of a SHA-256 content.
 const ROOM: usize = 96;
 
@@ -118,7 +127,7 @@ pub fn temp_place(alloc: Global, cache: &str, number: u64) -> Result<Place, Allo
     ensures path { IfOk result (λ p. p.path ≡ joined cache.now (temp_names number)) }
 {
     let mut folder = roomy(alloc, cache)?;
-    push_name(&mut folder, "tmp")?;
+    push_name(&mut folder, TEMP_AREA)?;
     let mut path = roomy(alloc, folder.as_str())?;
     push_slash(&mut path)?;
     path.push_str(".tmp")?;
@@ -151,7 +160,7 @@ fn folder_of_content(alloc: Global, cache: &str, address: &Hash) -> Result<Strin
         (λ s. string_bytes s ≡ joined cache.now (folder_names (content_names address.now))) }
 {
     let mut path = roomy(alloc, cache)?;
-    push_name(&mut path, "content-v2")?;
+    push_name(&mut path, CONTENT_AREA)?;
     push_name(&mut path, address.algorithm.name())?;
     push_first_names(&mut path, address.digest.as_slice())?;
     Ok(path)
@@ -164,7 +173,7 @@ fn folder_of_bucket(alloc: Global, cache: &str, digest: &[u8]) -> Result<String,
         (λ s. string_bytes s ≡ joined cache.now (folder_names (bucket_names_of digest.now))) }
 {
     let mut path = roomy(alloc, cache)?;
-    push_name(&mut path, "index-v5")?;
+    push_name(&mut path, INDEX_AREA)?;
     push_first_names(&mut path, digest)?;
     Ok(path)
 }

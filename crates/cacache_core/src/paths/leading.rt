@@ -6,7 +6,7 @@ ghost use Rattle.cacache_core.specs.Paths.{join as join_of, cut_digits, content_
 
 use crate::digest::Hash;
 use crate::integrity::Integrity;
-use crate::paths::{join, push_hex, roomy};
+use crate::paths::{CONTENT_AREA, INDEX_AREA, join, push_hex, roomy};
 use crate::text::Text;
 use std::alloc::{AllocError, Global};
 
@@ -58,7 +58,7 @@ fn folders_of_content(alloc: Global, cache: &str, address: &Hash) -> Result<Vec<
 {
     let mut folders = Vec::with_capacity(alloc, 5)?;
     folders.push(Text::from_str(alloc, cache)?)?;
-    let top = join(alloc, cache, "content-v2")?;
+    let top = join(alloc, cache, CONTENT_AREA)?;
     let algorithm = join(alloc, top.as_str(), address.algorithm.name())?;
     folders.push(top)?;
     push_folders(alloc, &mut folders, algorithm, address.digest.as_slice())?;
@@ -82,7 +82,7 @@ pub fn bucket_folders(alloc: Global, cache: &str, key: &str) -> Result<Vec<Text>
     let digest = sha1::Sha1::digest(key.as_bytes());
     let mut folders = Vec::with_capacity(alloc, 4)?;
     folders.push(Text::from_str(alloc, cache)?)?;
-    let top = join(alloc, cache, "index-v5")?;
+    let top = join(alloc, cache, INDEX_AREA)?;
     push_folders(alloc, &mut folders, top, &digest)?;
     Ok(folders)
 }
