@@ -5,10 +5,12 @@ ghost use Rattle.cacache_core.specs.FaultTexts.{fault_text};
 ghost use Rattle.cacache_core.specs.declared.errors.Error.TheVariants.{OutOfMemory, IntegrityError};
 
 mod context;
+mod quoting;
 
 use crate::integrity::Integrity;
 use crate::text::Text;
 pub use context::{IoErrorExt, io_error};
+pub use quoting::Quoting;
 use std::alloc::{AllocError, AllocFailed};
 use std::fmt;
 use std::io::ErrorKind;

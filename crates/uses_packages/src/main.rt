@@ -9,32 +9,29 @@ mod packages;
 mod registry;
 
 use cacache::Result;
-use cacache::env::{Clock, Names, memory};
+use cacache::env::{Clock, Env, Names, memory};
 use cacache::errors::IoErrorExt;
 use cacache::store::Store;
 use lock::{Package, read_lock};
 use packages::Packages;
 
-/// Gets the packages of the lock file, and gets them twice more once the first one was damaged.
-fn run<S: Store, C: Clock, N: Names>(
-    packages: &mut Packages<S, C, N>,
-    locked: &[Package],
-) -> Result<()> {
+/// Gets the packages of the lock file, and gets them twice more once the first one was damaged. What became of them is
+/// the answer.
+fn run<S: Store, C: Clock, N: Names>(env: Env<S, C, N>, locked: &[Package]) -> Result<String> {
+    let mut packages = Packages::new(env);
     packages.get_all(locked)?;
     if let Some(package) = locked.first() {
         packages.damage(package)?;
     }
     packages.get_all(locked)?;
-    packages.get_all(locked)
+    packages.get_all(locked)?;
+    Ok(packages.report)
 }
 
 fn main(rt: HostRuntime) -> Result<()> {
+    let alloc = rt.alloc();
     let locked = read_lock(&rt)?;
     // `folders(rt, "/")` in its place keeps the packages in real folders.
-    let mut packages = Packages::new(memory(rt, "/")?);
-    run(&mut packages, &locked)?;
-    print!(rt; "{}", packages.report).with_context(|| Ok(String::from_str(
-        rt.alloc(),
-        "Failed to print the report",
-    )?))
+    let report = run(memory(rt, "/")?, &locked)?;
+    print!(rt; "{report}").context(alloc, "Failed to print the report")
 }

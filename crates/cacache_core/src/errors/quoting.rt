@@ -1,0 +1,38 @@
+//! The text that an error is about.
+ghost use Rattle.std.specs.Prelude.{◌≡◌, ◌≤◌, length, take};
+
+use crate::errors::Error;
+use std::fmt;
+
+/// The most bytes of a text that are shown.
+const SHOWN: usize = 100;
+
+/// An error, and the beginning of the text that it is about. Shown, as `integrity text not readable ("sha256")`, the text
+/// stands in brackets behind the error's own, in quotes and escaped as Rust's `{:?}` does it.
+#[derive(Clone, Copy, Debug)]
+pub struct Quoting<'a> {
+    pub error: &'a Error,
+    pub text: &'a str,
+}
+
+impl fmt::Display for Quoting<'_> {
+    fn fmt<W: fmt::Write>(&self, f: &mut fmt::Formatter<W>) -> fmt::Result {
+        write!(f, "{} ({:?})", self.error, self.text)
+    }
+}
+
+impl Error {
+    /// This error with the text that it is about, such as one that `Integrity::parse` refused. The text is cut to 100 bytes,
+    /// or up to three fewer where a character would be cut. Takes no memory.
+    pub fn quoting<'a>(&'a self, text: &'a str) -> Quoting<'a>
+        ensures error { result.error.now ≡ self.now }
+        ensures short { length result.text.now ≤ 100 }
+        ensures beginning { result.text.now ≡ take (length result.text.now) text.now }
+        ensures whole { length text.now ≤ 100 → result.text.now ≡ text.now }
+    {
+        Quoting {
+            error: self,
+            text: &text[..text.floor_char_boundary(SHOWN)],
+        }
+    }
+}
