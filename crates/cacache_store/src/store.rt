@@ -23,7 +23,7 @@ pub type PlainStep = Step<PlainFile, PlainTemp>;
 pub type PlainAnswer = Answer<PlainFile, PlainTemp>;
 
 /// Where a cache is: real folders, or a disk in memory.
-pub trait Store {
+pub trait Store: Drop {
     /// An open file.
     type File: OpenedFile;
 

@@ -21,7 +21,7 @@ impl Clock for Still {
 pub(crate) type On<S> = Env<S, Still, CountNames>;
 
 /// An environment over this store.
-pub(crate) fn on<S: Store + Drop>(
+pub(crate) fn on<S: Store>(
     alloc: Global,
     store: S,
     base: &str,

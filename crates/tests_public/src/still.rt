@@ -15,7 +15,7 @@ impl Clock for FixedClock {
 }
 
 /// An environment over this store, with the clock at 1000.
-pub(crate) fn on<S: Store + Drop>(
+pub(crate) fn on<S: Store>(
     alloc: Global,
     store: S,
 ) -> Result<Env<S, FixedClock, CountNames>, Fail> {

@@ -78,7 +78,7 @@ pub fn come_and_go<C: Clock, N: Names>(
 }
 
 /// What `store_and_read` does, in a new store: its callers owe nothing.
-pub fn from_nothing<C: Clock + Drop>(
+pub fn from_nothing<C: Clock>(
     alloc: Global,
     clock: C,
     cache: &str,

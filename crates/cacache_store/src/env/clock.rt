@@ -3,7 +3,7 @@ ghost use Rattle.std.specs.Prelude.{ℕ, List, Option, None};
 ghost use Rattle.cacache_store.specs.Given.{AddsAnswer};
 
 /// Tells the time.
-pub trait Clock {
+pub trait Clock: Drop {
     /// The answers so far, oldest first, if the clock keeps them.
     ghost given: { Self → Option (List ℕ) } = { λ _. None };
 

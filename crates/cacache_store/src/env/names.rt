@@ -6,7 +6,7 @@ use std::marker::Model;
 
 /// Gives the numbers that temporary files are named by. The calls on caches need them to be fresh, and it is up to
 /// the source to see to that.
-pub trait Names {
+pub trait Names: Drop {
     /// The answers so far, oldest first, if the source keeps them.
     ghost given: { Self → Option (List ℕ) } = { λ _. None };
 
