@@ -12,6 +12,7 @@ mod descent;
 mod escaped;
 mod faults;
 mod files;
+mod folders;
 mod guess;
 mod listing;
 mod node;

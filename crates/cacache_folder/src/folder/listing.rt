@@ -6,10 +6,9 @@ ghost use Rattle.cacache_store.specs.Fits.{AreProperNames};
 
 use crate::folder::FolderStore;
 use crate::folder::again::read_again;
-use crate::folder::descent::Folder;
 use crate::folder::escaped::text_of_name;
+use crate::folder::folders::Folders;
 use crate::folder::node::Node;
-use cacache_core::text::Text;
 use cacache_store::store::{Kind, Listing, Name};
 use std::alloc::{AllocError, Global};
 use std::fs::FileType;
@@ -107,17 +106,6 @@ fn named(alloc: Global, name: &[u8], kind: Kind) -> Looked<Name>
     }
 }
 
-/// Notes a folder.
-fn note(alloc: Global, folders: &mut Vec<Folder>, path: &str, node: Node) -> Looked<()> {
-    let Ok(path) = Text::from_str(alloc, path) else {
-        return Err(ErrorKind::OutOfMemory);
-    };
-    match folders.push(Folder { path, node }) {
-        Ok(()) => Ok(()),
-        Err(_) => Err(ErrorKind::OutOfMemory),
-    }
-}
-
 /// Adds an entry.
 fn push(names: &mut Vec<Name>, entry: Name) -> Looked<()>
     ensures { IsProperName entry.name → AreProperNames names.old.items
@@ -134,12 +122,12 @@ fn push(names: &mut Vec<Name>, entry: Name) -> Looked<()>
 struct Listed {
     names: Vec<Name>,
     /// Those of the names that are folders.
-    folders: Vec<Folder>,
+    folders: Folders,
 }
 
 impl<R: Files + AllocGlobal + Clone + Drop> FolderStore<R> {
     /// What kind of thing stands at the path; None if it was removed since the folder was read. A folder is noted.
-    fn kind_at(&self, folders: &mut Vec<Folder>, path: &str) -> Looked<Option<Kind>> {
+    fn kind_at(&self, folders: &mut Folders, path: &str) -> Looked<Option<Kind>> {
         let found = match self.rt.symlink_metadata(path) {
             Ok(found) => found,
             Err(error) => match error.kind() {
@@ -148,8 +136,10 @@ impl<R: Files + AllocGlobal + Clone + Drop> FolderStore<R> {
             },
         };
         let kind = kind_of(found.file_type());
-        if matches!(kind, Kind::Folder) {
-            note(self.rt.alloc(), folders, path, Node::of(&found))?;
+        if matches!(kind, Kind::Folder)
+            && folders.push(path.as_bytes(), Node::of(&found)).is_err()
+        {
+            return Err(ErrorKind::OutOfMemory);
         }
         Ok(Some(kind))
     }
@@ -158,7 +148,7 @@ impl<R: Files + AllocGlobal + Clone + Drop> FolderStore<R> {
     /// that is none counts as a file.
     fn kind_below(
         &self,
-        folders: &mut Vec<Folder>,
+        folders: &mut Folders,
         folder: &mut Vec<u8>,
         name: &[u8],
     ) -> Looked<Option<Kind>> {
@@ -225,7 +215,7 @@ impl<R: Files + AllocGlobal + Clone + Drop> FolderStore<R> {
         let mut folder = folder.into_bytes();
         let mut listed = Listed {
             names: Vec::new(alloc),
-            folders: Vec::new(alloc),
+            folders: Folders::new(alloc),
         };
         match self.fill(&mut listed, &mut open, &mut folder) {
             Ok(()) => Ok(listed),
@@ -273,7 +263,7 @@ impl<R: Files + AllocGlobal + Clone + Drop> FolderStore<R> {
         let next = self.descent.next(path);
         match self.names_in(path, next.is_some()) {
             Ok(Listed { names, folders }) => {
-                self.descent.list(self.rt.alloc(), path, next, folders)?;
+                self.descent.list(path, next, folders)?;
                 Ok(Listing::new(names))
             }
             Err(kind) => Err(io::Error::from(kind)),

@@ -8,18 +8,28 @@ use std::io::ErrorKind;
 use std::rt::Files;
 
 impl<R: Files + AllocGlobal + Clone + Drop> FolderStore<R> {
+    /// The folder that stands at this path; None if something else does.
+    fn found(&self, path: &[u8]) -> io::Result<Option<Node>> {
+        let Ok(path) = std::str::from_utf8(path) else {
+            return Ok(None);
+        };
+        let found = self.rt.symlink_metadata(path)?;
+        Ok(found.is_dir().then(|| Node::of(&found)))
+    }
+
     /// Whether the folders that a walk is in are folders still, and no links. The last of them tells it of all, where it is
     /// the one that was listed.
     fn stays(&self) -> io::Result<bool> {
-        let Some((last, _)) = self.descent.inner().split_last() else {
+        let entered = self.descent.entered();
+        let Some((last, node)) = entered.top() else {
             return Ok(true);
         };
-        let found = self.rt.symlink_metadata(last.path.as_str())?;
-        if found.is_dir() && Node::of(&found).is_same(last.node) {
+        if entered.len() < 2 || matches!(self.found(last)?, Some(found) if found.is_same(node)) {
             return Ok(true);
         }
-        for folder in self.descent.inner() {
-            if !self.rt.symlink_metadata(folder.path.as_str())?.is_dir() {
+        for below in 1..entered.len() {
+            let path = entered.path(below).unwrap_or_default();
+            if self.found(path)?.is_none() {
                 return Ok(false);
             }
         }
