@@ -1,6 +1,8 @@
 //! Runs a call on a store.
 ghost use Rattle.std.specs.Prelude.{◌≡◌};
 ghost use Rattle.cacache_core.specs.declared.errors.Error.TheVariants.{OutOfMemory};
+ghost use Rattle.cacache_store.specs.Fits.{Fits, Logs};
+ghost use Rattle.cacache_store.specs.Plain.{plain_step, plain_answer};
 ghost use Rattle.cacache_table.specs.Promises.{Answers};
 ghost use Rattle.cacache_table.specs.Runs.{Ran, plain_reply};
 ghost use Rattle.cacache_table.specs.State.{State};
@@ -16,9 +18,24 @@ use crate::opening::open;
 use crate::phase::Phase;
 use cacache_core::errors;
 use cacache_store::env::Env;
-use cacache_store::store::Store;
+use cacache_store::store::{Answer, Step, Store};
 use cacache_table::{Command, Reply};
 use std::alloc::Global;
+
+/// Does a step. It stands apart, so that what the store takes of the stack is given back before the call goes on.
+#[inline(never)]
+fn ask<S: Store>(
+    store: &mut S,
+    step: Step<S::File, S::Temp>,
+) -> Answer<S::File, S::Temp>
+    ensures fits { Fits (plain_step S.File.seen S.Temp.seen step)
+        (plain_answer S.File.seen S.Temp.seen result) }
+    ensures logged { Logs (S.log store.old) (S.log store.new)
+        (plain_step S.File.seen S.Temp.seen step)
+        (plain_answer S.File.seen S.Temp.seen result) }
+{
+    store.step(step)
+}
 
 /// Does the steps of a call from this phase on, until it is over.
 #[inline(always)]
@@ -32,7 +49,7 @@ fn go_on<S: Store>(store: &mut S, alloc: Global, phase: Phase<S::File, S::Temp>)
         match phase {
             Phase::Over(reply) => return reply,
             Phase::Wanting(stage, step) => {
-                let answer = store.step(step);
+                let answer = ask(store, step);
                 phase = settled(stage.resume(alloc, answer));
             }
         }

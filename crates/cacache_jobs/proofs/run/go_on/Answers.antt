@@ -20,17 +20,17 @@ steps-smaller g c =
     let temp = g.S.Temp.TempHandle.seen in
     let s : State = c.steps.invariant.stands.0 in
     let a : PlainStep = plain_step file temp c.in-Wanting.step in
-    let t : PlainAnswer = plain_answer file temp c.step-answer.result in
+    let t : PlainAnswer = plain_answer file temp c.ask-answer.result in
     let now = c.steps.invariant.stands.1 in
     let at : IsAt temp c.in-Wanting.stage a s = subst (λ p. PhaseAt file temp p s) c.in-Wanting.is now in
-    phase_shrinks file temp c.steps.phase c.settled-phase.result s a t now at.wanted c.step-answer.ensures.fits (c.settled-phase.ensures (after s t) (c.resume.ensures s at.state))
+    phase_shrinks file temp c.steps.phase c.settled-phase.result s a t now at.wanted c.ask-answer.ensures.fits (c.settled-phase.ensures (after s t) (c.resume.ensures s at.state))
 
 pub steps-preserved : goal.steps-preserved
 steps-preserved g c =
     let file = g.S.File.FileHandle.seen in
     let temp = g.S.Temp.TempHandle.seen in
     let a : PlainStep = plain_step file temp c.in-Wanting.step in
-    let t : PlainAnswer = plain_answer file temp c.step-answer.result in
+    let t : PlainAnswer = plain_answer file temp c.ask-answer.result in
     let s : State = c.steps.invariant.stands.0 in
     let at : IsAt temp c.in-Wanting.stage a s = subst (λ p. PhaseAt file temp p s) c.in-Wanting.is c.steps.invariant.stands.1 in
     record {
@@ -38,7 +38,7 @@ steps-preserved g c =
       reached = λ s0 h.
           let r = c.steps.invariant.reached s0 h in
           let o : IsAt temp c.in-Wanting.stage a r.0 = subst (λ p. PhaseAt file temp p r.0) c.in-Wanting.is r.1 in
-          phase_reached file temp s0 r.0 (g.S.Store.log c.args.store.now) (g.S.Store.log c.steps.store) (g.S.Store.log c.step-answer.new.self) c.settled-phase.result a t r.2 o.wanted c.step-answer.ensures.fits c.step-answer.ensures.logged (c.settled-phase.ensures (after r.0 t) (c.resume.ensures r.0 o.state));
+          phase_reached file temp s0 r.0 (g.S.Store.log c.args.store.now) (g.S.Store.log c.steps.store) (g.S.Store.log c.ask-answer.new.store) c.settled-phase.result a t r.2 o.wanted c.ask-answer.ensures.fits c.ask-answer.ensures.logged (c.settled-phase.ensures (after r.0 t) (c.resume.ensures r.0 o.state));
     }
 
 pub steps-init : goal.steps-init
