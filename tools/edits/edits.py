@@ -4,7 +4,7 @@ import pathlib
 import re
 
 TOP = pathlib.Path(__file__).resolve().parent.parent.parent
-TRIED = TOP / "docs/edits/TRIED"
+TRIED = TOP / "tools/edits/TRIED"
 
 
 def fields_of(edit):
@@ -43,8 +43,8 @@ def edited(folder, edit):
 
 
 def all_of(crate):
-    """All edits of a crate: those that the gate tries, and those of docs/edits."""
-    return sorted(TOP.glob(f"crates/{crate}/must-fail/*.edit")) + sorted(TOP.glob(f"docs/edits/{crate}/*.edit"))
+    """All edits of a crate: those that the gate tries, and those of tools/edits."""
+    return sorted(TOP.glob(f"crates/{crate}/must-fail/*.edit")) + sorted(TOP.glob(f"tools/edits/{crate}/*.edit"))
 
 
 def crates():
@@ -59,7 +59,7 @@ def crates():
 
 def strays():
     """The edits of crates that crates.txt doesn't list."""
-    places = [*TOP.glob("crates/*/must-fail/*.edit"), *TOP.glob("docs/edits/*/*.edit")]
+    places = [*TOP.glob("crates/*/must-fail/*.edit"), *TOP.glob("tools/edits/*/*.edit")]
     known = {edit for crate in crates() for edit in all_of(crate)}
     return sorted(set(places) - known)
 

@@ -1,4 +1,4 @@
-"""What `docs/api` and `docs/cited` share: the crates' sources, as `rt fmt` lays them out, and what they declare."""
+"""What `tools/api` and `tools/cited` share: the crates' sources, as `rt fmt` lays them out, and what they declare."""
 import collections
 import functools
 import pathlib
