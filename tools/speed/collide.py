@@ -1,7 +1,7 @@
 #!/usr/bin/env python3
 """Many processes that write into one cache at once: how many of them fail?
 
-    python3 docs/speed/collide.py PATH/TO/cacache [ROUNDS [PROCESSES]]
+    python3 tools/speed/collide.py PATH/TO/cacache [ROUNDS [PROCESSES]]
 
 Each of 20 rounds starts 64 processes `cacache write CACHE KEY` that wait for their input, and then gives all of them
 theirs at once. Each writes another key and another content. After a round each key is read back. The last line says
