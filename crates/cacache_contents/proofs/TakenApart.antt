@@ -1,5 +1,5 @@
 -- A path that is taken apart: what its text tells.
-use Rattle.std.proofs.Common.{◌≡◌, ℕ, ◌<◌, ◌≤◌, ◌+◌, ◌-◌, List, [], ◌∷◌, ◌++◌, Some, Ok, Err, length, slice_index, take, drop, codes, refl, sym, ap, ap₂, ◌∙◌, subst, arith, append-nil, length-append}
+use Rattle.std.proofs.Common.{◌≡◌, ℕ, ◌<◌, ◌≤◌, ◌+◌, ◌-◌, List, [], ◌∷◌, ◌++◌, Some, Ok, Err, length, slice_index, take, drop, refl, sym, ap, ap₂, ◌∙◌, subst, arith, append-nil, length-append}
 use Rattle.std.specs.Prelude.{IfSome}
 use Rattle.std.proofs.lemmas.Bool.{le-ltb}
 use Rattle.std.proofs.lemmas.List.{take_all, length-drop}
@@ -13,7 +13,7 @@ use Rattle.cacache_core.specs.declared.integrity.algorithm.Algorithm.{Algorithm}
 use Rattle.cacache_core.specs.declared.integrity.algorithm.Algorithm.TheVariants.{Sha1, Sha256, Sha384, Sha512}
 use Rattle.cacache_core.specs.declared.integrity.digest.Hash.{Hash}
 use Rattle.cacache_core.specs.Integrity.{IsHash, hash_of, address}
-use Rattle.cacache_core.specs.Paths.{join, joined, slashed, cut_digits, content_names}
+use Rattle.cacache_core.specs.Paths.{join, joined, slashed, cut_digits, content_area, content_names}
 use Rattle.cacache_core.specs.Texts.{name_of, long_hash}
 use Rattle.cacache_core.specs.declared.errors.Error.{Error}
 use Rattle.cacache_core.specs.declared.errors.Error.TheVariants.{IntegrityError, OutOfMemory}
@@ -73,9 +73,9 @@ taken text h hash is =
 -- ---- the path of a content
 
 -- its names stand behind its folder
-content_text : (cache : List ℕ) (h : Hash) → IsHash h → joined cache (content_names h) ≡ join cache (codes "content-v2") ++ names_text h
+content_text : (cache : List ℕ) (h : Hash) → IsHash h → joined cache (content_names h) ≡ join cache content_area ++ names_text h
 unfolding names_text
-content_text cache h hash = joined_texts_spell cache (codes "content-v2") (name_of h.algorithm ∷ cut_digits (encode_lower h.digest)) proper_content_folder (proper_content h hash)
+content_text cache h hash = joined_texts_spell cache content_area (name_of h.algorithm ∷ cut_digits (encode_lower h.digest)) proper_content_folder (proper_content h hash)
 
 -- ---- for the functions
 
@@ -93,11 +93,11 @@ drop_front : (xs ys : List ℕ) → drop (length xs) (xs ++ ys) ≡ ys
 drop_front [] ys = refl
 drop_front (x ∷ xs) ys = drop_front xs ys
 
-pub behind_top : (cache top path : List ℕ) (h : Hash) → top ≡ join cache (codes "content-v2") → IsHash h → path ≡ joined cache (content_names h) → drop (length top) path ≡ names_text h
+pub behind_top : (cache top path : List ℕ) (h : Hash) → top ≡ join cache content_area → IsHash h → path ≡ joined cache (content_names h) → drop (length top) path ≡ names_text h
 behind_top cache top path h is hash e =
     ap (drop (length top)) (e ∙ content_text cache h hash ∙ ap (λ (p : List ℕ). p ++ names_text h) (sym is)) ∙ drop_front top (names_text h)
 
-pub not_shorter : (cache top path : List ℕ) (h : Hash) → top ≡ join cache (codes "content-v2") → IsHash h → path ≡ joined cache (content_names h) → length path < length top → ⊥
+pub not_shorter : (cache top path : List ℕ) (h : Hash) → top ≡ join cache content_area → IsHash h → path ≡ joined cache (content_names h) → length path < length top → ⊥
 not_shorter cache top path h is hash e short =
     let l = ap length (e ∙ content_text cache h hash ∙ ap (λ (p : List ℕ). p ++ names_text h) (sym is)) ∙ length-append top (names_text h) in
     omega (arith, l, short)

@@ -1,5 +1,5 @@
 -- What a listing of the contents holds.
-use Rattle.std.specs.Prelude.{◌≡◌, ◌↔◌, ℕ, List, [], ◌∷◌, Option, Contains, map, codes}
+use Rattle.std.specs.Prelude.{◌≡◌, ◌↔◌, ℕ, List, [], ◌∷◌, Option, Contains, map}
 use Rattle.std.specs.declared.cmp.Ordering.{Ordering}
 use Rattle.std.specs.Ordering.{nat_cmp, on, then_cmp}
 use Rattle.std.specs.Cmp.Lexicographic.{slice_cmp}
@@ -7,7 +7,7 @@ use Rattle.std.specs.List.Sorted.{IsStrictlySortedBy}
 use Rattle.cacache_core.specs.declared.errors.Error.{Error}
 use Rattle.cacache_core.specs.declared.integrity.digest.Hash.{Hash}
 use Rattle.cacache_core.specs.Integrity.{IsHash, rank}
-use Rattle.cacache_core.specs.Paths.{join, joined, content_names}
+use Rattle.cacache_core.specs.Paths.{join, joined, content_area, content_names}
 use Rattle.cacache_store.specs.declared.store.log.LogItem.{LogItem}
 use Rattle.cacache_table.specs.Runs.{Moves, Gains}
 use Rattle.cacache_table.specs.Walking.{most}
@@ -27,7 +27,7 @@ pub record Sorts
 
 -- the folder of contents
 abbrev pub contents_folder : List ℕ → List ℕ
-contents_folder cache = join cache (codes "content-v2")
+contents_folder cache = join cache content_area
 
 -- the log gained a walk through the folder of contents, and the files that it shows are sorted so
 abbrev pub ListsContents : List ℕ → List (List Hash) → List (List ℕ)

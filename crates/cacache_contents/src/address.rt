@@ -1,11 +1,11 @@
 //! Which content a path is of.
-ghost use Rattle.std.specs.Prelude.{◌≡◌, ◌+◌, ◌<◌, ◌≤◌, Some, Ok, IfOk, IfErr, MatchOption, length, slice_index, codes};
+ghost use Rattle.std.specs.Prelude.{◌≡◌, ◌+◌, ◌<◌, ◌≤◌, Some, Ok, IfOk, IfErr, MatchOption, length, slice_index};
 ghost use Rattle.hex.specs.Hex.{decode_of};
 ghost use Rattle.cacache_core.specs.declared.errors.Error.TheVariants.{OutOfMemory};
 ghost use Rattle.cacache_core.specs.declared.integrity.digest.Hash.{Hash};
 ghost use Rattle.cacache_core.specs.Integrity.{IsHash};
-ghost use Rattle.cacache_core.specs.Paths.{join};
 ghost use Rattle.cacache_contents.specs.Addresses.{HasNoBytes, HasNoNames, IsContent, IsStrange, by_letter, digits_of, names_text};
+ghost use Rattle.cacache_contents.specs.Listing.{contents_folder};
 
 use cacache_core::errors::{Error, Result};
 use cacache_core::integrity::{Algorithm, Integrity};
@@ -92,7 +92,7 @@ pub(crate) fn address_at(
     top: &str,
     path: &str,
 ) -> Result<Option<Integrity>>
-    requires { top.now ≡ join cache.now (codes "content-v2") }
+    requires { top.now ≡ contents_folder cache.now }
     ensures address { IfOk result (λ r. MatchOption r
         (IsStrange cache.now path.now) (IsContent cache.now path.now)) }
     ensures memory { IfErr result (λ e. e ≡ OutOfMemory) }

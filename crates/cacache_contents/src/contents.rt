@@ -1,8 +1,7 @@
 //! The call that lists the contents.
-ghost use Rattle.std.specs.Prelude.{◌≡◌, IfOk, IfErr, map, codes, string_bytes};
+ghost use Rattle.std.specs.Prelude.{◌≡◌, IfOk, IfErr, map, string_bytes};
 ghost use Rattle.cacache_core.specs.declared.errors.Error.TheVariants.{OutOfMemory};
-ghost use Rattle.cacache_core.specs.Paths.{join};
-ghost use Rattle.cacache_contents.specs.Listing.{IsByBytes, IsByHash, ListedAreShown, ListsContents, Sorts, StopsListing};
+ghost use Rattle.cacache_contents.specs.Listing.{IsByBytes, IsByHash, ListedAreShown, ListsContents, Sorts, StopsListing, contents_folder};
 
 use crate::address::address_at;
 use crate::order::{sort_addresses, sort_paths};
@@ -34,7 +33,7 @@ struct Parts {
 
 /// The files and links by what their paths are, as they come.
 fn told(alloc: Global, cache: &str, top: &str, files: Vec<Text>) -> Result<Parts>
-    requires { top.now ≡ join cache.now (codes "content-v2") }
+    requires { top.now ≡ contents_folder cache.now }
     ensures sorts { IfOk result
         (λ f. Sorts cache.now files.items f.addresses.items f.strange.items) }
     ensures memory { IfErr result (λ e. e ≡ OutOfMemory) }
@@ -63,7 +62,7 @@ fn strings(alloc: Global, texts: Vec<Text>) -> std::result::Result<Vec<String>, 
 
 /// The files and links in order, by what their paths are.
 fn sorted(alloc: Global, cache: &str, top: &str, files: Vec<Text>) -> Result<Contents>
-    requires { top.now ≡ join cache.now (codes "content-v2") }
+    requires { top.now ≡ contents_folder cache.now }
     ensures sorts { IfOk result (λ c. Sorts cache.now files.items
         c.addresses.items (map string_bytes c.strange.items)) }
     ensures by_hash { IfOk result (λ c. IsByHash c.addresses.items) }
@@ -108,7 +107,7 @@ pub fn list<S: Store, C: Clock, N: Names>(env: &mut Env<S, C, N>, cache: &str) -
     ensures base { env.new.base ≡ env.old.base }
 {
     let alloc = env.alloc;
-    let top = paths::join(alloc, cache, "content-v2")?;
+    let top = paths::join(alloc, cache, paths::CONTENT_AREA)?;
     let files = files_below(&mut env.store, alloc, top.as_str())?;
     sorted(alloc, cache, top.as_str(), files)
 }

@@ -1,6 +1,6 @@
 //! Where calls begin.
-ghost use Rattle.std.specs.Prelude.{ℕ, List, true, false, codes};
-ghost use Rattle.cacache_core.specs.Paths.{join as join_of};
+ghost use Rattle.std.specs.Prelude.{ℕ, List, true, false};
+ghost use Rattle.cacache_core.specs.Paths.{index_area, join as join_of};
 ghost use Rattle.cacache_table.specs.State.{looking as looking_state, reading as reading_state, asking as asking_state};
 ghost use Rattle.cacache_table.specs.Table.{opening};
 ghost use Rattle.cacache_table.specs.Walking.{walk};
@@ -15,7 +15,7 @@ use crate::{exporting, inserting, linking, looking, reading, removing, storing, 
 use cacache_core::errors;
 use cacache_core::integrity::Integrity;
 use cacache_core::keeping::beside;
-use cacache_core::paths::join;
+use cacache_core::paths::{INDEX_AREA, join};
 use cacache_core::text::Text;
 use cacache_store::store::{FileHandle, TempHandle};
 use cacache_table::{Command, Export, Source};
@@ -63,9 +63,9 @@ fn ask<F: FileHandle, T: TempHandle>(
 
 /// Where a listing begins.
 fn list<F: FileHandle, T: TempHandle>(alloc: Global, cache: &str) -> errors::Result<Phase<F, T>>
-    ensures { Leads F.seen T.seen result (walk false (join_of cache.now (codes "index-v5"))) }
+    ensures { Leads F.seen T.seen result (walk false (join_of cache.now index_area)) }
 {
-    walking::start(alloc, false, join(alloc, cache, "index-v5")?)
+    walking::start(alloc, false, join(alloc, cache, INDEX_AREA)?)
 }
 
 /// Where a clearing begins.

@@ -12,7 +12,7 @@ use std::alloc::{AllocError, Global};
 pub fn temp_folder(alloc: Global, cache: &str) -> Result<Text, AllocError>
     ensures { IfOk result (λ path. path ≡ temp_folder_of cache.now) }
 {
-    paths::join(alloc, cache, "tmp")
+    paths::join(alloc, cache, paths::TEMP_AREA)
 }
 
 /// The path of the temporary file of a number.

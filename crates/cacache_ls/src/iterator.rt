@@ -10,7 +10,7 @@ ghost use Rattle.cacache_ls.specs.Lending.{EnvRests};
 ghost use Rattle.cacache_ls.specs.Iterating.{Filled, Gave, IsListing, KeepsEnv, NextGives, Shortens, StandsBy, WentOn, item_of, left};
 
 use cacache_core::errors::{self, Error};
-use cacache_core::paths::join;
+use cacache_core::paths::{INDEX_AREA, join};
 use cacache_entry::Metadata;
 use cacache_store::env::Env;
 use cacache_store::store::Store;
@@ -58,7 +58,7 @@ impl<'a, S: Store, C, N> Ls<'a, S, C, N> {
         ensures memory { IfErr result (λ e. e ≡ OutOfMemory) }
     {
         let alloc = env.alloc;
-        let (walk, visit) = Walk::new(alloc, false, join(alloc, cache, "index-v5")?)?;
+        let (walk, visit) = Walk::new(alloc, false, join(alloc, cache, INDEX_AREA)?)?;
         Ok(Ls {
             env,
             walk,

@@ -1,5 +1,5 @@
 -- Sound states make allowed steps, and stay sound.
-use Rattle.std.proofs.Common.{◌≡◌, inl, inr, ℕ, ◌+◌, ◌-◌, ◌<◌, ◌^◌, ◌==◌, List, [], ◌∷◌, ◌++◌, Option, Some, None, Bool, true, false, cond, nat_le, nat_lt, Ok, refl, ap, ap₂, sym, subst, ◌∙◌, drop, take, length, length-append, codes, arith}
+use Rattle.std.proofs.Common.{◌≡◌, inl, inr, ℕ, ◌+◌, ◌-◌, ◌<◌, ◌^◌, ◌==◌, List, [], ◌∷◌, ◌++◌, Option, Some, None, Bool, true, false, cond, nat_le, nat_lt, Ok, refl, ap, ap₂, sym, subst, ◌∙◌, drop, take, length, length-append, arith}
 use Rattle.cacache_core.specs.declared.errors.Fault.{Fault}
 use Rattle.cacache_core.specs.declared.errors.Fault.TheVariants as faults
 use Rattle.cacache_core.specs.declared.errors.SerdeCause.{SerdeCause}
@@ -7,7 +7,7 @@ use Rattle.cacache_core.specs.declared.errors.IntegrityFault.TheVariants.{Check}
 use Rattle.cacache_core.specs.declared.errors.Error.TheVariants.{SizeMismatch, IntegrityError}
 use Rattle.cacache_core.specs.declared.integrity.digest.Hash.{Hash}
 use Rattle.cacache_core.specs.Integrity.{actual}
-use Rattle.cacache_core.specs.Paths.{join}
+use Rattle.cacache_core.specs.Paths.{index_area, join}
 use Rattle.cacache_store.specs.declared.store.plain.PlainTemp.{PlainTemp}
 use Rattle.cacache_store.specs.declared.store.plain.PlainFile.{PlainFile}
 use Rattle.cacache_store.specs.declared.store.answer.Kind.{Kind}
@@ -271,7 +271,7 @@ module _ (site : Site) (apart outside : List ℕ → Bool) where
   begins_sound (commands.Get key) h = (refl, tt)
   begins_sound (commands.GetHash i) h = refl
   begins_sound (commands.Exists i) h = refl
-  begins_sound commands.Ls h = ((codes "index-v5" ∷ [], All-cons IsProperName (codes "index-v5") [] (refl, refl, refl) (All-nil IsProperName), refl), tt)
+  begins_sound commands.Ls h = ((index_area ∷ [], All-cons IsProperName index_area [] (refl, refl, refl) (All-nil IsProperName), refl), tt)
   begins_sound (commands.Export (sources.Key key) e) h = (refl, h)
   begins_sound (commands.Export (sources.Hash i) e) h = exports (record { cache = site.cache; integrity = i }) e h
   begins_sound (commands.RemoveHash i) h = (inl (i, refl), tt)

@@ -6,6 +6,7 @@ use Rattle.cacache_core.specs.declared.errors.Error.TheVariants.{IoError}
 use Rattle.cacache_core.specs.declared.integrity.algorithm.Algorithm.TheVariants.{Sha256}
 use Rattle.cacache_core.specs.declared.integrity.digest.Hash.{Hash}
 use Rattle.cacache_core.specs.Integrity.{integrity_under}
+use Rattle.cacache_core.specs.Paths.{content_area, index_area, temp_area}
 use Rattle.cacache_store.specs.declared.store.plain.PlainTemp.{PlainTemp}
 use Rattle.cacache_store.specs.declared.store.plain.PlainFile.{PlainFile}
 use Rattle.cacache_store.specs.declared.store.answer.Kind.{Kind}
@@ -239,8 +240,7 @@ NoLsRow =
 -- the folders of a cache with one content and one entry
 abbrev pub cache_names : List Name
 cache_names =
-    name (codes "tmp") Folder ∷ name (codes "content-v2") Folder
-    ∷ name (codes "index-v5") Folder ∷ []
+    name temp_area Folder ∷ name content_area Folder ∷ name index_area Folder ∷ []
 
 -- such a cache is cleared by 19 steps
 abbrev pub ClearRow : Type 0

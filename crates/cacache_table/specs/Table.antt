@@ -1,6 +1,6 @@
 -- All calls as one table: the one step that each state wants, where an answer takes it, and where each call begins.
-use Rattle.std.specs.Prelude.{ℕ, Option, None, Some, true, false, codes, []}
-use Rattle.cacache_core.specs.Paths.{join}
+use Rattle.std.specs.Prelude.{ℕ, Option, None, Some, true, false, []}
+use Rattle.cacache_core.specs.Paths.{index_area, join}
 use Rattle.cacache_store.specs.declared.store.step.Step.TheVariants as steps
 use Rattle.cacache_store.specs.Plain.{PlainStep, PlainAnswer}
 use Rattle.cacache_table.specs.declared.command.Command.{Command}
@@ -78,7 +78,7 @@ opening site (commands.Get key) =
     looking (record { cache = site.cache; key = key; aim = to_read })
 opening site (commands.GetHash i) = reading (record { cache = site.cache; integrity = i })
 opening site (commands.Exists i) = asking (record { cache = site.cache; integrity = i })
-opening site commands.Ls = walk false (join site.cache (codes "index-v5"))
+opening site commands.Ls = walk false (join site.cache index_area)
 opening site (commands.Export (sources.Key key) e) =
     looking (record { cache = site.cache; key = key; aim = to_export e })
 opening site (commands.Export (sources.Hash i) e) =
