@@ -8,7 +8,7 @@ ghost use Rattle.cacache_contents.specs.Reading.{Folder, IsErrorOf, Reads, first
 ghost use Rattle.cacache_contents.specs.Listing.{StopsAt, StopsBelow};
 ghost use Rattle.cacache_contents.specs.WalkSteps.{AnswerShows, Answered, GoesFrom, Stands, StopsIn, StopsVisit, steps_left};
 
-use cacache_core::errors::{Error, Fault, Result};
+use cacache_core::errors::{Error, Fault, Result, failed};
 use cacache_core::paths::join;
 use cacache_core::text::Text;
 use cacache_store::store::{Answer, Kind, Listing, Name, PlainFile, PlainTemp, Step, Store};
@@ -21,10 +21,11 @@ use std::alloc::{AllocError, Global};
 fn failure(alloc: Global, fault: Fault, top: &str) -> Error
     ensures { IsErrorOf (Failed fault) result }
 {
-    match format!(in alloc; "Error while walking cache contents at {top}") {
-        Ok(message) => Error::IoError(fault, Text::new(message)),
-        Err(_) => Error::OutOfMemory,
-    }
+    failed(fault, message(alloc, top))
+}
+
+fn message(alloc: Global, top: &str) -> std::result::Result<Text, AllocError> {
+    Ok(Text::new(format!(in alloc; "Error while walking cache contents at {top}")?))
 }
 
 /// The names in a folder that couldn't be read: there are none in one that isn't there.

@@ -5,7 +5,7 @@ ghost use Rattle.futures.specs.Task.{Covers, Keeps};
 ghost use Rattle.cacache_futures.specs.Waiting.{MayAnswer, SaysOver, TellsFault, Waits};
 
 use crate::call::Call;
-use cacache_core::errors::{Error, Fault, Result};
+use cacache_core::errors::{Error, Fault, Result, failed};
 use cacache_core::text::Text;
 use cacache_store::env::Env;
 use futures::Future;
@@ -24,10 +24,7 @@ pub struct CallFuture<'a, S, C, N, K> {
 pub fn polling(alloc: Global, fault: Fault) -> Error
     ensures { TellsFault fault result }
 {
-    match message(alloc) {
-        Ok(text) => Error::IoError(fault, text),
-        Err(_) => Error::OutOfMemory,
-    }
+    failed(fault, message(alloc))
 }
 
 fn message(alloc: Global) -> std::result::Result<Text, AllocError> {

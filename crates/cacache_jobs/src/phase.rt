@@ -3,7 +3,7 @@ ghost use Rattle.cacache_table.specs.Common.{refuse, fails};
 ghost use Rattle.cacache_table.specs.Runs.{EndsAs};
 
 use crate::stage::Stage;
-use cacache_core::errors::Error;
+use cacache_core::errors::{Error, failed};
 use cacache_core::text::Text;
 use cacache_store::store::Step;
 use cacache_table::{Refusal, Reply};
@@ -23,9 +23,6 @@ pub fn refused(refusal: Refusal, message: Result<Text, AllocError>) -> Error
 {
     match refusal {
         Refusal::Memory => Error::OutOfMemory,
-        Refusal::Fault(fault) => match message {
-            Ok(message) => Error::IoError(fault, message),
-            Err(_) => Error::OutOfMemory,
-        },
+        Refusal::Fault(fault) => failed(fault, message),
     }
 }

@@ -14,7 +14,7 @@ ghost use Rattle.cacache_memory.specs.PlantRefusals.{IsDueTo, IsEarned};
 
 use cacache_core::bytes::Bytes;
 use cacache_core::errors;
-use cacache_core::errors::{Error, Fault};
+use cacache_core::errors::{Error, Fault, failed};
 use cacache_core::keeping::let_go;
 use cacache_core::text::Text;
 use cacache_disk::{Disk, Luck, TreeItem, TreeNode};
@@ -43,10 +43,11 @@ fn note(log: &mut Vec<LogItem>, item: LogItem)
 fn refused(alloc: Global, fault: Fault, what: &str, path: &Text) -> Error
     ensures { IsDueTo (Some fault) result }
 {
-    match format!(in alloc; "Failed to plant a {what} at {path}") {
-        Ok(message) => Error::IoError(fault, Text::new(message)),
-        Err(_) => Error::OutOfMemory,
-    }
+    failed(fault, message(alloc, what, path))
+}
+
+fn message(alloc: Global, what: &str, path: &Text) -> Result<Text, AllocError> {
+    Ok(Text::new(format!(in alloc; "Failed to plant a {what} at {path}")?))
 }
 
 /// The fault of a failed answer.

@@ -8,7 +8,7 @@ ghost use Rattle.cacache_futures.specs.Waiting.{TellsFault};
 ghost use Rattle.cacache_writers.specs.Committing.{EndsHeld, Gives};
 
 use crate::about::About;
-use cacache_core::errors::{Error, Fault, Result};
+use cacache_core::errors::{Error, Fault, Result, failed};
 use cacache_core::integrity::Integrity;
 use cacache_core::text::Text;
 use cacache_jobs::{commit_from, moment_of};
@@ -21,10 +21,7 @@ use std::alloc::{AllocError, Global};
 fn closing(alloc: Global, fault: Fault) -> Error
     ensures { TellsFault fault result }
 {
-    match message(alloc) {
-        Ok(text) => Error::IoError(fault, text),
-        Err(_) => Error::OutOfMemory,
-    }
+    failed(fault, message(alloc))
 }
 
 fn message(alloc: Global) -> std::result::Result<Text, AllocError> {
