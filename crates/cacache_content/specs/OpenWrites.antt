@@ -115,6 +115,13 @@ module _ (cache : List ℕ) (number : ℕ) where
       ⊎ ((mid : Option (List LogItem)) × Does (make_folder cache) answers.Done old mid
       × FailsAt (make_file cache number) e mid new)
 
+  -- the file was made, or why not
+  abbrev pub MakesTemp :
+      {T : Type 0} → (T → PlainTemp) → Result T Error
+      → Option (List LogItem) → Option (List LogItem) → Type 0
+  MakesTemp temp (Ok t) old new = Makes (temp t) old new
+  MakesTemp temp (Err e) old new = FailsToMake e old new
+
   -- a writer that took nothing yet, or why there is none
   abbrev pub OpensTemp :
       {T : Type 0} → (T → PlainTemp) → Algorithm → Result (Writer T) Error

@@ -10,8 +10,9 @@ ghost use Rattle.cacache_table.specs.declared.reply.Reply.TheVariants.{Stored};
 ghost use Rattle.cacache_table.specs.Promises.{Stores};
 ghost use Rattle.cacache_table.specs.Runs.{reply_of};
 ghost use Rattle.cacache_table.specs.SingleSteps.{Does, FailsAt};
+ghost use Rattle.cacache_table.specs.StepPaths.{temp_path as temp_path_of};
 ghost use Rattle.cacache_content.specs.Passed.{passed};
-ghost use Rattle.cacache_content.specs.OpenWrites.{HasTaken, GoesOn, OpensTemp, EndsWriter, RemovesTemp, TriesToRemove, given_up, Takes, TakesPart, WholeFails, IsWriteError, IsRetried, make_folder as making_folder, content_commit, unkeyed};
+ghost use Rattle.cacache_content.specs.OpenWrites.{HasTaken, GoesOn, MakesTemp, OpensTemp, EndsWriter, RemovesTemp, TriesToRemove, given_up, Takes, TakesPart, WholeFails, IsWriteError, IsRetried, make_folder as making_folder, content_commit, unkeyed};
 
 use cacache_core::errors::{Error, Fault, Result};
 use cacache_core::hasher::Hasher;
@@ -57,6 +58,25 @@ pub fn make_folder<S: Store>(alloc: Global, store: &mut S, cache: &str) -> Resul
     }
 }
 
+/// Makes a temporary file at this path, which is that of some number, after its folder.
+///
+/// `IoError` says which step failed. Contents and index stay as they were; folders may have been made.
+pub fn make_temp<S: Store>(
+    alloc: Global,
+    store: &mut S,
+    cache: &str,
+    path: Text,
+) -> Result<S::Temp>
+    ensures { (number : ℕ) → path ≡ temp_path_of cache.now number
+        → MakesTemp cache.now number S.Temp.seen result (S.log store.old) (S.log store.new) }
+{
+    make_folder(alloc, store, cache)?;
+    match temp_of(store.step(Step::CreateTemp(path))) {
+        Ok(file) => Ok(file),
+        Err(refusal) => Err(refused(refusal, messages::creating(alloc, cache))),
+    }
+}
+
 /// Opens a writer with a temporary file of this number.
 ///
 /// `IoError` says which step failed. Contents and index stay as they were; folders may have been made.
@@ -73,20 +93,14 @@ pub fn open<S: Store>(
     let cache = Text::from_str(alloc, cache)?;
     let path = temp_path(alloc, cache.as_str(), number)?;
     let named = path.clone()?;
-    make_folder(alloc, store, cache.as_str())?;
-    match temp_of(store.step(Step::CreateTemp(named))) {
-        Ok(file) => Ok(Writer {
-            cache,
-            path,
-            file,
-            hasher: Hasher::new(algorithm),
-            count: 0,
-        }),
-        Err(refusal) => {
-            let message = messages::creating(alloc, cache.as_str());
-            Err(refused(refusal, message))
-        }
-    }
+    let file = make_temp(alloc, store, cache.as_str(), named)?;
+    Ok(Writer {
+        cache,
+        path,
+        file,
+        hasher: Hasher::new(algorithm),
+        count: 0,
+    })
 }
 
 /// Makes the writer's file a content, compares what was said of it, and with a key adds its entry.

@@ -11,13 +11,6 @@ use Rattle.cacache_put.specs.Options.{Said, options_of}
 use Rattle.cacache_writers.specs.declared.about.About.{About}
 use Rattle.cacache_writers.specs.declared.writer.Writer.{Writer}
 
--- the temporary file of this number was made, or why not
-abbrev pub MakesTemp :
-    {T : Type 0} → (T → PlainTemp) → List ℕ → ℕ → Result T Error
-    → Option (List LogItem) → Option (List LogItem) → Type 0
-MakesTemp temp cache number (Ok t) old new = Makes cache number (temp t) old new
-MakesTemp temp cache number (Err e) old new = FailsToMake cache number e old new
-
 -- what was said of a content under this key
 pub record IsAbout (cache : List ℕ) (key : Option (List ℕ)) (s : Said) (a : About) : Type 0 where
   pub cache_is : a.cache ≡ cache

@@ -1,30 +1,26 @@
 //! Polled writers are opened.
-ghost use Rattle.cacache_writers.specs.Opening.{MakesTemp, OpensAt};
+ghost use Rattle.cacache_content.specs.OpenWrites.{MakesTemp};
+ghost use Rattle.cacache_writers.specs.Opening.{OpensAt};
 
 use crate::about::About;
 use crate::writer::Writer;
-use cacache_content::writer::make_folder;
+use cacache_content::writer;
 use cacache_core::errors::Result;
 use cacache_core::integrity::Algorithm;
 use cacache_core::keeping::beside;
 use cacache_core::text::Text;
-use cacache_jobs::{messages, refused, temp_path};
+use cacache_jobs::temp_path;
 use cacache_put::opts::WriteOpts;
-use cacache_store::store::{Step, Store};
-use cacache_table::answers::temp_of;
+use cacache_store::store::Store;
 use cacache_worker::PolledFile;
 use std::alloc::Global;
 
 /// Makes the temporary file of this number.
 fn make_temp<S: Store>(alloc: Global, store: &mut S, cache: &str, number: u64) -> Result<S::Temp>
-    ensures { MakesTemp S.Temp.seen cache.now number result (S.log store.old) (S.log store.new) }
+    ensures { MakesTemp cache.now number S.Temp.seen result (S.log store.old) (S.log store.new) }
 {
     let path = temp_path(alloc, cache, number)?;
-    make_folder(alloc, store, cache)?;
-    match temp_of(store.step(Step::CreateTemp(path))) {
-        Ok(file) => Ok(file),
-        Err(refusal) => Err(refused(refusal, messages::creating(alloc, cache))),
-    }
+    writer::make_temp(alloc, store, cache, path)
 }
 
 /// Opens a writer with a temporary file of this number.
