@@ -8,10 +8,12 @@ ghost use Rattle.cacache_contents.specs.Reading.{Folder, IsErrorOf, Reads, first
 ghost use Rattle.cacache_contents.specs.Listing.{StopsAt, StopsBelow};
 ghost use Rattle.cacache_contents.specs.WalkSteps.{AnswerShows, Answered, GoesFrom, Stands, StopsIn, StopsVisit, steps_left};
 
-use cacache_core::errors::{Error, Fault, Result, failed};
+use cacache_core::errors::{Error, Fault, Result};
 use cacache_core::paths::join;
 use cacache_core::text::Text;
-use cacache_store::store::{Answer, Kind, Listing, Name, PlainFile, PlainTemp, Step, Store};
+use cacache_store::store::{
+    Answer, Kind, Listing, Name, PlainFile, PlainTemp, Step, Store, failed,
+};
 use cacache_table::Refusal;
 use cacache_table::answers::names_of;
 use cacache_walks::{Visit, Walk};

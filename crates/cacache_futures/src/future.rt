@@ -5,9 +5,10 @@ ghost use Rattle.futures.specs.Task.{Covers, Keeps};
 ghost use Rattle.cacache_futures.specs.Waiting.{MayAnswer, SaysOver, TellsFault, Waits};
 
 use crate::call::Call;
-use cacache_core::errors::{Error, Fault, Result, failed};
+use cacache_core::errors::{Error, Fault, Result};
 use cacache_core::text::Text;
 use cacache_store::env::Env;
+use cacache_store::store::failed;
 use futures::Future;
 use futures::task::{Context, Poll};
 use std::alloc::{AllocError, Global};

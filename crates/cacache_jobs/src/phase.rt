@@ -3,9 +3,9 @@ ghost use Rattle.cacache_table.specs.Common.{refuse, fails};
 ghost use Rattle.cacache_table.specs.Runs.{EndsAs};
 
 use crate::stage::Stage;
-use cacache_core::errors::{Error, failed};
+use cacache_core::errors::Error;
 use cacache_core::text::Text;
-use cacache_store::store::Step;
+use cacache_store::store::{Step, failed};
 use cacache_table::{Refusal, Reply};
 use std::alloc::AllocError;
 

@@ -14,11 +14,11 @@ ghost use Rattle.cacache_memory.specs.PlantRefusals.{IsDueTo, IsEarned};
 
 use cacache_core::bytes::Bytes;
 use cacache_core::errors;
-use cacache_core::errors::{Error, Fault, failed};
+use cacache_core::errors::{Error, Fault};
 use cacache_core::keeping::let_go;
 use cacache_core::text::Text;
 use cacache_disk::{Disk, Luck, TreeItem, TreeNode};
-use cacache_store::store::{Answer, LogItem, PlainFile, PlainTemp, Step, Store};
+use cacache_store::store::{Answer, LogItem, PlainFile, PlainTemp, Step, Store, failed};
 use std::alloc::{AllocError, Global};
 use std::marker::Model;
 

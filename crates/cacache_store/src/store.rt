@@ -5,14 +5,14 @@ ghost use Rattle.cacache_store.specs.Plain.{plain_step, plain_answer};
 ghost use Rattle.cacache_store.specs.Fits.{Fits, Logs};
 
 mod answer;
-mod failed;
+mod failing;
 mod handles;
 mod log;
 mod plain;
 mod step;
 
 pub use answer::{Answer, Kind, Listing, Name};
-pub use failed::failed;
+pub use failing::failed;
 pub use handles::{FileHandle, OpenedFile, TempFile, TempHandle};
 pub use log::LogItem;
 pub use plain::{PlainFile, PlainTemp};

@@ -8,13 +8,13 @@ ghost use Rattle.cacache_futures.specs.Waiting.{TellsFault};
 ghost use Rattle.cacache_writers.specs.Committing.{EndsHeld, Gives};
 
 use crate::about::About;
-use cacache_core::errors::{Error, Fault, Result, failed};
+use cacache_core::errors::{Error, Fault, Result};
 use cacache_core::integrity::Integrity;
 use cacache_core::text::Text;
 use cacache_jobs::{commit_from, moment_of};
 use cacache_polled::{Finish, WriterCore};
 use cacache_store::env::{Clock, Env};
-use cacache_store::store::Store;
+use cacache_store::store::{Store, failed};
 use std::alloc::{AllocError, Global};
 
 /// Why a commit made no step.
