@@ -12,9 +12,8 @@ use Rattle.cacache_table.specs.StepPaths.{content_path, temp_path, bucket_path}
 use Rattle.cacache_table.specs.Storing.{placed, settled, resettled, moved, write_rest, after_write, after_confirm}
 use Rattle.cacache_table.specs.Table.{wants, after}
 use Rattle.cacache_table.proofs.Branches.{cond_leads, go_on_leads}
+use Rattle.cacache_table.proofs.Leading.{settles, resettles, records, places}
 use Rattle.cacache_table.proofs.Sound.{some_is}
-use Rattle.cacache_history.proofs.Syncing.{settles, resettles, records}
-use Rattle.cacache_durable.proofs.PlacedContents.{places}
 
 -- the temporary file isn't moved before it is synced
 abbrev pub Waits : State → Type 0

@@ -1,6 +1,4 @@
 pub mod Traces
-pub mod PlacedContents
-pub mod QuietStates
 pub mod QuietSteps
 pub mod TempSteps
 pub mod DurableStates

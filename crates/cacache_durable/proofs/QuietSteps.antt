@@ -1,11 +1,13 @@
 -- A quiet call's steps are calm, so moves of quiet calls are.
-use Rattle.std.proofs.Common.{◌≡◌, ℕ, true, List, [], ◌∷◌, ◌++◌, None, Some, sym, subst}
+use Rattle.std.proofs.Common.{◌≡◌, ℕ, Bool, true, false, List, [], ◌∷◌, ◌++◌, None, Some, refl, sym, subst}
 use Rattle.cacache_core.specs.PathNames.{Names}
 use Rattle.cacache_store.specs.declared.store.step.Step.TheVariants as steps
 use Rattle.cacache_store.specs.Plain.{PlainStep}
 use Rattle.cacache_table.specs.StepPaths.{temp_path}
 use Rattle.cacache_table.specs.Sound.{Allowed}
+use Rattle.cacache_table.specs.Licence.{May, allows, taking_in}
 use Rattle.cacache_table.specs.Table.{opening, wants}
+use Rattle.cacache_table.proofs.Within.{step_allowed, begins_within, goes_within}
 use Rattle.cacache_table.proofs.Sound.{steps_allowed}
 use Rattle.cacache_value.specs.Kinds.{Temporary, IsFor}
 use Rattle.cacache_value.proofs.PathKinds.{paths_are_for}
@@ -16,12 +18,25 @@ use Rattle.cacache_history.specs.History.{Call, History, IsLegal, Legal, Now, ne
 use Rattle.cacache_history.specs.Turns.{made_in}
 use Rattle.cacache_history.specs.Values.{steps_of}
 use Rattle.cacache_history.proofs.Holding.{AllHold, CallHolds, held_at, legal_after, next_holds, of_caller}
-use Rattle.cacache_loss.specs.CalmMoves.{AreCalm, CalmStep, CalmSteps, HandlesTemp}
+use Rattle.cacache_loss.specs.CalmMoves.{is_calm, AreCalm, CalmStep, CalmSteps, HandlesTemp}
 use Rattle.cacache_durable.specs.Outlasting.{moment_at}
 use Rattle.cacache_durable.specs.QuietMoves.{AreQuiet, IsQuietMove, is_quiet}
-use Rattle.cacache_durable.proofs.QuietStates.{calm_step, goes_calm, opening_calm}
 use Rattle.cacache_durable.proofs.Traces.{trace_at}
 use Rattle.cacache_value.specs.OpeningTrees.{LieApart}
+
+-- a call that only takes in makes calm steps
+step_calm : (step : PlainStep) → May (allows taking_in step) → is_calm step ≡ true
+step_calm (steps.Symlink target p) may = absurd may
+step_calm (steps.Copy p q) may = absurd may
+step_calm (steps.Reflink p q) may = absurd may
+step_calm (steps.HardLink p q) may = absurd may
+step_calm (steps.RemoveFile p) may = absurd may
+step_calm (steps.RemoveDir p) may = absurd may
+step_calm step may = refl
+
+may_be : (b : Bool) → b ≡ true → May b
+may_be true e = tt
+may_be false e = absurd cc
 
 module _ (s : Setup) where
   -- a call's temporary file is for that
@@ -37,8 +52,8 @@ module _ (s : Setup) where
   -- the step that a quiet call wants
   pub quiet_wants : (call : Call) (step : PlainStep) → CallHolds s call → is_quiet call.command ≡ true → wants call.state ≡ Some step → CalmStep (home s) step
   quiet_wants call step holds quiet w = (
-    calm_step call.state step
-        (goes_calm (opening (call_site s call.number) call.command) call.state (made_in call.turns) (opening_calm (call_site s call.number) call.command quiet) holds.goes) w,
+    step_calm step (step_allowed taking_in call.state step
+        (goes_within taking_in (opening (call_site s call.number) call.command) call.state (made_in call.turns) (begins_within taking_in (call_site s call.number) call.command (may_be (is_quiet call.command) quiet)) holds.goes) w),
     allowed_handles call.number step (steps_allowed (call_site s call.number) (may_export s) (is_outside s) call.state step holds.sound w),
   )
 

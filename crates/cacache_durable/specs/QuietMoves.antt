@@ -1,10 +1,11 @@
 -- Moves of others through which a durable commit outlasts a loss of power.
-use Rattle.std.specs.Prelude.{◌≡◌, List, [], ◌∷◌, Option, None, Some, Bool, true, false, Ok}
+use Rattle.std.specs.Prelude.{◌≡◌, List, [], ◌∷◌, Option, None, Some, Bool, true, Ok}
 use Rattle.cacache_core.specs.PathNames.{Names, names_of}
 use Rattle.cacache_store.specs.declared.store.step.Step.TheVariants as steps
 use Rattle.cacache_store.specs.Plain.{PlainStep}
 use Rattle.cacache_table.specs.declared.command.Command.{Command}
 use Rattle.cacache_table.specs.declared.command.Command.TheVariants as commands
+use Rattle.cacache_table.specs.Licence.{taking_in, keeps_to}
 use Rattle.cacache_history.specs.declared.record.Record.{Record}
 use Rattle.cacache_history.specs.declared.record.Record.TheVariants.{Moved}
 use Rattle.cacache_history.specs.Setup.{Setup}
@@ -12,15 +13,7 @@ use Rattle.cacache_history.specs.History.{Call, Made, Now, next}
 
 -- a command that removes, links and exports nothing
 abbrev pub is_quiet : Command → Bool
-is_quiet (commands.Put p) = true
-is_quiet (commands.Insert i) = true
-is_quiet (commands.Delete d) = true
-is_quiet (commands.Find key) = true
-is_quiet (commands.Get key) = true
-is_quiet (commands.GetHash i) = true
-is_quiet (commands.Exists i) = true
-is_quiet commands.Ls = true
-is_quiet command = false
+is_quiet = keeps_to taking_in
 
 -- a step that moves a file to this path is that of a durable put
 abbrev pub PutsDurably : Names → Command → PlainStep → Type 0

@@ -21,9 +21,9 @@ use Rattle.cacache_table.specs.Walking.{failed, give, miss, walk_on, tasks_of, l
 use Rattle.cacache_table.specs.Table.{after, opening}
 use Rattle.cacache_table.specs.Runs.{Moves, Runs}
 use Rattle.cacache_table.proofs.Branches.{cond_leads, go_on_leads}
+use Rattle.cacache_table.proofs.Leading.{moves_on, settles, resettles, records}
 use Rattle.cacache_history.specs.CallErrors.{FailsOnly, CallsFailOnly}
 use Rattle.cacache_history.proofs.Tasks.{Clears, ClearsAt, clears_more, names_clear, leaves_clear}
-use Rattle.cacache_history.proofs.Syncing.{moves_on, settles, resettles, records}
 
 -- a commit that expects no integrity and no size, and whose entry can be written
 record Plain (c : Commit) : Type 0 where

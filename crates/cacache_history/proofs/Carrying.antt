@@ -41,10 +41,11 @@ use Rattle.cacache_table.specs.Storing.{insertion_of, indexed, sized, matches, c
 use Rattle.cacache_table.specs.Linking.{link_target, after_size, after_read}
 use Rattle.cacache_table.specs.Table.{wants, after, opening}
 use Rattle.cacache_table.proofs.Branches.{cond_leads, go_on_leads}
+use Rattle.cacache_table.proofs.Leading.{moves_on, settles, resettles, records}
 use Rattle.cacache_value.specs.Acts.{Act, PutBytes, PutLink}
 use Rattle.cacache_value.proofs.Shows.{apply_answer}
 use Rattle.cacache_table.proofs.Sound.{some_is}
-use Rattle.cacache_history.proofs.Syncing.{temp_synced, moves_on, settles, resettles, records}
+use Rattle.cacache_history.proofs.Syncing.{temp_synced}
 
 -- what a call makes a content of: bytes, and the path where they go; or a link to a target
 pub data Own : Type 0 where

@@ -17,7 +17,7 @@ use Rattle.cacache_history.specs.History.{Turn}
 use Rattle.cacache_history.specs.Turns.{EachTurn, made_in}
 use Rattle.cacache_history.specs.Commits.{Deed, deeds, deeds_of_act, finds_in}
 use Rattle.cacache_history.specs.ReadingCalls.{TurnDoesNothing}
-use Rattle.cacache_history.proofs.ReadingCalls.{exports_do_nothing}
+use Rattle.cacache_history.proofs.ReadingCalls.{readings_do_nothing}
 use Rattle.cacache_history.specs.Sequence.{Alike, turns_on, after_deeds}
 use Rattle.cacache_history.specs.Caches.{setup_at}
 use Rattle.cacache_history.specs.ExportEffects.{ExportsKeep}
@@ -88,6 +88,6 @@ exports_keep cache source e r old new for named sound c =
     let turns = turns_on (tree_of old) k.call.moves in
     let went = run_goes (opening site command) k.call.moves r k.run in
     let goes : Goes (opening site command) (made_in turns) went.0 = subst (λ moves. Goes (opening site command) moves went.0) (sym (turns_made t k.call.moves)) went.1 in
-    let same = nothing_done (home_of cache) turns v (exports_do_nothing site source e went.0 turns goes) in
+    let same = nothing_done (home_of cache) turns v (readings_do_nothing site (commands.Export source e) went.0 turns tt goes) in
     let follows = subst (λ t. Alike (value_of_tree (home_of cache) t) (after_deeds (home_of cache) (deeds turns) v)) (sym k.leads) k.answers.follows in
     (k.sound, stays_known cache old new (subst (Alike (value_of_tree (home_of cache) (tree_of new))) same follows))

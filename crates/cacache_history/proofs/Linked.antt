@@ -28,8 +28,8 @@ use Rattle.cacache_table.specs.Storing.{persist, link, write_rest, settled, move
 use Rattle.cacache_table.specs.Table.{piece, opening}
 use Rattle.cacache_table.specs.Verifying.{Gives, ReadsWhole}
 use Rattle.cacache_table.proofs.Effects.{puts_commit}
+use Rattle.cacache_table.proofs.Leading.{moves_on}
 use Rattle.cacache_history.specs.Commits.{ReadsTarget}
-use Rattle.cacache_history.proofs.Syncing.{moves_on}
 
 -- ---- from the link on, a call goes as a put
 

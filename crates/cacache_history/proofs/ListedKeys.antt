@@ -26,7 +26,9 @@ use Rattle.cacache_history.specs.Sequence.{turns_on}
 use Rattle.cacache_history.specs.Caches.{AStepFailed, IsCache, setup_at}
 use Rattle.cacache_history.specs.ListedKeys.{IsShown, AreEntries, AllListed, ListsKeys, GivesKeys, ListingsGive}
 use Rattle.cacache_history.proofs.Known.{Known, known}
-use Rattle.cacache_history.proofs.Looks.{opens, run_places, run_turns}
+use Rattle.cacache_table.specs.Licence.{looking_on, AllMay}
+use Rattle.cacache_table.proofs.Within.{calls_keep_to}
+use Rattle.cacache_history.proofs.Looks.{moves_place, run_turns}
 use Rattle.cacache_history.proofs.Sequence.{turns_made}
 use Rattle.cacache_history.proofs.ListedItems.{both_all, once_front}
 use Rattle.cacache_history.proofs.ListedTurns.{Explained, turns_explained, Leads, turns_lead, has_bucket, turns_list}
@@ -60,13 +62,14 @@ module _ (cache base : List ℕ) (old new : List LogItem) (list : List Item) (so
   abbrev turns : List Turn
   turns = turns_on (tree_of old) k.call.moves
 
+  may : AllMay looking_on k.call.moves
+  may = calls_keep_to looking_on (record { cache = cache; base = base; number = k.call.number }) commands.Ls k.call.moves (replies.Listed list) tt k.run
+
   here : EachTurn (λ turn. turn.place ≡ tree_of old) turns
-  here = run_places (tree_of old) (tree_of old) (opening (record { cache = cache; base = base; number = k.call.number }) commands.Ls) k.call.moves (replies.Listed list) refl
-      (opens (record { cache = cache; base = base; number = k.call.number }) commands.Ls tt) k.run
+  here = moves_place (tree_of old) (tree_of old) k.call.moves refl may
 
   holds : TurnsHold (setup_at cache base) turns
-  holds = run_turns (setup_at cache base) (tree_of old) (opening (record { cache = cache; base = base; number = k.call.number }) commands.Ls) k.call.moves (replies.Listed list) sound
-      (opens (record { cache = cache; base = base; number = k.call.number }) commands.Ls tt) k.run k.answers.disk
+  holds = run_turns (setup_at cache base) (tree_of old) (opening (record { cache = cache; base = base; number = k.call.number }) commands.Ls) k.call.moves (replies.Listed list) sound may k.run k.answers.disk
 
   failed : (fault : Fault) → Faulted (made_in turns) fault → AStepFailed old new
   failed fault f = (k.call.moves, k.gained, fault, subst (λ moves. Faulted moves fault) (turns_made (tree_of old) k.call.moves) f)

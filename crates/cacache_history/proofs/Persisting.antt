@@ -35,6 +35,7 @@ use Rattle.cacache_table.specs.State.{State, doing, creating, writing, syncing, 
 use Rattle.cacache_table.specs.Storing.{insertion_of, indexed, sized, compared, matches, write_rest, after_write, put_commit}
 use Rattle.cacache_table.specs.Table.{wants, after, opening}
 use Rattle.cacache_table.proofs.Branches.{cond_leads, go_on_leads}
+use Rattle.cacache_table.proofs.Leading.{moves_on, settles, records}
 use Rattle.cacache_value.specs.Acts.{Act, Nothing, PutBytes, PutLink, AddEntries, Drop, MakeFolders, DropFolder, act_of}
 use Rattle.cacache_value.specs.Kinds.{Content, IsFor, path_kind}
 use Rattle.cacache_value.specs.Placed.{Placed, Proper}
@@ -45,7 +46,7 @@ use Rattle.cacache_history.specs.Commits.{Deed, finds, deeds_of_act, finds_in, d
 use Rattle.cacache_history.proofs.Digests.{digest_hash}
 use Rattle.cacache_history.specs.Sequence.{turns_on, plain_moves}
 use Rattle.cacache_history.proofs.MadeNodes.{FoldersMade, made_so, made_place, Stands, created_so, wrote_so, still_stands, persisted_so}
-use Rattle.cacache_history.proofs.Syncing.{temp_synced, moves_on, settles, records}
+use Rattle.cacache_history.proofs.Syncing.{temp_synced}
 
 -- ---- the path of a content and its folder
 

@@ -1,5 +1,5 @@
 -- Steps that read leave the tree.
-use Rattle.std.proofs.Common.{◌≡◌, ℕ, List, Result, Ok, Err, refl}
+use Rattle.std.proofs.Common.{◌≡◌, ℕ, List, Result, Ok, Err, length, refl}
 use Rattle.cacache_core.specs.declared.errors.Fault.{Fault}
 use Rattle.cacache_core.specs.declared.errors.Fault.TheVariants as faults
 use Rattle.cacache_store.specs.declared.store.step.Step.TheVariants as steps
@@ -31,6 +31,14 @@ asking_keeps t path = refl
 pub opening_keeps : (t : Tree) (path : List ℕ) → (apply t (steps.Open path) Plain).1 ≡ t
 unfolding apply
 opening_keeps t path = unless_keeps (file_at t path faults.IsADirectory) t (λ bytes. answers.File (opened bytes))
+
+pub piece_keeps : (t : Tree) (file : PlainFile) (max : ℕ) → (apply t (steps.Read file max) Plain).1 ≡ t
+unfolding apply
+piece_keeps t file max = refl
+
+pub sizing_keeps : (t : Tree) (path : List ℕ) → (apply t (steps.Size path) Plain).1 ≡ t
+unfolding apply
+sizing_keeps t path = unless_keeps (file_at t path faults.IsADirectory) t (λ bytes. answers.Length (length bytes))
 
 -- a file that was opened is one of some bytes
 pub opened_so : (t : Tree) (path : List ℕ) (file : PlainFile) → answers.File file ≡ (apply t (steps.Open path) Plain).0 → (bytes : List ℕ) × (file ≡ opened bytes)

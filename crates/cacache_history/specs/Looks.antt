@@ -9,6 +9,7 @@ use Rattle.cacache_memory.specs.Replay.{tree_of}
 use Rattle.cacache_entry.specs.Latest.{Found}
 use Rattle.cacache_table.specs.declared.command.Command.{Command}
 use Rattle.cacache_table.specs.declared.command.Command.TheVariants as commands
+use Rattle.cacache_table.specs.Licence.{looking_on, KeepsTo}
 use Rattle.cacache_table.specs.declared.reply.Reply.{Reply}
 use Rattle.cacache_table.specs.declared.reply.Reply.TheVariants.{LookedUp, Exists, Refused}
 use Rattle.cacache_value.specs.Value.{value_of_tree}
@@ -17,14 +18,9 @@ use Rattle.cacache_history.specs.Keeping.{found_under, StaysKnown}
 
 -- ---- what they leave
 
--- a lookup, a read, a question or a listing
+-- a command whose call changes nothing in the store: a lookup, a read, a question or a listing
 abbrev pub OnlyLooks : Command → Type 0
-OnlyLooks (commands.Find key) = Unit {0}
-OnlyLooks (commands.Get key) = Unit {0}
-OnlyLooks (commands.GetHash i) = Unit {0}
-OnlyLooks (commands.Exists i) = Unit {0}
-OnlyLooks commands.Ls = Unit {0}
-OnlyLooks command = ⊥
+OnlyLooks = KeepsTo looking_on
 
 -- the cache holds what it held
 abbrev pub HoldsSame : List ℕ → List LogItem → List LogItem → Type 0

@@ -10,6 +10,7 @@ use Rattle.cacache_table.specs.declared.reply.Reply.{Reply}
 use Rattle.cacache_table.specs.declared.reply.Reply.TheVariants.{Read}
 use Rattle.cacache_table.specs.StepPaths.{bucket_path}
 use Rattle.cacache_table.specs.Replies.{lookup}
+use Rattle.cacache_table.specs.Licence.{handing_out, KeepsTo}
 use Rattle.cacache_value.specs.Acts.{Nothing, act_of}
 use Rattle.cacache_history.specs.Setup.{Setup}
 use Rattle.cacache_history.specs.History.{History, Turn, Call, Reaches}
@@ -18,15 +19,9 @@ use Rattle.cacache_history.specs.ShownTurns.{bucket_read}
 
 -- ---- they change nothing
 
--- a lookup, a read, a question, a listing or an export
+-- a command whose call changes nothing in the cache: a lookup, a read, a question, a listing or an export
 abbrev pub IsReading : Command → Type 0
-IsReading (commands.Find key) = Unit {0}
-IsReading (commands.Get key) = Unit {0}
-IsReading (commands.GetHash i) = Unit {0}
-IsReading (commands.Exists i) = Unit {0}
-IsReading commands.Ls = Unit {0}
-IsReading (commands.Export source e) = Unit {0}
-IsReading command = ⊥
+IsReading = KeepsTo handing_out
 
 -- the turn's step does nothing to contents, buckets or folders
 abbrev pub TurnDoesNothing : Turn → Type 0

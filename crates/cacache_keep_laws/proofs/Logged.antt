@@ -22,7 +22,9 @@ use Rattle.cacache_table.specs.Runs.{Moves, Runs, Gains}
 use Rattle.cacache_history.specs.Looks.{OnlyLooks}
 use Rattle.cacache_history.specs.Sequence.{tree_on, turns_on, AreAnswered}
 use Rattle.cacache_history.specs.Turns.{EachTurn}
-use Rattle.cacache_history.proofs.Looks.{opens, run_keeps, run_places}
+use Rattle.cacache_table.specs.Licence.{looking_on}
+use Rattle.cacache_table.proofs.Within.{calls_keep_to}
+use Rattle.cacache_history.proofs.Looks.{moves_keep, moves_place}
 use Rattle.cacache_history.proofs.ReadsStay.{listing_keeps}
 use Rattle.cacache_contents.specs.Reading.{Folder, Reads, folders_in}
 use Rattle.cacache_keep_laws.specs.Answers.{AnsweredBy, AnswersOn}
@@ -80,10 +82,9 @@ answered_by t first [] each a = tt
 answered_by t first (m ∷ moves) each a = (a.0 ∙ ap (λ x. (apply x m.0 Plain).0) each.0, answered_by t (apply first m.0 Plain).1 moves each.1 a.1)
 
 pub looked : (site : Site) (t : Tree) (command : Command) (r : Reply) (moves : Moves) → OnlyLooks command → Runs (opening site command) moves r → AreAnswered t moves → AnswersOn site t command r × (tree_on t moves ≡ t)
-looked site t command r moves looks run a = (
-  (moves, run, answered_by t t moves (run_places t t (opening site command) moves r refl (opens site command looks) run) a),
-  run_keeps t (opening site command) moves r (opens site command looks) run,
-)
+looked site t command r moves looks run a =
+    let may = calls_keep_to looking_on site command moves r looks run in
+    ((moves, run, answered_by t t moves (moves_place t t moves refl may) a), moves_keep t moves may)
 
 -- ---- walks
 

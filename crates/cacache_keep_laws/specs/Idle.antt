@@ -1,5 +1,5 @@
 -- Two trees, one of which lacks contents that no lookup leads to; and removals, made on both.
-use Rattle.std.specs.Prelude.{◌≡◌, ◌⊎◌, ℕ, List, [], Bool, true, false, None, Some, Ok, IsTrue}
+use Rattle.std.specs.Prelude.{◌≡◌, ◌⊎◌, ℕ, List, [], Bool, true, None, Some, Ok, IsTrue}
 use Rattle.cacache_core.specs.declared.errors.Error.TheVariants.{IoError, OutOfMemory}
 use Rattle.cacache_core.specs.declared.errors.Fault.TheVariants.{TooDeep}
 use Rattle.cacache_core.specs.Integrity.{IsIntegrity}
@@ -17,6 +17,7 @@ use Rattle.cacache_table.specs.declared.command.Command.{Command}
 use Rattle.cacache_table.specs.declared.command.Command.TheVariants as commands
 use Rattle.cacache_table.specs.declared.reply.Reply.{Reply}
 use Rattle.cacache_table.specs.declared.reply.Reply.TheVariants.{Refused}
+use Rattle.cacache_table.specs.Licence.{licence}
 use Rattle.cacache_table.specs.State.{Site}
 use Rattle.cacache_table.specs.StepPaths.{bucket_path, content_path}
 use Rattle.cacache_value.specs.Kinds.{Content, path_kind}
@@ -58,10 +59,7 @@ pub record LacksIdle (cache : List ℕ) (home : Names) (full lean : Tree) : Type
 
 -- the command removes a content, a key with its content, or everything
 abbrev pub removes : Command → Bool
-removes (commands.RemoveHash i) = true
-removes (commands.RemoveFully key) = true
-removes commands.Clear = true
-removes command = false
+removes command = (licence command).removes
 
 -- the call broke off: memory ran out, or a clearing came to too many names or levels
 abbrev pub BreaksOff : Command → Reply → Type 0

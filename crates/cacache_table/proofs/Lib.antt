@@ -9,6 +9,8 @@ pub mod Keys
 pub mod EarnedErrors
 pub mod Rows
 pub mod Sound
+pub mod Leading
+pub mod Within
 pub mod Verifying
 pub mod Going
 pub mod ReplyKinds

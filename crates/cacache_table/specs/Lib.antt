@@ -24,3 +24,4 @@ pub mod ListReplies
 pub mod Causes
 pub mod Rows
 pub mod Sound
+pub mod Licence

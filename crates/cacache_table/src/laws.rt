@@ -1,6 +1,7 @@
 //! The laws of the table.
 ghost use Rattle.cacache_table.specs.Causes.{IoErrorsHaveCauses};
 ghost use Rattle.cacache_table.specs.Effects.{PutsCommit, LinksCommit, InsertsSend, DeletesSend, ErrandsOnlyChange};
+ghost use Rattle.cacache_table.specs.Licence.{CallsKeepTo};
 ghost use Rattle.cacache_table.specs.ListReplies.{ListsShown, EachKeyOnce};
 ghost use Rattle.cacache_table.specs.Promises.{CallsAnswer, StatesPromise};
 ghost use Rattle.cacache_table.specs.Replies.{FindsShown, GetsShown, ReadsShown, ExistsShown, GetsMeet};
@@ -60,4 +61,9 @@ pub fn sound_laws()
     ensures begins { BeginsSound }
     ensures allowed { StepsAllowed }
     ensures stays { StaysSound }
+{}
+
+/// A call makes no step but such as its command's licence allows, whatever it is answered.
+pub fn licence_laws()
+    ensures { CallsKeepTo }
 {}

@@ -11,5 +11,7 @@ mod reply;
 pub use answers::Refusal;
 pub use command::{Command, Delete, Export, How, Insert, Link, Options, Put, Source};
 pub use json::Json;
-pub use laws::{effect_laws, promise_laws, reply_laws, row_laws, run_laws, sound_laws};
+pub use laws::{
+    effect_laws, licence_laws, promise_laws, reply_laws, row_laws, run_laws, sound_laws,
+};
 pub use reply::{Found, Items, Reply};

@@ -1,0 +1,5 @@
+use Rattle.cacache_table.proofs.Within as lemmas
+use Rattle.cacache_table.proofs.laws.licence_laws.Goals as goal
+
+pub returns : goal.returns
+returns c = lemmas.calls_keep_to
