@@ -22,7 +22,17 @@ use Rattle.cacache_history.specs.Commits.{Deed, does, deeds}
 abbrev pub NamesOwn : Command → Type 0
 NamesOwn (commands.Put p) = p.options.integrity ≡ None
 NamesOwn (commands.Link l) = l.options.integrity ≡ None
-NamesOwn command = ⊥
+NamesOwn (commands.Insert i) = ⊥
+NamesOwn (commands.Delete d) = ⊥
+NamesOwn (commands.Find key) = ⊥
+NamesOwn (commands.Get key) = ⊥
+NamesOwn (commands.GetHash i) = ⊥
+NamesOwn (commands.Exists i) = ⊥
+NamesOwn commands.Ls = ⊥
+NamesOwn (commands.Export source e) = ⊥
+NamesOwn (commands.RemoveHash i) = ⊥
+NamesOwn (commands.RemoveFully key) = ⊥
+NamesOwn commands.Clear = ⊥
 
 -- it is one of these deeds
 abbrev pub IsAmong : Deed → List Deed → Type 0

@@ -121,7 +121,15 @@ IsCase site (commands.Put p) turns reply =
 IsCase site (commands.Link l) turns reply = LinksAs (link_target site l) turns reply
 IsCase site (commands.Insert i) turns reply = InsertionAdds (insertion site.cache i) (deeds turns) reply
 IsCase site (commands.Delete d) turns reply = InsertionAdds (deletion site.cache d) (deeds turns) reply
-IsCase site command turns reply = Unit {0}
+IsCase site (commands.Find key) turns reply = Unit {0}
+IsCase site (commands.Get key) turns reply = Unit {0}
+IsCase site (commands.GetHash i) turns reply = Unit {0}
+IsCase site (commands.Exists i) turns reply = Unit {0}
+IsCase site commands.Ls turns reply = Unit {0}
+IsCase site (commands.Export source e) turns reply = Unit {0}
+IsCase site (commands.RemoveHash i) turns reply = Unit {0}
+IsCase site (commands.RemoveFully key) turns reply = Unit {0}
+IsCase site commands.Clear turns reply = Unit {0}
 
 -- each commit did one of the cases, whether it is over or was left on its way
 abbrev pub CommitsAreCases : History → Type 0

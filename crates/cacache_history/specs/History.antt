@@ -163,7 +163,15 @@ NamesIntegrity (commands.GetHash i) = IsIntegrity i
 NamesIntegrity (commands.Exists i) = IsIntegrity i
 NamesIntegrity (commands.Export source e) = NamesSource source
 NamesIntegrity (commands.RemoveHash i) = IsIntegrity i
-NamesIntegrity command = Unit {0}
+NamesIntegrity (commands.Put p) = Unit {0}
+NamesIntegrity (commands.Link l) = Unit {0}
+NamesIntegrity (commands.Insert i) = Unit {0}
+NamesIntegrity (commands.Delete d) = Unit {0}
+NamesIntegrity (commands.Find key) = Unit {0}
+NamesIntegrity (commands.Get key) = Unit {0}
+NamesIntegrity commands.Ls = Unit {0}
+NamesIntegrity (commands.RemoveFully key) = Unit {0}
+NamesIntegrity commands.Clear = Unit {0}
 
 -- a caller without a call begins one; one with a call moves it, or gives it up
 abbrev pub MayCome : Setup → Now → Record → Type 0

@@ -1,7 +1,7 @@
 -- Moves through which a durable commit is kept: nothing is removed, linked or exported.
 use Rattle.std.specs.Prelude.{◌≡◌, ℕ, List, [], ◌∷◌, Option, None, Some, Bool, true, false, IfOk, Ok}
 use Rattle.cacache_core.specs.PathNames.{Names, names_of}
-use Rattle.cacache_store.specs.declared.store.step.Step.TheVariants.{Write, Persist, Symlink, Copy, Reflink, HardLink, RemoveFile, RemoveDir, SyncTemp}
+use Rattle.cacache_store.specs.declared.store.step.Step.TheVariants.{MakeDirs, CreateTemp, Write, Persist, Append, ReadAll, Open, Read, Exists, Size, Symlink, Copy, Reflink, HardLink, ReadDir, RemoveFile, RemoveDir, SyncTemp, SyncFile, SyncDir}
 use Rattle.cacache_store.specs.declared.store.answer.Answer.TheVariants.{Done}
 use Rattle.cacache_store.specs.Plain.{PlainStep, PlainAnswer}
 use Rattle.cacache_disk.specs.Apply.{apply}
@@ -18,7 +18,20 @@ is_calm (Reflink p q) = false
 is_calm (HardLink p q) = false
 is_calm (RemoveFile p) = false
 is_calm (RemoveDir p) = false
-is_calm step = true
+is_calm (MakeDirs p) = true
+is_calm (CreateTemp p) = true
+is_calm (Write f bytes) = true
+is_calm (Persist f p) = true
+is_calm (Append p bytes) = true
+is_calm (ReadAll p) = true
+is_calm (Open p) = true
+is_calm (Read f most) = true
+is_calm (Exists p) = true
+is_calm (Size p) = true
+is_calm (ReadDir p) = true
+is_calm (SyncTemp f) = true
+is_calm (SyncFile p) = true
+is_calm (SyncDir p) = true
 
 -- only temporary files are written and synced by their handles
 abbrev pub HandlesTemp : Option Names → PlainStep → Type 0

@@ -1,6 +1,6 @@
 -- A call's `IoError` has a cause: one of its own steps failed so, was short or took nothing, or a
 -- walk stumbled.
-use Rattle.std.specs.Prelude.{◌≡◌, ◌⊎◌, ◌<◌, [], ◌∷◌, length}
+use Rattle.std.specs.Prelude.{◌≡◌, ◌⊎◌, ◌<◌, [], ◌∷◌, Bool, true, false, length}
 use Rattle.cacache_core.specs.declared.errors.Fault.{Fault}
 use Rattle.cacache_core.specs.declared.errors.Fault.TheVariants as faults
 use Rattle.cacache_core.specs.declared.errors.Error.TheVariants.{IoError}
@@ -8,9 +8,9 @@ use Rattle.cacache_store.specs.declared.store.answer.Answer.TheVariants as answe
 use Rattle.cacache_store.specs.declared.store.step.Step.TheVariants as steps
 use Rattle.cacache_store.specs.Plain.{PlainStep, PlainAnswer}
 use Rattle.cacache_table.specs.declared.command.Command.{Command}
-use Rattle.cacache_table.specs.declared.command.Command.TheVariants as commands
 use Rattle.cacache_table.specs.declared.reply.Reply.{Reply}
 use Rattle.cacache_table.specs.declared.reply.Reply.TheVariants.{Refused}
+use Rattle.cacache_table.specs.Licence.{licence}
 use Rattle.cacache_table.specs.State.{Site}
 use Rattle.cacache_table.specs.Table.{opening}
 use Rattle.cacache_table.specs.Runs.{Moves, Runs}
@@ -37,11 +37,14 @@ HasCause own moves r = Unit {0}
 abbrev pub OfWalk : Fault → Type 0
 OfWalk fault = (fault ≡ faults.TooDeep) ⊎ (fault ≡ faults.NotADirectory)
 
+-- those of a call that lists folders; another one has none
+abbrev pub OfListing : Bool → Fault → Type 0
+OfListing true fault = OfWalk fault
+OfListing false fault = ⊥
+
 -- the faults that a command has beside those of its steps
 abbrev pub own_of : Command → Fault → Type 0
-own_of commands.Clear fault = OfWalk fault
-own_of commands.Ls fault = OfWalk fault
-own_of command fault = ⊥
+own_of command fault = OfListing (licence command).lists fault
 
 -- each `IoError` that a call answers has a cause
 abbrev pub IoErrorsHaveCauses : Type 0

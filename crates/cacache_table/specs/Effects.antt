@@ -55,7 +55,17 @@ effect (steps.Reflink from to) t later = changed (steps.Reflink from to) ∷ lat
 effect (steps.HardLink from to) t later = changed (steps.HardLink from to) ∷ later
 effect (steps.RemoveFile path) t later = changed (steps.RemoveFile path) ∷ later
 effect (steps.RemoveDir path) t later = changed (steps.RemoveDir path) ∷ later
-effect step t later = later
+effect (steps.MakeDirs path) t later = later
+effect (steps.CreateTemp path) t later = later
+effect (steps.Write file bytes) t later = later
+effect (steps.ReadAll path) t later = later
+effect (steps.Open path) t later = later
+effect (steps.Read file most) t later = later
+effect (steps.Size path) t later = later
+effect (steps.ReadDir path) t later = later
+effect (steps.SyncTemp file) t later = later
+effect (steps.SyncFile path) t later = later
+effect (steps.SyncDir path) t later = later
 
 -- the effects of all steps, in order
 abbrev pub effects_of : Moves → List Effect

@@ -113,7 +113,14 @@ module _ (site : Site) (apart outside : List ℕ → Bool) where
   Allowed (steps.RemoveFile p) = IsRemovable site p
   Allowed (steps.RemoveDir p) = IsBelow site p
   Allowed (steps.SyncTemp file) = IsTemp site file
-  Allowed step = Unit {0}
+  Allowed (steps.SyncFile p) = Unit {0}
+  Allowed (steps.SyncDir p) = Unit {0}
+  Allowed (steps.ReadAll p) = Unit {0}
+  Allowed (steps.Open p) = Unit {0}
+  Allowed (steps.Read file most) = Unit {0}
+  Allowed (steps.Exists p) = Unit {0}
+  Allowed (steps.Size p) = Unit {0}
+  Allowed (steps.ReadDir p) = Unit {0}
 
   -- an export that a lookup is for goes apart
   abbrev pub SoundAim : Aim → Type 0
