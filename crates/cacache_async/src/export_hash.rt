@@ -45,7 +45,7 @@ impl<'a, S: Store, C: Clock, N: Names> Call<S, C, N> for CopyHashCall<'a> {
 /// The future of `copy_hash`.
 pub type CopyHashFuture<'a, S, C, N> = CallFuture<'a, S, C, N, CopyHashCall<'a>>;
 
-/// `copy_hash_sync` as a future.
+/// `copy_hash_sync` as a future, run as in the example of `read`.
 pub fn copy_hash<'a, S: Store, C: Clock, N: Names>(
     env: &'a mut Env<S, C, N>,
     cache: &'a str,
@@ -81,7 +81,7 @@ impl<'a, S: Store, C: Clock, N: Names> Call<S, C, N> for CopyHashUncheckedCall<'
 /// The future of `copy_hash_unchecked`.
 pub type CopyHashUncheckedFuture<'a, S, C, N> = CallFuture<'a, S, C, N, CopyHashUncheckedCall<'a>>;
 
-/// `copy_hash_unchecked_sync` as a future.
+/// `copy_hash_unchecked_sync` as a future, run as in the example of `read`.
 pub fn copy_hash_unchecked<'a, S: Store, C: Clock, N: Names>(
     env: &'a mut Env<S, C, N>,
     cache: &'a str,
@@ -119,7 +119,8 @@ impl<'a, S: Store, C: Clock, N: Names> Call<S, C, N> for ReflinkHashCall<'a> {
 /// The future of `reflink_hash`.
 pub type ReflinkHashFuture<'a, S, C, N> = CallFuture<'a, S, C, N, ReflinkHashCall<'a>>;
 
-/// `reflink_hash_sync` as a future.
+/// `reflink_hash_sync` as a future, run as in the example of `read`. Real folders make no reflinks: there its last step
+/// always fails with `Unsupported`.
 pub fn reflink_hash<'a, S: Store, C: Clock, N: Names>(
     env: &'a mut Env<S, C, N>,
     cache: &'a str,
@@ -157,7 +158,8 @@ impl<'a, S: Store, C: Clock, N: Names> Call<S, C, N> for HardLinkHashCall<'a> {
 /// The future of `hard_link_hash`.
 pub type HardLinkHashFuture<'a, S, C, N> = CallFuture<'a, S, C, N, HardLinkHashCall<'a>>;
 
-/// `hard_link_hash_sync` as a future.
+/// `hard_link_hash_sync` as a future. On real folders both names are one file: whoever changes it through this one
+/// damages the cache.
 pub fn hard_link_hash<'a, S: Store, C: Clock, N: Names>(
     env: &'a mut Env<S, C, N>,
     cache: &'a str,

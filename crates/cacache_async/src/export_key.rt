@@ -42,7 +42,7 @@ impl<'a, S: Store, C: Clock, N: Names> Call<S, C, N> for CopyCall<'a> {
 /// The future of `copy`.
 pub type CopyFuture<'a, S, C, N> = CallFuture<'a, S, C, N, CopyCall<'a>>;
 
-/// `copy_sync` as a future.
+/// `copy_sync` as a future, run as in the example of `read`.
 pub fn copy<'a, S: Store, C: Clock, N: Names>(
     env: &'a mut Env<S, C, N>,
     cache: &'a str,
@@ -77,7 +77,7 @@ impl<'a, S: Store, C: Clock, N: Names> Call<S, C, N> for CopyUncheckedCall<'a> {
 /// The future of `copy_unchecked`.
 pub type CopyUncheckedFuture<'a, S, C, N> = CallFuture<'a, S, C, N, CopyUncheckedCall<'a>>;
 
-/// `copy_unchecked_sync` as a future.
+/// `copy_unchecked_sync` as a future, run as in the example of `read`.
 pub fn copy_unchecked<'a, S: Store, C: Clock, N: Names>(
     env: &'a mut Env<S, C, N>,
     cache: &'a str,
@@ -114,7 +114,8 @@ impl<'a, S: Store, C: Clock, N: Names> Call<S, C, N> for ReflinkCall<'a> {
 /// The future of `reflink`.
 pub type ReflinkFuture<'a, S, C, N> = CallFuture<'a, S, C, N, ReflinkCall<'a>>;
 
-/// `reflink_sync` as a future.
+/// `reflink_sync` as a future, run as in the example of `read`. Real folders make no reflinks: there its last step
+/// always fails with `Unsupported`.
 pub fn reflink<'a, S: Store, C: Clock, N: Names>(
     env: &'a mut Env<S, C, N>,
     cache: &'a str,
@@ -149,7 +150,8 @@ impl<'a, S: Store, C: Clock, N: Names> Call<S, C, N> for ReflinkUncheckedCall<'a
 /// The future of `reflink_unchecked`.
 pub type ReflinkUncheckedFuture<'a, S, C, N> = CallFuture<'a, S, C, N, ReflinkUncheckedCall<'a>>;
 
-/// `reflink_unchecked_sync` as a future.
+/// `reflink_unchecked_sync` as a future, run as in the example of `read`. Real folders make no reflinks: there its last
+/// step always fails with `Unsupported`.
 pub fn reflink_unchecked<'a, S: Store, C: Clock, N: Names>(
     env: &'a mut Env<S, C, N>,
     cache: &'a str,
@@ -186,7 +188,8 @@ impl<'a, S: Store, C: Clock, N: Names> Call<S, C, N> for HardLinkCall<'a> {
 /// The future of `hard_link`.
 pub type HardLinkFuture<'a, S, C, N> = CallFuture<'a, S, C, N, HardLinkCall<'a>>;
 
-/// `hard_link_sync` as a future.
+/// `hard_link_sync` as a future. On real folders both names are one file: whoever changes it through this one damages
+/// the cache.
 pub fn hard_link<'a, S: Store, C: Clock, N: Names>(
     env: &'a mut Env<S, C, N>,
     cache: &'a str,

@@ -42,7 +42,7 @@ impl<'a, S: Store, C: Clock, N: Names> Call<S, C, N> for FindAsyncCall<'a> {
 /// The future of `find_async`.
 pub type FindAsyncFuture<'a, S, C, N> = CallFuture<'a, S, C, N, FindAsyncCall<'a>>;
 
-/// `find` as a future.
+/// `find` as a future, run as in the example of `read`. An entry doesn't mean that its content is there.
 pub fn find_async<'a, S: Store, C: Clock, N: Names>(
     env: &'a mut Env<S, C, N>,
     cache: &'a str,
@@ -78,7 +78,8 @@ impl<'a, S: Store, C: Clock, N: Names> Call<S, C, N> for InsertAsyncCall<'a> {
 /// The future of `insert_async`.
 pub type InsertAsyncFuture<'a, S, C, N> = CallFuture<'a, S, C, N, InsertAsyncCall<'a>>;
 
-/// `insert` as a future.
+/// `insert` as a future, run as in the example of `read`. Without an integrity it adds a tombstone, and without a size
+/// the entry records 0.
 pub fn insert_async<'a, S: Store, C: Clock, N: Names>(
     env: &'a mut Env<S, C, N>,
     cache: &'a str,
@@ -112,7 +113,7 @@ impl<'a, S: Store, C: Clock, N: Names> Call<S, C, N> for DeleteAsyncCall<'a> {
 /// The future of `delete_async`.
 pub type DeleteAsyncFuture<'a, S, C, N> = CallFuture<'a, S, C, N, DeleteAsyncCall<'a>>;
 
-/// `delete` as a future.
+/// `delete` as a future, run as in the example of `read`. The content stays, and can still be read by its integrity.
 pub fn delete_async<'a, S: Store, C: Clock, N: Names>(
     env: &'a mut Env<S, C, N>,
     cache: &'a str,

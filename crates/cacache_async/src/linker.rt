@@ -28,7 +28,7 @@ use std::io;
 use std::io::Read;
 
 /// An open file that is to become a content by a link to it, and that is read by polls: a `SyncToLinker`, whose reads
-/// are answered at once.
+/// are answered at once. Nothing is saved before its `commit`.
 #[derive(Drop)]
 pub struct ToLinker<F> {
     pub(crate) linker: SyncToLinker<F>,
@@ -60,7 +60,8 @@ impl<F: OpenedFile, S: Store<File = F>, C: Clock, N: Names> Call<S, C, N>
 pub type ToLinkerCommitFuture<'a, S, C, N, F> = CallFuture<'a, S, C, N, ToLinkerCommitCall<F>>;
 
 impl<F: OpenedFile> ToLinker<F> {
-    /// `SyncToLinker::new` as a future.
+    /// `SyncToLinker::new` as a future. Nothing is saved before its `commit`. It is run and committed as in the example
+    /// of `open`.
     pub fn new<'a, S: Store<File = F>, C: Clock, N: Names>(
         env: &'a mut Env<S, C, N>,
         cache: &'a str,
@@ -78,7 +79,15 @@ impl<F: OpenedFile> ToLinker<F> {
         CallFuture::new(env, call)
     }
 
-    /// `SyncToLinker::open` as a future.
+    /// `SyncToLinker::open` as a future. Nothing is saved before its `commit`.
+    ///
+    /// ```
+    /// let linker = block_on(
+    ///     &rt,
+    ///     cacache::ToLinker::open(&mut env, "my-cache", "key", "/my-file"),
+    /// )??;
+    /// let sri = block_on(&rt, linker.commit(&mut env))??; // nothing was saved before
+    /// ```
     pub fn open<'a, S: Store<File = F>, C: Clock, N: Names>(
         env: &'a mut Env<S, C, N>,
         cache: &'a str,
@@ -91,7 +100,8 @@ impl<F: OpenedFile> ToLinker<F> {
         CallFuture::new(env, ToLinkerOpenCall { cache, key, target })
     }
 
-    /// `SyncToLinker::open_hash` as a future.
+    /// `SyncToLinker::open_hash` as a future. Nothing is saved before its `commit`. It is run and committed as in the
+    /// example of `open`.
     pub fn open_hash<'a, S: Store<File = F>, C: Clock, N: Names>(
         env: &'a mut Env<S, C, N>,
         cache: &'a str,

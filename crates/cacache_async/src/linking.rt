@@ -180,7 +180,7 @@ pub type WriteOptsLinkToHashFuture<'a, S, C, N> = CallFuture<
 
 /// Links that are opened with options, as futures.
 pub trait LinkAsync {
-    /// `link_to_sync` as a future.
+    /// `link_to_sync` as a future. Nothing is saved before the linker's `commit`.
     fn link_to<'a, S: Store, C: Clock, N: Names>(
         self,
         env: &'a mut Env<S, C, N>,
@@ -189,7 +189,7 @@ pub trait LinkAsync {
         target: &'a str,
     ) -> WriteOptsLinkToFuture<'a, S, C, N>;
 
-    /// `link_to_hash_sync` as a future.
+    /// `link_to_hash_sync` as a future. Nothing is saved before the linker's `commit`.
     fn link_to_hash<'a, S: Store, C: Clock, N: Names>(
         self,
         env: &'a mut Env<S, C, N>,

@@ -39,7 +39,7 @@ impl<'a, S: Store, C: Clock, N: Names> Call<S, C, N> for LinkToCall<'a> {
 /// The future of `link_to`.
 pub type LinkToFuture<'a, S, C, N> = CallFuture<'a, S, C, N, LinkToCall<'a>>;
 
-/// `link_to_sync` as a future.
+/// `link_to_sync` as a future, run as in the example of `read`.
 pub fn link_to<'a, S: Store, C: Clock, N: Names>(
     env: &'a mut Env<S, C, N>,
     cache: &'a str,
@@ -75,7 +75,7 @@ impl<'a, S: Store, C: Clock, N: Names> Call<S, C, N> for LinkToHashCall<'a> {
 /// The future of `link_to_hash`.
 pub type LinkToHashFuture<'a, S, C, N> = CallFuture<'a, S, C, N, LinkToHashCall<'a>>;
 
-/// `link_to_hash_sync` as a future.
+/// `link_to_hash_sync` as a future, run as in the example of `read`.
 pub fn link_to_hash<'a, S: Store, C: Clock, N: Names>(
     env: &'a mut Env<S, C, N>,
     cache: &'a str,

@@ -42,6 +42,11 @@ impl<'a, S: Store, C: Clock, N: Names> Call<S, C, N> for WriteCall<'a> {
 pub type WriteFuture<'a, S, C, N> = CallFuture<'a, S, C, N, WriteCall<'a>>;
 
 /// `write_sync` as a future.
+///
+/// ```
+/// let sri = block_on(&rt, cacache::write(&mut env, "my-cache", "key", b"my data"))??;
+/// let bytes = cacache::read_hash_sync(&mut env, "my-cache", &sri)?; // b"my data"
+/// ```
 pub fn write<'a, S: Store, C: Clock, N: Names>(
     env: &'a mut Env<S, C, N>,
     cache: &'a str,
@@ -78,7 +83,7 @@ impl<'a, S: Store, C: Clock, N: Names> Call<S, C, N> for WriteWithAlgoCall<'a> {
 /// The future of `write_with_algo`.
 pub type WriteWithAlgoFuture<'a, S, C, N> = CallFuture<'a, S, C, N, WriteWithAlgoCall<'a>>;
 
-/// `write_sync_with_algo` as a future.
+/// `write_sync_with_algo` as a future, run as in the example of `read`.
 pub fn write_with_algo<'a, S: Store, C: Clock, N: Names>(
     env: &'a mut Env<S, C, N>,
     algo: Algorithm,
@@ -122,7 +127,7 @@ impl<'a, S: Store, C: Clock, N: Names> Call<S, C, N> for WriteHashCall<'a> {
 /// The future of `write_hash`.
 pub type WriteHashFuture<'a, S, C, N> = CallFuture<'a, S, C, N, WriteHashCall<'a>>;
 
-/// `write_hash_sync` as a future.
+/// `write_hash_sync` as a future, run as in the example of `read`.
 pub fn write_hash<'a, S: Store, C: Clock, N: Names>(
     env: &'a mut Env<S, C, N>,
     cache: &'a str,
@@ -157,7 +162,7 @@ impl<'a, S: Store, C: Clock, N: Names> Call<S, C, N> for WriteHashWithAlgoCall<'
 /// The future of `write_hash_with_algo`.
 pub type WriteHashWithAlgoFuture<'a, S, C, N> = CallFuture<'a, S, C, N, WriteHashWithAlgoCall<'a>>;
 
-/// `write_hash_sync_with_algo` as a future.
+/// `write_hash_sync_with_algo` as a future, run as in the example of `read`.
 pub fn write_hash_with_algo<'a, S: Store, C: Clock, N: Names>(
     env: &'a mut Env<S, C, N>,
     algo: Algorithm,

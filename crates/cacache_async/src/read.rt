@@ -40,7 +40,7 @@ impl<'a, S: Store, C: Clock, N: Names> Call<S, C, N> for ReadCall<'a> {
 /// The future of `read`.
 pub type ReadFuture<'a, S, C, N> = CallFuture<'a, S, C, N, ReadCall<'a>>;
 
-/// `read_sync` as a future.
+/// `read_sync` as a future. A content that isn't there is `IoError` with `NotFound`.
 ///
 /// ```
 /// cacache::write_sync(&mut env, "my-cache", "key", b"my data")?;
@@ -80,7 +80,8 @@ impl<'a, S: Store, C: Clock, N: Names> Call<S, C, N> for ReadHashCall<'a> {
 /// The future of `read_hash`.
 pub type ReadHashFuture<'a, S, C, N> = CallFuture<'a, S, C, N, ReadHashCall<'a>>;
 
-/// `read_hash_sync` as a future.
+/// `read_hash_sync` as a future, run as in the example of `read`. A content that isn't there is `IoError` with
+/// `NotFound`.
 pub fn read_hash<'a, S: Store, C: Clock, N: Names>(
     env: &'a mut Env<S, C, N>,
     cache: &'a str,
@@ -116,7 +117,7 @@ impl<'a, S: Store, C: Clock, N: Names> Call<S, C, N> for ExistsCall<'a> {
 /// The future of `exists`.
 pub type ExistsFuture<'a, S, C, N> = CallFuture<'a, S, C, N, ExistsCall<'a>>;
 
-/// `exists_sync` as a future.
+/// `exists_sync` as a future, run as in the example of `read`.
 pub fn exists<'a, S: Store, C: Clock, N: Names>(
     env: &'a mut Env<S, C, N>,
     cache: &'a str,

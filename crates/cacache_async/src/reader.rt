@@ -24,7 +24,8 @@ use std::alloc::Global;
 use std::io;
 use std::io::Read;
 
-/// An open content that is read by polls: a `SyncReader`, whose reads are answered at once.
+/// An open content that is read by polls: a `SyncReader`, whose reads are answered at once. No byte is verified before
+/// `check`: always call that at the end.
 #[derive(Drop)]
 pub struct Reader<F> {
     reader: SyncReader<F>,
@@ -87,7 +88,7 @@ pub type OpenAsyncFuture<'a, S, C, N> = CallFuture<'a, S, C, N, OpenAsyncCall<'a
 /// The future of `Reader::open_hash`.
 pub type ReaderOpenHashFuture<'a, S, C, N> = OpenAsyncFuture<'a, S, C, N>;
 
-/// `open` of the contents' readers as a future.
+/// `content::read::open` as a future. Always call the reader's `check` at the end.
 pub fn open_async<'a, S: Store, C: Clock, N: Names>(
     env: &'a mut Env<S, C, N>,
     cache: &'a str,
@@ -100,7 +101,15 @@ pub fn open_async<'a, S: Store, C: Clock, N: Names>(
 }
 
 impl<F: OpenedFile> Reader<F> {
-    /// `SyncReader::open` as a future.
+    /// `SyncReader::open` as a future. Always call `check` at the end.
+    ///
+    /// ```
+    /// cacache::write_sync(&mut env, "my-cache", "key", b"my data")?;
+    /// let mut reader = block_on(&rt, cacache::Reader::open(&mut env, "my-cache", "key"))??;
+    /// let mut text = String::new(alloc);
+    /// reader.read_to_string(&mut text)?; // text is "my data", which isn't checked yet
+    /// let algorithm = reader.check()?; // Algorithm::Sha256
+    /// ```
     pub fn open<'a, S: Store<File = F>, C: Clock, N: Names>(
         env: &'a mut Env<S, C, N>,
         cache: &'a str,
@@ -112,7 +121,7 @@ impl<F: OpenedFile> Reader<F> {
         CallFuture::new(env, ReaderOpenCall { cache, key })
     }
 
-    /// `SyncReader::open_hash` as a future.
+    /// `SyncReader::open_hash` as a future. Always call `check` at the end. The example of `open` serves for both.
     pub fn open_hash<'a, S: Store<File = F>, C: Clock, N: Names>(
         env: &'a mut Env<S, C, N>,
         cache: &'a str,
@@ -149,7 +158,8 @@ impl<F: OpenedFile> Reader<F> {
     }
 
     /// Whether the bytes that were read so far meet the integrity that the reader was opened with: Ok of its strongest
-    /// algorithm. What wasn't read counts for nothing, so read to the end first. Only the error takes memory.
+    /// algorithm. What wasn't read counts for nothing, so read to the end first. Only the error takes memory. The
+    /// example of `open` calls it.
     ///
     /// `IntegrityError` has that integrity and the one of the bytes that were read.
     pub fn check(self) -> Result<Algorithm>

@@ -37,7 +37,7 @@ impl<'a, S: Store, C: Clock, N: Names> Call<S, C, N> for RemoveHashCall<'a> {
 /// The future of `remove_hash`.
 pub type RemoveHashFuture<'a, S, C, N> = CallFuture<'a, S, C, N, RemoveHashCall<'a>>;
 
-/// `remove_hash_sync` as a future.
+/// `remove_hash_sync` as a future, run as in the example of `read`. Entries that name the content stay.
 pub fn remove_hash<'a, S: Store, C: Clock, N: Names>(
     env: &'a mut Env<S, C, N>,
     cache: &'a str,
@@ -68,7 +68,7 @@ impl<'a, S: Store, C: Clock, N: Names> Call<S, C, N> for ClearCall<'a> {
 /// The future of `clear`.
 pub type ClearFuture<'a, S, C, N> = CallFuture<'a, S, C, N, ClearCall<'a>>;
 
-/// `clear_sync` as a future.
+/// `clear_sync` as a future, run as in the example of `read`.
 pub fn clear<'a, S: Store, C: Clock, N: Names>(
     env: &'a mut Env<S, C, N>,
     cache: &'a str,
@@ -105,7 +105,8 @@ pub type RemoveOptsRemoveFuture<'a, S, C, N> = CallFuture<'a, S, C, N, RemoveOpt
 
 /// Removals with options, as futures.
 pub trait RemoveAsync {
-    /// `remove_sync` as a future.
+    /// `remove_sync` as a future, run as in the example of `read`. Unless the key is removed fully, the content stays,
+    /// and can still be read by its integrity.
     fn remove<'a, S: Store, C: Clock, N: Names>(
         self,
         env: &'a mut Env<S, C, N>,

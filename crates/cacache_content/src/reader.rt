@@ -22,8 +22,9 @@ use std::alloc::{AllocError, Global};
 use std::io;
 use std::io::Read;
 
-/// An open content, read in pieces. It gives the bytes of the file that was opened, in order, also where the content was
-/// replaced or removed since. Each byte is hashed once.
+/// An open content, read in pieces. It gives the bytes of the file that was opened, in order, also where the content
+/// was replaced or removed since. Each byte is hashed once. No byte is verified before `check`: always call that at the
+/// end.
 #[derive(Drop)]
 pub struct SyncReader<F> {
     alloc: Global,
@@ -37,9 +38,10 @@ fn unopened(alloc: Global, cache: &str, sri: &Integrity) -> std::result::Result<
     messages::opening(alloc, &path)
 }
 
-/// Opens the content of the integrity. What is read is checked against it.
+/// Opens the content of the integrity. What is read is checked against it by `check` alone: always call that at the
+/// end.
 ///
-/// `IoError` says that the content couldn't be opened. Nothing changes.
+/// `IoError` says that the content couldn't be opened, with `NotFound` where it isn't there. Nothing changes.
 pub fn open<S: Store, C: Clock, N: Names>(
     env: &mut Env<S, C, N>,
     cache: &str,
@@ -75,7 +77,7 @@ fn integrity_of(found: Metadata) -> Integrity
 
 impl<F: OpenedFile> SyncReader<F> {
     /// Opens the content that a lookup of the key finds. What is read is checked against the integrity that the lookup
-    /// gives.
+    /// gives, by `check` alone: always call that at the end.
     ///
     /// ```
     /// cacache::write_sync(&mut env, "my-cache", "key", b"my data")?;
@@ -85,7 +87,8 @@ impl<F: OpenedFile> SyncReader<F> {
     /// let algorithm = reader.check()?; // Algorithm::Sha256
     /// ```
     ///
-    /// `EntryNotFound` where that lookup is none, `IoError` says which step failed. Nothing changes.
+    /// `EntryNotFound` where that lookup is none, `IoError` says which step failed, with `NotFound` where the content
+    /// isn't there. Nothing changes.
     pub fn open<S: Store<File = F>, C: Clock, N: Names>(
         env: &mut Env<S, C, N>,
         cache: &str,
@@ -108,7 +111,15 @@ impl<F: OpenedFile> SyncReader<F> {
         }
     }
 
-    /// What `open` of this module does: opens the content of the integrity.
+    /// Opens the content of the integrity, as `content::read::open` does. Always call `check` at the end.
+    ///
+    /// ```
+    /// let sri = cacache::write_hash_sync(&mut env, "my-cache", b"my data")?;
+    /// let mut reader = cacache::SyncReader::open_hash(&mut env, "my-cache", sri)?;
+    /// let mut text = String::new(alloc);
+    /// reader.read_to_string(&mut text)?; // text is "my data", which isn't checked yet
+    /// let algorithm = reader.check()?; // Algorithm::Sha256
+    /// ```
     pub fn open_hash<S: Store<File = F>, C: Clock, N: Names>(
         env: &mut Env<S, C, N>,
         cache: &str,
@@ -124,7 +135,8 @@ impl<F: OpenedFile> SyncReader<F> {
     }
 
     /// Whether the bytes that were read so far meet the integrity that the reader was opened with: Ok of its strongest
-    /// algorithm. What wasn't read counts for nothing, so read to the end first. Only the error takes memory.
+    /// algorithm. What wasn't read counts for nothing, so read to the end first. Only the error takes memory. The
+    /// example of `open` calls it.
     ///
     /// `IntegrityError` has that integrity and the one of the bytes that were read.
     pub fn check(self) -> Result<Algorithm>

@@ -29,8 +29,8 @@ use std::io;
 use std::io::{ErrorKind, Write};
 
 /// A content that is being written. Its bytes go to a temporary file as they come, and each is hashed once; `close`
-/// makes the file the content. A writer that is dropped leaves its file to the store: on real folders it is removed, and on a
-/// disk in memory it stays for `clear_sync`.
+/// makes the file the content, and before that nothing is saved. A writer that is dropped leaves its file to the store:
+/// on real folders it is removed, and on a disk in memory it stays for `clear_sync`.
 #[derive(Drop)]
 pub struct Writer<T> {
     cache: Text,

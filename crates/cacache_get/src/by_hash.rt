@@ -30,9 +30,16 @@ fn of_hash(sri: &Integrity) -> std::result::Result<Source, AllocError>
 /// Copies the content of the integrity to this path, and answers how many bytes it has. A file there is overwritten.
 /// The content is read to its end first, and goes there only if it meets the integrity.
 ///
-/// `IntegrityError` where the content doesn't meet the integrity, `IoError` says which step failed. The path is left
-/// alone until the content is verified; a copy that failed may leave a part of it there. `OutOfMemory` may come after
-/// the last step.
+/// ```
+/// let sri = cacache::write_hash_sync(&mut env, "my-cache", b"my data")?;
+/// let count = cacache::copy_hash_sync(&mut env, "my-cache", &sri, "/my-copy")?; // 7
+/// ```
+///
+/// Its future, `copy_hash`, is run as in the example of `read`.
+///
+/// `IntegrityError` where the content doesn't meet the integrity, `IoError` says which step failed, with `NotFound`
+/// where the content isn't there. The path is left alone until the content is verified; a copy that failed may leave a
+/// part of it there. `OutOfMemory` may come after the last step.
 pub fn copy_hash_sync<S: Store, C: Clock, N: Names>(
     env: &mut Env<S, C, N>,
     cache: &str,
@@ -52,8 +59,15 @@ pub fn copy_hash_sync<S: Store, C: Clock, N: Names>(
 /// Copies the content of the integrity to this path, and answers how many bytes it has. A file there is overwritten.
 /// Whether it meets the integrity isn't asked.
 ///
-/// `IoError` says which step failed. A copy that failed may leave a part of it there. `OutOfMemory` may come after the
-/// last step.
+/// ```
+/// let sri = cacache::write_hash_sync(&mut env, "my-cache", b"my data")?;
+/// let count = cacache::copy_hash_unchecked_sync(&mut env, "my-cache", &sri, "/my-copy")?; // 7
+/// ```
+///
+/// Its future, `copy_hash_unchecked`, is run as in the example of `read`.
+///
+/// `IoError` says which step failed, with `NotFound` where the content isn't there. A copy that failed may leave a part
+/// of it there. `OutOfMemory` may come after the last step.
 pub fn copy_hash_unchecked_sync<S: Store, C: Clock, N: Names>(
     env: &mut Env<S, C, N>,
     cache: &str,
@@ -69,10 +83,18 @@ pub fn copy_hash_unchecked_sync<S: Store, C: Clock, N: Names>(
 }
 
 /// Makes a file at this path that shares its storage with the content of the integrity. Nothing may stand there. The
-/// content is read to its end first, and goes there only if it meets the integrity.
+/// content is read to its end first, and goes there only if it meets the integrity. Real folders make no reflinks:
+/// there its last step always fails with `Unsupported`.
 ///
-/// `IntegrityError` where the content doesn't meet the integrity, `IoError` says which step failed. Then nothing
-/// changed. `OutOfMemory` may come after the last step.
+/// ```
+/// let sri = cacache::write_hash_sync(&mut env, "my-cache", b"my data")?;
+/// cacache::reflink_hash_sync(&mut env, "my-cache", &sri, "/my-copy")?; // on real folders it fails
+/// ```
+///
+/// Its future, `reflink_hash`, is run as in the example of `read`.
+///
+/// `IntegrityError` where the content doesn't meet the integrity, `IoError` says which step failed, with `NotFound`
+/// where the content isn't there. Then nothing changed. `OutOfMemory` may come after the last step.
 pub fn reflink_hash_sync<S: Store, C: Clock, N: Names>(
     env: &mut Env<S, C, N>,
     cache: &str,
@@ -90,9 +112,16 @@ pub fn reflink_hash_sync<S: Store, C: Clock, N: Names>(
 }
 
 /// Makes a file at this path that shares its storage with the content of the integrity. Nothing may stand there.
-/// Whether it meets the integrity isn't asked.
+/// Whether it meets the integrity isn't asked. Real folders make no reflinks: there its last step always fails with
+/// `Unsupported`.
 ///
-/// `IoError` says which step failed. Then nothing changed. `OutOfMemory` may come after the last step.
+/// ```
+/// let sri = cacache::write_hash_sync(&mut env, "my-cache", b"my data")?;
+/// cacache::reflink_hash_unchecked_sync(&mut env, "my-cache", &sri, "/my-copy")?; // on real folders it fails
+/// ```
+///
+/// `IoError` says which step failed, with `NotFound` where the content isn't there. Then nothing changed. `OutOfMemory`
+/// may come after the last step.
 pub fn reflink_hash_unchecked_sync<S: Store, C: Clock, N: Names>(
     env: &mut Env<S, C, N>,
     cache: &str,
@@ -108,10 +137,11 @@ pub fn reflink_hash_unchecked_sync<S: Store, C: Clock, N: Names>(
 }
 
 /// Gives the content of the integrity one more name, which is this path. Nothing may stand there. The content is read
-/// to its end first, and goes there only if it meets the integrity.
+/// to its end first, and goes there only if it meets the integrity. On real folders both names are one file: whoever
+/// changes it through this one damages the cache.
 ///
-/// `IntegrityError` where the content doesn't meet the integrity, `IoError` says which step failed. Then nothing
-/// changed. `OutOfMemory` may come after the last step.
+/// `IntegrityError` where the content doesn't meet the integrity, `IoError` says which step failed, with `NotFound`
+/// where the content isn't there. Then nothing changed. `OutOfMemory` may come after the last step.
 pub fn hard_link_hash_sync<S: Store, C: Clock, N: Names>(
     env: &mut Env<S, C, N>,
     cache: &str,
@@ -129,9 +159,11 @@ pub fn hard_link_hash_sync<S: Store, C: Clock, N: Names>(
 }
 
 /// Gives the content of the integrity one more name, which is this path. Nothing may stand there. Whether it meets the
-/// integrity isn't asked.
+/// integrity isn't asked. On real folders both names are one file: whoever changes it through this one damages the
+/// cache.
 ///
-/// `IoError` says which step failed. Then nothing changed. `OutOfMemory` may come after the last step.
+/// `IoError` says which step failed, with `NotFound` where the content isn't there. Then nothing changed. `OutOfMemory`
+/// may come after the last step.
 pub fn hard_link_hash_unchecked_sync<S: Store, C: Clock, N: Names>(
     env: &mut Env<S, C, N>,
     cache: &str,

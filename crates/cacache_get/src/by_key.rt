@@ -25,9 +25,11 @@ use cacache_table::{How, Source};
 /// let count = cacache::copy_sync(&mut env, "my-cache", "key", "/my-copy")?; // 7
 /// ```
 ///
+/// Its future, `copy`, is run as in the example of `read`.
+///
 /// `EntryNotFound` where that lookup is none, `IntegrityError` where the content doesn't meet the integrity, `IoError`
-/// says which step failed. The path is left alone until the content is verified; a copy that failed may leave a part of
-/// it there. `OutOfMemory` may come after the last step.
+/// says which step failed, with `NotFound` where the content isn't there. The path is left alone until the content is
+/// verified; a copy that failed may leave a part of it there. `OutOfMemory` may come after the last step.
 pub fn copy_sync<S: Store, C: Clock, N: Names>(
     env: &mut Env<S, C, N>,
     cache: &str,
@@ -46,8 +48,15 @@ pub fn copy_sync<S: Store, C: Clock, N: Names>(
 /// Copies the content that a lookup of the key finds to this path, and answers how many bytes it has. A file there is
 /// overwritten. Whether it meets its integrity isn't asked.
 ///
-/// `EntryNotFound` where that lookup is none, `IoError` says which step failed. A copy that failed may leave a part of
-/// it there. `OutOfMemory` may come after the last step.
+/// ```
+/// cacache::write_sync(&mut env, "my-cache", "key", b"my data")?;
+/// let count = cacache::copy_unchecked_sync(&mut env, "my-cache", "key", "/my-copy")?; // 7
+/// ```
+///
+/// Its future, `copy_unchecked`, is run as in the example of `read`.
+///
+/// `EntryNotFound` where that lookup is none, `IoError` says which step failed, with `NotFound` where the content isn't
+/// there. A copy that failed may leave a part of it there. `OutOfMemory` may come after the last step.
 pub fn copy_unchecked_sync<S: Store, C: Clock, N: Names>(
     env: &mut Env<S, C, N>,
     cache: &str,
@@ -63,9 +72,18 @@ pub fn copy_unchecked_sync<S: Store, C: Clock, N: Names>(
 
 /// Makes a file at this path that shares its storage with the content that a lookup of the key finds. Nothing may stand
 /// there. The content is read to its end first, and goes there only if it meets the integrity that the lookup gives.
+/// Real folders make no reflinks: there its last step always fails with `Unsupported`.
+///
+/// ```
+/// cacache::write_sync(&mut env, "my-cache", "key", b"my data")?;
+/// cacache::reflink_sync(&mut env, "my-cache", "key", "/my-copy")?; // on real folders it fails
+/// ```
+///
+/// Its future, `reflink`, is run as in the example of `read`.
 ///
 /// `EntryNotFound` where that lookup is none, `IntegrityError` where the content doesn't meet the integrity, `IoError`
-/// says which step failed. Then nothing changed. `OutOfMemory` may come after the last step.
+/// says which step failed, with `NotFound` where the content isn't there. Then nothing changed. `OutOfMemory` may come
+/// after the last step.
 pub fn reflink_sync<S: Store, C: Clock, N: Names>(
     env: &mut Env<S, C, N>,
     cache: &str,
@@ -82,10 +100,18 @@ pub fn reflink_sync<S: Store, C: Clock, N: Names>(
 }
 
 /// Makes a file at this path that shares its storage with the content that a lookup of the key finds. Nothing may stand
-/// there. Whether it meets its integrity isn't asked.
+/// there. Whether it meets its integrity isn't asked. Real folders make no reflinks: there its last step always fails
+/// with `Unsupported`.
 ///
-/// `EntryNotFound` where that lookup is none, `IoError` says which step failed. Then nothing changed. `OutOfMemory` may
-/// come after the last step.
+/// ```
+/// cacache::write_sync(&mut env, "my-cache", "key", b"my data")?;
+/// cacache::reflink_unchecked_sync(&mut env, "my-cache", "key", "/my-copy")?; // on real folders it fails
+/// ```
+///
+/// Its future, `reflink_unchecked`, is run as in the example of `read`.
+///
+/// `EntryNotFound` where that lookup is none, `IoError` says which step failed, with `NotFound` where the content isn't
+/// there. Then nothing changed. `OutOfMemory` may come after the last step.
 pub fn reflink_unchecked_sync<S: Store, C: Clock, N: Names>(
     env: &mut Env<S, C, N>,
     cache: &str,
@@ -100,10 +126,12 @@ pub fn reflink_unchecked_sync<S: Store, C: Clock, N: Names>(
 }
 
 /// Gives the content that a lookup of the key finds one more name, which is this path. Nothing may stand there. The
-/// content is read to its end first, and goes there only if it meets the integrity that the lookup gives.
+/// content is read to its end first, and goes there only if it meets the integrity that the lookup gives. On real
+/// folders both names are one file: whoever changes it through this one damages the cache.
 ///
 /// `EntryNotFound` where that lookup is none, `IntegrityError` where the content doesn't meet the integrity, `IoError`
-/// says which step failed. Then nothing changed. `OutOfMemory` may come after the last step.
+/// says which step failed, with `NotFound` where the content isn't there. Then nothing changed. `OutOfMemory` may come
+/// after the last step.
 pub fn hard_link_sync<S: Store, C: Clock, N: Names>(
     env: &mut Env<S, C, N>,
     cache: &str,
@@ -120,10 +148,11 @@ pub fn hard_link_sync<S: Store, C: Clock, N: Names>(
 }
 
 /// Gives the content that a lookup of the key finds one more name, which is this path. Nothing may stand there. Whether
-/// it meets its integrity isn't asked.
+/// it meets its integrity isn't asked. On real folders both names are one file: whoever changes it through this one
+/// damages the cache.
 ///
-/// `EntryNotFound` where that lookup is none, `IoError` says which step failed. Then nothing changed. `OutOfMemory` may
-/// come after the last step.
+/// `EntryNotFound` where that lookup is none, `IoError` says which step failed, with `NotFound` where the content isn't
+/// there. Then nothing changed. `OutOfMemory` may come after the last step.
 pub fn hard_link_unchecked_sync<S: Store, C: Clock, N: Names>(
     env: &mut Env<S, C, N>,
     cache: &str,

@@ -35,16 +35,16 @@ fn read<S: Store, C, N>(env: &mut Env<S, C, N>, cache: &str, command: Command) -
     }
 }
 
-/// The bytes that the key was last stored with. They meet the integrity that the lookup of the key gives
-/// from the bucket as this call read it.
+/// The bytes that the key was last stored with. They meet the integrity that the lookup of the key gives from the
+/// bucket as this call read it. An entry doesn't mean that its content is there.
 ///
 /// ```
 /// cacache::write_sync(&mut env, "my-cache", "key", b"my data")?;
 /// let bytes = cacache::read_sync(&mut env, "my-cache", "key")?; // b"my data"
 /// ```
 ///
-/// `EntryNotFound` where that lookup is none, `IntegrityError` where the content doesn't meet the integrity,
-/// `IoError` says which step failed. Nothing changes.
+/// `EntryNotFound` where that lookup is none, `IntegrityError` where the content doesn't meet the integrity, `IoError`
+/// says which step failed, with `NotFound` where the content isn't there. Nothing changes.
 pub fn read_sync<S: Store, C: Clock, N: Names>(
     env: &mut Env<S, C, N>,
     cache: &str,
@@ -59,15 +59,18 @@ pub fn read_sync<S: Store, C: Clock, N: Names>(
     read(env, cache, command)
 }
 
-/// The bytes of an integrity. Whatever the store gives, what is answered meets it.
+/// The bytes of an integrity. Whatever the store gives, what is answered meets it. In the name of a call `_hash` says
+/// that a content is stored or named by its integrity alone: the index isn't asked, so no key is needed and no entry.
 ///
 /// ```
 /// let sri = cacache::write_hash_sync(&mut env, "my-cache", b"my data")?;
 /// let bytes = cacache::read_hash_sync(&mut env, "my-cache", &sri)?; // b"my data"
 /// ```
 ///
-/// `IntegrityError` where the content doesn't meet the integrity, `IoError` says which step failed. Nothing
-/// changes.
+/// Its future, `read_hash`, is run as in the example of `read`.
+///
+/// `IntegrityError` where the content doesn't meet the integrity, `IoError` says which step failed, with `NotFound`
+/// where the content isn't there. Nothing changes.
 pub fn read_hash_sync<S: Store, C: Clock, N: Names>(
     env: &mut Env<S, C, N>,
     cache: &str,
@@ -91,6 +94,8 @@ pub fn read_hash_sync<S: Store, C: Clock, N: Names>(
 /// cacache::write_hash_sync(&mut env, "my-cache", b"my data")?;
 /// let after = cacache::exists_sync(&mut env, "my-cache", &sri)?; // true
 /// ```
+///
+/// Its future, `exists`, is run as in the example of `read`.
 ///
 /// A failed step counts as a content that isn't there, so `OutOfMemory` is the only error. Nothing changes. It is one
 /// step.

@@ -14,7 +14,8 @@ use cacache_store::env::{Clock, Env, Names};
 use cacache_store::store::Store;
 use cacache_table::{Command, Delete};
 
-/// What the index has of the key: the entry that counts, if there is one.
+/// What the index has of the key: the entry that counts, if there is one. An entry doesn't mean that its content is
+/// there, which `exists_sync` tells.
 ///
 /// ```
 /// cacache::write_sync(&mut env, "my-cache", "key", b"my data")?;
@@ -22,6 +23,8 @@ use cacache_table::{Command, Delete};
 ///     write!(text, "{} has {} bytes", entry.key, entry.size)?; // key has 7 bytes
 /// }
 /// ```
+///
+/// Its future, `metadata`, is run as in the example of `read`.
 ///
 /// `IoError` says that the bucket couldn't be read. Nothing changes.
 pub fn find<S: Store, C: Clock, N: Names>(
@@ -37,14 +40,18 @@ pub fn find<S: Store, C: Clock, N: Names>(
     call(env, cache, command, 0).looked_up()
 }
 
-/// Adds a tombstone, which says that the key was deleted; the content stays. Its moment is the clock's, which is asked
-/// once, before the first step.
+/// Adds a tombstone, which says that the key was deleted. The content stays, and can still be read by its integrity;
+/// `RemoveOpts` with `remove_fully` removes it too. The tombstone's moment is the clock's, which is asked once, before
+/// the first step.
 ///
 /// ```
-/// cacache::write_sync(&mut env, "my-cache", "key", b"my data")?;
+/// let sri = cacache::write_sync(&mut env, "my-cache", "key", b"my data")?;
 /// cacache::remove_sync(&mut env, "my-cache", "key")?;
-/// let found = cacache::metadata_sync(&mut env, "my-cache", "key")?; // None
+/// let found = cacache::metadata_sync(&mut env, "my-cache", "key")?.is_some(); // false
+/// let bytes = cacache::read_hash_sync(&mut env, "my-cache", &sri)?; // b"my data"
 /// ```
+///
+/// Its future, `remove`, is run as in the example of `read`.
 ///
 /// Errors are those of `insert`.
 pub fn delete<S: Store, C: Clock, N: Names>(

@@ -16,13 +16,16 @@ use cacache_store::env::{Clock, Env, Names};
 use cacache_store::store::Store;
 use cacache_table::Command;
 
-/// Removes the content of the integrity; entries that name it stay.
+/// Removes the content of the integrity. Entries that name it stay: their keys are still found, but reads of them fail
+/// with `NotFound`.
 ///
 /// ```
 /// let sri = cacache::write_hash_sync(&mut env, "my-cache", b"my data")?;
 /// cacache::remove_hash_sync(&mut env, "my-cache", &sri)?;
 /// let there = cacache::exists_sync(&mut env, "my-cache", &sri)?; // false
 /// ```
+///
+/// Its future, `remove_hash`, is run as in the example of `read`.
 ///
 /// `IoError` says that the content couldn't be removed, as where there is none. Then nothing changed.
 pub fn remove_hash_sync<S: Store, C: Clock, N: Names>(
@@ -57,6 +60,8 @@ fn remove_fully<S: Store, C, N>(env: &mut Env<S, C, N>, cache: &str, key: &str) 
 /// let there = cacache::exists_sync(&mut env, "my-cache", &sri)?; // false
 /// ```
 ///
+/// Its future, `clear`, is run as in the example of `read`.
+///
 /// `IoError` says which step failed; then what was removed before that step is gone. A plain file that lies directly in
 /// the cache folder fails with `NotADirectory`, and a folder more than sixteen levels below it with `TooDeep`. A cache
 /// without a folder fails with `NotFound`. `OutOfMemory` may come after any step.
@@ -66,14 +71,15 @@ pub fn clear_sync<S: Store, C: Clock, N: Names>(env: &mut Env<S, C, N>, cache: &
     call(env, cache, Command::Clear, 0).done()
 }
 
-/// How a key is removed: by a tombstone, or fully. Contracts see whether it is fully.
+/// How a key is removed: by a tombstone, after which the content can still be read by its integrity, or fully, with its
+/// content and its bucket. Contracts see whether it is fully.
 #[derive(Clone, Copy)]
 pub struct RemoveOpts {
     remove_fully: bool,
 }
 
 impl RemoveOpts {
-    /// Blank options: by a tombstone.
+    /// Blank options: by a tombstone. The content stays.
     pub fn new() -> RemoveOpts
         ensures { result.remove_fully ≡ false }
     {
@@ -90,8 +96,9 @@ impl RemoveOpts {
         RemoveOpts { remove_fully }
     }
 
-    /// Removes the key. Fully, the content that its lookup finds goes first, if there is one, and then the key's bucket;
-    /// other keys that share either lose it too. Else this is `index::delete`.
+    /// Removes the key. Fully, the content that its lookup finds goes first, if there is one, and then the key's
+    /// bucket; other keys that share either lose it too. Else this is `index::delete`, after which the content can
+    /// still be read by its integrity.
     ///
     /// ```
     /// let sri = cacache::write_sync(&mut env, "my-cache", "key", b"my data")?;
@@ -99,6 +106,8 @@ impl RemoveOpts {
     /// opts.remove_sync(&mut env, "my-cache", "key")?;
     /// let there = cacache::exists_sync(&mut env, "my-cache", &sri)?; // false
     /// ```
+    ///
+    /// Its future, `RemoveAsync::remove`, is run as in the example of `read`.
     ///
     /// `IoError` says which step failed; a content that couldn't be removed keeps its bucket, and a key without a bucket
     /// fails with `NotFound`. By a tombstone, errors are those of `index::insert`.

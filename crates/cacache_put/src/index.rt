@@ -28,6 +28,8 @@ use cacache_table::{Command, Insert};
 /// let bytes = cacache::read_sync(&mut env, "my-cache", "key")?; // b"my data"
 /// ```
 ///
+/// Its future, `insert_async`, is run as in the example of `read`.
+///
 /// `SerdeError` where the entry can't be written: then nothing changed. `IoError` says which step failed, or took only a
 /// part of the line: then the bucket may end in a beginning of the line, perhaps all of it. `OutOfMemory` may come after
 /// any step.

@@ -14,7 +14,7 @@ use cacache_store::store::Store;
 
 impl WriteOpts {
     /// Opens the target of a link under the key, with these options. A target without a `/` in front starts at the base
-    /// folder of `env`. The link is made by the linker's `commit`.
+    /// folder of `env`. Nothing is saved before the linker's `commit`.
     ///
     /// `IoError` says that the target couldn't be opened. Nothing changes.
     pub fn link_to_sync<S: Store, C: Clock, N: Names>(

@@ -34,8 +34,8 @@ use std::io::Read;
 /// A file that is to be linked to; where the entry's time isn't set, the commit asks the clock for it.
 pub(crate) type LinkTarget = Target<Option<u128>>;
 
-/// An open file that is to become a content by a link to it. It may be read in pieces; `commit` reads the rest. Each byte
-/// is hashed once.
+/// An open file that is to become a content by a link to it. It may be read in pieces; `commit` reads the rest, and
+/// nothing is saved before it. Each byte is hashed once.
 #[derive(Drop)]
 pub struct SyncToLinker<F> {
     linked: LinkTarget,
@@ -162,8 +162,8 @@ fn link_rest<S: Store, C, N>(
 }
 
 impl<F: OpenedFile> SyncToLinker<F> {
-    /// Opens the target of a link without a key, whose integrity is to be under this algorithm. A target without a `/` in
-    /// front starts at the base folder of `env`.
+    /// Opens the target of a link without a key, whose integrity is to be under this algorithm. A target without a `/`
+    /// in front starts at the base folder of `env`. Nothing is saved before its `commit`.
     ///
     /// `IoError` says that the target couldn't be opened. Nothing changes.
     pub fn new<S: Store<File = F>, C: Clock, N: Names>(
@@ -192,7 +192,14 @@ impl<F: OpenedFile> SyncToLinker<F> {
     }
 
     /// Opens the target of a link under the key. Its size is asked first, and is the one that the link is to have. A
-    /// target without a `/` in front starts at the base folder of `env`.
+    /// target without a `/` in front starts at the base folder of `env`. Nothing is saved before its `commit`.
+    ///
+    /// ```
+    /// let mut linker = cacache::SyncToLinker::open(&mut env, "my-cache", "key", "/my-file")?;
+    /// let mut bytes = Vec::new(alloc);
+    /// linker.read_to_end(&mut bytes)?; // bytes are those of /my-file
+    /// let sri = linker.commit(&mut env)?; // nothing was saved before
+    /// ```
     ///
     /// `IoError` says whether the size couldn't be told or the target couldn't be opened. Nothing changes.
     pub fn open<S: Store<File = F>, C: Clock, N: Names>(
@@ -215,6 +222,11 @@ impl<F: OpenedFile> SyncToLinker<F> {
     }
 
     /// What `open` does, without a key.
+    ///
+    /// ```
+    /// let linker = cacache::SyncToLinker::open_hash(&mut env, "my-cache", "/my-file")?;
+    /// let sri = linker.commit(&mut env)?; // nothing was saved before
+    /// ```
     pub fn open_hash<S: Store<File = F>, C: Clock, N: Names>(
         env: &mut Env<S, C, N>,
         cache: &str,

@@ -52,6 +52,8 @@ fn linked<S: Store, C, N>(
 /// let bytes = cacache::read_hash_sync(&mut env, "my-cache", &sri)?; // those of /my-file
 /// ```
 ///
+/// Its future, `link_to`, is run as in the example of `read`.
+///
 /// `IoError` says which step failed, or took only a part of the line. `SizeMismatch` where the target gave more or fewer
 /// bytes than its size. Then the link may have been made or not, and the bucket may end in a beginning of the line,
 /// perhaps all of it. `OutOfMemory` may come after any step.
@@ -74,6 +76,13 @@ pub fn link_to_sync<S: Store, C: Clock, N: Names>(
 
 /// Makes a link to the target the content of its bytes, without a key, and answers their SHA-256 integrity. The target is
 /// read to its end first; one without a `/` in front starts at the base folder of `env`.
+///
+/// ```
+/// let sri = cacache::link_to_hash_sync(&mut env, "my-cache", "/my-file")?;
+/// let bytes = cacache::read_hash_sync(&mut env, "my-cache", &sri)?; // those of /my-file
+/// ```
+///
+/// Its future, `link_to_hash`, is run as in the example of `read`.
 ///
 /// `IoError` says which step failed. `SizeMismatch` where the target gave more or fewer bytes than its size. Then the
 /// link may have been made or not; no bucket changes. `OutOfMemory` may come after any step.

@@ -17,7 +17,8 @@ use serde_json::Value;
 use std::alloc::{AllocError, Global};
 use std::marker::Model;
 
-/// Options for a content that is written, or for an entry that is inserted. Of each option the last one set counts.
+/// Options for a content that is written, or for an entry that is inserted. Of each option the last one set counts. An
+/// entry that is inserted without an integrity is a tombstone, and one without a size records 0.
 #[derive(Drop)]
 pub struct WriteOpts {
     algorithm: Algorithm,
@@ -85,7 +86,8 @@ impl WriteOpts {
         opts
     }
 
-    /// With the size that the content is to have. An inserted entry has it as its own.
+    /// With the size that the content is to have. An inserted entry has it as its own, and 0 without it; the entry of a
+    /// content that was written has the count of its bytes.
     pub fn size(self, size: usize) -> WriteOpts
         ensures { result ≡ record self { size = Some size } }
     {
@@ -131,7 +133,8 @@ impl WriteOpts {
         opts
     }
 
-    /// With the integrity that the content is to meet. An inserted entry has it as its own.
+    /// With the integrity that the content is to meet. An inserted entry has it as its own, and is a tombstone without
+    /// it.
     pub fn integrity(self, sri: Integrity) -> WriteOpts
         ensures { result ≡ record self { integrity = Some sri } }
     {
@@ -147,8 +150,8 @@ impl WriteOpts {
         self.time
     }
 
-    /// Opens a writer that commits under the key, with these options. A number is asked once, before the first step. The
-    /// size that was set is compared at the commit.
+    /// Opens a writer that commits under the key, with these options. Nothing is saved before its `commit`. A number is
+    /// asked once, before the first step. The size that was set is compared at the commit.
     ///
     /// ```
     /// let opts = cacache::WriteOpts::new()
@@ -174,7 +177,8 @@ impl WriteOpts {
         open_writer(env.alloc, &mut env.store, cache, number, Some(key), opts)
     }
 
-    /// Opens a writer that commits without a key, with these options. A number is asked once, before the first step.
+    /// Opens a writer that commits without a key, with these options. Nothing is saved before its `commit`. A number is
+    /// asked once, before the first step.
     ///
     /// Errors are those of `open_sync`.
     pub fn open_hash_sync<S: Store, C: Clock, N: Names>(

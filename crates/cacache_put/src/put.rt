@@ -107,6 +107,8 @@ pub fn write_sync<S: Store, C: Clock, N: Names>(
 /// let sri = cacache::write_sync_with_algo(&mut env, algo, "my-cache", "key", b"my data")?;
 /// let algorithm = sri.pick_algorithm(); // Algorithm::Sha512
 /// ```
+///
+/// Its future, `write_with_algo`, is run as in the example of `read`.
 pub fn write_sync_with_algo<S: Store, C: Clock, N: Names>(
     env: &mut Env<S, C, N>,
     algo: Algorithm,
@@ -170,6 +172,8 @@ pub fn write_vec_sync_with_algo<S: Store, C: Clock, N: Names>(
 /// let text = sri.to_string(alloc)?; // sha256-LPJNul+wow4m6DsqxbninhsWHlwfp0JecwQzYpOLmCQ=
 /// ```
 ///
+/// Its future, `write_hash`, is run as in the example of `read`.
+///
 /// `IoError` says which step failed or took none of the bytes. Then the content may have been stored or not;
 /// no bucket changes. `OutOfMemory` may come after any step.
 pub fn write_hash_sync<S: Store, C: Clock, N: Names>(
@@ -185,6 +189,14 @@ pub fn write_hash_sync<S: Store, C: Clock, N: Names>(
 }
 
 /// What `write_hash_sync` does, with an algorithm of the caller's for the integrity.
+///
+/// ```
+/// let algo = cacache::Algorithm::Sha512;
+/// let sri = cacache::write_hash_sync_with_algo(&mut env, algo, "my-cache", b"my data")?;
+/// let algorithm = sri.pick_algorithm(); // Algorithm::Sha512
+/// ```
+///
+/// Its future, `write_hash_with_algo`, is run as in the example of `read`.
 pub fn write_hash_sync_with_algo<S: Store, C: Clock, N: Names>(
     env: &mut Env<S, C, N>,
     algo: Algorithm,

@@ -60,14 +60,14 @@ pub(crate) fn open_writer<S: Store>(
 }
 
 impl<T: TempFile> SyncWriter<T> {
-    /// Opens a writer that commits under the key, with the SHA-256 integrity. A number is asked once, before the first
-    /// step.
+    /// Opens a writer that commits under the key, with the SHA-256 integrity. Nothing is saved before its `commit`. A
+    /// number is asked once, before the first step.
     ///
     /// ```
     /// let mut writer = cacache::SyncWriter::create(&mut env, "my-cache", "key")?;
     /// writer.write_all(b"my ")?;
     /// writer.write_all(b"data")?;
-    /// let sri = writer.commit(&mut env)?;
+    /// let sri = writer.commit(&mut env)?; // nothing was saved before
     /// let bytes = cacache::read_hash_sync(&mut env, "my-cache", &sri)?; // b"my data"
     /// ```
     ///
@@ -83,7 +83,15 @@ impl<T: TempFile> SyncWriter<T> {
         WriteOpts::new().open_sync(env, cache, key)
     }
 
-    /// What `create` does, with an algorithm of the caller's for the integrity.
+    /// What `create` does, with an algorithm of the caller's for the integrity. Nothing is saved before its `commit`.
+    ///
+    /// ```
+    /// let algo = cacache::Algorithm::Sha512;
+    /// let mut writer = cacache::SyncWriter::create_with_algo(&mut env, algo, "my-cache", "key")?;
+    /// writer.write_all(b"my data")?;
+    /// let sri = writer.commit(&mut env)?; // nothing was saved before
+    /// let algorithm = sri.pick_algorithm(); // Algorithm::Sha512
+    /// ```
     pub fn create_with_algo<S: Store<Temp = T>, C: Clock, N: Names>(
         env: &mut Env<S, C, N>,
         algo: Algorithm,

@@ -17,6 +17,7 @@ use std::sync::{Arc, Mutex, Wait};
 /// A temporary file whose writes a worker does. The polls hand the work out and answer what came of it; one that is
 /// pending wakes its task when the work is done. Dropping it ends its workers.
 pub struct PolledFile<T> {
+    /// What it shares with its workers: the core, the temporary file, and the work that is out.
     pub shared: Arc<Shared<T>, Global>,
     alloc: Global,
 }

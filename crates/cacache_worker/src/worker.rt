@@ -62,7 +62,8 @@ impl<T: Drop> Worker<T> {
         }
     }
 
-    /// Takes turns until one is over, a millisecond apart where there was nothing to do.
+    /// Takes turns until one is over, a millisecond apart where there was nothing to do. The example of
+    /// `Writer::create` runs one in a thread of its own.
     pub fn run<R: Wait + Clock, G: Gate>(mut self, rt: &R, gate: &G)
     where
         T: RemovableTemp<R>,

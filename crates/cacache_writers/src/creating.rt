@@ -163,7 +163,7 @@ pub type WriteOptsOpenHashFuture<'a, S, C, N> = CallFuture<'a, S, C, N, WriteOpt
 
 /// Polled writers that are opened with options, as futures.
 pub trait OpenAsync {
-    /// Opens a writer that commits under the key.
+    /// Opens a writer that commits under the key. Nothing is saved before its `commit`.
     fn open<'a, S: Store, C: Clock, N: Names>(
         self,
         env: &'a mut Env<S, C, N>,
@@ -171,7 +171,7 @@ pub trait OpenAsync {
         key: &'a str,
     ) -> WriteOptsOpenFuture<'a, S, C, N>;
 
-    /// Opens a writer that commits without a key.
+    /// Opens a writer that commits without a key. Nothing is saved before its `commit`.
     fn open_hash<'a, S: Store, C: Clock, N: Names>(
         self,
         env: &'a mut Env<S, C, N>,

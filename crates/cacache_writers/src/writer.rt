@@ -19,8 +19,9 @@ use cacache_worker::{PolledFile, Worker};
 use futures::task::{Context, Poll};
 use std::sync::Wait;
 
-/// A content that is written by polls: a worker writes its temporary file. A writer that is dropped ends its workers, and
-/// leaves its file to the store: on real folders it is removed, and on a disk in memory it stays for `clear`.
+/// A content that is written by polls: a worker writes its temporary file, and nothing is saved before the commit. A
+/// writer that is dropped ends its workers, and leaves its file to the store: on real folders it is removed, and on a
+/// disk in memory it stays for `clear`.
 #[derive(Drop)]
 pub struct Writer<T> {
     pub(crate) file: PolledFile<T>,
@@ -28,7 +29,8 @@ pub struct Writer<T> {
 }
 
 impl<T: Drop> Writer<T> {
-    /// Opens a writer of a content without a key, as a future. `size` has no effect.
+    /// Opens a writer of a content without a key, as a future. `size` has no effect. Nothing is saved before its
+    /// `commit`.
     pub fn new<'a, S: Store<Temp = T>, C: Clock, N: Names>(
         env: &'a mut Env<S, C, N>,
         cache: &'a str,
@@ -41,7 +43,14 @@ impl<T: Drop> Writer<T> {
         CallFuture::new(env, AsyncWriterNewCall { cache, algo })
     }
 
-    /// Opens a writer that commits under the key, with the SHA-256 integrity, as a future.
+    /// Opens a writer that commits under the key, with the SHA-256 integrity, as a future. Nothing is saved before its
+    /// `commit`.
+    ///
+    /// ```
+    /// let writer = block_on(&rt, cacache::Writer::create(&mut env, "my-cache", "key"))??;
+    /// let worker = writer.worker()?;
+    /// let thread = thread::spawn(&rt, move || worker.run(&rt, &Open))?;
+    /// ```
     pub fn create<'a, S: Store<Temp = T>, C: Clock, N: Names>(
         env: &'a mut Env<S, C, N>,
         cache: &'a str,
@@ -53,7 +62,8 @@ impl<T: Drop> Writer<T> {
         CallFuture::new(env, WriterCreateCall { cache, key })
     }
 
-    /// What `create` does, with an algorithm of the caller's for the integrity.
+    /// What `create` does, with an algorithm of the caller's for the integrity. Nothing is saved before its `commit`.
+    /// It is run as in the example of `create`.
     pub fn create_with_algo<'a, S: Store<Temp = T>, C: Clock, N: Names>(
         env: &'a mut Env<S, C, N>,
         algo: Algorithm,
@@ -66,13 +76,20 @@ impl<T: Drop> Writer<T> {
         CallFuture::new(env, WriterCreateWithAlgoCall { algo, cache, key })
     }
 
-    /// A worker for this writer. `OutOfMemory` is the only error.
+    /// A worker for this writer, which the example of `create` runs in a thread of its own. `OutOfMemory` is the only
+    /// error.
     pub fn worker(&self) -> Result<Worker<T>> {
         self.file.worker()
     }
 
     /// Hands these bytes to a worker, and is pending; polled again with the same bytes, it answers how many the worker
     /// took. No bytes are answered at once.
+    ///
+    /// ```
+    /// let data = b"my data";
+    /// let count = block_on(&rt, poll_fn(|cx| writer.poll_write(&rt, cx, data)))??; // 7
+    /// let sri = block_on(&rt, writer.commit(&rt, &mut env))??; // nothing was saved before
+    /// ```
     ///
     /// `IoError` with `OtherBytes` where an earlier write isn't answered yet, with `Closed` after a close, and else with
     /// the worker's fault. `OutOfMemory` changes nothing, or came to a message.
@@ -108,7 +125,8 @@ impl<T: Drop> Writer<T> {
         self.file.poll_close(rt, cx)
     }
 
-    /// Commits what was written, once no work is out, as `SyncWriter::commit` does.
+    /// Commits what was written, once no work is out, as `SyncWriter::commit` does. The example of `poll_write` runs
+    /// it.
     ///
     /// `IoError` with `Closed` after a close, with `Cancelled` after a worker quit with work undone, and with the fault of
     /// a failed write that no poll answered; else errors are those of `SyncWriter::commit`.
