@@ -61,12 +61,7 @@ pub fn make_folder<S: Store>(alloc: Global, store: &mut S, cache: &str) -> Resul
 /// Makes a temporary file at this path, which is that of some number, after its folder.
 ///
 /// `IoError` says which step failed. Contents and index stay as they were; folders may have been made.
-pub fn make_temp<S: Store>(
-    alloc: Global,
-    store: &mut S,
-    cache: &str,
-    path: Text,
-) -> Result<S::Temp>
+pub fn make_temp<S: Store>(alloc: Global, store: &mut S, cache: &str, path: Text) -> Result<S::Temp>
     ensures { (number : ℕ) → path ≡ temp_path_of cache.now number
         → MakesTemp cache.now number S.Temp.seen result (S.log store.old) (S.log store.new) }
 {
