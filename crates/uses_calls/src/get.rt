@@ -27,13 +27,6 @@ fn exists_sync(rt: HostRuntime, mut env: &mut Memory) -> Result<String> {
     Ok(format!(in alloc; "{before}, {after}")?)
 }
 
-/// A content's copy outside the cache.
-fn copy_sync(rt: HostRuntime, mut env: &mut Memory) -> Result<String> {
-    cacache::write_sync(&mut env, "my-cache", "key", b"my data")?;
-    let count = cacache::copy_sync(&mut env, "my-cache", "key", "/my-copy")?; // 7
-    Ok(format!(in rt.alloc(); "{count}")?)
-}
-
 /// The contents that are there.
 fn list(rt: HostRuntime, mut env: &mut Memory) -> Result<String> {
     let mut text = String::new(rt.alloc());
@@ -50,6 +43,5 @@ pub(crate) fn run(rt: HostRuntime) -> Result<()> {
     in_memory(rt, "read_sync", read_sync)?;
     in_memory(rt, "read_hash_sync", read_hash_sync)?;
     in_memory(rt, "exists_sync", exists_sync)?;
-    in_memory(rt, "copy_sync", copy_sync)?;
     in_memory(rt, "content::read::list", list)
 }

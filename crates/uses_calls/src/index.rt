@@ -31,13 +31,14 @@ fn metadata_sync(rt: HostRuntime, mut env: &mut Memory) -> Result<String> {
     Ok(text)
 }
 
-/// A key that is removed.
+/// A key that is removed, and its content, which stays.
 fn remove_sync(rt: HostRuntime, mut env: &mut Memory) -> Result<String> {
-    cacache::write_sync(&mut env, "my-cache", "key", b"my data")?;
+    let sri = cacache::write_sync(&mut env, "my-cache", "key", b"my data")?;
     cacache::remove_sync(&mut env, "my-cache", "key")?;
-    let found = cacache::metadata_sync(&mut env, "my-cache", "key")?; // None
-    let answer = if found.is_none() { "None" } else { "Some" };
-    Ok(format!(in rt.alloc(); "{answer}")?)
+    let found = cacache::metadata_sync(&mut env, "my-cache", "key")?.is_some(); // false
+    let bytes = cacache::read_hash_sync(&mut env, "my-cache", &sri)?; // b"my data"
+    let text = shown(rt.alloc(), &bytes)?;
+    Ok(format!(in rt.alloc(); "{found}, {text}")?)
 }
 
 /// All entries. The listing lends the environment, which is this function's own.

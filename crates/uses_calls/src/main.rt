@@ -4,13 +4,18 @@
 #![tactic(auto)]
 
 mod awaited;
+mod copies;
 mod env;
 mod get;
 mod index;
 mod integrity;
-mod pieces;
+mod links;
+mod polled;
 mod put;
+mod readers;
+mod reflinks;
 mod rm;
+mod writers;
 
 use anyhow::Result;
 use cacache::env::{Memory, memory};
@@ -37,13 +42,27 @@ where
     tell(rt, name, came)
 }
 
-fn main(rt: HostRuntime) -> Result<()> {
+/// Makes the calls that aren't futures.
+fn at_once(rt: HostRuntime) -> Result<()> {
     integrity::run(rt)?;
     env::run(rt)?;
     put::run(rt)?;
+    links::run(rt)?;
     get::run(rt)?;
+    copies::run(rt)?;
+    reflinks::run(rt)?;
     index::run(rt)?;
     rm::run(rt)?;
-    pieces::run(rt)?;
-    in_memory(rt, "read", awaited::read)
+    writers::run(rt)?;
+    readers::run(rt)
+}
+
+fn main(rt: HostRuntime) -> Result<()> {
+    at_once(rt)?;
+    in_memory(rt, "read", awaited::read)?;
+    in_memory(rt, "write", awaited::write)?;
+    in_memory(rt, "Reader::open", awaited::reader)?;
+    in_memory(rt, "ToLinker::open", awaited::linker)?;
+    in_memory(rt, "Writer::create", polled::create)?;
+    in_memory(rt, "Writer::poll_write", polled::poll_write)
 }

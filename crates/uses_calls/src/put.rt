@@ -35,12 +35,12 @@ fn write_hash_sync(rt: HostRuntime, mut env: &mut Memory) -> Result<String> {
     Ok(text)
 }
 
-/// A file outside the cache.
-fn link_to_sync(rt: HostRuntime, mut env: &mut Memory) -> Result<String> {
-    env.store.plant("/my-file", b"hello")?;
-    let sri = cacache::link_to_sync(&mut env, "my-cache", "key", "/my-file")?;
-    let bytes = cacache::read_hash_sync(&mut env, "my-cache", &sri)?; // those of /my-file
-    shown(rt.alloc(), &bytes)
+/// Bytes without a key, with an algorithm.
+fn write_hash_sync_with_algo(rt: HostRuntime, mut env: &mut Memory) -> Result<String> {
+    let algo = cacache::Algorithm::Sha512;
+    let sri = cacache::write_hash_sync_with_algo(&mut env, algo, "my-cache", b"my data")?;
+    let algorithm = sri.pick_algorithm(); // Algorithm::Sha512
+    Ok(format!(in rt.alloc(); "{algorithm}")?)
 }
 
 /// Makes these calls.
@@ -49,5 +49,5 @@ pub(crate) fn run(rt: HostRuntime) -> Result<()> {
     in_memory(rt, "write_sync_with_algo", write_sync_with_algo)?;
     in_memory(rt, "write_vec_sync", write_vec_sync)?;
     in_memory(rt, "write_hash_sync", write_hash_sync)?;
-    in_memory(rt, "link_to_sync", link_to_sync)
+    in_memory(rt, "write_hash_sync_with_algo", write_hash_sync_with_algo)
 }

@@ -1,17 +1,27 @@
-//! Contents that are written and read in pieces.
+//! Contents that are written in pieces.
 use crate::{in_memory, shown};
 use anyhow::Result;
 use cacache::env::Memory;
-use std::io::{Read, Write};
+use std::io::Write;
 
 /// A content whose pieces are written one after another.
 fn create(rt: HostRuntime, mut env: &mut Memory) -> Result<String> {
     let mut writer = cacache::SyncWriter::create(&mut env, "my-cache", "key")?;
     writer.write_all(b"my ")?;
     writer.write_all(b"data")?;
-    let sri = writer.commit(&mut env)?;
+    let sri = writer.commit(&mut env)?; // nothing was saved before
     let bytes = cacache::read_hash_sync(&mut env, "my-cache", &sri)?; // b"my data"
     shown(rt.alloc(), &bytes)
+}
+
+/// A content whose pieces are written one after another, with an algorithm.
+fn create_with_algo(rt: HostRuntime, mut env: &mut Memory) -> Result<String> {
+    let algo = cacache::Algorithm::Sha512;
+    let mut writer = cacache::SyncWriter::create_with_algo(&mut env, algo, "my-cache", "key")?;
+    writer.write_all(b"my data")?;
+    let sri = writer.commit(&mut env)?; // nothing was saved before
+    let algorithm = sri.pick_algorithm(); // Algorithm::Sha512
+    Ok(format!(in rt.alloc(); "{algorithm}")?)
 }
 
 /// A content whose file is removed where a write fails.
@@ -34,22 +44,10 @@ fn open_sync(rt: HostRuntime, mut env: &mut Memory) -> Result<String> {
     Ok(format!(in rt.alloc(); "{sri}")?)
 }
 
-/// A content that is read and then checked.
-fn open(rt: HostRuntime, mut env: &mut Memory) -> Result<String> {
-    let alloc = rt.alloc();
-    cacache::write_sync(&mut env, "my-cache", "key", b"my data")?;
-    let mut reader = cacache::SyncReader::open(&mut env, "my-cache", "key")?;
-    let mut bytes = Vec::new(alloc);
-    reader.read_to_end(&mut bytes)?; // bytes are b"my data", which aren't checked yet
-    let algorithm = reader.check()?; // Algorithm::Sha256
-    let bytes = shown(alloc, &bytes)?;
-    Ok(format!(in alloc; "{bytes}, {algorithm}")?)
-}
-
 /// Makes these calls.
 pub(crate) fn run(rt: HostRuntime) -> Result<()> {
     in_memory(rt, "SyncWriter::create", create)?;
+    in_memory(rt, "SyncWriter::create_with_algo", create_with_algo)?;
     in_memory(rt, "SyncWriter::write_or_abandon", write_or_abandon)?;
-    in_memory(rt, "WriteOpts::open_sync", open_sync)?;
-    in_memory(rt, "SyncReader::open", open)
+    in_memory(rt, "WriteOpts::open_sync", open_sync)
 }
