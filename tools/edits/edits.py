@@ -1,4 +1,5 @@
 """What `check` and `try` share: the edits and the texts that they make."""
+import functools
 import hashlib
 import pathlib
 import re
@@ -47,6 +48,7 @@ def all_of(crate):
     return sorted(TOP.glob(f"crates/{crate}/must-fail/*.edit")) + sorted(TOP.glob(f"tools/edits/{crate}/*.edit"))
 
 
+@functools.cache
 def crates():
     """The crates of crates.txt, each with what it lists, in the file's order."""
     found = {}

@@ -79,6 +79,9 @@ def one_round(program, cache, round_number, processes):
 
 
 def main():
+    if "--help" in sys.argv[1:]:
+        print(__doc__)
+        return
     if not 2 <= len(sys.argv) <= 4:
         sys.exit(__doc__)
     program = str(Path(sys.argv[1]).resolve())

@@ -161,6 +161,9 @@ def tell():
 
 
 def main():
+    if "--help" in sys.argv[1:]:
+        print(__doc__)
+        return
     bench, program = (os.path.realpath(word) for word in sys.argv[1:3])
     rounds = int(sys.argv[3]) if len(sys.argv) > 3 else 5
     source = os.path.join(os.path.dirname(os.path.realpath(__file__)), "floor.c")

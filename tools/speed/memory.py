@@ -33,6 +33,9 @@ def nanos(bench, kind, size):
 
 def main():
     """Measures each kind at both sizes so many times, and prints what came."""
+    if "--help" in sys.argv[1:]:
+        print(__doc__)
+        return
     bench = os.path.realpath(sys.argv[1])
     rounds = int(sys.argv[2]) if len(sys.argv) > 2 else 5
     print(f"{time.strftime('%F %T')}, {os.cpu_count()} processors, load {os.getloadavg()[0]:.2f}, {rounds} rounds")

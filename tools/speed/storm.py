@@ -23,6 +23,9 @@ def spent(words):
 
 
 def main():
+    if "--help" in sys.argv[1:]:
+        print(__doc__)
+        return
     program, bench = (os.path.realpath(word) for word in sys.argv[1:3])
     rounds = int(sys.argv[3]) if len(sys.argv) > 3 else 3
     pairs = [(spent([program, "storm", "64", "1000"]), spent([bench, "one-caller", "64000"])) for _ in range(rounds)]

@@ -41,6 +41,9 @@ def told(word):
 
 
 def main():
+    if "--help" in sys.argv[1:]:
+        print(__doc__)
+        return
     if len(sys.argv) < 3:
         sys.exit(__doc__)
     programs = dict(zip(PROGRAMS, (str(pathlib.Path(word).resolve()) for word in sys.argv[1:3])))
