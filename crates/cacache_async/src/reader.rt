@@ -121,7 +121,8 @@ impl<F: OpenedFile> Reader<F> {
         CallFuture::new(env, ReaderOpenCall { cache, key })
     }
 
-    /// `SyncReader::open_hash` as a future. Always call `check` at the end. The example of `open` serves for both.
+    /// `SyncReader::open_hash` as a future. Always call `check` at the end. It is run and checked as in the example of
+    /// `open`.
     pub fn open_hash<'a, S: Store<File = F>, C: Clock, N: Names>(
         env: &'a mut Env<S, C, N>,
         cache: &'a str,
