@@ -2,3 +2,4 @@ pub mod GivenUp
 pub mod OpenedLookups
 pub mod StepAnswers
 pub mod Writes
+mod MadeTemps

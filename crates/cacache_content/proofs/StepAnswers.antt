@@ -1,5 +1,5 @@
 -- What the answer to a single step says of it.
-use Rattle.std.proofs.Common.{◌≡◌, inl, inr, ℕ, List, Option, Err}
+use Rattle.std.proofs.Common.{◌≡◌, inl, inr, ℕ, List, Option, Result, Ok, Err, refl}
 use Rattle.cacache_core.specs.declared.errors.Error.{Error}
 use Rattle.cacache_core.specs.declared.errors.Error.TheVariants.{IoError, OutOfMemory}
 use Rattle.cacache_core.specs.declared.errors.Fault.{Fault}
@@ -14,6 +14,7 @@ use Rattle.cacache_table.specs.Answers.{done_in, temp_in, file_in}
 use Rattle.cacache_table.specs.Common.{ends_with, fails, refuse}
 use Rattle.cacache_table.specs.Runs.{EndsAs}
 use Rattle.cacache_table.specs.SingleSteps.{FailsAt}
+use Rattle.cacache_jobs.specs.Brought.{EndsRefused}
 
 -- ---- an answer that refuses a step
 
@@ -42,6 +43,11 @@ pub refused_fails : (a : PlainStep) (t : PlainAnswer) (refusal : Refusal) (e : E
 refused_fails a (answers.Failed fault) refusal e old new is logs ends = failed a fault e old new logs (rw is at ends)
 refused_fails a (answers.NoMemory b) refusal e old new is logs ends = lost a e old new logs (rw is at ends)
 refused_fails a t refusal e old new is logs ends = absurd is
+
+-- why a step was refused that ended a call so
+pub refusal_of : {Y : Type 0} (a : Result Y Refusal) (e : Error) → EndsRefused a e → (refusal : Refusal) × (Err refusal ≡ a) × EndsAs e (refuse refusal fails)
+refusal_of (Ok y) e ends = absurd ends
+refusal_of (Err refusal) e ends = (refusal, refl, ends)
 
 -- ---- which answers do, by the kind of the step
 

@@ -19,10 +19,10 @@ use cacache_core::hasher::Hasher;
 use cacache_core::integrity::{Algorithm, Integrity};
 use cacache_core::keeping::let_go;
 use cacache_core::text::Text;
-use cacache_jobs::{Commit, commit_from, messages, refused, temp_folder, temp_path};
+use cacache_jobs::{Commit, commit_from, made_temp, messages, refused, temp_folder, temp_path};
 use cacache_store::env::{Clock, Env, Names};
 use cacache_store::store::{Step, Store, TempFile};
-use cacache_table::answers::{done_of, temp_of};
+use cacache_table::answers::done_of;
 use cacache_table::{Options, Refusal};
 use std::alloc::{AllocError, Global};
 use std::io;
@@ -66,10 +66,7 @@ pub fn make_temp<S: Store>(alloc: Global, store: &mut S, cache: &str, path: Text
         → MakesTemp cache.now number S.Temp.seen result (S.log store.old) (S.log store.new) }
 {
     make_folder(alloc, store, cache)?;
-    match temp_of(store.step(Step::CreateTemp(path))) {
-        Ok(file) => Ok(file),
-        Err(refusal) => Err(refused(refusal, messages::creating(alloc, cache))),
-    }
+    made_temp(alloc, cache, store.step(Step::CreateTemp(path)))
 }
 
 /// Opens a writer with a temporary file of this number.

@@ -8,3 +8,4 @@ pub mod Refusing
 pub mod Matching
 pub mod WrittenCommits
 pub mod SyncedFolders
+pub mod RefusedSteps

@@ -6,3 +6,4 @@ pub mod Jobs
 pub mod Effort
 pub mod ReadFirst
 pub mod IntoBuckets
+pub mod Brought

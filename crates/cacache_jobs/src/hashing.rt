@@ -1,5 +1,7 @@
 //! Files that are read to their end, each byte hashed once and none kept: contents to verify, and targets of links.
 ghost use Rattle.std.specs.Prelude.{◌≡◌, ℕ, List, [], ◌++◌, length};
+ghost use Rattle.cacache_store.specs.Plain.{plain_answer};
+ghost use Rattle.cacache_table.specs.Answers.{file_in};
 ghost use Rattle.cacache_table.specs.Common.{go_on, fails};
 ghost use Rattle.cacache_table.specs.Linking.{after_read, hashed as hashed_of};
 ghost use Rattle.cacache_table.specs.StepPaths.{content_path as content_path_of};
@@ -9,6 +11,7 @@ ghost use Rattle.cacache_table.specs.State.{Content as Named, Hashing as Purpose
 ghost use Rattle.cacache_table.specs.Seen.{seen_by, got_as};
 ghost use Rattle.cacache_jobs.specs.JobStates.{Leads, HashesFor, content_of};
 
+use crate::brought::opened_file;
 use crate::phase::{Phase, refused};
 use crate::reading::Content;
 use crate::stage::Stage;
@@ -19,7 +22,7 @@ use cacache_core::hasher::Hasher;
 use cacache_core::integrity::IntegrityChecker;
 use cacache_core::keeping::beside;
 use cacache_core::text::Text;
-use cacache_store::store::{FileHandle, Step, TempHandle};
+use cacache_store::store::{Answer, FileHandle, Step, TempHandle};
 use cacache_table::answers::Got;
 use cacache_table::{Export, Refusal};
 use std::alloc::Global;
@@ -70,15 +73,15 @@ pub(crate) fn verify<F: FileHandle, T: TempHandle>(
 pub(crate) fn opened<F: FileHandle, T: TempHandle>(
     alloc: Global,
     hashing: Box<Hashing>,
-    file: Result<F, Refusal>,
+    answer: Answer<F, T>,
 ) -> errors::Result<Phase<F, T>>
     ensures { (h : Purpose) → HashesFor hashing.value h []
         → Leads F.seen T.seen result
-        (go_on (seen_by F.seen file) fails (λ f. hashing_state h f [])) }
+        (go_on (file_in (plain_answer F.seen T.seen answer)) fails (λ f. hashing_state h f [])) }
 {
-    match file {
+    match opened_file(alloc, hashing.path(), answer) {
         Ok(file) => Ok(Phase::Wanting(Stage::Hashing(hashing, 0), Step::Read(file, PIECE))),
-        Err(refusal) => Err(refused(refusal, messages::opening_file(alloc, &hashing))),
+        Err(error) => Err(error),
     }
 }
 
@@ -101,6 +104,14 @@ fn verified<F: FileHandle, T: TempHandle>(
 }
 
 impl Hashing {
+    /// Where the file lies.
+    fn path(&self) -> &Text {
+        match self {
+            Hashing::Verify(_, from, _) => from,
+            Hashing::Link(_, target) => &target.path,
+        }
+    }
+
     /// The file was read to its end, and has this size.
     fn end<F: FileHandle, T: TempHandle>(
         self,

@@ -1,6 +1,7 @@
 //! A call on a cache as a job: the step that it wants, and where an answer takes it.
 #![tactic(auto)]
 
+mod brought;
 mod committing;
 mod comparing;
 mod exporting;
@@ -25,6 +26,7 @@ mod syncing;
 mod target;
 mod walking;
 
+pub use brought::{made_temp, opened_file, told_size};
 pub use committing::commit_from;
 pub use gate::{Gate, Open, Pass};
 pub use hashing::PIECE;

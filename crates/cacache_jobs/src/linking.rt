@@ -1,6 +1,8 @@
 //! Links: the target is read to its end, and a link to it becomes the content.
 ghost use Rattle.std.specs.Prelude.{◌≡◌, ℕ, List, length};
 ghost use Rattle.cacache_core.specs.Integrity.{integrity_under};
+ghost use Rattle.cacache_store.specs.Plain.{plain_answer};
+ghost use Rattle.cacache_table.specs.Answers.{length_in};
 ghost use Rattle.cacache_table.specs.Common.{go_on, fails};
 ghost use Rattle.cacache_table.specs.Linking.{link_target, after_size, commit_for};
 ghost use Rattle.cacache_table.specs.StepPaths.{content_path as content_path_of};
@@ -10,9 +12,9 @@ ghost use Rattle.cacache_table.specs.Storing.{link as link_of};
 ghost use Rattle.cacache_jobs.specs.JobStates.{Leads, commit_of};
 ghost use Rattle.cacache_jobs.specs.Targets.{target_of};
 
+use crate::brought::told_size;
 use crate::hashing::Hashing;
-use crate::messages;
-use crate::phase::{Phase, refused};
+use crate::phase::Phase;
 use crate::places::content_place;
 use crate::stage::{Stage, Then};
 use crate::storing::Commit;
@@ -22,8 +24,8 @@ use cacache_core::hasher::Hasher;
 use cacache_core::integrity::Integrity;
 use cacache_core::paths::Place;
 use cacache_core::text::Text;
-use cacache_store::store::{FileHandle, Step, TempHandle};
-use cacache_table::{Link, Refusal};
+use cacache_store::store::{Answer, FileHandle, Step, TempHandle};
+use cacache_table::Link;
 use std::alloc::Global;
 
 impl Target<u128> {
@@ -97,16 +99,18 @@ fn open_target<F: FileHandle, T: TempHandle>(
 }
 
 /// After the target's size was to be told: the target is opened, to be hashed.
+#[tactic(auto, using(crate::proofs::RefusedSteps::ends_refused))]
 pub(crate) fn sized<F: FileHandle, T: TempHandle>(
     alloc: Global,
     target: Box<Target<u128>>,
-    size: Result<u64, Refusal>,
+    answer: Answer<F, T>,
 ) -> errors::Result<Phase<F, T>>
-    ensures { Leads F.seen T.seen result (go_on size fails (after_size (target_of target.value))) }
+    ensures { Leads F.seen T.seen result (go_on (length_in (plain_answer F.seen T.seen answer)) fails
+        (after_size (target_of target.value))) }
 {
-    match size {
+    match told_size(alloc, &target.path, answer) {
         Ok(size) => open_target(alloc, Box::into_inner(target).with_size(size as usize)),
-        Err(refusal) => Err(refused(refusal, messages::sizing(alloc, &target.path))),
+        Err(error) => Err(error),
     }
 }
 

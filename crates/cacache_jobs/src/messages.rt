@@ -124,14 +124,6 @@ pub fn opening(alloc: Global, path: &Text) -> Result<Text, AllocError> {
     at(alloc, "Failed to open reader to ", path)
 }
 
-/// The file that was to be hashed wasn't opened.
-pub(crate) fn opening_file(alloc: Global, hashing: &Hashing) -> Result<Text, AllocError> {
-    match hashing {
-        Hashing::Verify(_, from, _) => opening(alloc, from),
-        Hashing::Link(_, target) => opening(alloc, &target.path),
-    }
-}
-
 /// A piece of a link's target wasn't read.
 pub fn reading_target(alloc: Global) -> Result<Text, AllocError> {
     Text::from_str(

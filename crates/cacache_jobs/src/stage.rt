@@ -22,8 +22,7 @@ use cacache_core::keeping::let_go;
 use cacache_core::text::Text;
 use cacache_store::store::{Answer, FileHandle, TempHandle};
 use cacache_table::answers::{
-    bytes_of, done_of, file_of, got_of, length_of, synced_of, taken_of, temp_of, there_of,
-    written_of,
+    bytes_of, done_of, got_of, synced_of, taken_of, there_of, written_of,
 };
 use cacache_table::{Refusal, Reply};
 use cacache_walks::{Visit, Walk};
@@ -161,7 +160,7 @@ impl<T: TempHandle> Stage<T> {
     {
         match self {
             Stage::Doing(then) => then.resume(alloc, done_of(answer)),
-            Stage::Creating(commit, rest) => storing::created(alloc, commit, rest, temp_of(answer)),
+            Stage::Creating(commit, rest) => storing::created(alloc, commit, rest, answer),
             Stage::Writing(commit, rest) => {
                 storing::written(alloc, commit, rest, written_of(answer))
             }
@@ -176,8 +175,8 @@ impl<T: TempHandle> Stage<T> {
             Stage::Looking(lookup) => looking::looked(alloc, lookup, bytes_of(answer)),
             Stage::Reading(content) => reading::read(alloc, content, bytes_of(answer)),
             Stage::Asking(_content) => reading::asked(there_of(answer)),
-            Stage::Sizing(target) => linking::sized(alloc, target, length_of(answer)),
-            Stage::Opening(hashing) => hashing::opened(alloc, hashing, file_of(answer)),
+            Stage::Sizing(target) => linking::sized(alloc, target, answer),
+            Stage::Opening(hashing) => hashing::opened(alloc, hashing, answer),
             Stage::Hashing(hashing, size) => hashing::read(alloc, hashing, size, got_of(answer)),
             Stage::Copying(from, to, verified) => {
                 exporting::copied(alloc, from, to, verified, taken_of(answer))

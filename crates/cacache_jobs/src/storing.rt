@@ -2,6 +2,8 @@
 ghost use Rattle.std.specs.Prelude.{◌≡◌, ℕ, IfOk, IfErr, drop};
 ghost use Rattle.cacache_core.specs.Integrity.{integrity_under};
 ghost use Rattle.cacache_core.specs.declared.errors.Error.TheVariants.{OutOfMemory};
+ghost use Rattle.cacache_store.specs.Plain.{plain_answer};
+ghost use Rattle.cacache_table.specs.Answers.{temp_in};
 ghost use Rattle.cacache_table.specs.Common.{go_on, fails};
 ghost use Rattle.cacache_table.specs.StepPaths.{content_path as content_path_of, temp_path as temp_path_of};
 ghost use Rattle.cacache_table.specs.State.{Site, creating, syncing, persisting, confirming};
@@ -9,6 +11,7 @@ ghost use Rattle.cacache_table.specs.Storing.{persist as persist_of, write_rest 
 ghost use Rattle.cacache_table.specs.Seen.{seen_by, written_as};
 ghost use Rattle.cacache_jobs.specs.JobStates.{Leads, PhaseAt, commit_of};
 
+use crate::brought::made_temp;
 use crate::comparing::{compare_integrity, compare_size};
 use crate::inserting::{entry_of, insert};
 use crate::messages;
@@ -23,7 +26,7 @@ use cacache_core::integrity::{Algorithm, Integrity};
 use cacache_core::keeping::{beside, let_go};
 use cacache_core::paths::Place;
 use cacache_core::text::Text;
-use cacache_store::store::{FileHandle, Step, TempHandle};
+use cacache_store::store::{Answer, FileHandle, Step, TempHandle};
 use cacache_table::answers::Written;
 use cacache_table::{Options, Put, Refusal, Reply};
 use std::alloc::Global;
@@ -166,21 +169,19 @@ fn write_rest<F: FileHandle, T: TempHandle>(
 }
 
 /// After the temporary file was to be made.
+#[tactic(auto, using(crate::proofs::RefusedSteps::ends_refused))]
 pub(crate) fn created<F: FileHandle, T: TempHandle>(
     alloc: Global,
     commit: Box<Commit>,
     rest: Bytes,
-    temp: Result<T, Refusal>,
+    answer: Answer<F, T>,
 ) -> errors::Result<Phase<F, T>>
-    ensures { Leads F.seen T.seen result
-        (go_on (seen_by T.seen temp) fails (λ file. write_rest_of (commit_of commit.value) file rest)) }
+    ensures { Leads F.seen T.seen result (go_on (temp_in (plain_answer F.seen T.seen answer)) fails
+        (λ file. write_rest_of (commit_of commit.value) file rest)) }
 {
-    match temp {
+    match made_temp(alloc, commit.cache.as_str(), answer) {
         Ok(file) => write_rest(alloc, commit, file, rest),
-        Err(refusal) => {
-            let message = messages::creating(alloc, commit.cache.as_str());
-            Err(refused(refusal, message))
-        }
+        Err(error) => Err(error),
     }
 }
 

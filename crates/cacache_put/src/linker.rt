@@ -22,11 +22,10 @@ use cacache_core::hasher::Hasher;
 use cacache_core::integrity::{Algorithm, Integrity};
 use cacache_core::keeping::{beside, let_go};
 use cacache_core::text::Text;
-use cacache_jobs::{Target, link_from, messages, moment, refused};
+use cacache_jobs::{Target, link_from, moment, opened_file, told_size};
 use cacache_store::env::{Clock, Env, Names};
 use cacache_store::store::{OpenedFile, Step, Store};
 use cacache_table::Options;
-use cacache_table::answers::{file_of, length_of};
 use std::alloc::{AllocError, Global};
 use std::io;
 use std::io::Read;
@@ -73,7 +72,7 @@ pub(crate) fn open_target<S: Store>(
         (S.log store.old) (S.log store.new) }
 {
     let path = linked.path.clone()?;
-    match file_of(store.step(Step::Open(path))) {
+    match opened_file(alloc, &linked.path, store.step(Step::Open(path))) {
         Ok(file) => {
             let hasher = Hasher::new(linked.options.algorithm);
             Ok(SyncToLinker {
@@ -83,7 +82,7 @@ pub(crate) fn open_target<S: Store>(
                 file,
             })
         }
-        Err(refusal) => Err(refused(refusal, messages::opening(alloc, &linked.path))),
+        Err(error) => Err(error),
     }
 }
 
@@ -93,9 +92,9 @@ fn sized<S: Store>(alloc: Global, store: &mut S, linked: LinkTarget) -> Result<L
     ensures begins { Sizes linked result (S.log store.old) (S.log store.new) }
 {
     let path = linked.path.clone()?;
-    match length_of(store.step(Step::Size(path))) {
+    match told_size(alloc, &linked.path, store.step(Step::Size(path))) {
         Ok(size) => Ok(linked.with_size(size as usize)),
-        Err(refusal) => Err(refused(refusal, messages::sizing(alloc, &linked.path))),
+        Err(error) => Err(error),
     }
 }
 

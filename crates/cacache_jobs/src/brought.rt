@@ -1,0 +1,63 @@
+//! What the answer to a step brought, for the stages of a job and for callers that make the step themselves.
+ghost use Rattle.cacache_store.specs.Plain.{plain_answer};
+ghost use Rattle.cacache_table.specs.Answers.{file_in, length_in, temp_in};
+ghost use Rattle.cacache_jobs.specs.Brought.{Brings};
+
+use crate::messages;
+use crate::phase::refused;
+use cacache_core::errors::Result;
+use cacache_core::text::Text;
+use cacache_store::store::{Answer, FileHandle, TempHandle};
+use cacache_table::answers::{file_of, length_of, temp_of};
+use std::alloc::Global;
+
+/// The temporary file that was to be made in the cache.
+///
+/// `IoError` says that it wasn't made.
+#[tactic(auto, using(crate::proofs::RefusedSteps::refused_ends))]
+pub fn made_temp<F: FileHandle, T: TempHandle>(
+    alloc: Global,
+    cache: &str,
+    answer: Answer<F, T>,
+) -> Result<T>
+    ensures { Brings T.seen (temp_in (plain_answer F.seen T.seen answer)) result }
+{
+    match temp_of(answer) {
+        Ok(file) => Ok(file),
+        Err(refusal) => Err(refused(refusal, messages::creating(alloc, cache))),
+    }
+}
+
+/// The file at the path, a content or a link's target, that was to be opened.
+///
+/// `IoError` says that it wasn't opened.
+#[tactic(auto, using(crate::proofs::RefusedSteps::refused_ends))]
+pub fn opened_file<F: FileHandle, T: TempHandle>(
+    alloc: Global,
+    path: &Text,
+    answer: Answer<F, T>,
+) -> Result<F>
+    ensures { Brings F.seen (file_in (plain_answer F.seen T.seen answer)) result }
+{
+    match file_of(answer) {
+        Ok(file) => Ok(file),
+        Err(refusal) => Err(refused(refusal, messages::opening(alloc, path))),
+    }
+}
+
+/// How many bytes the link's target at the path has, which was asked.
+///
+/// `IoError` says that it wasn't told.
+#[tactic(auto, using(crate::proofs::RefusedSteps::refused_ends))]
+pub fn told_size<F: FileHandle, T: TempHandle>(
+    alloc: Global,
+    path: &Text,
+    answer: Answer<F, T>,
+) -> Result<u64>
+    ensures { Brings (λ size. size) (length_in (plain_answer F.seen T.seen answer)) result }
+{
+    match length_of(answer) {
+        Ok(size) => Ok(size),
+        Err(refusal) => Err(refused(refusal, messages::sizing(alloc, path))),
+    }
+}
