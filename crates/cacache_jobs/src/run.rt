@@ -24,10 +24,7 @@ use std::alloc::Global;
 
 /// Does a step. It stands apart, so that what the store takes of the stack is given back before the call goes on.
 #[inline(never)]
-fn ask<S: Store>(
-    store: &mut S,
-    step: Step<S::File, S::Temp>,
-) -> Answer<S::File, S::Temp>
+fn ask<S: Store>(store: &mut S, step: Step<S::File, S::Temp>) -> Answer<S::File, S::Temp>
     ensures fits { Fits (plain_step S.File.seen S.Temp.seen step)
         (plain_answer S.File.seen S.Temp.seen result) }
     ensures logged { Logs (S.log store.old) (S.log store.new)

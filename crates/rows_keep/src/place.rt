@@ -21,11 +21,7 @@ impl Clock for Still {
 pub(crate) type On<S> = Env<S, Still, CountNames>;
 
 /// An environment over this store.
-pub(crate) fn on<S: Store>(
-    alloc: Global,
-    store: S,
-    base: &str,
-) -> Result<On<S>, AllocError> {
+pub(crate) fn on<S: Store>(alloc: Global, store: S, base: &str) -> Result<On<S>, AllocError> {
     Env::new(alloc, store, Still {}, CountNames::from(0), base)
 }
 

@@ -41,11 +41,7 @@ impl Names for Numbers {
 pub(crate) type On<S> = Env<S, Still, Numbers>;
 
 /// An environment over this store.
-pub(crate) fn on<S: Store>(
-    alloc: Global,
-    store: S,
-    base: &str,
-) -> Result<On<S>, AllocError> {
+pub(crate) fn on<S: Store>(alloc: Global, store: S, base: &str) -> Result<On<S>, AllocError> {
     let clock = Still {
         moment: MOMENT,
         asked: 0,
