@@ -1,4 +1,5 @@
 """Where the documents state a count, or list what the tree has: each is compared with the tree."""
+import os
 import re
 
 from sources import TOP, crates, files, source
@@ -127,6 +128,13 @@ def stated():
             yield f"{name}: {found[0] if found else f'nothing like {form}'}, and there are {there}"
 
 
+def tools():
+    """The table of the tools, against the programs among them."""
+    there = [str(it.relative_to(TOP)) for it in TOP.glob("tools/**/*") if it.is_file() and os.access(it, os.X_OK)]
+    stated = [it.strip("`").split()[0] for it in table_below("CONTRIBUTING.md", "| Tool | What it does |")]
+    return compared("CONTRIBUTING.md", "tools", stated, there)
+
+
 def all_lists():
     """The lists of the documents that state how long they are."""
     return (it for name in ("README.md", "CONTRIBUTING.md", "CHANGELOG.md") for it in lists(name))
@@ -134,7 +142,7 @@ def all_lists():
 
 def wrong_counts():
     """All that is wrong."""
-    for check in (crate_tables, words, documents, rows, all_lists, stated):
+    for check in (crate_tables, words, documents, tools, rows, all_lists, stated):
         try:
             yield from check()
         except LookupError as missing:
