@@ -1,4 +1,4 @@
-"""Where the documents state a count, or list what the tree has: each is compared with the tree."""
+"""Where the documents state a count, or list what the tree has, and what crates.txt lists: each is compared with the tree."""
 import os
 import re
 
@@ -135,6 +135,24 @@ def tools():
     return compared("CONTRIBUTING.md", "tools", stated, there)
 
 
+def naming(crate):
+    """The text of a crate's code, definitions and proofs, without comments."""
+    texts = []
+    for part in ("src", "specs", "proofs"):
+        for file in sorted((TOP / "crates" / crate / part).rglob("*.*t*")):
+            texts.append(re.sub(r"(?m)(?:^|\s)(?://|--).*$", "", file.read_text()))
+    return "\n".join(texts)
+
+
+def libraries():
+    """What crates.txt lists that the crate itself doesn't name."""
+    for crate, below in crates().items():
+        text = naming(crate)
+        for it in below:
+            if not re.search(rf"\bRattle\.{it}\b|(?<![\w:]){it}(?:::|!)|\buse {it}\b", text):
+                yield f"crates.txt: {crate} lists {it}, which it doesn't name"
+
+
 def all_lists():
     """The lists of the documents that state how long they are."""
     return (it for name in ("README.md", "CONTRIBUTING.md", "CHANGELOG.md") for it in lists(name))
@@ -142,7 +160,7 @@ def all_lists():
 
 def wrong_counts():
     """All that is wrong."""
-    for check in (crate_tables, words, documents, tools, rows, all_lists, stated):
+    for check in (crate_tables, libraries, words, documents, tools, rows, all_lists, stated):
         try:
             yield from check()
         except LookupError as missing:
