@@ -1,11 +1,11 @@
 //! Builds in a cache.
 use crate::pieces::{SIZE, read_pieces, write_pieces};
+use crate::reasons::{Reasons, wants_copy};
 use cacache::env::{Clock, Env, Names};
 use cacache::errors::IoErrorExt;
-use cacache::store::Store;
 use cacache::{
-    Algorithm, Error, Integrity, Metadata, Result, SyncReader, WriteOpts, copy_sync, link_to_sync,
-    list_sync,
+    Algorithm, Error, Integrity, Metadata, Result, SyncReader, WriteOpts, copy_sync,
+    hard_link_sync, link_to_sync, list_sync,
 };
 use std::alloc::Global;
 
@@ -25,7 +25,7 @@ fn line_of(alloc: Global, entry: Metadata) -> Result<String> {
     Ok(format!(in alloc; "{}: {} bytes, {algorithm}", entry.key, entry.size)?)
 }
 
-impl<S: Store, C: Clock, N: Names> Builds<S, C, N> {
+impl<S: Reasons, C: Clock, N: Names> Builds<S, C, N> {
     /// The builds that the store of this environment has.
     pub(crate) fn new(env: Env<S, C, N>) -> Builds<S, C, N> {
         let report = String::new(env.alloc);
@@ -85,6 +85,17 @@ impl<S: Store, C: Clock, N: Names> Builds<S, C, N> {
     pub(crate) fn copy(&mut self, name: &str, to: &str) -> Result<()> {
         let size = copy_sync(&mut self.env, CACHE, name, to)?;
         writeln!(self.report, "{name}: {size} bytes copied to {to}")?;
+        Ok(())
+    }
+
+    /// Puts a build at a path outside the cache by a hard link, which takes no room. Where none can be made, the build
+    /// is copied; any other error is handed on. Who writes to a linked file writes into the cache.
+    pub(crate) fn export(&mut self, name: &str, to: &str) -> Result<()> {
+        match hard_link_sync(&mut self.env, CACHE, name, to) {
+            Ok(()) => writeln!(self.report, "{name}: {to} is a hard link to it")?,
+            Err(error) if wants_copy(&error, self.env.store.reason()) => self.copy(name, to)?,
+            Err(error) => return Err(error),
+        }
         Ok(())
     }
 

@@ -1,28 +1,30 @@
-//! A cache of builds. A build is large, so that it is written and read in pieces. A file that lies outside the cache gets
-//! into it by a link, and a build gets out of it by a copy.
+//! A cache of builds. A build is large, so that it is written and read in pieces. A file that lies outside the cache
+//! gets into it by a link, and a build gets out of it by a copy, or by a hard link where one can be made.
 #![tactic(auto)]
 
 mod builds;
 mod pieces;
+mod reasons;
 
 use builds::Builds;
 use cacache::Result;
 use cacache::env::{Clock, Names, memory};
 use cacache::errors::IoErrorExt;
-use cacache::store::Store;
 use pieces::PIECES;
+use reasons::Reasons;
 
 /// A file outside the cache.
 const TOOLCHAIN: &str = "/toolchain";
 
 /// Stores and reads builds.
-fn run<S: Store, C: Clock, N: Names>(builds: &mut Builds<S, C, N>) -> Result<()> {
+fn run<S: Reasons, C: Clock, N: Names>(builds: &mut Builds<S, C, N>) -> Result<()> {
     builds.store("app-1.0", PIECES)?;
     builds.store("app-1.1", PIECES - 1)?;
     builds.link("toolchain", TOOLCHAIN)?;
     builds.verify("app-1.0")?;
     builds.verify("toolchain")?;
     builds.copy("app-1.0", "/app")?;
+    builds.export("app-1.0", "/app-1.0")?;
     builds.list()
 }
 
