@@ -1,9 +1,11 @@
 //! Rows of text that a program reads and tries, one to a line. A program of rows is a `Trial`, which says what a row wants
-//! and what came, and a `main` that calls `run`; or a loop of its own over a `Report`, where its rows need the runtime.
+//! and what came, and a `main` that calls `run`. A trial whose rows need the runtime holds it.
 #![tactic(auto)]
 
+pub mod answers;
 mod flaw;
 mod names;
+pub mod parts;
 pub mod random;
 mod report;
 mod tally;
@@ -11,5 +13,5 @@ mod trial;
 pub mod words;
 
 pub use flaw::Flaw;
-pub use report::{Line, Report, run, status};
+pub use report::run;
 pub use trial::{Outcome, Trial};

@@ -1,7 +1,8 @@
 //! The entries that bytes hold.
-use crate::words::{bytes_of, column, given, printed, two};
+use crate::words::{bytes_of, column, printed, two};
 use cacache_entry::{SerializableMetadata, entries};
 use rows::Flaw;
+use rows::answers::given;
 use sha2::{Digest, Sha256};
 use std::alloc::{AllocError, Global};
 use std::hash::{DefaultHasher, Hash, Hasher};

@@ -1,9 +1,10 @@
 //! What errors say, and errors with a context.
-use crate::words::{Debugged, column, given, printed, two};
+use crate::words::{Debugged, column, printed, two};
 use cacache_core::errors::{Error, Fault, IntegrityFault, IoErrorExt, SerdeCause, io_error};
 use cacache_core::integrity::Integrity;
 use cacache_core::text::Text;
 use rows::Flaw;
+use rows::answers::given;
 use rows::words::number_of;
 use std::alloc::{AllocError, Global};
 use std::io::{self, ErrorKind};

@@ -1,8 +1,9 @@
 //! Algorithms, digests and integrities.
-use crate::words::{Debugged, column, given, plain, printed, text_of, three, told, two};
+use crate::words::{Debugged, column, plain, printed, text_of, three, told, two};
 use cacache_core::hasher::Hasher;
 use cacache_core::integrity::{Algorithm, Integrity, IntegrityChecker, IntegrityOpts};
 use rows::Flaw;
+use rows::answers::given;
 use std::alloc::Global;
 
 /// The algorithm that a name names.

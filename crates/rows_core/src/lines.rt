@@ -1,8 +1,9 @@
 //! The lines of entries.
-use crate::words::{Debugged, bytes_of, column, given, plain, printed, text_of, three};
+use crate::words::{Debugged, bytes_of, column, plain, printed, text_of, three};
 use cacache_core::keeping::let_go;
 use cacache_entry::{Metadata, SerializableMetadata, entries, latest};
 use rows::Flaw;
+use rows::answers::given;
 use rows::words::{number_of, word_of};
 use serde_json::Value;
 use std::alloc::{AllocError, Global};

@@ -1,8 +1,9 @@
 //! Lookups in a bucket's bytes.
-use crate::words::{bytes_of, column, given, printed, two};
+use crate::words::{bytes_of, column, printed, two};
 use cacache_core::keeping::let_go;
 use cacache_entry::Lookup;
 use rows::Flaw;
+use rows::answers::given;
 use std::alloc::Global;
 
 /// The time of what a lookup found, and how many pieces were decoded.

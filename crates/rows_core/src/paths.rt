@@ -1,10 +1,11 @@
 //! Paths below a cache.
-use crate::words::{column, given, plain, printed, three, two};
+use crate::words::{column, plain, printed, three, two};
 use cacache_core::integrity::Integrity;
 use cacache_core::paths::{
     bucket_path, bucket_place, content_path, content_place, join, temp_place,
 };
 use rows::Flaw;
+use rows::answers::given;
 use rows::words::number_of;
 use std::alloc::Global;
 

@@ -1,8 +1,8 @@
 //! Words as bytes and texts, and values as texts.
 use cacache_core::errors::Error;
-use cacache_core::keeping::let_go;
 use hex::FromHex;
 use rows::Flaw;
+use rows::answers::given;
 use rows::words::is_nothing;
 use std::alloc::Global;
 use std::fmt::{self, Debug, Display, Formatter, Write};
@@ -42,17 +42,6 @@ pub(crate) fn bytes_of(alloc: Global, word: &str) -> Result<Vec<u8>, Flaw> {
 /// The text of a word.
 pub(crate) fn text_of(alloc: Global, word: &str) -> Result<String, Flaw> {
     given(String::from_utf8(bytes_of(alloc, word)?))
-}
-
-/// What a call gives, where nothing is wrong.
-pub(crate) fn given<T, E: Drop>(came: Result<T, E>) -> Result<T, Flaw> {
-    match came {
-        Ok(value) => Ok(value),
-        Err(error) => {
-            let_go(error);
-            Err(Flaw::Refused)
-        }
-    }
 }
 
 /// What a value prints as.

@@ -1,13 +1,13 @@
 //! Readers, writers and linkers over a store that fails one read or write. A row's words say which one, counted from 0, and how
 //! many the handle is asked for before its end. Each read asks for five bytes of `hello world`, and each write hands in the
 //! next part of it, or all of it; the file takes three bytes at most.
-use crate::faulty::{On, on};
 use cacache::content::read::open;
-use cacache::errors::Error;
-use cacache::{Algorithm, Integrity, Result as Answered, WriteOpts};
+use cacache::{Integrity, Result as Answered, WriteOpts};
 use cacache_core::keeping::let_go;
+use row_places::{Faulty, Mishaps};
 use rows::Flaw;
-use rows::words::{cut, number_of, word_of, written_out};
+use rows::answers::{checked, refused, stored};
+use rows::words::{cut, number_of, word_of};
 use std::alloc::{AllocError, Global};
 use std::io::{Read, Write};
 
@@ -17,31 +17,17 @@ const BOTH: &str = "sha256-uU0nuZNNPgilLlLX2n2r+sSE7+N6U4DukIj3rOLvzek=";
 /// What a writer is handed.
 const PARTS: [&str; 3] = ["hello", " worl", "d"];
 
-/// An error, with its fault where it has one.
-fn refused(alloc: Global, error: Error) -> Result<String, AllocError> {
-    let text = match &error {
-        Error::IoError(fault, text) => format!(in alloc; "Refused {fault:?}: {text}"),
-        error => format!(in alloc; "Refused: {error}"),
+/// An environment over a faulty store.
+type On = row_places::On<Faulty>;
+
+/// An environment whose read or write of this number fails, and whose writes take three bytes at most.
+fn on(alloc: Global, fails: usize) -> Result<On, AllocError> {
+    let mishaps = Mishaps {
+        fails: Some(fails),
+        most: 3,
+        ..Mishaps::NONE
     };
-    let_go(error);
-    let text = text?;
-    written_out(alloc, text.as_str())
-}
-
-/// What a commit answers.
-fn stored(alloc: Global, answer: Answered<Integrity>) -> Result<String, AllocError> {
-    match answer {
-        Ok(integrity) => format!(in alloc; "Stored {integrity}"),
-        Err(error) => refused(alloc, error),
-    }
-}
-
-/// What a check answers.
-fn checked(alloc: Global, answer: Answered<Algorithm>) -> Result<String, AllocError> {
-    match answer {
-        Ok(algorithm) => format!(in alloc; "checked {algorithm}"),
-        Err(error) => refused(alloc, error),
-    }
+    row_places::on(alloc, Faulty::new(alloc, mishaps)?, "/")
 }
 
 /// Adds what so many reads give, each with a comma behind it.
@@ -165,7 +151,7 @@ pub(crate) fn abandons(alloc: Global, words: &str) -> Result<String, Flaw> {
     };
     let (fails, count) = numbers(words)?;
     let mut env = on(alloc, fails)?;
-    env.store.stays = stays;
+    env.store.mishaps.stays = stays;
     let end = commit_or_abandon(&mut env, count);
     let text = stored(alloc, end)?;
     let (kept, removals) = (word_of(env.store.kept.as_slice()), env.store.removals);

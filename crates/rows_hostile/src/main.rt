@@ -21,7 +21,6 @@
 mod changes;
 mod disk;
 mod facts;
-mod faulty;
 mod handles;
 mod looking;
 mod meeting;

@@ -1,44 +1,16 @@
 //! Calls as words, as `put k hello 5 -`: the kind, the key, and what it needs.
 use crate::words::bytes_of;
-use cacache_core::integrity::{Algorithm, Integrity};
-use cacache_core::keeping::let_go;
+use cacache_core::integrity::Algorithm;
 use cacache_core::text::Text;
 use cacache_table::{Command, Delete, Export, How, Insert, Json, Link, Options, Put, Source};
 use rows::Flaw;
-use rows::words::{cut, is_nothing, number_of};
+use rows::parts::{expected_of, integrity_of, size_of};
+use rows::words::{cut, is_nothing};
 use serde_json::Value;
 use std::alloc::Global;
 
 /// The time of each entry.
 const MOMENT: u128 = 7;
-
-/// The integrity of a word, whose hashes have commas between.
-fn integrity_of(alloc: Global, word: &str) -> Result<Integrity, Flaw> {
-    let text = word.replace(alloc, ",", " ")?;
-    match Integrity::parse(alloc, text.as_str()) {
-        Ok(integrity) => Ok(integrity),
-        Err(error) => {
-            let_go(error);
-            Err(Flaw::NotRead)
-        }
-    }
-}
-
-/// The size that a word gives, if any.
-fn size_of(word: &str) -> Result<Option<usize>, Flaw> {
-    if is_nothing(word) {
-        return Ok(None);
-    }
-    Ok(Some(number_of(word)?))
-}
-
-/// The integrity that a word gives, if any.
-fn expected_of(alloc: Global, word: &str) -> Result<Option<Integrity>, Flaw> {
-    if is_nothing(word) {
-        return Ok(None);
-    }
-    Ok(Some(integrity_of(alloc, word)?))
-}
 
 /// The options that a size and an integrity make, and perhaps `durable`.
 fn options_of(alloc: Global, words: &str) -> Result<Options, Flaw> {

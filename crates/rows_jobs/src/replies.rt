@@ -1,6 +1,7 @@
 //! Replies as texts, in the words of rows.
 use cacache_core::errors::Error;
 use cacache_table::{Found, Items, Reply};
+use rows::answers::shown_error;
 use rows::words::word_of;
 use std::alloc::{AllocError, Global};
 
@@ -10,14 +11,6 @@ fn shown_found(alloc: Global, found: &Found) -> Result<String, AllocError> {
     let key = found.key.as_str();
     let (integrity, time, size) = (&found.integrity, found.time, found.size);
     format!(in alloc; "Found {key} {integrity} {time} {size}")
-}
-
-/// An error: its fault, where it has one, and its whole text.
-fn shown_error(alloc: Global, error: &Error) -> Result<String, AllocError> {
-    match error {
-        Error::IoError(fault, text) => format!(in alloc; "Refused {fault:?}: {text}"),
-        error => format!(in alloc; "Refused: {error}"),
-    }
 }
 
 /// An item of a listing.

@@ -1,14 +1,14 @@
 //! What the rows do.
-use crate::place::{On, on};
-use crate::planting::{link, plant};
 use crate::stuck::Stuck;
 use cacache::env::{Clock, Env, Names};
 use cacache::store::Store;
-use cacache::{Error, Integrity, Result as Answered};
-use cacache_core::keeping::let_go;
+use cacache::{Integrity, Result as Answered};
 use cacache_keep_program::{run, tell_about};
 use cacache_program::{Errors, Reasons, asks_why};
+use row_places::planting::{plant, plant_link};
+use row_places::{On, on};
 use rows::Flaw;
+use rows::answers::refused;
 use rows::words::{cut, string_of, word_of, written_out};
 use std::alloc::{AllocError, Global};
 
@@ -18,13 +18,6 @@ fn told<T: Drop>(alloc: Global, answer: Answered<T>) -> Result<String, AllocErro
         Ok(_) => String::from_str(alloc, "Done"),
         Err(error) => refused(alloc, error),
     }
-}
-
-/// The line on an error.
-fn refused(alloc: Global, error: Error) -> Result<String, AllocError> {
-    let text = format!(in alloc; "Refused: {error}");
-    let_go(error);
-    written_out(alloc, text?.as_str())
 }
 
 /// The line on whether something was done.
@@ -91,8 +84,8 @@ pub(crate) fn made<S: Reasons>(env: &mut On<S>, act: &str, input: &str) -> Resul
         "write_sync" => told(alloc, cacache::write_vec_sync(env, cache, rest, bytes)),
         "remove_sync" => told(alloc, cacache::remove_sync(env, cache, rest)),
         "remove_hash_sync" => return removed(env, cache, rest),
-        "plant" => done(alloc, plant(env, cache, bytes)?),
-        "link" => done(alloc, link(env, cache, rest)?),
+        "plant" => done(alloc, plant(env, cache, &bytes)?),
+        "link" => done(alloc, plant_link(env, rest, cache)?),
         "cacache-keep" => ran(env, words),
         "stuck" => ran_stuck(env, words),
         _ => return Err(Flaw::NotRead),

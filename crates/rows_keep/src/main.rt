@@ -13,11 +13,10 @@
 #![tactic(auto)]
 
 mod acts;
-mod place;
-mod planting;
+mod places;
 mod stuck;
 
-use place::Places;
+use places::Places;
 use rows::run;
 use std::process::ExitCode;
 

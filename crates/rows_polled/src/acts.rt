@@ -1,8 +1,6 @@
 //! What a row does in an environment.
-use crate::answers::{bytes_of, done, given, read};
+use crate::answers::{bytes_of, done, read};
 use crate::linkers::linked_by_polls;
-use crate::opening::integrity_of;
-use crate::place::{On, names_in, plant};
 use crate::readers::read_by_polls;
 use crate::writers::written;
 use cacache_async::read::{read as read_key, read_hash};
@@ -10,7 +8,11 @@ use cacache_async::rm::clear;
 use cacache_store::store::Store;
 use cacache_worker::RemovableTemp;
 use futures::executor::block_on;
+use row_places::On;
+use row_places::planting::{names_in, plant};
 use rows::Flaw;
+use rows::answers::given;
+use rows::parts::integrity_of;
 use rows::words::cut;
 use std::alloc::{AllocError, AllocGlobal};
 use std::random::RandomSource;

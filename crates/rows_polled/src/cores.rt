@@ -1,10 +1,11 @@
 //! The core of a writer: what it is asked, and what it is told of its work.
-use crate::answers::{add, bytes_of, given};
+use crate::answers::{add, bytes_of};
 use cacache_core::errors::{Fault, Result as Answered};
 use cacache_core::integrity::Algorithm;
 use cacache_core::keeping::let_go;
 use cacache_polled::{Completion, Finish, Poll, Polled, Work, WriterCore};
 use rows::Flaw;
+use rows::answers::given;
 use rows::words::{cut, number_of, word_of};
 use std::alloc::{AllocError, Global};
 

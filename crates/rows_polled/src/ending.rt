@@ -1,18 +1,18 @@
 //! The end of a writer: a commit, which may be pending at first, or a drop. What comes behind it.
-use crate::answers::{add, stored};
+use crate::answers::add;
 use crate::gates::turned;
-use crate::place::{On, Still};
 use crate::writers::Desk;
 use cacache_core::errors::Result as Answered;
 use cacache_core::integrity::Integrity;
 use cacache_core::keeping::let_go;
-use cacache_store::env::CountNames;
 use cacache_store::store::Store;
 use cacache_worker::{RemovableTemp, Worker};
 use cacache_writers::WriterCommitFuture;
 use futures::task::Poll;
 use futures::test::MockTask;
+use row_places::{Numbers, On, Still};
 use rows::Flaw;
+use rows::answers::stored;
 use std::alloc::{AllocError, AllocGlobal, Global};
 use std::sync::Wait;
 use std::time::Clock;
@@ -29,7 +29,7 @@ fn ended(alloc: Global, polled: Poll<Answered<Integrity>>) -> Result<String, All
 fn stepped<R, S, T>(
     rt: &R,
     task: &MockTask,
-    commit: &mut WriterCommitFuture<'_, R, S, Still, CountNames, T>,
+    commit: &mut WriterCommitFuture<'_, R, S, Still, Numbers, T>,
     worker: &mut Worker<T>,
     step: &str,
 ) -> Result<String, Flaw>

@@ -1,7 +1,5 @@
 //! Links whose target is read by polls. A poll of a read is always ready.
-use crate::answers::{add, given, refused, stored};
-use crate::opening::algorithm_of;
-use crate::place::On;
+use crate::answers::add;
 use crate::readers::came;
 use cacache_async::linker::ToLinker;
 use cacache_async::linking::LinkAsync;
@@ -10,7 +8,10 @@ use cacache_put::opts::WriteOpts;
 use cacache_store::store::{OpenedFile, Store};
 use futures::executor::block_on;
 use futures::test::MockTask;
+use row_places::On;
 use rows::Flaw;
+use rows::answers::{given, refused, stored};
+use rows::parts::algorithm_of;
 use rows::words::{cut, number_of};
 use std::alloc::{AllocGlobal, Global};
 use std::random::RandomSource;

@@ -1,40 +1,17 @@
 //! The ways in which a writer is opened: each is a future that is ready at once.
-use crate::answers::given;
-use crate::place::On;
 use cacache_core::errors::Result as Answered;
-use cacache_core::integrity::{Algorithm, Integrity};
-use cacache_core::keeping::let_go;
 use cacache_put::opts::WriteOpts;
 use cacache_store::store::Store;
 use cacache_writers::{OpenAsync, Writer};
 use futures::executor::block_on;
+use row_places::On;
 use rows::Flaw;
+use rows::answers::given;
+use rows::parts::algorithm_of;
 use rows::words::{cut, number_of};
-use std::alloc::{AllocGlobal, Global};
+use std::alloc::AllocGlobal;
 use std::random::RandomSource;
 use std::sync::Wait;
-
-/// The algorithm of this name.
-pub(crate) fn algorithm_of(name: &str) -> Result<Algorithm, Flaw> {
-    match Algorithm::parse(name) {
-        Ok(algorithm) => Ok(algorithm),
-        Err(error) => {
-            let_go(error);
-            Err(Flaw::NotRead)
-        }
-    }
-}
-
-/// The integrity of this text.
-pub(crate) fn integrity_of(alloc: Global, text: &str) -> Result<Integrity, Flaw> {
-    match Integrity::parse(alloc, text) {
-        Ok(integrity) => Ok(integrity),
-        Err(error) => {
-            let_go(error);
-            Err(Flaw::NotRead)
-        }
-    }
-}
 
 /// A writer that is opened with options: `open CACHE KEY SIZE` and `open_hash CACHE SIZE` expect so many bytes.
 fn opened_with<R: Wait + RandomSource + AllocGlobal, S: Store>(

@@ -2,22 +2,22 @@
 use crate::acts::{made, parts_of};
 use crate::answers::add;
 use crate::cores::asked_in_turn;
-use crate::place::{On, on};
-use crate::unlucky::{Pile, luck_of};
 use crate::writers::written;
 use cacache_folder::FolderStore;
 use cacache_memory::MemStore;
-use rows::words::{column, cut, word_of};
-use rows::{Flaw, Outcome};
+use row_places::{Faulty, Mishaps, On, in_both, in_folders, in_memory, on};
+use rows::words::{column, cut, number_of, word_of};
+use rows::{Flaw, Outcome, Trial};
+use std::io;
 use std::random::RandomSource;
 use std::rt::Files;
 use std::sync::Wait;
 use std::time::Clock;
-use std::{fs, io};
 
 /// A disk in memory and real folders, which go through the same rows.
 #[derive(Drop)]
 pub(crate) struct Places<R> {
+    rt: R,
     memory: On<MemStore>,
     folders: On<FolderStore<R>>,
 }
@@ -25,12 +25,33 @@ pub(crate) struct Places<R> {
 impl Places<HostRuntime> {
     /// Empty ones. The folders are those below the one where the program runs.
     pub(crate) fn new(rt: &HostRuntime) -> io::Result<Places<HostRuntime>> {
-        let alloc = rt.alloc();
-        let here = fs::canonicalize(rt, ".")?;
-        let folders = on(alloc, FolderStore::new(*rt), here.as_str())?;
-        let memory = on(alloc, MemStore::new(alloc)?, "/")?;
-        Ok(Places { memory, folders })
+        let folders = in_folders(rt)?;
+        let memory = in_memory(rt.alloc())?;
+        Ok(Places {
+            rt: *rt,
+            memory,
+            folders,
+        })
     }
+}
+
+/// The number of a write, which words count from 1.
+fn write_of(number: &str) -> Result<Option<usize>, Flaw> {
+    Ok(number_of(number)?.checked_sub(1))
+}
+
+/// What goes wrong with a temporary file, in words: `fails N` and `short N` name the write that fails, or takes one byte at
+/// most; after `unflushed` no flush is done, and after `unremoved` the file isn't removed.
+fn mishaps_of(words: &str) -> Result<Mishaps, Flaw> {
+    let mut mishaps = Mishaps::NONE;
+    match cut(words) {
+        ("fails", number) => mishaps.fails = write_of(number)?,
+        ("short", number) => mishaps.short = write_of(number)?,
+        ("unflushed", _) => mishaps.unflushed = true,
+        ("unremoved", _) => mishaps.stays = true,
+        _ => return Err(Flaw::NotRead),
+    }
+    Ok(mishaps)
 }
 
 /// What a writer's steps give whose temporary file has this luck, and then what the content holds.
@@ -40,53 +61,49 @@ fn unlucky<R: Wait + Clock + RandomSource + AllocGlobal>(
     steps: &str,
 ) -> Result<String, Flaw> {
     let alloc = rt.alloc();
-    let luck = luck_of(luck)?;
-    let bytes = Vec::new(alloc);
-    let mut env = on(alloc, Pile { alloc, luck, bytes }, "/")?;
+    let mut env = on(alloc, Faulty::new(alloc, mishaps_of(luck)?)?, "/")?;
     let mut line = written(rt, &mut env, "new c sha256", steps)?;
     add(&mut line, "holds ")?;
-    line.push_str(word_of(&env.store.bytes))?;
+    line.push_str(word_of(&env.store.kept))?;
     Ok(line)
 }
 
 /// What an act gives at both places.
-fn at_both<R>(rt: &R, places: &mut Places<R>, act: &str) -> Result<String, Flaw>
+fn at_both<R>(places: &mut Places<R>, act: &str) -> Result<String, Flaw>
 where
     R: Wait + Clock + RandomSource + Files + AllocGlobal + Clone + Drop,
 {
-    let in_memory = made(rt, &mut places.memory, act)?;
-    let in_folders = made(rt, &mut places.folders, act)?;
-    if in_memory == in_folders {
-        return Ok(in_memory);
-    }
-    Ok(format!(in rt.alloc(); "{in_memory}, but in folders {in_folders}")?)
+    let in_memory = made(&places.rt, &mut places.memory, act)?;
+    let in_folders = made(&places.rt, &mut places.folders, act)?;
+    Ok(in_both(places.rt.alloc(), in_memory, in_folders)?)
 }
 
 /// What an act gives: `core` and `unlucky` at no place, after `memory` or `folders` there alone, else at both places.
-fn tried<R>(rt: &R, places: &mut Places<R>, act: &str) -> Result<String, Flaw>
+fn tried<R>(places: &mut Places<R>, act: &str) -> Result<String, Flaw>
 where
     R: Wait + Clock + RandomSource + Files + AllocGlobal + Clone + Drop,
 {
     let (name, words) = cut(act);
     match name {
-        "core" => asked_in_turn(rt.alloc(), words),
+        "core" => asked_in_turn(places.rt.alloc(), words),
         "unlucky" => {
             let (luck, steps) = parts_of(words);
-            unlucky(rt, luck, steps)
+            unlucky(&places.rt, luck, steps)
         }
-        "memory" => made(rt, &mut places.memory, words),
-        "folders" => made(rt, &mut places.folders, words),
-        _ => at_both(rt, places, act),
+        "memory" => made(&places.rt, &mut places.memory, words),
+        "folders" => made(&places.rt, &mut places.folders, words),
+        _ => at_both(places, act),
     }
 }
 
-/// Tries a row.
-pub(crate) fn outcome<R>(rt: &R, places: &mut Places<R>, row: &str) -> Result<Outcome, Flaw>
+impl<R> Trial for Places<R>
 where
     R: Wait + Clock + RandomSource + Files + AllocGlobal + Clone + Drop,
 {
-    let (act, wanted) = column(row)?;
-    let wanted = String::from_str(rt.alloc(), wanted)?;
-    let got = tried(rt, places, act)?;
-    Ok(Outcome { wanted, got })
+    fn outcome(&mut self, row: &str) -> Result<Outcome, Flaw> {
+        let (act, wanted) = column(row)?;
+        let wanted = String::from_str(self.rt.alloc(), wanted)?;
+        let got = tried(self, act)?;
+        Ok(Outcome { wanted, got })
+    }
 }

@@ -1,15 +1,15 @@
 //! Contents that are read by polls. A poll of a read is always ready.
-use crate::answers::{add, counted, given, refused};
-use crate::opening::integrity_of;
-use crate::place::On;
+use crate::answers::{add, counted};
 use cacache_async::reader::{Reader, open_async};
 use cacache_core::errors::Result as Answered;
-use cacache_core::integrity::Algorithm;
 use cacache_store::store::{OpenedFile, Store};
 use futures::executor::block_on;
 use futures::task::Poll;
 use futures::test::MockTask;
+use row_places::On;
 use rows::Flaw;
+use rows::answers::{checked, given, refused};
+use rows::parts::integrity_of;
 use rows::words::{cut, number_of, word_of, written_out};
 use std::alloc::{AllocError, AllocGlobal, Global};
 use std::random::RandomSource;
@@ -63,14 +63,6 @@ fn read<F: OpenedFile>(
     let mut bytes = vec![in alloc; 0; number_of(count)?]?;
     let polled = task.enter(|cx| reader.poll_read(cx, &mut bytes));
     Ok(came(alloc, &bytes, polled)?)
-}
-
-/// The answer to a check.
-fn checked(alloc: Global, answer: Answered<Algorithm>) -> Result<String, AllocError> {
-    match answer {
-        Ok(algorithm) => format!(in alloc; "Checked {algorithm}"),
-        Err(error) => refused(alloc, error),
-    }
 }
 
 /// What reads give, one after another.

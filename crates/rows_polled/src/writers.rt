@@ -1,15 +1,16 @@
 //! Writers and their workers: what polls and turns give, one after another.
-use crate::answers::{add, bytes_of, given, refused};
+use crate::answers::{add, bytes_of};
 use crate::ending::{committed, left};
 use crate::gates::turned;
 use crate::opening::opened;
-use crate::place::On;
 use crate::polls::{close, flush, write};
 use cacache_store::store::Store;
 use cacache_worker::{RemovableTemp, Worker};
 use cacache_writers::Writer;
 use futures::test::MockTask;
+use row_places::On;
 use rows::Flaw;
+use rows::answers::{given, refused};
 use rows::words::cut;
 use std::alloc::AllocGlobal;
 use std::random::RandomSource;

@@ -2,7 +2,6 @@
 use crate::calls::called;
 use crate::exports::exported;
 use crate::linkers::linked;
-use crate::place::{MOMENT, On, held, make_folder, make_link, names_in, plant, remove_file};
 use crate::program::without;
 use crate::puts::{driven, put};
 use crate::readers::read;
@@ -10,6 +9,8 @@ use crate::row::Row;
 use crate::words::{bytes_of, shown};
 use crate::writers::written;
 use cacache::store::Store;
+use row_places::planting::{held, make_folder, make_link, names_in, plant, remove_file};
+use row_places::{MOMENT, On};
 use rows::Flaw;
 use rows::words::cut;
 use std::alloc::AllocError;

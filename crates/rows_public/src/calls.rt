@@ -1,8 +1,7 @@
 //! Public calls that give one answer. A call's name is followed by the cache and what else the call is given. Each function
 //! knows some of the names and hands on the others.
-use crate::lines::{contents, done, exists, found, has, listed, read, stored};
+use crate::lines::{contents, done, exists, found, has, listed, read};
 use crate::options::options_of;
-use crate::place::On;
 use crate::row::Row;
 use crate::words::bytes_of;
 use cacache::content::path::content_path;
@@ -12,32 +11,12 @@ use cacache::index::{delete, find, insert, ls};
 use cacache::store::Store;
 use cacache::{Algorithm, Integrity, RemoveOpts, WriteOpts};
 use cacache_core::keeping::let_go;
+use row_places::On;
 use rows::Flaw;
+use rows::answers::stored;
+use rows::parts::{algorithm_of, integrity_of};
 use rows::words::{cut, string_of};
-use std::alloc::{AllocError, Global};
-
-/// The algorithm of this name.
-pub(crate) fn algorithm_of(name: &str) -> Result<Algorithm, Flaw> {
-    match Algorithm::parse(name) {
-        Ok(algorithm) => Ok(algorithm),
-        Err(error) => {
-            let_go(error);
-            Err(Flaw::NotRead)
-        }
-    }
-}
-
-/// The integrity of this text, in which commas part the hashes.
-pub(crate) fn integrity_of(alloc: Global, text: &str) -> Result<Integrity, Flaw> {
-    let text = text.replace(alloc, ",", " ")?;
-    match Integrity::parse(alloc, text.as_str()) {
-        Ok(integrity) => Ok(integrity),
-        Err(error) => {
-            let_go(error);
-            Err(Flaw::NotRead)
-        }
-    }
-}
+use std::alloc::AllocError;
 
 /// The line on a removal by integrity.
 fn removed_by_hash<S: Store>(

@@ -1,12 +1,12 @@
 //! Exports: a call's name, the cache, the key or the integrity's text, and the path that the content gets. Each function
 //! knows some of the names and hands on the others.
-use crate::calls::integrity_of;
 use crate::lines::{copied, done};
-use crate::place::On;
 use cacache::Integrity;
 use cacache::content::read;
 use cacache::store::Store;
+use row_places::On;
 use rows::Flaw;
+use rows::parts::integrity_of;
 use rows::words::cut;
 
 /// The line on a link to a content of the module `content::read`.

@@ -4,30 +4,11 @@ ghost use Rattle.cacache.specs.Listings.{IsListing};
 
 use crate::words::shown;
 use cacache::content::read::Contents;
-use cacache::errors::Error;
 use cacache::ls::Ls;
 use cacache::store::Store;
 use cacache::{Integrity, Metadata, Result as Answered};
-use cacache_core::keeping::let_go;
-use rows::words::written_out;
+use rows::answers::refused;
 use std::alloc::{AllocError, Global};
-
-/// An error: its fault or its cause, where it has one, and its whole text.
-fn shown_error(alloc: Global, error: &Error) -> Result<String, AllocError> {
-    match error {
-        Error::IoError(fault, text) => format!(in alloc; "Refused {fault:?}: {text}"),
-        Error::SerdeError(cause, text) => format!(in alloc; "Refused {cause:?}: {text}"),
-        error => format!(in alloc; "Refused: {error}"),
-    }
-}
-
-/// The line on an error.
-pub(crate) fn refused(alloc: Global, error: Error) -> Result<String, AllocError> {
-    let text = shown_error(alloc, &error);
-    let_go(error);
-    let text = text?;
-    written_out(alloc, text.as_str())
-}
 
 /// Two lines as one.
 pub(crate) fn pair(
@@ -38,14 +19,6 @@ pub(crate) fn pair(
     let one = one?;
     let other = other?;
     format!(in alloc; "{one}, {other}")
-}
-
-/// The line on what was stored.
-pub(crate) fn stored(alloc: Global, answer: Answered<Integrity>) -> Result<String, AllocError> {
-    match answer {
-        Ok(integrity) => format!(in alloc; "Stored {integrity}"),
-        Err(error) => refused(alloc, error),
-    }
 }
 
 /// The line on what was read.

@@ -1,15 +1,16 @@
 //! Links whose target is read in pieces: how the linker is opened, the cache, the key, the target, how many bytes are
 //! read before the commit, and options.
-use crate::calls::algorithm_of;
-use crate::lines::{pair, refused, stored};
+use crate::lines::pair;
 use crate::options::options_of;
-use crate::place::On;
 use crate::readers::first_of;
 use cacache::content::linkto::ToLinker;
 use cacache::store::Store;
 use cacache::{Result as Answered, SyncToLinker};
 use cacache_core::keeping::let_go;
+use row_places::On;
 use rows::Flaw;
+use rows::answers::{refused, stored};
+use rows::parts::algorithm_of;
 use rows::words::{cut, number_of};
 use std::alloc::AllocError;
 

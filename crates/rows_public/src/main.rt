@@ -14,7 +14,6 @@ mod exports;
 mod lines;
 mod linkers;
 mod options;
-mod place;
 mod places;
 mod polled;
 mod polled_exports;
@@ -27,51 +26,13 @@ mod told;
 mod words;
 mod writers;
 
-use places::{Places, outcome};
-use rows::{Line, Report, status};
-use std::alloc::AllocGlobal;
-use std::io;
+use places::Places;
+use rows::run;
 use std::process::ExitCode;
-use std::random::RandomSource;
-use std::sync::Wait;
-use std::thread::Threads;
-use std::time::Clock;
-
-/// Does what a line says.
-fn take<R: Threads + Wait + Clock + RandomSource + AllocGlobal + Print + Sync>(
-    rt: &R,
-    report: &mut Report,
-    places: &mut Places,
-    line: &str,
-) -> io::Result<()> {
-    match report.read(rt, line)? {
-        Line::Other => Ok(()),
-        Line::Group => {
-            places.begin();
-            Ok(())
-        }
-        Line::Row(row) => {
-            let tried = outcome(rt, places, row.as_str());
-            report.count(rt, row.as_str(), tried)
-        }
-    }
-}
-
-/// Tries the rows of standard input, and tells whether each holds.
-fn all_hold<R: Threads + Wait + Clock + RandomSource + AllocGlobal + Input + Print + Sync>(
-    rt: &R,
-    places: &mut Places,
-) -> io::Result<bool> {
-    let mut report = Report::new(rt.alloc());
-    for line in rt.lines(rt.alloc()) {
-        take(rt, &mut report, places, line?.as_str())?;
-    }
-    report.end(rt)
-}
 
 fn main(rt: HostRuntime) -> ExitCode {
     match Places::new(&rt) {
-        Ok(mut places) => status(all_hold(&rt, &mut places)),
+        Ok(mut places) => run(&rt, &mut places),
         Err(_) => ExitCode::from(1),
     }
 }

@@ -1,9 +1,9 @@
 //! Options of a row: words as `size=5`, `time=7`, `algorithm=sha1`, `integrity=..`, `metadata=..`, `nested=126` for so
 //! many arrays, one in another, `raw=0,255` for bytes, and `durable`.
-use crate::calls::{algorithm_of, integrity_of};
 use cacache::{Algorithm, Integrity, Value, WriteOpts};
 use cacache_core::keeping::let_go;
 use rows::Flaw;
+use rows::parts::{algorithm_of, integrity_of};
 use rows::words::number_of;
 use std::alloc::{AllocError, Global};
 

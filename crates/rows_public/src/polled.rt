@@ -1,10 +1,8 @@
 //! Public calls as futures, each under the name of the call that it makes. Each function knows some of the names and hands
 //! on the others; a call without a future gives None.
 use crate::awaited::awaited;
-use crate::calls::{algorithm_of, integrity_of};
-use crate::lines::{done, exists, found, has, read, stored};
+use crate::lines::{done, exists, found, has, read};
 use crate::options::options_of;
-use crate::place::{MOMENT, On};
 use crate::polled_exports::exported;
 use crate::row::Row;
 use crate::words::bytes_of;
@@ -12,7 +10,10 @@ use cacache::content::read::has_content_async;
 use cacache::index::{RemoveAsync, delete_async, find_async, insert_async};
 use cacache::store::Store;
 use cacache::{Integrity, RemoveOpts};
+use row_places::{MOMENT, On};
 use rows::Flaw;
+use rows::answers::stored;
+use rows::parts::{algorithm_of, integrity_of};
 use rows::words::{cut, string_of};
 use std::alloc::AllocGlobal;
 use std::random::RandomSource;

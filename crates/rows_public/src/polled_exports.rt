@@ -1,11 +1,11 @@
 //! Exports as futures, each under the name of the call that it makes.
 use crate::awaited::awaited;
-use crate::calls::integrity_of;
 use crate::lines::{copied, done};
-use crate::place::On;
 use crate::polled::Told;
 use cacache::Integrity;
 use cacache::store::Store;
+use row_places::On;
+use rows::parts::integrity_of;
 use rows::words::cut;
 use std::alloc::AllocGlobal;
 use std::random::RandomSource;

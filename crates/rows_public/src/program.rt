@@ -1,10 +1,10 @@
 //! Runs of the program, and its start without words.
 use crate::acts::made;
-use crate::place::On;
 use crate::row::Row;
 use crate::streams::{End, Input, Output};
 use crate::words::{bytes_of, shown, words_of};
 use cacache_program::{Errors, Reasons, USAGE, asks_why, run, tell_about, without_words};
+use row_places::On;
 use rows::Flaw;
 use rows::words::{cut, number_of};
 use std::alloc::{AllocError, Global};

@@ -1,7 +1,4 @@
 //! Puts as commands, which `jobs::call` makes, or `jobs::drive` as a job.
-use crate::calls::integrity_of;
-use crate::lines::{refused, stored};
-use crate::place::On;
 use crate::words::bytes_of;
 use cacache::bytes::Bytes;
 use cacache::jobs::{Command, Job, Json, Options, Put, Reply, call, drive};
@@ -9,8 +6,11 @@ use cacache::store::Store;
 use cacache::text::Text;
 use cacache::{Algorithm, Integrity, Value};
 use cacache_core::keeping::let_go;
+use row_places::On;
 use rows::Flaw;
-use rows::words::{cut, is_nothing, number_of};
+use rows::answers::{refused, stored};
+use rows::parts::{expected_of, size_of};
+use rows::words::cut;
 use std::alloc::{AllocError, Global};
 
 /// The put of these data under a key at the moment 1, of which an expected size and an expected integrity are said.
@@ -35,22 +35,6 @@ fn data_of(alloc: Global, input: &str) -> Result<Bytes, AllocError> {
     Bytes::new(alloc, bytes_of(alloc, input)?)
 }
 
-/// The expected size of a word.
-fn size_of(word: &str) -> Result<Option<usize>, Flaw> {
-    if is_nothing(word) {
-        return Ok(None);
-    }
-    Ok(Some(number_of(word)?))
-}
-
-/// The expected integrity of a word.
-fn expected(alloc: Global, word: &str) -> Result<Option<Integrity>, Flaw> {
-    if is_nothing(word) {
-        return Ok(None);
-    }
-    Ok(Some(integrity_of(alloc, word)?))
-}
-
 /// The line on the reply to a put.
 fn replied(alloc: Global, reply: Reply) -> Result<String, AllocError> {
     match reply {
@@ -68,7 +52,7 @@ fn put_of(alloc: Global, words: &str, input: &str) -> Result<Command, Flaw> {
     let (key, words) = cut(words);
     let (size, integrity) = cut(words);
     let size = size_of(size)?;
-    let integrity = expected(alloc, integrity)?;
+    let integrity = expected_of(alloc, integrity)?;
     let key = Text::from_str(alloc, key)?;
     let data = data_of(alloc, input)?;
     Ok(put_with(key, data, size, integrity))

@@ -1,13 +1,15 @@
 //! Contents that are read in pieces: how the reader is opened, the cache, the key or the integrity's text, how many
 //! bytes are read at first, and what is done then. The input is the path of the content where that is spoilt.
-use crate::calls::integrity_of;
-use crate::lines::{pair, refused};
-use crate::place::{On, plant, remove_file};
+use crate::lines::pair;
 use crate::words::shown;
 use cacache::content::read::open;
 use cacache::store::{OpenedFile, Store};
-use cacache::{Algorithm, Result as Answered, SyncReader};
+use cacache::{Result as Answered, SyncReader};
+use row_places::On;
+use row_places::planting::{plant, remove_file};
 use rows::Flaw;
+use rows::answers::{checked, refused};
+use rows::parts::integrity_of;
 use rows::words::{cut, number_of};
 use std::alloc::{AllocError, Global};
 use std::io::Read;
@@ -27,14 +29,6 @@ fn opened<S: Store>(
         "open_hash" => Ok(SyncReader::open_hash(env, cache, sri)),
         "content" => Ok(open(env, cache, sri)),
         _ => Err(Flaw::NotRead),
-    }
-}
-
-/// The line on a check.
-fn checked(alloc: Global, answer: Answered<Algorithm>) -> Result<String, AllocError> {
-    match answer {
-        Ok(algorithm) => format!(in alloc; "checked {algorithm}"),
-        Err(error) => refused(alloc, error),
     }
 }
 

@@ -1,8 +1,8 @@
 //! What the log of a disk in memory gains by an act.
 use crate::acts::made;
-use crate::place::On;
 use crate::row::Row;
 use cacache::store::{Answer, LogItem, MemStore, PlainAnswer, PlainStep, Step};
+use row_places::On;
 use rows::Flaw;
 use std::alloc::{AllocError, Global};
 

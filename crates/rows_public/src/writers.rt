@@ -1,14 +1,16 @@
 //! Contents that are written in pieces: how the writer is opened, how it ends, the cache, the key, and options. The
 //! input is what it is given, with commas between the pieces.
-use crate::calls::algorithm_of;
-use crate::lines::{done, refused, stored};
+use crate::lines::done;
 use crate::options::options_of;
-use crate::place::{On, remove_file};
 use cacache::content::write::Writer;
 use cacache::store::Store;
 use cacache::{Result as Answered, SyncWriter};
 use cacache_core::keeping::let_go;
+use row_places::On;
+use row_places::planting::remove_file;
 use rows::Flaw;
+use rows::answers::{refused, stored};
+use rows::parts::algorithm_of;
 use rows::words::{cut, is_nothing};
 use std::alloc::{AllocError, Global};
 use std::io::Write;

@@ -3,17 +3,21 @@ use crate::common::{below, fresh};
 use crate::steps::end_after;
 use cacache_core::text::Text;
 use cacache_folder::FolderStore;
+use cacache_store::store::Store;
+use std::alloc::{AllocError, Global};
 use std::os::unix::fs::symlink;
 use std::rt::HostRuntime;
 use std::test::Fail;
 use std::{fs, io};
 
-/// Makes a folder with so many files, of names of one letter.
-fn fill(rt: HostRuntime, folder: &Text, count: u8) -> io::Result<()> {
+/// The names of the files in each folder.
+const FILES: &str = "abcdefghijkl";
+
+/// Makes a folder with its files.
+fn fill(rt: HostRuntime, folder: &Text) -> io::Result<()> {
     fs::create_dir_all(&rt, folder.as_str())?;
-    for number in 0..count {
-        let letter = char::from(b'a' + number % 26);
-        let path = format!(in rt.alloc(); "{folder}/{letter}")?;
+    for name in FILES.chars() {
+        let path = format!(in rt.alloc(); "{folder}/{name}")?;
         fs::write(&rt, path.as_str(), b"x")?;
     }
     Ok(())
@@ -28,27 +32,55 @@ fn swap(rt: HostRuntime, root: &str) -> io::Result<()> {
     symlink(&rt, other.as_str(), folder.as_str())
 }
 
-/// How some steps on one store end, one after another; `swap` is the exchange.
+/// Adds how a step ends.
+fn add_end<S: Store>(
+    alloc: Global,
+    root: &str,
+    store: &mut S,
+    step: &str,
+    ends: &mut String,
+) -> Result<(), AllocError> {
+    let end = end_after(alloc, root, store, step)?;
+    ends.push_str(end.as_str())?;
+    ends.push(';')
+}
+
+/// Adds how each removal of a file in the folder ends.
+fn add_removals<S: Store>(
+    alloc: Global,
+    root: &str,
+    store: &mut S,
+    folder: &str,
+    ends: &mut String,
+) -> Result<(), AllocError> {
+    for name in FILES.chars() {
+        let step = format!(in alloc; "RemoveFile {folder}/{name}")?;
+        add_end(alloc, root, store, step.as_str(), ends)?;
+    }
+    Ok(())
+}
+
+/// How some steps on one store end, one after another; `swap` is the exchange, and `RemoveFiles` removes all of a folder.
 fn ends(rt: HostRuntime, root: &str, steps: &[&str]) -> io::Result<String> {
     let mut store = FolderStore::new(rt);
     let mut ends = String::new(rt.alloc());
     for step in steps {
-        if *step == "swap" {
-            swap(rt, root)?;
-            continue;
+        match step.split_once(' ') {
+            None => swap(rt, root)?,
+            Some(("RemoveFiles", folder)) => {
+                add_removals(rt.alloc(), root, &mut store, folder, &mut ends)?
+            }
+            Some(_) => add_end(rt.alloc(), root, &mut store, step, &mut ends)?,
         }
-        let end = end_after(rt.alloc(), root, &mut store, step)?;
-        ends.push_str(end.as_str())?;
-        ends.push(';')?;
     }
     Ok(ends)
 }
 
-/// The same below a fresh folder with `cache/in` and `other`, which have twelve files each, and how many `other` has then.
+/// The same below a fresh folder with `cache/in` and `other`, which have the files, and how many `other` has then.
 fn ends_and_left(rt: HostRuntime, name: &str, steps: &[&str]) -> io::Result<(String, String)> {
     let root = fresh(rt, name)?;
-    fill(rt, &below(rt.alloc(), root.as_str(), "/cache/in")?, 12)?;
-    fill(rt, &below(rt.alloc(), root.as_str(), "/other")?, 12)?;
+    fill(rt, &below(rt.alloc(), root.as_str(), "/cache/in")?)?;
+    fill(rt, &below(rt.alloc(), root.as_str(), "/other")?)?;
     let came = ends(rt, root.as_str(), steps)?;
     let left = ends(rt, root.as_str(), &["ReadDir /other"])?;
     fs::remove_dir_all(&rt, root.as_str())?;
@@ -95,18 +127,7 @@ fn a_folder_that_stays_is_cleared(rt: HostRuntime) -> Result<(), Fail> {
     let steps = [
         "ReadDir /cache",
         "ReadDir /cache/in",
-        "RemoveFile /cache/in/a",
-        "RemoveFile /cache/in/b",
-        "RemoveFile /cache/in/c",
-        "RemoveFile /cache/in/d",
-        "RemoveFile /cache/in/e",
-        "RemoveFile /cache/in/f",
-        "RemoveFile /cache/in/g",
-        "RemoveFile /cache/in/h",
-        "RemoveFile /cache/in/i",
-        "RemoveFile /cache/in/j",
-        "RemoveFile /cache/in/k",
-        "RemoveFile /cache/in/l",
+        "RemoveFiles /cache/in",
         "RemoveDir /cache/in",
     ];
     let (came, _) = ends_and_left(rt, "cleared", &steps)?;

@@ -37,19 +37,13 @@ pub const PLAIN: Ways = Ways {
 /// Each read and write fails.
 const BROKEN: Ways = Ways {
     fault: Some(ErrorKind::NotADirectory),
-    interruptions: 0,
-    most: usize::MAX,
-    size: None,
-    rename: None,
+    ..PLAIN
 };
 
 /// Each read and write is refused for memory.
 const FULL: Ways = Ways {
     fault: Some(ErrorKind::OutOfMemory),
-    interruptions: 0,
-    most: usize::MAX,
-    size: None,
-    rename: None,
+    ..PLAIN
 };
 
 /// Each rename fails.
@@ -65,30 +59,18 @@ const CROWDED: Ways = Ways {
 };
 
 /// Each read and write moves one byte.
-const SHORT: Ways = Ways {
-    fault: None,
-    interruptions: 0,
-    most: 1,
-    size: None,
-    rename: None,
-};
+const SHORT: Ways = Ways { most: 1, ..PLAIN };
 
 /// The same, but the first is interrupted.
 const ONCE: Ways = Ways {
-    fault: None,
     interruptions: 1,
-    most: 1,
-    size: None,
-    rename: None,
+    ..SHORT
 };
 
 /// The same, but the first five are interrupted.
 const OFTEN: Ways = Ways {
-    fault: None,
     interruptions: 5,
-    most: 1,
-    size: None,
-    rename: None,
+    ..SHORT
 };
 
 /// How a file is opened to append to it.

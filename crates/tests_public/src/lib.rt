@@ -14,8 +14,6 @@ mod readme;
 #[cfg(test)]
 mod reads;
 #[cfg(test)]
-mod still;
-#[cfg(test)]
 mod turns;
 #[cfg(test)]
 mod worlds;

@@ -1,96 +1,24 @@
 //! A reader and a linker over a store whose open file fails one read.
-ghost use Rattle.std.specs.Prelude.{None};
-ghost use Rattle.cacache.specs.Stores.{Fits, plain_step, plain_answer};
-
-use crate::still::on;
-use cacache::bytes::Bytes;
 use cacache::content::read::{Reader, open};
-use cacache::errors::Fault;
-use cacache::store::{Answer, FileHandle, OpenedFile, PlainFile, PlainTemp, Step, Store};
 use cacache::{Error, Integrity, WriteOpts};
 use cacache_core::keeping::let_go;
-use std::alloc::Global;
-use std::io;
-use std::io::{ErrorKind, Read};
+use row_places::{Failing, Faulty, Mishaps, On, on};
+use std::alloc::{AllocError, Global};
+use std::io::Read;
 use std::test::Fail;
 
-/// An open file that fails the read of this number, counted from 0, and no other.
-#[derive(Drop)]
-struct Failing {
-    file: PlainFile,
-    fails: usize,
-    reads: usize,
-}
-
-impl FileHandle for Failing {
-    ghost seen = { λ file. file.file };
-}
-
-impl Read for Failing {
-    fn read(&mut self, buf: &mut [u8]) -> io::Result<usize> {
-        self.read_some(buf)
-    }
-}
-
-impl OpenedFile for Failing {
-    fn read_some(&mut self, buf: &mut [u8]) -> io::Result<usize> {
-        let number = self.reads;
-        self.reads = number.saturating_add(1);
-        if number == self.fails {
-            return Err(io::Error::from(ErrorKind::Other));
-        }
-        self.file.read_some(buf)
-    }
-}
-
-/// A store that opens this file, once.
-#[derive(Drop)]
-struct FailingStore {
-    file: Option<Failing>,
-}
-
-impl Store for FailingStore {
-    type File = Failing;
-
-    type Temp = PlainTemp;
-
-    ghost log = { λ _. None };
-
-    fn step(&mut self, step: Step<Failing, PlainTemp>) -> Answer<Failing, PlainTemp>
-        ensures fits { Fits (plain_step (λ file. file.file) (λ temp. temp) step)
-            (plain_answer (λ file. file.file) (λ temp. temp) result) }
-    {
-        match step {
-            Step::Open(_path) => match self.file.take() {
-                Some(file) => Answer::File(file),
-                None => Answer::Failed(Fault::NotFound),
-            },
-            other => {
-                let_go(other);
-                Answer::Failed(Fault::Device)
-            }
-        }
-    }
-}
-
-/// A store with a file of `hello world`, whose read of this number fails.
-fn failing_store(alloc: Global, fails: usize) -> Result<FailingStore, Fail> {
-    let bytes = Bytes::new(alloc, Vec::from_slice(alloc, b"hello world")?)?;
-    let file = PlainFile {
-        left: 11,
-        bytes: Some(bytes),
+/// An environment over a store with a file of `hello world`, whose read of this number fails.
+fn failing(alloc: Global, fails: usize) -> Result<On<Faulty>, AllocError> {
+    let mishaps = Mishaps {
+        fails: Some(fails),
+        ..Mishaps::NONE
     };
-    let file = Some(Failing {
-        file,
-        fails,
-        reads: 0,
-    });
-    Ok(FailingStore { file })
+    on(alloc, Faulty::new(alloc, mishaps)?, ".")
 }
 
 /// A reader of `hello world`, whose read of this number fails.
 fn opened(alloc: Global, fails: usize) -> Result<Reader<Failing>, Fail> {
-    let mut env = on(alloc, failing_store(alloc, fails)?)?;
+    let mut env = failing(alloc, fails)?;
     let sri = Integrity::parse(alloc, "sha256-uU0nuZNNPgilLlLX2n2r+sSE7+N6U4DukIj3rOLvzek=")?;
     Ok(open(&mut env, "c", sri)?)
 }
@@ -137,7 +65,7 @@ fn a_reader_goes_on_after_a_failed_read(rt: HostRuntime) -> Result<(), Fail> {
 
 /// What a link says whose commit can't read the target.
 fn unlinked(alloc: Global) -> Result<String, Fail> {
-    let mut env = on(alloc, failing_store(alloc, 0)?)?;
+    let mut env = failing(alloc, 0)?;
     let Ok(linker) = WriteOpts::new().link_to_hash_sync(&mut env, "c", "/t") else {
         return Ok(String::from_str(alloc, "not opened")?);
     };

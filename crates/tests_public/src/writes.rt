@@ -1,114 +1,23 @@
 //! A writer over a store whose temporary file takes at most three bytes a write, and interrupts every other one.
-ghost use Rattle.std.specs.Prelude.{None};
-ghost use Rattle.cacache.specs.Stores.{Fits, plain_step, plain_answer};
-
-use crate::still::on;
 use cacache::WriteOpts;
-use cacache::bytes::Bytes;
-use cacache::errors::Fault;
-use cacache::store::{Answer, PlainFile, Step, Store, TempFile, TempHandle};
-use cacache::text::Text;
-use cacache_core::keeping::let_go;
-use std::alloc::Global;
-use std::io;
-use std::io::{ErrorKind, Write};
+use row_places::{Faulty, Mishaps, On, on};
+use std::alloc::{AllocError, Global};
+use std::io::Write;
 use std::test::Fail;
 
-/// A temporary file that takes at most three bytes a write. The first write is interrupted, and then every other one.
-#[derive(Drop)]
-struct Short {
-    path: Text,
-    bytes: Vec<u8>,
-    interrupted: bool,
-}
-
-impl TempHandle for Short {
-    ghost seen = { λ temp. record { path = temp.path; bytes = None } };
-}
-
-impl Write for Short {
-    fn write(&mut self, buf: &[u8]) -> io::Result<usize> {
-        self.write_some(buf)
-    }
-
-    fn flush(&mut self) -> io::Result<()> {
-        Ok(())
-    }
-}
-
-impl TempFile for Short {
-    fn write_some(&mut self, buf: &[u8]) -> io::Result<usize> {
-        self.interrupted = !self.interrupted;
-        if self.interrupted {
-            return Err(io::Error::from(ErrorKind::Interrupted));
-        }
-        let count = buf.len().min(3);
-        self.bytes.extend_from_slice(&buf[..count])?;
-        Ok(count)
-    }
-}
-
-/// A store that makes folders and such files, and keeps what was moved last: its path and its bytes.
-#[derive(Drop)]
-struct ShortStore {
-    alloc: Global,
-    path: Text,
-    bytes: Vec<u8>,
-}
-
-impl ShortStore {
-    /// Keeps what the temporary file has.
-    fn keep(&mut self, temp: Short, path: Text) {
-        let Short {
-            path: _path,
-            bytes,
-            interrupted: _,
-        } = temp;
-        self.path = path;
-        self.bytes = bytes;
-    }
-}
-
-impl Store for ShortStore {
-    type File = PlainFile;
-
-    type Temp = Short;
-
-    ghost log = { λ _. None };
-
-    fn step(&mut self, step: Step<PlainFile, Short>) -> Answer<PlainFile, Short>
-        ensures fits { Fits
-            (plain_step (λ file. file) (λ temp. record { path = temp.path; bytes = None }) step)
-            (plain_answer (λ file. file) (λ temp. record { path = temp.path; bytes = None })
-            result) }
-    {
-        match step {
-            Step::MakeDirs(_path) => Answer::Done,
-            Step::CreateTemp(path) => {
-                let bytes = Vec::new(self.alloc);
-                Answer::Temp(Short {
-                    path,
-                    bytes,
-                    interrupted: false,
-                })
-            }
-            Step::Persist(temp, path) => {
-                self.keep(temp, path);
-                Answer::Done
-            }
-            other => {
-                let_go(other);
-                Answer::Failed(Fault::Device)
-            }
-        }
-    }
+/// An environment over a store whose temporary files are such.
+fn short(alloc: Global) -> Result<On<Faulty>, AllocError> {
+    let mishaps = Mishaps {
+        most: 3,
+        interrupts: true,
+        ..Mishaps::NONE
+    };
+    on(alloc, Faulty::new(alloc, mishaps)?, ".")
 }
 
 /// The answer to a commit of `hello world`, and what the store keeps then.
 fn committed(alloc: Global) -> Result<String, Fail> {
-    let path = Text::from_str(alloc, "")?;
-    let bytes = Vec::new(alloc);
-    let mut env = on(alloc, ShortStore { alloc, path, bytes })?;
+    let mut env = short(alloc)?;
     let Ok(mut writer) = WriteOpts::new().size(11).open_hash_sync(&mut env, "c") else {
         return Ok(String::from_str(alloc, "not opened")?);
     };
@@ -122,7 +31,7 @@ fn committed(alloc: Global) -> Result<String, Fail> {
         return Ok(String::from_str(alloc, "not committed")?);
     };
     let store = &env.store;
-    Ok(format!(in alloc; "{integrity} {} {:?}", store.path, store.bytes.as_slice())?)
+    Ok(format!(in alloc; "{integrity} {} {:?}", store.path, store.kept.as_slice())?)
 }
 
 #[test]

@@ -1,29 +1,11 @@
 //! A disk in memory and real folders, which go through the same rows.
 use crate::acts::made;
-use cacache::env::{Clock, CountNames, Env};
-use cacache::store::{FolderStore, MemStore, Store};
+use cacache::store::{FolderStore, MemStore};
+use row_places::{On, in_both, in_folders, in_memory};
 use rows::words::column;
 use rows::{Flaw, Outcome, Trial};
-use std::alloc::{AllocError, Global};
-use std::{fs, io};
-
-/// A clock that stands still.
-#[derive(Drop)]
-pub(crate) struct Still {}
-
-impl Clock for Still {
-    fn now(&mut self) -> u64 {
-        1000
-    }
-}
-
-/// An environment over this kind of store.
-pub(crate) type On<S> = Env<S, Still, CountNames>;
-
-/// An environment over this store.
-pub(crate) fn on<S: Store>(alloc: Global, store: S, base: &str) -> Result<On<S>, AllocError> {
-    Env::new(alloc, store, Still {}, CountNames::from(0), base)
-}
+use std::alloc::Global;
+use std::io;
 
 /// A disk in memory and real folders.
 #[derive(Drop)]
@@ -37,9 +19,8 @@ impl Places {
     /// Empty ones. The folders are those below the one where the program runs.
     pub(crate) fn new(rt: &HostRuntime) -> io::Result<Places> {
         let alloc = rt.alloc();
-        let here = fs::canonicalize(rt, ".")?;
-        let folders = on(alloc, FolderStore::new(*rt), here.as_str())?;
-        let memory = on(alloc, MemStore::new(alloc)?, "/")?;
+        let folders = in_folders(rt)?;
+        let memory = in_memory(alloc)?;
         Ok(Places {
             alloc,
             memory,
@@ -51,10 +32,7 @@ impl Places {
     fn everywhere(&mut self, act: &str, input: &str) -> Result<String, Flaw> {
         let in_memory = made(&mut self.memory, act, input)?;
         let in_folders = made(&mut self.folders, act, input)?;
-        if in_memory == in_folders {
-            return Ok(in_memory);
-        }
-        Ok(format!(in self.alloc; "{in_memory}, but in folders {in_folders}")?)
+        Ok(in_both(self.alloc, in_memory, in_folders)?)
     }
 }
 

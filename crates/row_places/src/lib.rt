@@ -1,0 +1,10 @@
+//! What programs of rows share that try calls over stores: an environment in which a row is tried, what somebody else does
+//! there beside the calls, and a store whose files fail.
+#![tactic(auto)]
+
+mod faulty;
+mod place;
+pub mod planting;
+
+pub use faulty::{Failing, Faulty, Mishaps, Short};
+pub use place::{MOMENT, Numbers, On, Still, in_both, in_folders, in_memory, on};
