@@ -6,3 +6,5 @@
 mod bytes;
 #[cfg(test)]
 mod integrities;
+#[cfg(test)]
+mod quotes;
