@@ -4,7 +4,7 @@
 //! What the ends of a call's name say:
 //!
 //! - `_sync`: the call is made at once, and without that end it is a future. In the modules `content` and `index` it is
-//!   the other way round: there a future's name ends in `_async`.
+//!   the other way round: there the name of a function's future ends in `_async`. Methods keep `_sync`.
 //! - `_hash`: a content is stored or named by its integrity alone. The index isn't asked, so no key is needed and no
 //!   entry.
 //! - `_unchecked`: the content isn't verified.

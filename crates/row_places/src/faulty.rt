@@ -25,7 +25,7 @@ const PIECE: usize = 64;
 /// What goes wrong with the files of a store. Reads and writes are counted from 0, each file's by themselves.
 #[derive(Clone, Copy)]
 pub struct Mishaps {
-    /// The read and the write that fails, if one does.
+    /// The number of the read, and of the write, that fails.
     pub fails: Option<usize>,
     /// The write that takes one byte at most, if one does.
     pub short: Option<usize>,
@@ -171,8 +171,8 @@ fn given(alloc: Global, file: Failing, max: usize) -> Answer<Failing, Short>
     }
 }
 
-/// A store that makes all folders, links and temporary files, takes all lines, opens one file, which holds `hello world`,
-/// and keeps what was moved last.
+/// A store that makes all folders, links and temporary files, takes all lines, opens one file, which holds
+/// `hello world`, and keeps what was moved last.
 #[derive(Drop)]
 pub struct Faulty {
     alloc: Global,

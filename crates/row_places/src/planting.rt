@@ -19,11 +19,6 @@ fn does<S: Store>(env: &mut On<S>, step: Step<S::File, S::Temp>) -> bool {
     is_done
 }
 
-/// The folder in which a path lies.
-fn folder_of(path: &str) -> &str {
-    path.rsplit_once('/').unwrap_or((".", path)).0
-}
-
 /// Makes the folder with all above it.
 pub fn make_folder<S: Store>(env: &mut On<S>, path: &str) -> Result<bool, AllocError> {
     let path = Text::from_str(env.alloc, path)?;
@@ -56,10 +51,12 @@ fn append<S: Store>(env: &mut On<S>, path: &str, bytes: &[u8]) -> Result<bool, A
     Ok(is_whole)
 }
 
-/// Makes the folders above the path, and removes the file there, if there is one; whether the folders are there.
+/// Makes the folders above the path, and removes the file there, if there is one. Tells whether the folders are there.
 fn make_way<S: Store>(env: &mut On<S>, path: &str) -> Result<bool, AllocError> {
-    if path.contains('/') && !make_folder(env, folder_of(path))? {
-        return Ok(false);
+    if let Some((folder, _)) = path.rsplit_once('/') {
+        if !folder.is_empty() && !make_folder(env, folder)? {
+            return Ok(false);
+        }
     }
     let _was_there = remove_file(env, path)?;
     Ok(true)

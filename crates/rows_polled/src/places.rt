@@ -37,11 +37,14 @@ impl Places<HostRuntime> {
 
 /// The number of a write, which words count from 1.
 fn write_of(number: &str) -> Result<Option<usize>, Flaw> {
-    Ok(number_of(number)?.checked_sub(1))
+    match number_of(number)?.checked_sub(1) {
+        None => Err(Flaw::NotRead),
+        number => Ok(number),
+    }
 }
 
-/// What goes wrong with a temporary file, in words: `fails N` and `short N` name the write that fails, or takes one byte at
-/// most; after `unflushed` no flush is done, and after `unremoved` the file isn't removed.
+/// What goes wrong with a temporary file, in words: `fails N` and `short N` name the write that fails, or takes one byte
+/// at most; after `unflushed` no flush is done, and after `unremoved` the file isn't removed.
 fn mishaps_of(words: &str) -> Result<Mishaps, Flaw> {
     let mut mishaps = Mishaps::NONE;
     match cut(words) {

@@ -60,7 +60,8 @@ fn add_removals<S: Store>(
     Ok(())
 }
 
-/// How some steps on one store end, one after another; `swap` is the exchange, and `RemoveFiles` removes all of a folder.
+/// How some steps on one store end, one after another; `swap` is the exchange, and `RemoveFiles` removes all of a
+/// folder.
 fn ends(rt: HostRuntime, root: &str, steps: &[&str]) -> io::Result<String> {
     let mut store = FolderStore::new(rt);
     let mut ends = String::new(rt.alloc());

@@ -1,18 +1,20 @@
-//! The example of the README. It leaves its cache behind, since another run may read there at the same time.
+//! The example of the README, with a cache below the folder where the test runs.
 use cacache::env::folders;
 use std::test::Fail;
 
 /// Stores some bytes, and reads them back by their integrity.
-fn example(rt: HostRuntime) -> cacache::Result<()> {
+fn example(rt: HostRuntime, cache: &str) -> cacache::Result<()> {
     let mut env = folders(rt, "/")?;
-    let integrity = cacache::write_sync(&mut env, "/tmp/cacache-example", "key", b"my data")?;
-    let bytes = cacache::read_hash_sync(&mut env, "/tmp/cacache-example", &integrity)?;
+    let integrity = cacache::write_sync(&mut env, cache, "key", b"my data")?;
+    let bytes = cacache::read_hash_sync(&mut env, cache, &integrity)?;
     let _printed = println!(rt; "{integrity} has {} bytes", bytes.len());
     Ok(())
 }
 
 #[test]
 fn example_of_the_readme(rt: HostRuntime) -> Result<(), Fail> {
-    example(rt)?;
+    let cache = "/tmp/my-cache";
+    // Where others may have that folder, the test could fail: it has one below its own.
+    example(rt, cache.strip_prefix("/tmp/").unwrap_or(cache))?;
     Ok(())
 }

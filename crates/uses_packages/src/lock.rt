@@ -10,7 +10,8 @@ pub(crate) struct Package {
     pub(crate) integrity: Integrity,
 }
 
-/// The package of a line: its name, and behind a space its integrity. One that can't be read is printed on the errors.
+/// The package of a line: its name, and behind a space its integrity. One that can't be read is
+/// printed on standard error, with its text, before the error is returned.
 fn package_of(rt: &(impl Eprint + AllocGlobal), line: &str) -> Result<Package> {
     let alloc = rt.alloc();
     let (name, text) = line.split_once(' ').unwrap_or((line, ""));
