@@ -19,7 +19,7 @@ where
 }
 
 /// Bytes under a key.
-pub(crate) fn write<R>(rt: R, mut env: &mut Memory) -> Result<String>
+pub(crate) fn write<R>(rt: R, mut env: Memory) -> Result<String>
 where
     R: Wait + RandomSource + AllocGlobal + Copy,
 {
@@ -43,7 +43,7 @@ where
 }
 
 /// A link to a file outside the cache.
-pub(crate) fn linker<R>(rt: R, mut env: &mut Memory) -> Result<String>
+pub(crate) fn linker<R>(rt: R, mut env: Memory) -> Result<String>
 where
     R: Wait + RandomSource + AllocGlobal + Copy,
 {

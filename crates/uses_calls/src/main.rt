@@ -1,6 +1,6 @@
 //! The examples of the public calls, each as the call's docs have it, and on a disk in memory of its own where it needs
 //! one. What came of it is printed behind the call's name. `env` is `mut` everywhere, so that the lines are those of a
-//! caller who owns it.
+//! caller who owns it, as some of these do.
 #![tactic(auto)]
 
 mod awaited;
@@ -42,6 +42,16 @@ where
     tell(rt, name, came)
 }
 
+/// The same of calls that own their disk.
+pub(crate) fn in_own_memory<F>(rt: HostRuntime, name: &str, calls: F) -> Result<()>
+where
+    F: FnOnce(HostRuntime, Memory) -> Result<String>,
+    requires { F.IsAlwaysCallable calls }
+{
+    let came = calls(rt, memory(rt, "/")?);
+    tell(rt, name, came)
+}
+
 /// Makes the calls that aren't futures.
 fn at_once(rt: HostRuntime) -> Result<()> {
     integrity::run(rt)?;
@@ -60,9 +70,9 @@ fn at_once(rt: HostRuntime) -> Result<()> {
 fn main(rt: HostRuntime) -> Result<()> {
     at_once(rt)?;
     in_memory(rt, "read", awaited::read)?;
-    in_memory(rt, "write", awaited::write)?;
+    in_own_memory(rt, "write", awaited::write)?;
     in_memory(rt, "Reader::open", awaited::reader)?;
-    in_memory(rt, "ToLinker::open", awaited::linker)?;
-    in_memory(rt, "Writer::create", polled::create)?;
-    in_memory(rt, "Writer::poll_write", polled::poll_write)
+    in_own_memory(rt, "ToLinker::open", awaited::linker)?;
+    in_own_memory(rt, "Writer::create", polled::create)?;
+    in_own_memory(rt, "Writer::poll_write", polled::poll_write)
 }

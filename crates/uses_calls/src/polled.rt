@@ -29,20 +29,20 @@ where
 }
 
 /// The same with a writer whose worker runs in a thread of its own.
-fn made<R>(rt: R, mut env: &mut Memory) -> Result<(usize, Integrity)>
+fn made<R>(rt: R, mut env: Memory) -> Result<(usize, Integrity)>
 where
     R: Threads + Wait + Clock + RandomSource + AllocGlobal + Copy + Sync + Send + 'static,
 {
     let writer = block_on(&rt, cacache::Writer::create(&mut env, "my-cache", "key"))??;
     let worker = writer.worker()?;
     let thread = thread::spawn(&rt, move || worker.run(&rt, &Open))?;
-    let came = written(rt, env, writer);
+    let came = written(rt, &mut env, writer);
     thread.join(&rt);
     came
 }
 
 /// The integrity of what was written.
-pub(crate) fn create<R>(rt: R, env: &mut Memory) -> Result<String>
+pub(crate) fn create<R>(rt: R, env: Memory) -> Result<String>
 where
     R: Threads + Wait + Clock + RandomSource + AllocGlobal + Copy + Sync + Send + 'static,
 {
@@ -51,7 +51,7 @@ where
 }
 
 /// How many bytes the worker took.
-pub(crate) fn poll_write<R>(rt: R, env: &mut Memory) -> Result<String>
+pub(crate) fn poll_write<R>(rt: R, env: Memory) -> Result<String>
 where
     R: Threads + Wait + Clock + RandomSource + AllocGlobal + Copy + Sync + Send + 'static,
 {
