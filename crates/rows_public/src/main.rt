@@ -13,6 +13,7 @@ mod calls;
 mod exports;
 mod lines;
 mod linkers;
+mod names;
 mod options;
 mod places;
 mod polled;
@@ -20,19 +21,59 @@ mod polled_exports;
 mod program;
 mod puts;
 mod readers;
+mod report;
 mod row;
 mod streams;
+mod tally;
 mod told;
 mod words;
 mod writers;
 
-use places::Places;
-use rows::run;
+use places::{Places, outcome};
+use report::{Line, Report, status};
+use std::alloc::AllocGlobal;
+use std::io;
 use std::process::ExitCode;
+use std::random::RandomSource;
+use std::sync::Wait;
+use std::thread::Threads;
+use std::time::Clock;
+
+/// Does what a line says.
+fn take<R: Threads + Wait + Clock + RandomSource + AllocGlobal + Print + Sync>(
+    rt: &R,
+    report: &mut Report,
+    places: &mut Places,
+    line: &str,
+) -> io::Result<()> {
+    match report.read(rt, line)? {
+        Line::Other => Ok(()),
+        Line::Group => {
+            places.begin();
+            Ok(())
+        }
+        Line::Row(row) => {
+            let tried = outcome(rt, places, row.as_str());
+            report.count(rt, row.as_str(), tried)
+        }
+    }
+}
+
+/// Tries the rows of standard input, and tells whether each holds.
+fn all_hold<R: Threads + Wait + Clock + RandomSource + AllocGlobal + Input + Print + Sync>(
+    rt: &R,
+    places: &mut Places,
+) -> io::Result<bool> {
+    let mut report = Report::new(rt.alloc());
+    for line in rt.lines(rt.alloc()) {
+        take(rt, &mut report, places, line?.as_str())?;
+    }
+    report.end(rt)
+}
 
 fn main(rt: HostRuntime) -> ExitCode {
     match Places::new(&rt) {
-        Ok(mut places) => run(&rt, &mut places),
+        Ok(mut places) => status(all_hold(&rt, &mut places)),
         Err(_) => ExitCode::from(1),
     }
 }

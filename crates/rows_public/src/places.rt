@@ -6,7 +6,7 @@ use crate::told::{counted, told};
 use cacache::store::{FolderStore, MemStore};
 use row_places::{Numbers, On, in_both, in_folders, in_memory};
 use rows::words::cut;
-use rows::{Flaw, Outcome, Trial};
+use rows::{Flaw, Outcome};
 use std::alloc::AllocGlobal;
 use std::io;
 use std::random::RandomSource;
@@ -16,25 +16,30 @@ use std::time::Clock;
 
 /// A disk in memory, real folders, and a disk in memory for futures, which go through the same rows.
 #[derive(Drop)]
-pub(crate) struct Places<R> {
-    rt: R,
+pub(crate) struct Places {
     memory: On<MemStore>,
     folders: On<FolderStore<HostRuntime>>,
     futures: On<MemStore>,
 }
 
-impl Places<HostRuntime> {
+impl Places {
     /// Empty ones. The folders are those below the one where the program runs.
-    pub(crate) fn new(rt: &HostRuntime) -> io::Result<Places<HostRuntime>> {
+    pub(crate) fn new(rt: &HostRuntime) -> io::Result<Places> {
         let folders = in_folders(rt)?;
         let memory = in_memory(rt.alloc())?;
         let futures = in_memory(rt.alloc())?;
         Ok(Places {
-            rt: *rt,
             memory,
             folders,
             futures,
         })
+    }
+
+    /// Begins a group of rows, whose temporary files are numbered from 0.
+    pub(crate) fn begin(&mut self) {
+        self.memory.names = Numbers { next: 0 };
+        self.folders.names = Numbers { next: 0 };
+        self.futures.names = Numbers { next: 0 };
     }
 }
 
@@ -65,12 +70,13 @@ fn by_future<R: Threads + Wait + Clock + RandomSource + AllocGlobal + Sync>(
 
 /// What the row's act gives in memory; as a future it must give and log the same.
 fn in_both_memories<R: Threads + Wait + Clock + RandomSource + AllocGlobal + Sync>(
-    places: &mut Places<R>,
+    rt: &R,
+    places: &mut Places,
     row: Row<'_>,
 ) -> Result<String, Flaw> {
     let before = places.memory.store.log().len();
-    let line = made_in_memory(&places.rt, &mut places.memory, row)?;
-    let of_future = by_future(&places.rt, &mut places.futures, row)?;
+    let line = made_in_memory(rt, &mut places.memory, row)?;
+    let of_future = by_future(rt, &mut places.futures, row)?;
     let gained = places.memory.store.log().get(before..);
     if gained != places.futures.store.log().get(before..) {
         return Err(Flaw::Told("the future logs something else"));
@@ -78,44 +84,43 @@ fn in_both_memories<R: Threads + Wait + Clock + RandomSource + AllocGlobal + Syn
     if line == of_future {
         return Ok(line);
     }
-    Ok(format!(in places.rt.alloc(); "{line}, but as a future {of_future}")?)
+    Ok(format!(in rt.alloc(); "{line}, but as a future {of_future}")?)
 }
 
 /// What the row's act gives at all places.
 fn everywhere<R: Threads + Wait + Clock + RandomSource + AllocGlobal + Sync>(
-    places: &mut Places<R>,
+    rt: &R,
+    places: &mut Places,
     row: Row<'_>,
 ) -> Result<String, Flaw> {
-    let in_memory = in_both_memories(places, row)?;
-    let in_folders = ran_or_made(&places.rt, &mut places.folders, row)?;
-    Ok(in_both(places.rt.alloc(), in_memory, in_folders)?)
+    let in_memory = in_both_memories(rt, places, row)?;
+    let in_folders = ran_or_made(rt, &mut places.folders, row)?;
+    Ok(in_both(rt.alloc(), in_memory, in_folders)?)
 }
 
 /// What the row's act gives: after the words `in memory` or `in folders` there alone, else everywhere.
 fn tried<R: Threads + Wait + Clock + RandomSource + AllocGlobal + Sync>(
-    places: &mut Places<R>,
+    rt: &R,
+    places: &mut Places,
     row: Row<'_>,
 ) -> Result<String, Flaw> {
     if let Some(act) = row.act.strip_prefix("in memory ") {
-        return in_both_memories(places, Row { act, ..row });
+        return in_both_memories(rt, places, Row { act, ..row });
     }
     match row.act.strip_prefix("in folders ") {
-        Some(act) => ran_or_made(&places.rt, &mut places.folders, Row { act, ..row }),
-        None => everywhere(places, row),
+        Some(act) => ran_or_made(rt, &mut places.folders, Row { act, ..row }),
+        None => everywhere(rt, places, row),
     }
 }
 
-impl<R: Threads + Wait + Clock + RandomSource + AllocGlobal + Sync> Trial for Places<R> {
-    fn begin(&mut self) {
-        self.memory.names = Numbers { next: 0 };
-        self.folders.names = Numbers { next: 0 };
-        self.futures.names = Numbers { next: 0 };
-    }
-
-    fn outcome(&mut self, row: &str) -> Result<Outcome, Flaw> {
-        let row = row_of(row)?;
-        let wanted = String::from_str(self.rt.alloc(), row.wanted)?;
-        let got = tried(self, row)?;
-        Ok(Outcome { wanted, got })
-    }
+/// What a row wants, and what came.
+pub(crate) fn outcome<R: Threads + Wait + Clock + RandomSource + AllocGlobal + Sync>(
+    rt: &R,
+    places: &mut Places,
+    row: &str,
+) -> Result<Outcome, Flaw> {
+    let row = row_of(row)?;
+    let wanted = String::from_str(rt.alloc(), row.wanted)?;
+    let got = tried(rt, places, row)?;
+    Ok(Outcome { wanted, got })
 }

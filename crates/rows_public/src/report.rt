@@ -1,0 +1,128 @@
+//! What is printed of rows. It stands here once more, beside `rows::run`, since the acts send the runtime to threads: the
+//! prover covers that where each function has the runtime's bounds, and not in a trial that holds the runtime.
+use crate::names::Names;
+use crate::tally::Tally;
+use rows::{Flaw, Outcome};
+use std::alloc::Global;
+use std::io;
+use std::process::ExitCode;
+
+/// What a line of standard input is.
+#[derive(Drop)]
+pub(crate) enum Line {
+    /// A group of rows begins.
+    Group,
+    /// A row, in which names are filled in.
+    Row(String),
+    /// It is empty, or gives a name: there is nothing to try.
+    Other,
+}
+
+/// How the rows went so far.
+#[derive(Drop)]
+pub(crate) struct Report {
+    alloc: Global,
+    names: Names,
+    /// The group's heading.
+    heading: String,
+    /// How many lines were read.
+    line: u64,
+    /// The rows of the group.
+    group: Tally,
+    /// The rows of all groups.
+    all: Tally,
+}
+
+/// Whether a row holds; prints it where it doesn't.
+fn is_held(
+    rt: &impl Print,
+    line: u64,
+    row: &str,
+    tried: Result<Outcome, Flaw>,
+) -> io::Result<bool> {
+    match tried {
+        Err(flaw) => println!(rt; "line {line}: {flaw}: {row}")?,
+        Ok(outcome) => {
+            if outcome.wanted == outcome.got {
+                return Ok(true);
+            }
+            println!(rt; "line {line}: {row}")?;
+            println!(rt; "    wanted: {}", outcome.wanted)?;
+            println!(rt; "    got:    {}", outcome.got)?;
+        }
+    }
+    Ok(false)
+}
+
+impl Report {
+    /// Before the first line.
+    pub(crate) fn new(alloc: Global) -> Report {
+        Report {
+            alloc,
+            names: Names::new(alloc),
+            heading: String::new(alloc),
+            line: 0,
+            group: Tally::NONE,
+            all: Tally::NONE,
+        }
+    }
+
+    /// Prints how the group went, and forgets it.
+    fn close(&mut self, rt: &impl Print) -> io::Result<()> {
+        let heading = self.heading.as_str();
+        match self.group {
+            Tally { held: 0, wrong: 0 } => {}
+            Tally { held, wrong: 0 } => println!(rt; "{heading}: {held} rows hold")?,
+            Tally { held, wrong } => println!(rt; "{heading}: {held} rows hold, {wrong} don't")?,
+        }
+        self.group = Tally::NONE;
+        Ok(())
+    }
+
+    /// Reads a line: `# ` begins a group, `= ` gives a name, an empty line says nothing, and any other one is a row. Prints
+    /// how the group before went.
+    pub(crate) fn read(&mut self, rt: &impl Print, line: &str) -> io::Result<Line> {
+        self.line = self.line.saturating_add(1);
+        if line.is_empty() {
+            return Ok(Line::Other);
+        }
+        if let Some(heading) = line.strip_prefix("# ") {
+            self.close(rt)?;
+            self.heading = String::from_str(self.alloc, heading)?;
+            return Ok(Line::Group);
+        }
+        if let Some(name) = line.strip_prefix("= ") {
+            self.names.define(name)?;
+            return Ok(Line::Other);
+        }
+        Ok(Line::Row(self.names.filled(line)?))
+    }
+
+    /// Counts a row, and prints it where it doesn't hold.
+    pub(crate) fn count(
+        &mut self,
+        rt: &impl Print,
+        row: &str,
+        tried: Result<Outcome, Flaw>,
+    ) -> io::Result<()> {
+        let is_held = is_held(rt, self.line, row, tried)?;
+        self.group.count(is_held);
+        self.all.count(is_held);
+        Ok(())
+    }
+
+    /// Prints how the last group went and how many rows hold in all, and tells whether each one does.
+    pub(crate) fn end(&mut self, rt: &impl Print) -> io::Result<bool> {
+        self.close(rt)?;
+        println!(rt; "all: {} rows hold", self.all.held)?;
+        Ok(self.all.all_hold())
+    }
+}
+
+/// What a program of rows returns: 0 if each row holds, and else 1.
+pub(crate) fn status(all_hold: io::Result<bool>) -> ExitCode {
+    match all_hold {
+        Ok(true) => ExitCode::from(0),
+        _ => ExitCode::from(1),
+    }
+}
