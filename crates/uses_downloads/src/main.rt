@@ -68,7 +68,7 @@ where
 }
 
 fn main(rt: HostRuntime) -> Result<()> {
-    // On real folders a writer's file is a `FolderTemp<R>`, and its worker's runtime has to be that `R`.
+    // `Folders` and `folders` in the place of these keep the cache in real folders.
     let mut place: Memory = memory(rt, "/")?;
     download_both(&rt, &mut place)
 }
