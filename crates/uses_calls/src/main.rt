@@ -73,6 +73,10 @@ fn main(rt: HostRuntime) -> Result<()> {
     in_own_memory(rt, "write", awaited::write)?;
     in_memory(rt, "Reader::open", awaited::reader)?;
     in_own_memory(rt, "ToLinker::open", awaited::linker)?;
-    in_own_memory(rt, "Writer::create", polled::create)?;
-    in_own_memory(rt, "Writer::poll_write", polled::poll_write)
+    tell(rt, "Writer::create", polled::create(rt, memory(rt, "/")?))?;
+    tell(
+        rt,
+        "Writer::poll_write",
+        polled::poll_write(rt, memory(rt, "/")?),
+    )
 }
