@@ -127,7 +127,8 @@ pub enum IntegrityFault {
     Check(Integrity, Integrity),
 }
 
-/// Why a call failed.
+/// Why a call failed. Its text tells which step failed, and where; `fault` tells why, which the text
+/// leaves out.
 #[derive(Debug, Drop, ErrorTexts)]
 pub enum Error {
     /// The cache and the key: the key's lookup is None.

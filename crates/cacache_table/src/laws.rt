@@ -65,5 +65,5 @@ pub fn sound_laws()
 
 /// A call makes no step but such as its command's licence allows, whatever it is answered.
 pub fn licence_laws()
-    ensures { CallsKeepTo }
+    ensures keeps { CallsKeepTo }
 {}

@@ -1,5 +1,6 @@
 //! Rows of text that a program reads and tries, one to a line. A program of rows is a `Trial`, which says what a row wants
-//! and what came, and a `main` that calls `run`. A trial whose rows need the runtime holds it.
+//! and what came, and a `main` that calls `run`; or a loop of its own over a `Report`, where its rows send its runtime to
+//! threads.
 #![tactic(auto)]
 
 pub mod answers;
@@ -13,5 +14,5 @@ mod trial;
 pub mod words;
 
 pub use flaw::Flaw;
-pub use report::run;
+pub use report::{Line, Report, run, status};
 pub use trial::{Outcome, Trial};

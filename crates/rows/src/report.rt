@@ -9,7 +9,7 @@ use std::process::ExitCode;
 
 /// What a line of standard input is.
 #[derive(Drop)]
-enum Line {
+pub enum Line {
     /// A group of rows begins.
     Group,
     /// A row, in which names are filled in.
@@ -18,9 +18,10 @@ enum Line {
     Other,
 }
 
-/// How the rows went so far.
+/// How the rows went so far. A program whose rows send its runtime to threads goes through them by this; each other one is
+/// a `Trial`.
 #[derive(Drop)]
-struct Report {
+pub struct Report {
     alloc: Global,
     names: Names,
     /// The group's heading.
@@ -56,7 +57,7 @@ fn is_held(
 
 impl Report {
     /// Before the first line.
-    fn new(alloc: Global) -> Report {
+    pub fn new(alloc: Global) -> Report {
         Report {
             alloc,
             names: Names::new(alloc),
@@ -81,7 +82,7 @@ impl Report {
 
     /// Reads a line: `# ` begins a group, `= ` gives a name, an empty line says nothing, and any other one is a row. Prints
     /// how the group before went.
-    fn read(&mut self, rt: &impl Print, line: &str) -> io::Result<Line> {
+    pub fn read(&mut self, rt: &impl Print, line: &str) -> io::Result<Line> {
         self.line = self.line.saturating_add(1);
         if line.is_empty() {
             return Ok(Line::Other);
@@ -99,7 +100,7 @@ impl Report {
     }
 
     /// Counts a row, and prints it where it doesn't hold.
-    fn count(
+    pub fn count(
         &mut self,
         rt: &impl Print,
         row: &str,
@@ -112,7 +113,7 @@ impl Report {
     }
 
     /// Prints how the last group went and how many rows hold in all, and tells whether each one does.
-    fn end(&mut self, rt: &impl Print) -> io::Result<bool> {
+    pub fn end(&mut self, rt: &impl Print) -> io::Result<bool> {
         self.close(rt)?;
         println!(rt; "all: {} rows hold", self.all.held)?;
         Ok(self.all.all_hold())
@@ -149,7 +150,7 @@ fn all_hold(rt: &(impl Input + Print + AllocGlobal), trial: &mut impl Trial) -> 
 }
 
 /// What a program of rows returns: 0 if each row holds, and else 1.
-fn status(all_hold: io::Result<bool>) -> ExitCode {
+pub fn status(all_hold: io::Result<bool>) -> ExitCode {
     match all_hold {
         Ok(true) => ExitCode::from(0),
         _ => ExitCode::from(1),

@@ -42,16 +42,6 @@ where
     tell(rt, name, came)
 }
 
-/// The same of calls that own their disk.
-pub(crate) fn in_own_memory<F>(rt: HostRuntime, name: &str, calls: F) -> Result<()>
-where
-    F: FnOnce(HostRuntime, Memory) -> Result<String>,
-    requires { F.IsAlwaysCallable calls }
-{
-    let came = calls(rt, memory(rt, "/")?);
-    tell(rt, name, came)
-}
-
 /// Makes the calls that aren't futures.
 fn at_once(rt: HostRuntime) -> Result<()> {
     integrity::run(rt)?;
@@ -70,9 +60,9 @@ fn at_once(rt: HostRuntime) -> Result<()> {
 fn main(rt: HostRuntime) -> Result<()> {
     at_once(rt)?;
     in_memory(rt, "read", awaited::read)?;
-    in_own_memory(rt, "write", awaited::write)?;
+    tell(rt, "write", awaited::write(rt, memory(rt, "/")?))?;
     in_memory(rt, "Reader::open", awaited::reader)?;
-    in_own_memory(rt, "ToLinker::open", awaited::linker)?;
+    tell(rt, "ToLinker::open", awaited::linker(rt, memory(rt, "/")?))?;
     tell(rt, "Writer::create", polled::create(rt, memory(rt, "/")?))?;
     tell(
         rt,

@@ -7,11 +7,14 @@ use std::fmt;
 /// The most bytes of a text that are shown.
 const SHOWN: usize = 100;
 
-/// An error, and the beginning of the text that it is about. Shown, as `integrity text not readable ("sha256")`, the text
-/// stands in brackets behind the error's own, in quotes and escaped as Rust's `{:?}` does it.
+/// An error, and the beginning of the text that it is about. Shown, as
+/// `integrity text not readable ("sha256")`, the text stands in brackets behind the error's own,
+/// in quotes and escaped as Rust's `{:?}` does it.
 #[derive(Clone, Copy, Debug)]
 pub struct Quoting<'a> {
+    /// The error.
     pub error: &'a Error,
+    /// The text that it is about, or its beginning: at most 100 bytes.
     pub text: &'a str,
 }
 
@@ -22,8 +25,9 @@ impl fmt::Display for Quoting<'_> {
 }
 
 impl Error {
-    /// This error with the text that it is about, such as one that `Integrity::parse` refused. The text is cut to 100 bytes,
-    /// or up to three fewer where a character would be cut. Takes no memory.
+    /// This error with the text that it is about, such as one that `Integrity::parse` refused. The
+    /// text is cut to 100 bytes, or up to three fewer where a character would be cut. Takes no
+    /// memory.
     pub fn quoting<'a>(&'a self, text: &'a str) -> Quoting<'a>
         ensures error { result.error.now ≡ self.now }
         ensures short { length result.text.now ≤ 100 }

@@ -6,7 +6,8 @@ use cacache_core::errors::{Error, Fault};
 use cacache_core::text::Text;
 use std::alloc::AllocError;
 
-/// The error of a call whose step failed: `IoError` with its message, or `OutOfMemory` where there was no memory for that.
+/// The error of a call whose step failed: `IoError` with its message, or `OutOfMemory` where there
+/// was no memory for that.
 pub fn failed(fault: Fault, message: Result<Text, AllocError>) -> Error
     ensures { MatchResult message (λ text. result ≡ IoError fault text)
         (λ _. result ≡ OutOfMemory) }
