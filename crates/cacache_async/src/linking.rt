@@ -2,7 +2,7 @@
 ghost use Rattle.std.specs.Prelude.{◌≡◌, None, Some};
 ghost use Rattle.cacache_core.specs.declared.integrity.algorithm.Algorithm.TheVariants.{Sha256};
 ghost use Rattle.cacache_table.specs.Blank.{blank};
-ghost use Rattle.cacache_jobs.specs.Targets.{linked_to};
+ghost use Rattle.cacache_table.specs.Linking.{linked_to};
 ghost use Rattle.cacache_put.specs.OpenLinkers.{BeginsLink, OpensLink, OpensWithSize, asks_file, asks_size, linked_by};
 ghost use Rattle.cacache_put.specs.Options.{nothing_said, options_of};
 ghost use Rattle.cacache_futures.specs.Waiting.{Waits};

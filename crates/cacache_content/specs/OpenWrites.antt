@@ -19,7 +19,7 @@ use Rattle.cacache_table.specs.declared.command.Options.{Options}
 use Rattle.cacache_table.specs.declared.reply.Reply.{Reply}
 use Rattle.cacache_table.specs.StepPaths.{temp_folder, temp_path}
 use Rattle.cacache_table.specs.Runs.{Ran}
-use Rattle.cacache_table.specs.State.{Commit}
+use Rattle.cacache_table.specs.declared.carried.Commit.{Commit}
 use Rattle.cacache_table.specs.Storing.{persist}
 use Rattle.cacache_content.specs.declared.writer.Writer.{Writer}
 use Rattle.cacache_table.specs.SingleSteps.{Does, FailsAt}

@@ -8,13 +8,13 @@ use Rattle.cacache_store.specs.declared.store.answer.Answer.TheVariants.{Names, 
 use Rattle.cacache_store.specs.declared.store.step.Step.TheVariants.{ReadDir}
 use Rattle.cacache_store.specs.Plain.{PlainAnswer}
 use Rattle.cacache_store.specs.Fits.{Fits}
-use Rattle.cacache_table.specs.State as states
-use Rattle.cacache_table.specs.State.{enter, read_bucket, remove_file, remove_folder, visit, stumble}
+use Rattle.cacache_table.specs.declared.visit.Task.{Task}
+use Rattle.cacache_table.specs.declared.visit.Task.TheVariants.{Make, Stumble}
 use Rattle.cacache_table.specs.Runs.{Moves, Gains, weight, weights}
-use Rattle.cacache_walks.specs.declared.visit.Visit.{Visit}
-use Rattle.cacache_walks.specs.declared.visit.Visit.TheVariants as visits
+use Rattle.cacache_table.specs.declared.visit.Visit.{Visit}
+use Rattle.cacache_table.specs.declared.visit.Visit.TheVariants.{Enter, ReadBucket, RemoveFile, RemoveFolder}
 use Rattle.cacache_walks.specs.declared.walk.Walk.{Walk}
-use Rattle.cacache_walks.specs.WalkStates.{Counts, visit_of, pending}
+use Rattle.cacache_walks.specs.WalkStates.{Counts, pending}
 use Rattle.cacache_contents.specs.Reading.{Folder, Reads, Stops, names_shown, files_in, files_shown}
 use Rattle.cacache_contents.specs.Listing.{StopsAt}
 
@@ -31,7 +31,7 @@ pub record AnswerShows
 -- a visit is answered so: a folder is read, its files are found, and a file takes no step
 abbrev pub Answered : Visit → PlainAnswer → Option (List LogItem) → Option (List LogItem)
     → List (List ℕ) → List (List ℕ) → Type 0
-Answered (visits.Enter path level) t old new before after =
+Answered (Enter path level) t old new before after =
     (names : List Name) × (t ≡ Names names)
     × ((shown : PlainAnswer) × AnswerShows shown names path old new)
     × (after ≡ before ++ files_in path names)
@@ -46,29 +46,29 @@ StopsIn path e old new = (left level : ℕ) (todo : List Folder)
 -- this error ended a visit to a folder
 abbrev pub StopsVisit : Visit → Error
     → Option (List LogItem) → Option (List LogItem) → Type 0
-StopsVisit (visits.Enter path level) e old new = StopsIn path e old new
+StopsVisit (Enter path level) e old new = StopsIn path e old new
 StopsVisit v e old new = ⊥
 
 -- ---- the whole walk
 
 -- the tasks of a walk are these folders, and files; it stumbles over a folder that lies too deep
-abbrev pub Matches : List states.Task → List Folder → Type 0
+abbrev pub Matches : List Task → List Folder → Type 0
 Matches [] [] = Unit {0}
 Matches [] (f ∷ fs) = ⊥
-Matches (visit (enter path level) ∷ todo) [] = ⊥
-Matches (visit (enter path level) ∷ todo) (f ∷ fs) =
+Matches (Make (Enter path level) ∷ todo) [] = ⊥
+Matches (Make (Enter path level) ∷ todo) (f ∷ fs) =
     (f ≡ record { path = path; level = level }) × (level ≤ 16) × Matches todo fs
-Matches (visit (read_bucket path) ∷ todo) fs = Matches todo fs
-Matches (visit (remove_file path) ∷ todo) fs = ⊥
-Matches (visit (remove_folder path) ∷ todo) fs = ⊥
-Matches (stumble fault ∷ todo) [] = ⊥
-Matches (stumble fault ∷ todo) (f ∷ fs) = (16 < f.level) × Matches todo fs
+Matches (Make (ReadBucket path) ∷ todo) fs = Matches todo fs
+Matches (Make (RemoveFile path) ∷ todo) fs = ⊥
+Matches (Make (RemoveFolder path) ∷ todo) fs = ⊥
+Matches (Stumble fault path ∷ todo) [] = ⊥
+Matches (Stumble fault path ∷ todo) (f ∷ fs) = (16 < f.level) × Matches todo fs
 
 -- it wants the step of this visit, before these folders; or it is over
 abbrev pub Stands : Option Visit → Walk → List Folder → Type 0
 Stands (Some v) w fs =
     (w.clears ≡ false) × (w.items.items ≡ []) × Counts [] w
-    × Matches (visit (visit_of v) ∷ pending w.todo.items) fs
+    × Matches (Make v ∷ pending w.todo.items) fs
 Stands None w fs = fs ≡ []
 
 -- from these folders, with so many names, it went on so: by moves, to the files that they show
@@ -86,5 +86,5 @@ pub record GoesFrom
 
 -- how many steps may still come
 abbrev pub steps_left : Option Visit → Walk → ℕ
-steps_left (Some v) w = 2 * w.left + weight (visit_of v) + weights (pending w.todo.items)
+steps_left (Some v) w = 2 * w.left + weight v + weights (pending w.todo.items)
 steps_left None w = 0

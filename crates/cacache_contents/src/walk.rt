@@ -14,9 +14,9 @@ use cacache_core::text::Text;
 use cacache_store::store::{
     Answer, Kind, Listing, Name, PlainFile, PlainTemp, Step, Store, failed,
 };
-use cacache_table::Refusal;
 use cacache_table::answers::names_of;
-use cacache_walks::{Visit, Walk};
+use cacache_table::{Refusal, Visit};
+use cacache_walks::Walk;
 use std::alloc::{AllocError, Global};
 
 /// What the walk says of a fault.

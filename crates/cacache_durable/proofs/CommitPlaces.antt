@@ -17,7 +17,8 @@ use Rattle.cacache_table.specs.declared.command.Put.{Put}
 use Rattle.cacache_table.specs.declared.reply.Reply.{Reply}
 use Rattle.cacache_table.specs.declared.reply.Reply.TheVariants.{Stored}
 use Rattle.cacache_table.specs.StepPaths.{content_path, bucket_path}
-use Rattle.cacache_table.specs.State.{State, Commit, Insertion}
+use Rattle.cacache_table.specs.State.{State, Insertion}
+use Rattle.cacache_table.specs.declared.carried.Commit.{Commit}
 use Rattle.cacache_table.specs.Inserting.{bucket_line, insertion, refused_cause}
 use Rattle.cacache_table.specs.Runs.{Moves, Runs, Goes}
 use Rattle.cacache_table.specs.Sound.{FormedIfWritten, MayBegin}

@@ -7,7 +7,8 @@ use Rattle.cacache_store.specs.Plain.{PlainStep, PlainAnswer}
 use Rattle.cacache_table.specs.Answers.{done_in, temp_in, written_in, synced_in, there_in, taken_in}
 use Rattle.cacache_table.specs.Common.{fails}
 use Rattle.cacache_table.specs.Inserting.{bucket_line, recorded, after_append}
-use Rattle.cacache_table.specs.State.{State, doing, creating, writing, syncing, persisting, confirming, appending, over, Commit, make_folder, sync_file, sync_dir}
+use Rattle.cacache_table.specs.State.{State, doing, creating, writing, syncing, persisting, confirming, appending, over, make_folder, sync_file, sync_dir}
+use Rattle.cacache_table.specs.declared.carried.Commit.{Commit}
 use Rattle.cacache_table.specs.StepPaths.{content_path, temp_path, bucket_path}
 use Rattle.cacache_table.specs.Storing.{placed, settled, resettled, moved, write_rest, after_write, after_confirm}
 use Rattle.cacache_table.specs.Table.{wants, after}

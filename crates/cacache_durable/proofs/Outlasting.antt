@@ -16,7 +16,7 @@ use Rattle.cacache_table.specs.declared.reply.Reply.{Reply}
 use Rattle.cacache_table.specs.declared.reply.Reply.TheVariants.{Stored}
 use Rattle.cacache_table.specs.Inserting.{insertion}
 use Rattle.cacache_table.specs.Runs.{Moves}
-use Rattle.cacache_table.specs.State.{Commit}
+use Rattle.cacache_table.specs.declared.carried.Commit.{Commit}
 use Rattle.cacache_table.specs.StepPaths.{bucket_path, content_folders, content_path}
 use Rattle.cacache_table.specs.Storing.{insertion_of, put_commit}
 use Rattle.cacache_value.specs.Value.{value_of_tree}

@@ -16,7 +16,8 @@ use Rattle.cacache_table.specs.declared.command.Command.TheVariants as commands
 use Rattle.cacache_table.specs.declared.command.Put.{Put}
 use Rattle.cacache_table.specs.Answers.{done_in, temp_in, written_in, synced_in, there_in}
 use Rattle.cacache_table.specs.StepPaths.{content_path, content_folders}
-use Rattle.cacache_table.specs.State.{State, doing, creating, writing, syncing, persisting, confirming, Site, Commit, make_folder, sync_file}
+use Rattle.cacache_table.specs.State.{State, doing, creating, writing, syncing, persisting, confirming, Site, make_folder, sync_file}
+use Rattle.cacache_table.specs.declared.carried.Commit.{Commit}
 use Rattle.cacache_table.specs.Common.{ends_with, fails, go_on, sync_up}
 use Rattle.cacache_table.specs.Storing.{insertion_of, indexed, sized, matches, compared, placed, settled, resettled, moved, write_rest, after_write, after_confirm, put_commit}
 use Rattle.cacache_table.specs.Table.{opening}

@@ -20,7 +20,7 @@ use Rattle.cacache_table.specs.declared.command.Link.{Link}
 use Rattle.cacache_table.specs.declared.reply.Reply.{Reply}
 use Rattle.cacache_table.specs.declared.reply.Reply.TheVariants.{Stored}
 use Rattle.cacache_table.specs.StepPaths.{content_path}
-use Rattle.cacache_table.specs.State.{Commit}
+use Rattle.cacache_table.specs.declared.carried.Commit.{Commit}
 use Rattle.cacache_table.specs.Storing.{insertion_of, put_commit}
 use Rattle.cacache_table.specs.Inserting.{given_or}
 use Rattle.cacache_table.specs.Linking.{link_target, commit_for}

@@ -15,7 +15,12 @@ use Rattle.cacache_table.specs.declared.reply.Reply.TheVariants.{Listed, Done, R
 use Rattle.cacache_table.specs.Answers.{done_in, temp_in, written_in, synced_in, there_in, taken_in, names_in}
 use Rattle.cacache_table.specs.Common.{fails, go_on}
 use Rattle.cacache_table.specs.Inserting.{unless_refused, bucket_line, recorded, after_append, insertion, deletion, refused_cause}
-use Rattle.cacache_table.specs.State.{State, Site, doing, creating, writing, syncing, persisting, linking, confirming, appending, looking, reading, asking, sizing, opening_file, hashing, copying, walking, over, Commit, Insertion, Visit, enter, read_bucket, remove_file, remove_folder, Task, visit, stumble, Walk}
+use Rattle.cacache_table.specs.State.{State, Site, doing, creating, writing, syncing, persisting, linking, confirming, appending, looking, reading, asking, sizing, opening_file, hashing, copying, walking, over, Insertion, Walk}
+use Rattle.cacache_table.specs.declared.carried.Commit.{Commit}
+use Rattle.cacache_table.specs.declared.visit.Visit.{Visit}
+use Rattle.cacache_table.specs.declared.visit.Task.{Task}
+use Rattle.cacache_table.specs.declared.visit.Visit.TheVariants.{Enter, ReadBucket, RemoveFile, RemoveFolder}
+use Rattle.cacache_table.specs.declared.visit.Task.TheVariants.{Make, Stumble}
 use Rattle.cacache_table.specs.Storing.{insertion_of, indexed, sized, compared, placed, settled, write_rest, after_write, after_confirm, put_commit}
 use Rattle.cacache_table.specs.Walking.{failed, give, miss, walk_on, tasks_of, leaving, too_many, entered, after_visit}
 use Rattle.cacache_table.specs.Table.{after, opening}
@@ -97,11 +102,11 @@ module _ (w : Walk) (clears : w.clears ≡ true) where
 
   walk_calm : (todo : List Task) → Clears todo → Calm (walk_on todo w)
   walk_calm [] h = subst (λ b. Calm (cond b (over Done) (over (Listed w.items)))) (sym clears) tt
-  walk_calm (stumble fault ∷ todo) h = miss_calm (walk_on todo) fault
-  walk_calm (visit (enter p level) ∷ todo) h = (clears, tt, h)
-  walk_calm (visit (read_bucket p) ∷ todo) h = absurd h
-  walk_calm (visit (remove_file p) ∷ todo) h = (clears, tt, h)
-  walk_calm (visit (remove_folder p) ∷ todo) h = (clears, tt, h)
+  walk_calm (Stumble fault path ∷ todo) h = miss_calm (walk_on todo) fault
+  walk_calm (Make (Enter p level) ∷ todo) h = (clears, tt, h)
+  walk_calm (Make (ReadBucket p) ∷ todo) h = absurd h
+  walk_calm (Make (RemoveFile p) ∷ todo) h = (clears, tt, h)
+  walk_calm (Make (RemoveFolder p) ∷ todo) h = (clears, tt, h)
 
 module _ (w : Walk) (clears : w.clears ≡ true) (todo : List Task) (h : Clears todo) where
   entered_calm : (p : List ℕ) (level : ℕ) (names : List Name) → Calm (entered w p level todo names)
@@ -121,10 +126,10 @@ module _ (w : Walk) (clears : w.clears ≡ true) (todo : List Task) (h : Clears 
   goes = walk_calm w clears todo h
 
   visits : (v : Visit) (a : PlainAnswer) → ClearsAt v → Calm (after_visit w v todo a)
-  visits (enter p level) a is = go_on_leads Calm (names_in a) (miss w (walk_on todo)) (entered w p level todo) tt misses (λ names _. entered_calm p level names)
-  visits (read_bucket p) a is = absurd is
-  visits (remove_file p) a is = go_on_leads Calm (done_in a) (miss w (walk_on todo)) (λ _. walk_on todo w) tt misses (λ _ _. goes)
-  visits (remove_folder p) a is = go_on_leads Calm (done_in a) (miss w (walk_on todo)) (λ _. walk_on todo w) tt misses (λ _ _. goes)
+  visits (Enter p level) a is = go_on_leads Calm (names_in a) (miss w (walk_on todo)) (entered w p level todo) tt misses (λ names _. entered_calm p level names)
+  visits (ReadBucket p) a is = absurd is
+  visits (RemoveFile p) a is = go_on_leads Calm (done_in a) (miss w (walk_on todo)) (λ _. walk_on todo w) tt misses (λ _ _. goes)
+  visits (RemoveFolder p) a is = go_on_leads Calm (done_in a) (miss w (walk_on todo)) (λ _. walk_on todo w) tt misses (λ _ _. goes)
 
 -- ---- runs
 

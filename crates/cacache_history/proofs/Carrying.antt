@@ -33,7 +33,16 @@ use Rattle.cacache_table.specs.ContentReads.{checked, is_there, is_absent}
 use Rattle.cacache_table.specs.Exporting.{export_from, export_content, export, verified, counted}
 use Rattle.cacache_table.specs.Looking.{found_in, found_content, found_for, after_bucket, no_bucket}
 use Rattle.cacache_table.specs.Walking.{most, failed, give, miss, walk_on, tasks_of, leaving, too_many, entered, unread_bucket, listed, visit_step, after_visit, items_in}
-use Rattle.cacache_table.specs.State.{State, doing, creating, writing, syncing, persisting, linking, confirming, appending, looking, reading, asking, sizing, opening_file, hashing, copying, walking, over, Site, Commit, Insertion, Aim, to_report, to_read, to_export, to_remove, Lookup, Content, to_verify, to_link, Errand, make_folder, remove, reflink, hard_link, sync_file, sync_dir, Item, Visit, enter, read_bucket, remove_file, remove_folder, Task, visit, stumble, Walk}
+use Rattle.cacache_table.specs.State.{State, doing, creating, writing, syncing, persisting, linking, confirming, appending, looking, reading, asking, sizing, opening_file, hashing, copying, walking, over, Site, Insertion, to_verify, to_link, Errand, make_folder, remove, reflink, hard_link, sync_file, sync_dir, Item, Walk}
+use Rattle.cacache_table.specs.declared.carried.Commit.{Commit}
+use Rattle.cacache_table.specs.declared.carried.Aim.{Aim}
+use Rattle.cacache_table.specs.declared.carried.Lookup.{Lookup}
+use Rattle.cacache_table.specs.declared.carried.Content.{Content}
+use Rattle.cacache_table.specs.declared.visit.Visit.{Visit}
+use Rattle.cacache_table.specs.declared.visit.Task.{Task}
+use Rattle.cacache_table.specs.declared.visit.Visit.TheVariants.{Enter, ReadBucket, RemoveFile, RemoveFolder}
+use Rattle.cacache_table.specs.declared.visit.Task.TheVariants.{Make, Stumble}
+use Rattle.cacache_table.specs.declared.carried.Aim.TheVariants as aims
 use Rattle.cacache_table.specs.Answers.{done_in, temp_in, written_in, synced_in, there_in, taken_in, bytes_in, file_in, got_in, length_in, names_in}
 use Rattle.cacache_table.specs.Common.{ends_with, fails, errand_step}
 use Rattle.cacache_table.specs.Inserting.{insertion, deletion, unless_refused, refused_cause, bucket_line, recorded, after_append}
@@ -111,10 +120,10 @@ errand_makes own (sync_file path) = tt
 errand_makes own (sync_dir path) = tt
 
 visit_makes : (own : Own) (v : Visit) → Makes own (visit_step v)
-visit_makes own (enter p level) = tt
-visit_makes own (read_bucket p) = tt
-visit_makes own (remove_file p) = tt
-visit_makes own (remove_folder p) = tt
+visit_makes own (Enter p level) = tt
+visit_makes own (ReadBucket p) = tt
+visit_makes own (RemoveFile p) = tt
+visit_makes own (RemoveFolder p) = tt
 
 pub carries_makes : (own : Own) (s : State) (step : PlainStep) → Carries own s → wants s ≡ Some step → Makes own step
 carries_makes own (doing errand s) step h w = some_is (Makes own) _ step w (errand_makes own errand)
@@ -214,13 +223,13 @@ module _ (own : Own) where
       (λ _. exports_from e.how (content_path k.cache k.integrity) e.to (Some (length bytes))) (λ _. tt)
 
   founds : (l : Lookup) (aim : Aim) (found : Option Found) → Carries own (found_for l aim found)
-  founds l to_report found = tt
-  founds l to_remove None = tt
-  founds l to_remove (Some f) = tt
-  founds l to_read None = tt
-  founds l to_read (Some f) = tt
-  founds l (to_export e) None = tt
-  founds l (to_export e) (Some f) = exports (found_content l f) e
+  founds l aims.Report found = tt
+  founds l aims.Remove None = tt
+  founds l aims.Remove (Some f) = tt
+  founds l aims.Read None = tt
+  founds l aims.Read (Some f) = tt
+  founds l (aims.Export e) None = tt
+  founds l (aims.Export e) (Some f) = exports (found_content l f) e
 
   unfound : (l : Lookup) (fault : Fault) → Carries own (no_bucket l fault)
   unfound l faults.NotFound = founds l l.aim None
@@ -239,8 +248,8 @@ module _ (own : Own) where
 
   walks_on : (todo : List Task) (w : Walk) → Carries own (walk_on todo w)
   walks_on [] w = cond_leads (Carries own) w.clears (over Done) (over (Listed w.items)) (λ _. tt) (λ _. tt)
-  walks_on (stumble fault ∷ todo) w = misses w (walk_on todo) fault (walks_on todo)
-  walks_on (visit v ∷ todo) w = tt
+  walks_on (Stumble fault path ∷ todo) w = misses w (walk_on todo) fault (walks_on todo)
+  walks_on (Make v ∷ todo) w = tt
 
   enters : (w : Walk) (p : List ℕ) (level : ℕ) (todo : List Task) (names : List Name) → Carries own (entered w p level todo names)
   enters w p level todo names =
@@ -252,10 +261,10 @@ module _ (own : Own) where
   unread w todo fault = misses w (walk_on todo) fault (walks_on todo)
 
   visits : (w : Walk) (v : Visit) (todo : List Task) (a : PlainAnswer) → Carries own (after_visit w v todo a)
-  visits w (enter p level) todo a = go_on_leads (Carries own) (names_in a) (miss w (walk_on todo)) (entered w p level todo) tt (λ fault. misses w (walk_on todo) fault (walks_on todo)) (λ names e. enters w p level todo names)
-  visits w (read_bucket p) todo a = go_on_leads (Carries own) (bytes_in a) (unread_bucket w todo) (listed w todo) tt (λ fault. unread w todo fault) (λ bytes e. gives w (items_in bytes) (walk_on todo) (walks_on todo))
-  visits w (remove_file p) todo a = go_on_leads (Carries own) (done_in a) (miss w (walk_on todo)) (λ _. walk_on todo w) tt (λ fault. misses w (walk_on todo) fault (walks_on todo)) (λ x e. walks_on todo w)
-  visits w (remove_folder p) todo a = go_on_leads (Carries own) (done_in a) (miss w (walk_on todo)) (λ _. walk_on todo w) tt (λ fault. misses w (walk_on todo) fault (walks_on todo)) (λ x e. walks_on todo w)
+  visits w (Enter p level) todo a = go_on_leads (Carries own) (names_in a) (miss w (walk_on todo)) (entered w p level todo) tt (λ fault. misses w (walk_on todo) fault (walks_on todo)) (λ names e. enters w p level todo names)
+  visits w (ReadBucket p) todo a = go_on_leads (Carries own) (bytes_in a) (unread_bucket w todo) (listed w todo) tt (λ fault. unread w todo fault) (λ bytes e. gives w (items_in bytes) (walk_on todo) (walks_on todo))
+  visits w (RemoveFile p) todo a = go_on_leads (Carries own) (done_in a) (miss w (walk_on todo)) (λ _. walk_on todo w) tt (λ fault. misses w (walk_on todo) fault (walks_on todo)) (λ x e. walks_on todo w)
+  visits w (RemoveFolder p) todo a = go_on_leads (Carries own) (done_in a) (miss w (walk_on todo)) (λ _. walk_on todo w) tt (λ fault. misses w (walk_on todo) fault (walks_on todo)) (λ x e. walks_on todo w)
 
   -- ---- any step
 

@@ -16,7 +16,11 @@ use Rattle.cacache_table.specs.declared.answers.Refusal.{Refusal}
 use Rattle.cacache_table.specs.declared.answers.Refusal.TheVariants as refusals
 use Rattle.cacache_table.specs.Answers.{done_in, names_in}
 use Rattle.cacache_table.specs.Common.{fails, ends_with, go_on, refuse}
-use Rattle.cacache_table.specs.State.{State, walking, over, Visit, enter, read_bucket, remove_file, remove_folder, Task, visit, stumble, Walk}
+use Rattle.cacache_table.specs.State.{State, walking, over, Walk}
+use Rattle.cacache_table.specs.declared.visit.Visit.{Visit}
+use Rattle.cacache_table.specs.declared.visit.Task.{Task}
+use Rattle.cacache_table.specs.declared.visit.Visit.TheVariants.{Enter, ReadBucket, RemoveFile, RemoveFolder}
+use Rattle.cacache_table.specs.declared.visit.Task.TheVariants.{Make, Stumble}
 use Rattle.cacache_table.specs.Walking.{failed, give, miss, walk_on, tasks_of, leaving, too_many, entered}
 use Rattle.cacache_table.specs.Runs.{Moves, Runs}
 use Rattle.cacache_history.specs.Sequence.{tree_on, AreAnswered}
@@ -26,11 +30,11 @@ use Rattle.cacache_history.proofs.Cutting.{Shrinks, Gone, Removes, file_removed,
 
 -- a folder below the top one is removed, and so is all else
 abbrev pub TaskGone : Tree → Task → Type 0
-TaskGone t (visit (enter p level)) = (level == 0) ≡ false → Gone t p
-TaskGone t (visit (read_bucket p)) = Unit {0}
-TaskGone t (visit (remove_file p)) = Gone t p
-TaskGone t (visit (remove_folder p)) = Gone t p
-TaskGone t (stumble fault) = ⊥
+TaskGone t (Make (Enter p level)) = (level == 0) ≡ false → Gone t p
+TaskGone t (Make (ReadBucket p)) = Unit {0}
+TaskGone t (Make (RemoveFile p)) = Gone t p
+TaskGone t (Make (RemoveFolder p)) = Gone t p
+TaskGone t (Stumble fault path) = ⊥
 
 -- so it is of each task
 abbrev pub TasksGone : Tree → List Task → Type 0
@@ -78,18 +82,18 @@ module _ (w : Walk) (clears : w.clears ≡ true) (moves : Moves) where
 -- what holds of each visit with these moves holds of what the walk goes on with
 abbrev pub OfVisits : Moves → Type 0
 OfVisits moves =
-    (w : Walk) (v : Visit) (todo : List Task) (t : Tree) → w.clears ≡ true → ClearsAt v → Clears todo → Ends (walking w v todo) t moves → Cleared t (tree_on t moves) (visit v ∷ todo)
+    (w : Walk) (v : Visit) (todo : List Task) (t : Tree) → w.clears ≡ true → ClearsAt v → Clears todo → Ends (walking w v todo) t moves → Cleared t (tree_on t moves) (Make v ∷ todo)
 
 pub goes_on : (moves : Moves) → OfVisits moves → (todo : List Task) (w : Walk) (t : Tree) → w.clears ≡ true → Clears todo → Ends (walk_on todo w) t moves → Cleared t (tree_on t moves) todo
 goes_on moves visits [] w t clears k ends =
     let over_done = subst (λ b. Runs (cond b (over Done) (over (Listed w.items))) moves Done) clears ends.0 in
     let none = no_moves Done moves over_done in
     subst (λ ms. Cleared t (tree_on t ms) []) (sym none) (record { shrinks = λ names e. e; gone = tt })
-goes_on moves visits (stumble fault ∷ todo) w t clears k ends = absurd (never_misses w clears moves (walk_on todo) fault ends.0)
-goes_on moves visits (visit (enter p level) ∷ todo) w t clears k ends = visits w (enter p level) todo t clears tt k ends
-goes_on moves visits (visit (read_bucket p) ∷ todo) w t clears k ends = absurd k
-goes_on moves visits (visit (remove_file p) ∷ todo) w t clears k ends = visits w (remove_file p) todo t clears tt k ends
-goes_on moves visits (visit (remove_folder p) ∷ todo) w t clears k ends = visits w (remove_folder p) todo t clears tt k ends
+goes_on moves visits (Stumble fault path ∷ todo) w t clears k ends = absurd (never_misses w clears moves (walk_on todo) fault ends.0)
+goes_on moves visits (Make (Enter p level) ∷ todo) w t clears k ends = visits w (Enter p level) todo t clears tt k ends
+goes_on moves visits (Make (ReadBucket p) ∷ todo) w t clears k ends = absurd k
+goes_on moves visits (Make (RemoveFile p) ∷ todo) w t clears k ends = visits w (RemoveFile p) todo t clears tt k ends
+goes_on moves visits (Make (RemoveFolder p) ∷ todo) w t clears k ends = visits w (RemoveFolder p) todo t clears tt k ends
 
 -- the tasks of two lists
 pub tasks_front : (t : Tree) (xs ys : List Task) → TasksGone t (xs ++ ys) → TasksGone t xs
@@ -133,14 +137,14 @@ entered_so w clears p level todo moves (answers.NoMemory step) run = absurd (nev
 entered_so w clears p level todo moves other run = absurd (never_misses w clears moves (walk_on todo) faults.Device run)
 
 left_gone : (t : Tree) (p : List ℕ) (level : ℕ) → TasksGone t (leaving true level p) → (level == 0) ≡ false → Gone t p
-left_gone t p level h e = (subst (λ b. TasksGone t (cond b [] (visit (remove_folder p) ∷ []))) e h).0
+left_gone t p level h e = (subst (λ b. TasksGone t (cond b [] (Make (RemoveFolder p) ∷ []))) e h).0
 
 gone_stays : (t new : Tree) (p : List ℕ) → Shrinks t new → Gone t p → Gone new p
 gone_stays t new p shrinks h names e = shrinks names (h names e)
 
 pub cleared : (moves : Moves) → OfVisits moves
 cleared [] w v todo t clears at k ends = elim ends.0 [ inl e ↦ absurd cc | inr e ↦ absurd cc ]
-cleared (m ∷ moves) w (enter p level) todo t clears at k ends =
+cleared (m ∷ moves) w (Enter p level) todo t clears at k ends =
     let step : m.0 ≡ steps.ReadDir p = (let some : Some (steps.ReadDir p) ≡ Some m.0 = ends.0.0 in cc) in
     let same : (apply t m.0 Plain).1 ≡ t = ap (λ x. (apply t x Plain).1) step ∙ listing_keeps t p in
     let x = entered_so w clears p level todo moves m.1 ends.0.2 in
@@ -153,8 +157,8 @@ cleared (m ∷ moves) w (enter p level) todo t clears at k ends =
       shrinks = subst (λ x. Shrinks x (tree_on (apply t m.0 Plain).1 moves)) same h.shrinks;
       gone = (left_gone (tree_on (apply t m.0 Plain).1 moves) p level mine, back);
     }
-cleared (m ∷ moves) w (read_bucket p) todo t clears at k ends = absurd at
-cleared (m ∷ moves) w (remove_file p) todo t clears at k ends =
+cleared (m ∷ moves) w (ReadBucket p) todo t clears at k ends = absurd at
+cleared (m ∷ moves) w (RemoveFile p) todo t clears at k ends =
     let step : m.0 ≡ steps.RemoveFile p = (let some : Some (steps.RemoveFile p) ≡ Some m.0 = ends.0.0 in cc) in
     let removed : Removes t (apply t m.0 Plain).1 p m.1 = subst (λ a. Removes t (apply t m.0 Plain).1 p a) (sym ends.1.0) (subst (λ x. Removes t (apply t x Plain).1 p (apply t x Plain).0) (sym step) (file_removed t p)) in
     let d = done_so w clears todo moves m.1 ends.0.2 in
@@ -163,7 +167,7 @@ cleared (m ∷ moves) w (remove_file p) todo t clears at k ends =
       shrinks = λ names e. h.shrinks names (removed.shrinks names e);
       gone = (gone_stays (apply t m.0 Plain).1 (tree_on (apply t m.0 Plain).1 moves) p h.shrinks (removed.gone d.0), h.gone);
     }
-cleared (m ∷ moves) w (remove_folder p) todo t clears at k ends =
+cleared (m ∷ moves) w (RemoveFolder p) todo t clears at k ends =
     let step : m.0 ≡ steps.RemoveDir p = (let some : Some (steps.RemoveDir p) ≡ Some m.0 = ends.0.0 in cc) in
     let removed : Removes t (apply t m.0 Plain).1 p m.1 = subst (λ a. Removes t (apply t m.0 Plain).1 p a) (sym ends.1.0) (subst (λ x. Removes t (apply t x Plain).1 p (apply t x Plain).0) (sym step) (folder_removed t p)) in
     let d = done_so w clears todo moves m.1 ends.0.2 in

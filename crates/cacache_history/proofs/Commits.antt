@@ -14,7 +14,9 @@ use Rattle.cacache_table.specs.Linking.{link_target, commit_for}
 use Rattle.cacache_table.specs.StepPaths.{content_path, bucket_path}
 use Rattle.cacache_table.specs.Runs.{Runs, plain_reply}
 use Rattle.cacache_table.specs.Sound.{FormedIfWritten, SoundTarget, MayBegin}
-use Rattle.cacache_table.specs.State.{Commit, Insertion, Target}
+use Rattle.cacache_table.specs.State.{Insertion}
+use Rattle.cacache_table.specs.declared.carried.Commit.{Commit}
+use Rattle.cacache_table.specs.declared.target.Target.{Target}
 use Rattle.cacache_table.specs.Storing.{insertion_of, put_commit}
 use Rattle.cacache_table.specs.Table.{opening}
 use Rattle.cacache_table.proofs.Effects.{puts_commit, inserts_send, deletes_send}
@@ -60,7 +62,7 @@ module _ (own : Own) (reply : Option Reply) (r : Reply) (refused : IsRefused r �
       inr (k.0, k.1, content_deed own c k.0 k.3, k.2, adds_after c c.key h.0 k.1 formed k.4 h.2)
 
 module _ (s : Setup) (n : ℕ) (reply : Option Reply) (r : Reply) (refused : IsRefused r → IsNotOk reply) where
-  links : (t : Target) (turns : List Turn) → SoundTarget (call_site s n) t → Realizes (own_link t.path) (effects_of (made_in turns)) (deeds turns)
+  links : (t : Target ℕ) (turns : List Turn) → SoundTarget (call_site s n) t → Realizes (own_link t.path) (effects_of (made_in turns)) (deeds turns)
       → DoesNothing (effects_of (made_in turns)) r ⊎ ReadsTarget t.path (CommitsOf r t (made_in turns)) (made_in turns) → LinksAs t turns reply
   links t turns sound real (inl h) = inl (subst (λ x. Realizes (own_link t.path) x (deeds turns)) h.0 real, refused h.1)
   links t turns sound real (inr h) =

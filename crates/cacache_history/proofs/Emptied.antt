@@ -29,7 +29,8 @@ use Rattle.cacache_disk.proofs.FoundNodes.{and_then_ok, place_ok}
 use Rattle.cacache_disk.proofs.Maps.{same_path-true}
 use Rattle.cacache_disk.proofs.Roots.{same_self}
 use Rattle.cacache_table.specs.declared.reply.Reply.TheVariants.{Done}
-use Rattle.cacache_table.specs.State.{walking, enter, Walk}
+use Rattle.cacache_table.specs.State.{walking, Walk}
+use Rattle.cacache_table.specs.declared.visit.Visit.TheVariants.{Enter}
 use Rattle.cacache_table.specs.Walking.{task_of, tasks_of, leaving, most, walk}
 use Rattle.cacache_table.specs.Runs.{Moves, Runs}
 use Rattle.cacache_value.specs.Value.{blob_in, bucket_in, folders_below, empty_value, value_of_tree}
@@ -155,7 +156,7 @@ child_none t final cache names l rooted shrinks gone name (Some node) is =
     = joined_texts_name cache (name ∷ []) (All-cons IsProperName name [] proper (All-nil IsProperName)) (omega arith) ∙ ap (λ home. names_below home (name ∷ [])) (home_is cache l.home l.at) in
     subst (Gone final) path h (l.home ++ name ∷ []) named
 
-clearing : (t : Tree) (cache : List ℕ) (w : Walk) → w.clears ≡ true → Rooted t → (moves : Moves) → Ends (walking w (enter cache 0) []) t moves → Rooted (tree_on t moves)
+clearing : (t : Tree) (cache : List ℕ) (w : Walk) → w.clears ≡ true → Rooted t → (moves : Moves) → Ends (walking w (Enter cache 0) []) t moves → Rooted (tree_on t moves)
     → value_of_tree (home_of cache) (tree_on t moves) ≡ empty_value
 clearing t cache w clears rooted [] ends still = elim ends.0 [ inl e ↦ absurd cc | inr e ↦ absurd cc ]
 clearing t cache w clears rooted (m ∷ moves) ends still =

@@ -25,7 +25,9 @@ use Rattle.cacache_table.specs.Looking.{found_in, after_bucket, no_bucket}
 use Rattle.cacache_table.specs.StepPaths.{bucket_path}
 use Rattle.cacache_table.specs.Replies.{find_reply, bucket_shown, entries_shown}
 use Rattle.cacache_table.specs.Runs.{plain_reply}
-use Rattle.cacache_table.specs.State.{State, over, Lookup, to_report}
+use Rattle.cacache_table.specs.State.{State, over}
+use Rattle.cacache_table.specs.declared.carried.Lookup.{Lookup}
+use Rattle.cacache_table.specs.declared.carried.Aim.TheVariants as aims
 use Rattle.cacache_table.specs.Table.{wants, after}
 use Rattle.cacache_value.specs.Acts.{list_of}
 use Rattle.cacache_value.specs.Value.{Value}
@@ -148,7 +150,7 @@ made_fits cache key luck =
     (λ most. fits_read (bucket_path cache key) bare (file_at bare (bucket_path cache key) faults.IsADirectory))
 
 abbrev look : List ℕ → List ℕ → Lookup
-look cache key = record { cache = cache; key = key; aim = to_report }
+look cache key = record { cache = cache; key = key; aim = aims.Report }
 
 -- a lookup ends with what the answer gives, without a message
 looked : (cache key : List ℕ) (a : Result (List ℕ) Refusal) → go_on a (no_bucket (look cache key)) (after_bucket (look cache key)) ≡ over (plain_reply (find_reply key (entries_shown a)))

@@ -23,7 +23,9 @@ use Rattle.cacache_table.specs.Effects.{effect, effects_of, IsRefused, DoesNothi
 use Rattle.cacache_table.specs.Linking.{link_target, with_size, after_size, commit_for, after_read}
 use Rattle.cacache_table.specs.StepPaths.{temp_path, temp_folder, content_path}
 use Rattle.cacache_table.specs.Runs.{Moves, Runs}
-use Rattle.cacache_table.specs.State.{State, persisting, linking, confirming, sizing, opening_file, hashing, over, Site, Commit, Target, to_link}
+use Rattle.cacache_table.specs.State.{State, persisting, linking, confirming, sizing, opening_file, hashing, over, Site, to_link}
+use Rattle.cacache_table.specs.declared.carried.Commit.{Commit}
+use Rattle.cacache_table.specs.declared.target.Target.{Target}
 use Rattle.cacache_table.specs.Storing.{persist, link, write_rest, settled, moved}
 use Rattle.cacache_table.specs.Table.{piece, opening}
 use Rattle.cacache_table.specs.Verifying.{Gives, ReadsWhole}
@@ -100,17 +102,17 @@ written r c file (b ∷ bs) moves run = record {
   same = refl;
 }
 
-abbrev put_of : Target → List ℕ → Put
+abbrev put_of : Target ℕ → List ℕ → Put
 put_of t bytes = record { key = t.key; «data» = bytes; moment = t.moment; options = record t.options { durable = false } }
 
-abbrev put_site : Target → Site
+abbrev put_site : Target ℕ → Site
 put_site t = record { cache = t.cache; base = []; number = 0 }
 
-abbrev empty_file : Target → PlainTemp
+abbrev empty_file : Target ℕ → PlainTemp
 empty_file t = record { path = temp_path t.cache 0; bytes = Some [] }
 
 -- the put of a link's bytes has the link's commit
-link_commits : (r : Reply) (t : Target) (bytes : List ℕ) (moves : Moves) → Runs (link (commit_for t bytes) t.path) moves r → Commits (commit_for t bytes) (effects_of moves) r
+link_commits : (r : Reply) (t : Target ℕ) (bytes : List ℕ) (moves : Moves) → Runs (link (commit_for t bytes) t.path) moves r → Commits (commit_for t bytes) (effects_of moves) r
 link_commits r t bytes moves run =
     let c = commit_for t bytes in
     let x = into_folder r c t.path (empty_file t) moves run in
@@ -133,7 +135,7 @@ module _ (r : Reply) where
 
 -- ---- the target is read
 
-module _ (r : Reply) (t : Target) where
+module _ (r : Reply) (t : Target ℕ) where
   -- the link's commit, where these bytes were read
   abbrev pub CommitsOf : Moves → List ℕ → Type 0
   CommitsOf moves bytes = (length bytes < 2 ^ 64) × Commits (commit_for t bytes) (effects_of moves) r
@@ -178,7 +180,7 @@ module _ (r : Reply) (t : Target) where
       by_answer (answers.NoMemory step) fits run = inl (over_nothing r _ moves run)
       by_answer x fits run = absurd fits
 
-sizes : (r : Reply) (t : Target) (moves : Moves) → Runs (sizing t) moves r → DoesNothing (effects_of moves) r ⊎ ReadsTarget t.path (CommitsOf r t moves) moves
+sizes : (r : Reply) (t : Target ℕ) (moves : Moves) → Runs (sizing t) moves r → DoesNothing (effects_of moves) r ⊎ ReadsTarget t.path (CommitsOf r t moves) moves
 sizes r t [] (inl e) = absurd cc
 sizes r t [] (inr e) = inl (refl, subst IsRefused (sym e) tt)
 sizes r t ((a, x) ∷ moves) run =

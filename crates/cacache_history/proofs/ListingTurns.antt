@@ -26,7 +26,11 @@ use Rattle.cacache_table.specs.Common.{fails, go_on}
 use Rattle.cacache_table.specs.ListReplies.{by_bucket, by_folder, given_by, too_deep}
 use Rattle.cacache_table.specs.StepPaths.{bucket_path}
 use Rattle.cacache_table.specs.Runs.{Runs, plain_reply}
-use Rattle.cacache_table.specs.State.{State, walking, over, Item, Visit, enter, read_bucket, remove_file, remove_folder, Task, visit, stumble, Walk}
+use Rattle.cacache_table.specs.State.{State, walking, over, Item, Walk}
+use Rattle.cacache_table.specs.declared.visit.Visit.{Visit}
+use Rattle.cacache_table.specs.declared.visit.Task.{Task}
+use Rattle.cacache_table.specs.declared.visit.Visit.TheVariants.{Enter, ReadBucket, RemoveFile, RemoveFolder}
+use Rattle.cacache_table.specs.declared.visit.Task.TheVariants.{Make, Stumble}
 use Rattle.cacache_table.specs.Table.{wants, after, opening}
 use Rattle.cacache_table.specs.Walking.{most, failed, give, miss, walk_on, tasks_of, leaving, too_many, entered, unread_bucket, listed, items_in, visit_step, after_visit}
 use Rattle.cacache_table.proofs.Branches.{cond_leads}
@@ -58,7 +62,7 @@ module _ (s : Setup) (r : Reply) where
   Gives w tasks turns = (items : List Item) × TurnsGive s turns items × ((r ≡ Refused OutOfMemory) ⊎ ((r ≡ Listed (ended w.items w.left turns items)) × Finds w tasks turns items))
 
   abbrev Rest : State → List Turn → Type 0
-  Rest (walking w v todo) turns = w.clears ≡ false → length w.items ≤ most → Visits s v → Tasks s todo → Gives w (visit v ∷ todo) turns
+  Rest (walking w v todo) turns = w.clears ≡ false → length w.items ≤ most → Visits s v → Tasks s todo → Gives w (Make v ∷ todo) turns
   Rest (over reply) turns = (turns ≡ []) × ((r ≡ reply) ⊎ (r ≡ Refused OutOfMemory))
   Rest st turns = Unit {0}
 
@@ -111,57 +115,57 @@ module _ (s : Setup) (r : Reply) where
   goes_on turns [] tasks w e le h =
       let end : Rest (over (Listed w.items)) turns = pick (λ st. Rest st turns) w.clears (over Done) (over (Listed w.items)) e h in
       no_more w turns le end.0 end.1
-  goes_on turns (visit v ∷ todo) tasks w e le h = h e le tasks.0 tasks.1
-  goes_on turns (stumble fault ∷ todo) tasks w e le h = absurd tasks
+  goes_on turns (Make v ∷ todo) tasks w e le h = h e le tasks.0 tasks.1
+  goes_on turns (Stumble fault path ∷ todo) tasks w e le h = absurd tasks
 
   module _ (turn : Turn) (turns : List Turn) (v : Visit) (todo : List Task) (tasks : Tasks s todo) (w : Walk) (e : w.clears ≡ false) (le : length w.items ≤ most) where
-    gives : (new : List Item) → count_in (names_in turn.move.answer) ≡ 0 → TurnGives s turn turn.move.step new → Follows turn (visit v ∷ todo) todo → Rest (give w new (walk_on todo)) turns → Gives w (visit v ∷ todo) (turn ∷ turns)
+    gives : (new : List Item) → count_in (names_in turn.move.answer) ≡ 0 → TurnGives s turn turn.move.step new → Follows turn (Make v ∷ todo) todo → Rest (give w new (walk_on todo)) turns → Gives w (Make v ∷ todo) (turn ∷ turns)
     gives new none own follows h =
         let next : Walk = record w { items = w.items ++ new } in
         let full : Walk = record w { items = take most (w.items ++ new) } in
-        cond_leads (λ st. Rest st turns → Gives w (visit v ∷ todo) (turn ∷ turns)) (nat_le (length w.items + length new) most) (walk_on todo next) (too_many full)
+        cond_leads (λ st. Rest st turns → Gives w (Make v ∷ todo) (turn ∷ turns)) (nat_le (length w.items + length new) most) (walk_on todo next) (too_many full)
         (λ fits g.
         let short : length (w.items ++ new) ≤ most = omega (arith, leb-true (length w.items + length new) most fits, length-append w.items new) in
-        more w next (visit v ∷ todo) todo new 0 turn turns refl (omega arith) (sym none) (omega arith) own follows (goes_on turns todo tasks next e short g))
+        more w next (Make v ∷ todo) todo new 0 turn turns refl (omega arith) (sym none) (omega arith) own follows (goes_on turns todo tasks next e short g))
         (λ long g.
         let far : most < length (w.items ++ new) = omega (arith, leb-false (length w.items + length new) most long, length-append w.items new) in
         let end : Rest (over (Listed (take most (w.items ++ new) ++ too_deep ∷ []))) turns = pick (λ st. Rest st turns) w.clears (fails faults.TooDeep) (over (Listed (take most (w.items ++ new) ++ too_deep ∷ []))) e g in
-        past w (visit v ∷ todo) new (take most (w.items ++ new) ++ too_deep ∷ []) turn turns own (ap (λ b. nat_lt w.left (count_in (names_in turn.move.answer) + 0) || b) (is_lt most (length (w.items ++ new)) far) ∙ or_true _) refl end.0 end.1)
+        past w (Make v ∷ todo) new (take most (w.items ++ new) ++ too_deep ∷ []) turn turns own (ap (λ b. nat_lt w.left (count_in (names_in turn.move.answer) + 0) || b) (is_lt most (length (w.items ++ new)) far) ∙ or_true _) refl end.0 end.1)
         h
 
-    misses : (fault : Fault) → count_in (names_in turn.move.answer) ≡ 0 → TurnGives s turn turn.move.step (failed fault ∷ []) → Follows turn (visit v ∷ todo) todo → Rest (miss w (walk_on todo) fault) turns → Gives w (visit v ∷ todo) (turn ∷ turns)
+    misses : (fault : Fault) → count_in (names_in turn.move.answer) ≡ 0 → TurnGives s turn turn.move.step (failed fault ∷ []) → Follows turn (Make v ∷ todo) todo → Rest (miss w (walk_on todo) fault) turns → Gives w (Make v ∷ todo) (turn ∷ turns)
     misses fault none own follows h = gives (failed fault ∷ []) none own follows (pick (λ st. Rest st turns) w.clears (fails fault) (give w (failed fault ∷ []) (walk_on todo)) e h)
 
-    skips : count_in (names_in turn.move.answer) ≡ 0 → TurnGives s turn turn.move.step [] → Follows turn (visit v ∷ todo) todo → Rest (walk_on todo w) turns → Gives w (visit v ∷ todo) (turn ∷ turns)
-    skips none own follows h = more w w (visit v ∷ todo) todo [] 0 turn turns (sym (append-nil w.items)) (omega arith) (sym none) (omega arith) own follows (goes_on turns todo tasks w e le h)
+    skips : count_in (names_in turn.move.answer) ≡ 0 → TurnGives s turn turn.move.step [] → Follows turn (Make v ∷ todo) todo → Rest (walk_on todo w) turns → Gives w (Make v ∷ todo) (turn ∷ turns)
+    skips none own follows h = more w w (Make v ∷ todo) todo [] 0 turn turns (sym (append-nil w.items)) (omega arith) (sym none) (omega arith) own follows (goes_on turns todo tasks w e le h)
 
     enters : (p : List ℕ) (level : ℕ) (a : Result (List Name) Refusal) → names_in turn.move.answer ≡ a → ((ns : List Name) → a ≡ Ok ns → Tasks s (tasks_of w.clears level p ns))
-        → ((ns : List Name) → a ≡ Ok ns → Follows turn (visit v ∷ todo) (tasks_of w.clears level p ns ++ leaving w.clears level p ++ todo)) → ((refusal : Refusal) → a ≡ Err refusal → Follows turn (visit v ∷ todo) todo)
-        → TurnGives s turn turn.move.step (by_folder a) → Rest (go_on a (miss w (walk_on todo)) (entered w p level todo)) turns → Gives w (visit v ∷ todo) (turn ∷ turns)
+        → ((ns : List Name) → a ≡ Ok ns → Follows turn (Make v ∷ todo) (tasks_of w.clears level p ns ++ leaving w.clears level p ++ todo)) → ((refusal : Refusal) → a ≡ Err refusal → Follows turn (Make v ∷ todo) todo)
+        → TurnGives s turn turn.move.step (by_folder a) → Rest (go_on a (miss w (walk_on todo)) (entered w p level todo)) turns → Gives w (Make v ∷ todo) (turn ∷ turns)
     enters p level (Ok ns) is brings leads missed own h =
         let next : Walk = record w { left = w.left - length ns } in
         let all : List Task = tasks_of w.clears level p ns ++ leaving w.clears level p ++ todo in
         let kept : Tasks s (tasks_of w.clears level p ns ++ leaving w.clears level p ++ todo)
         = tasks_append s (tasks_of w.clears level p ns ++ leaving w.clears level p) todo (tasks_append s (tasks_of w.clears level p ns) (leaving w.clears level p) (brings ns refl) (no_leaving s w.clears level p e)) tasks in
         let count : length ns ≡ count_in (names_in turn.move.answer) = ap count_in (sym is) in
-        cond_leads (λ st. Rest st turns → Gives w (visit v ∷ todo) (turn ∷ turns)) (nat_le (length ns) w.left) (walk_on all next) (too_many w)
-        (λ fits g. more w next (visit v ∷ todo) all [] (length ns) turn turns (sym (append-nil w.items)) refl count (leb-true (length ns) w.left fits) own (leads ns refl) (goes_on turns all kept next e le g))
+        cond_leads (λ st. Rest st turns → Gives w (Make v ∷ todo) (turn ∷ turns)) (nat_le (length ns) w.left) (walk_on all next) (too_many w)
+        (λ fits g. more w next (Make v ∷ todo) all [] (length ns) turn turns (sym (append-nil w.items)) refl count (leb-true (length ns) w.left fits) own (leads ns refl) (goes_on turns all kept next e le g))
         (λ long g.
         let far : w.left < length ns + 0 = omega (arith, leb-false (length ns) w.left long) in
         let end : Rest (over (Listed (w.items ++ too_deep ∷ []))) turns = pick (λ st. Rest st turns) w.clears (fails faults.TooDeep) (over (Listed (w.items ++ too_deep ∷ []))) e g in
-        past w (visit v ∷ todo) [] (w.items ++ too_deep ∷ []) turn turns own
+        past w (Make v ∷ todo) [] (w.items ++ too_deep ∷ []) turn turns own
         (ap (λ b. b || nat_lt most (length (w.items ++ []))) (ap (λ n. nat_lt w.left (n + 0)) (sym count) ∙ is_lt w.left (length ns + 0) far))
         (ap (λ l. l ++ too_deep ∷ []) (sym (ap (take most) (append-nil w.items) ∙ take_all most w.items le))) end.0 end.1)
         h
     enters p level (Err (refusals.Fault fault)) is brings leads missed own h = misses fault (ap count_in is) own (missed (refusals.Fault fault) refl) h
-    enters p level (Err refusals.Memory) is brings leads missed own h = lost w (visit v ∷ todo) [] turn turns own h
+    enters p level (Err refusals.Memory) is brings leads missed own h = lost w (Make v ∷ todo) [] turn turns own h
 
-    reads : (a : Result (List ℕ) Refusal) → count_in (names_in turn.move.answer) ≡ 0 → TurnGives s turn turn.move.step (by_bucket a) → Follows turn (visit v ∷ todo) todo
-        → Rest (go_on a (unread_bucket w todo) (listed w todo)) turns → Gives w (visit v ∷ todo) (turn ∷ turns)
+    reads : (a : Result (List ℕ) Refusal) → count_in (names_in turn.move.answer) ≡ 0 → TurnGives s turn turn.move.step (by_bucket a) → Follows turn (Make v ∷ todo) todo
+        → Rest (go_on a (unread_bucket w todo) (listed w todo)) turns → Gives w (Make v ∷ todo) (turn ∷ turns)
     reads (Ok bytes) none own follows h = gives (items_in bytes) none own follows h
     reads (Err (refusals.Fault faults.NotFound)) none own follows h = skips none own follows h
     reads (Err (refusals.Fault fault)) none own follows h = misses fault none own follows h
-    reads (Err refusals.Memory) none own follows h = lost w (visit v ∷ todo) [] turn turns own h
+    reads (Err refusals.Memory) none own follows h = lost w (Make v ∷ todo) [] turn turns own h
 
   -- ---- any visit
 
@@ -174,7 +178,7 @@ module _ (s : Setup) (r : Reply) where
   step_gives turn step items is h = subst (λ x. TurnGives s turn x items) is h
 
   -- what a bucket's turn gives is what the value holds
-  bucket_gives : (turn : Turn) (p : List ℕ) (v : Visits s (read_bucket p)) → TurnHolds s turn → KeyedTurn s turn → steps.ReadAll p ≡ turn.move.step → TurnGives s turn turn.move.step (by_bucket (bytes_in turn.move.answer))
+  bucket_gives : (turn : Turn) (p : List ℕ) (v : Visits s (ReadBucket p)) → TurnHolds s turn → KeyedTurn s turn → steps.ReadAll p ≡ turn.move.step → TurnGives s turn turn.move.step (by_bucket (bytes_in turn.move.answer))
   bucket_gives turn p v holds keyed is =
       let path : turn.move.step ≡ steps.ReadAll (bucket_path s.cache v.0) = sym is ∙ ap steps.ReadAll v.1 in
       let shown = lists_bucket s turn holds (bucket_path s.cache v.0) (sha1 v.0) path (bucket_below s v.0) in
@@ -184,12 +188,12 @@ module _ (s : Setup) (r : Reply) where
 
   module _ (turn : Turn) where
     -- the bucket that a visit leads to is read
-    reads_follow : (p : List ℕ) (todo : List Task) → steps.ReadAll p ≡ turn.move.step → Follows turn (visit (read_bucket p) ∷ todo) todo
+    reads_follow : (p : List ℕ) (todo : List Task) → steps.ReadAll p ≡ turn.move.step → Follows turn (Make (ReadBucket p) ∷ todo) todo
     reads_follow p todo is key has (inl c) = inl (inl (sym is ∙ ap steps.ReadAll c))
     reads_follow p todo is key has (inr c) = inr c
 
     fails_follow : (p : List ℕ) (level : ℕ) (todo : List Task) (refusal : Refusal) → steps.ReadDir p ≡ turn.move.step → names_in turn.move.answer ≡ Err refusal
-        → Follows turn (visit (enter p level) ∷ todo) todo
+        → Follows turn (Make (Enter p level) ∷ todo) todo
     fails_follow p level todo refusal is e key has (inl c) =
         let front : codes "index-v5" ∷ c.0 ≡ take (length (codes "index-v5" ∷ c.0)) (bucket_names key)
         = sym (take_at (codes "index-v5" ∷ c.0) (c.1 ∷ c.2) (length (codes "index-v5" ∷ c.0)) refl) ∙ ap (take (length (codes "index-v5" ∷ c.0))) c.4 in
@@ -197,23 +201,23 @@ module _ (s : Setup) (r : Reply) where
     fails_follow p level todo refusal is e key has (inr c) = inr c
 
     enters_follow : (p : List ℕ) (level : ℕ) (w : Walk) (todo : List Task) (ns : List Name) → w.clears ≡ false → TurnHolds s turn → steps.ReadDir p ≡ turn.move.step → names_in turn.move.answer ≡ Ok ns
-        → Follows turn (visit (enter p level) ∷ todo) (tasks_of w.clears level p ns ++ leaving w.clears level p ++ todo)
+        → Follows turn (Make (Enter p level) ∷ todo) (tasks_of w.clears level p ns ++ leaving w.clears level p ++ todo)
     enters_follow p level w todo ns no_clear holds is e key has (inl c) =
         inr (covers_left s key (tasks_of w.clears level p ns ++ leaving w.clears level p) todo
         (covers_left s key (tasks_of w.clears level p ns) (leaving w.clears level p) (folder_covers s turn p level ns w.clears no_clear holds is e key has c)))
     enters_follow p level w todo ns no_clear holds is e key has (inr c) = inr (covers_right s key (tasks_of w.clears level p ns ++ leaving w.clears level p) todo c)
 
   visit_gives : (w : Walk) (v : Visit) (todo : List Task) (turn : Turn) (turns : List Turn) → TurnHolds s turn → KeyedTurn s turn → visit_step v ≡ turn.move.step → w.clears ≡ false
-      → length w.items ≤ most → Visits s v → Tasks s todo → Rest (after_visit w v todo turn.move.answer) turns → Gives w (visit v ∷ todo) (turn ∷ turns)
-  visit_gives w (enter p level) todo turn turns holds keyed is e le visits tasks h =
-      enters turn turns (enter p level) todo tasks w e le p level (names_in turn.move.answer) refl (λ ns k. folder_tasks s turn p level ns w.clears e holds keyed is visits k)
+      → length w.items ≤ most → Visits s v → Tasks s todo → Rest (after_visit w v todo turn.move.answer) turns → Gives w (Make v ∷ todo) (turn ∷ turns)
+  visit_gives w (Enter p level) todo turn turns holds keyed is e le visits tasks h =
+      enters turn turns (Enter p level) todo tasks w e le p level (names_in turn.move.answer) refl (λ ns k. folder_tasks s turn p level ns w.clears e holds keyed is visits k)
       (λ ns k. enters_follow turn p level w todo ns e holds is k) (λ refusal k. fails_follow turn p level todo refusal is k)
       (step_gives turn (steps.ReadDir p) (by_folder (names_in turn.move.answer)) is (visits.0, refl)) h
-  visit_gives w (read_bucket p) todo turn turns holds keyed is e le visits tasks h =
-      reads turn turns (read_bucket p) todo tasks w e le (bytes_in turn.move.answer) (no_names p turn.move.answer (subst (λ x. Fits x turn.move.answer) (sym is) holds.fits))
+  visit_gives w (ReadBucket p) todo turn turns holds keyed is e le visits tasks h =
+      reads turn turns (ReadBucket p) todo tasks w e le (bytes_in turn.move.answer) (no_names p turn.move.answer (subst (λ x. Fits x turn.move.answer) (sym is) holds.fits))
       (bucket_gives turn p visits holds keyed is) (reads_follow turn p todo is) h
-  visit_gives w (remove_file p) todo turn turns holds keyed is e le visits tasks h = absurd visits
-  visit_gives w (remove_folder p) todo turn turns holds keyed is e le visits tasks h = absurd visits
+  visit_gives w (RemoveFile p) todo turn turns holds keyed is e le visits tasks h = absurd visits
+  visit_gives w (RemoveFolder p) todo turn turns holds keyed is e le visits tasks h = absurd visits
 
   -- ---- runs
 
@@ -236,7 +240,7 @@ module _ (s : Setup) (r : Reply) where
   runs_rest st (turn ∷ turns) hold keyed run = before st turn turns hold.0 keyed.0 run.0 (runs_rest (after st turn.move.answer) turns hold.1 keyed.1 run.2)
 
   -- the walk begins above each bucket
-  top_covers : (key : List ℕ) → CoversAny s key (visit (enter (join s.cache (codes "index-v5")) 0) ∷ [])
+  top_covers : (key : List ℕ) → CoversAny s key (Make (Enter (join s.cache (codes "index-v5")) 0) ∷ [])
   top_covers key = inl ([], take 2 (encode_lower (sha1 key)), take 2 (drop 2 (encode_lower (sha1 key))) ∷ drop 4 (encode_lower (sha1 key)) ∷ [], refl, refl, refl)
 
   pub runs_list : (n : ℕ) (turns : List Turn) → TurnsHold s turns → EachTurn (KeyedTurn s) turns → Runs (opening (call_site s n) commands.Ls) (made_in turns) r

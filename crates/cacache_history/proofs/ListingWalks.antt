@@ -27,7 +27,10 @@ use Rattle.cacache_entry.specs.Entry.{Entry}
 use Rattle.cacache_disk.specs.Apply.{apply}
 use Rattle.cacache_table.specs.Answers.{names_in}
 use Rattle.cacache_table.specs.StepPaths.{bucket_path}
-use Rattle.cacache_table.specs.State.{Visit, enter, read_bucket, Task, visit, stumble}
+use Rattle.cacache_table.specs.declared.visit.Visit.{Visit}
+use Rattle.cacache_table.specs.declared.visit.Task.{Task}
+use Rattle.cacache_table.specs.declared.visit.Visit.TheVariants.{Enter, ReadBucket}
+use Rattle.cacache_table.specs.declared.visit.Task.TheVariants.{Make, Stumble}
 use Rattle.cacache_table.specs.Walking.{task_of, tasks_of, leaving}
 use Rattle.cacache_value.specs.Kinds.{Bucket, kind_in_area, kind_beside, path_kind, node_below}
 use Rattle.cacache_value.specs.Value.{bucket_in}
@@ -45,19 +48,19 @@ use Rattle.cacache_history.proofs.Bucketed.{KeyedTurn}
 
 -- a folder of the index at its level, or the bucket of a key
 abbrev pub Visits : Setup → Visit → Type 0
-Visits s (enter p level) = IsIndexFolder s p × ((names : Names) × All IsProperName names × (length names ≤ 2) × (p ≡ joined s.cache (codes "index-v5" ∷ names)) × (level ≡ length names))
-Visits s (read_bucket p) = (key : List ℕ) × (p ≡ bucket_path s.cache key)
+Visits s (Enter p level) = IsIndexFolder s p × ((names : Names) × All IsProperName names × (length names ≤ 2) × (p ≡ joined s.cache (codes "index-v5" ∷ names)) × (level ≡ length names))
+Visits s (ReadBucket p) = (key : List ℕ) × (p ≡ bucket_path s.cache key)
 Visits s v = ⊥
 
 abbrev pub Tasks : Setup → List Task → Type 0
 Tasks s [] = Unit {0}
-Tasks s (visit v ∷ todo) = Visits s v × Tasks s todo
-Tasks s (stumble fault ∷ todo) = ⊥
+Tasks s (Make v ∷ todo) = Visits s v × Tasks s todo
+Tasks s (Stumble fault path ∷ todo) = ⊥
 
 pub tasks_append : (s : Setup) (a b : List Task) → Tasks s a → Tasks s b → Tasks s (a ++ b)
 tasks_append s [] b h k = k
-tasks_append s (visit v ∷ a) b h k = (h.0, tasks_append s a b h.1 k)
-tasks_append s (stumble fault ∷ a) b h k = absurd h
+tasks_append s (Make v ∷ a) b h k = (h.0, tasks_append s a b h.1 k)
+tasks_append s (Stumble fault path ∷ a) b h k = absurd h
 
 -- ---- what may stand below the index folder
 
@@ -115,13 +118,13 @@ module _ (s : Setup) (t : Tree) (folder names : Names) (placed : Placed (Some fo
   child_suits : (n : List ℕ) (node : Node) → look t (child n) ≡ Some node → MayStand (Some folder) (Some node) (kind_in_area Bucket 3 (names ++ n ∷ []))
   child_suits n node there = subst (MayStand (Some folder) (Some node)) (child_kind n) (subst (λ here. MayStand (Some folder) here (path_kind (Some folder) (child n))) there (placed (child n)))
 
-  child_enters : (n : List ℕ) (level : ℕ) → IsProperName n → level ≡ length names → length (names ++ n ∷ []) < 3 → Visits s (enter (join p n) (level + 1))
+  child_enters : (n : List ℕ) (level : ℕ) → IsProperName n → level ≡ length names → length (names ++ n ∷ []) < 3 → Visits s (Enter (join p n) (level + 1))
   child_enters n level own at low =
       let all : All IsProperName (names ++ n ∷ []) = All-append IsProperName names (n ∷ []) proper (All-cons IsProperName n [] own (All-nil IsProperName)) in
       let le : length (names ++ n ∷ []) ≤ 2 = omega (arith, low) in
       ((names ++ n ∷ [], all, le, sym (child_path n)), (names ++ n ∷ [], all, le, sym (child_path n), omega (arith, at, length-append names (n ∷ []))))
 
-  child_reads : (n : List ℕ) (node : Node) → look t (child n) ≡ Some node → kind_in_area Bucket 3 (names ++ n ∷ []) ≡ Bucket → Visits s (read_bucket (join p n))
+  child_reads : (n : List ℕ) (node : Node) → look t (child n) ≡ Some node → kind_in_area Bucket 3 (names ++ n ∷ []) ≡ Bucket → Visits s (ReadBucket (join p n))
   unfolding child bucket_path
   child_reads n node there k =
       let own = keyed (child n) node (child_kind n ∙ k) there in
@@ -134,7 +137,7 @@ module _ (s : Setup) (t : Tree) (folder names : Names) (placed : Placed (Some fo
       → Tasks s (task_of false level (join p n) (kind_of node) ∷ todo)
   node_task n level Folder todo own at there h = by (nat_lt level 16) refl
     where
-      by : (b : Bool) → nat_lt level 16 ≡ b → Tasks s (cond b (visit (enter (join p n) (level + 1))) (stumble faults.TooDeep) ∷ todo)
+      by : (b : Bool) → nat_lt level 16 ≡ b → Tasks s (cond b (Make (Enter (join p n) (level + 1))) (Stumble faults.TooDeep (join p n)) ∷ todo)
       by true e = (child_enters n level own at (folder_high (Some folder) 3 (names ++ n ∷ []) (child_suits n Folder there)), h)
       by false e = absurd (omega (arith, ltb-false level 16 e, at, high))
   node_task n level (File bytes) todo own at there h =
@@ -171,7 +174,7 @@ proper_names p other ns fits e = absurd cc
 
 -- the tasks that a folder brings
 pub folder_tasks : (s : Setup) (turn : Turn) (p : List ℕ) (level : ℕ) (ns : List Name) (clears : Bool) → clears ≡ false → TurnHolds s turn → KeyedTurn s turn
-    → steps.ReadDir p ≡ turn.move.step → Visits s (enter p level) → names_in turn.move.answer ≡ Ok ns → Tasks s (tasks_of clears level p ns)
+    → steps.ReadDir p ≡ turn.move.step → Visits s (Enter p level) → names_in turn.move.answer ≡ Ok ns → Tasks s (tasks_of clears level p ns)
 folder_tasks s turn p level ns true no_clear holds keyed step v e = absurd cc
 folder_tasks s turn p level ns false no_clear holds keyed step v e =
     let answer : turn.move.answer ≡ (apply turn.place (steps.ReadDir p) turn.move.luck).0 = holds.answered ∙ ap (λ x. (apply turn.place x turn.move.luck).0) (sym step) in
@@ -188,26 +191,26 @@ folder_tasks s turn p level ns false no_clear holds keyed step v e =
 
 -- a visit that leads to the bucket of a key
 abbrev pub Covers : Setup → List ℕ → Visit → Type 0
-Covers s key (enter p level) =
+Covers s key (Enter p level) =
     (names : Names) × (x : List ℕ) × (rest : Names) × (p ≡ joined s.cache (codes "index-v5" ∷ names)) × (codes "index-v5" ∷ names ++ x ∷ rest ≡ bucket_names key) × (level ≡ length names)
-Covers s key (read_bucket p) = p ≡ bucket_path s.cache key
+Covers s key (ReadBucket p) = p ≡ bucket_path s.cache key
 Covers s key v = ⊥
 
 abbrev pub CoversAny : Setup → List ℕ → List Task → Type 0
 CoversAny s key [] = ⊥
-CoversAny s key (visit v ∷ todo) = Covers s key v ⊎ CoversAny s key todo
-CoversAny s key (stumble fault ∷ todo) = CoversAny s key todo
+CoversAny s key (Make v ∷ todo) = Covers s key v ⊎ CoversAny s key todo
+CoversAny s key (Stumble fault path ∷ todo) = CoversAny s key todo
 
 pub covers_left : (s : Setup) (key : List ℕ) (a b : List Task) → CoversAny s key a → CoversAny s key (a ++ b)
 covers_left s key [] b h = absurd h
-covers_left s key (visit v ∷ a) b (inl c) = inl c
-covers_left s key (visit v ∷ a) b (inr h) = inr (covers_left s key a b h)
-covers_left s key (stumble fault ∷ a) b h = covers_left s key a b h
+covers_left s key (Make v ∷ a) b (inl c) = inl c
+covers_left s key (Make v ∷ a) b (inr h) = inr (covers_left s key a b h)
+covers_left s key (Stumble fault path ∷ a) b h = covers_left s key a b h
 
 pub covers_right : (s : Setup) (key : List ℕ) (a b : List Task) → CoversAny s key b → CoversAny s key (a ++ b)
 covers_right s key [] b h = h
-covers_right s key (visit v ∷ a) b h = inr (covers_right s key a b h)
-covers_right s key (stumble fault ∷ a) b h = covers_right s key a b h
+covers_right s key (Make v ∷ a) b h = inr (covers_right s key a b h)
+covers_right s key (Stumble fault path ∷ a) b h = covers_right s key a b h
 
 among_covers : (s : Setup) (key : List ℕ) (level : ℕ) (p : List ℕ) (n : Name) (ns : List Name) → IsAmong n ns → CoversAny s key (task_of false level (join p n.name) n.kind ∷ [])
     → CoversAny s key (tasks_of false level p ns)
@@ -245,7 +248,7 @@ module _ (s : Setup) (key : List ℕ) (t : Tree) (rooted : Rooted t) (p : List �
       let upper : look t (folder ++ x ∷ []) ≡ Some Folder = upper_folder t (folder ++ x ∷ []) ys y (File bytes) rooted (ap (look t) (append_assoc folder (x ∷ []) (y ∷ ys)) ∙ there) in
       child_at kinds.Folder (subst (IsAmong (record { name = x; kind = kinds.Folder })) all (child_listed t folder x Folder upper)) (by (nat_lt level 16) refl)
     where
-      deeper : Covers s key (enter (join p x) (level + 1))
+      deeper : Covers s key (Enter (join p x) (level + 1))
       deeper = (
         names ++ x ∷ [],
         y,
@@ -255,7 +258,7 @@ module _ (s : Setup) (key : List ℕ) (t : Tree) (rooted : Rooted t) (p : List �
         omega (arith, at, length-append names (x ∷ [])),
       )
 
-      by : (b : Bool) → nat_lt level 16 ≡ b → CoversAny s key (cond b (visit (enter (join p x) (level + 1))) (stumble faults.TooDeep) ∷ [])
+      by : (b : Bool) → nat_lt level 16 ≡ b → CoversAny s key (cond b (Make (Enter (join p x) (level + 1))) (Stumble faults.TooDeep (join p x)) ∷ [])
       by true e = inl deeper
       by false e =
           let four : length (codes "index-v5" ∷ names ++ x ∷ y ∷ ys) ≡ 4 = ap (λ (l : Names). length l) whole in
@@ -263,7 +266,7 @@ module _ (s : Setup) (key : List ℕ) (t : Tree) (rooted : Rooted t) (p : List �
 
 -- a folder on the way to a bucket that stands brings what leads on to it
 pub folder_covers : (s : Setup) (turn : Turn) (p : List ℕ) (level : ℕ) (ns : List Name) (clears : Bool) → clears ≡ false → TurnHolds s turn
-    → steps.ReadDir p ≡ turn.move.step → names_in turn.move.answer ≡ Ok ns → (key : List ℕ) → HasBucket s key turn → Covers s key (enter p level) → CoversAny s key (tasks_of clears level p ns)
+    → steps.ReadDir p ≡ turn.move.step → names_in turn.move.answer ≡ Ok ns → (key : List ℕ) → HasBucket s key turn → Covers s key (Enter p level) → CoversAny s key (tasks_of clears level p ns)
 folder_covers s turn p level ns true no_clear holds step e key has c = absurd cc
 folder_covers s turn p level ns false no_clear holds step e key has c =
     let answer : turn.move.answer ≡ (apply turn.place (steps.ReadDir p) turn.move.luck).0 = holds.answered ∙ ap (λ x. (apply turn.place x turn.move.luck).0) (sym step) in

@@ -23,7 +23,11 @@ use Rattle.cacache_table.specs.Answers.{bytes_in, names_in}
 use Rattle.cacache_table.specs.Common.{fails, go_on}
 use Rattle.cacache_table.specs.ListReplies.{too_deep}
 use Rattle.cacache_table.specs.Runs.{Runs}
-use Rattle.cacache_table.specs.State.{State, walking, over, Item, Visit, enter, read_bucket, remove_file, remove_folder, Task, visit, stumble, Walk}
+use Rattle.cacache_table.specs.State.{State, walking, over, Item, Walk}
+use Rattle.cacache_table.specs.declared.visit.Visit.{Visit}
+use Rattle.cacache_table.specs.declared.visit.Task.{Task}
+use Rattle.cacache_table.specs.declared.visit.Visit.TheVariants.{Enter, ReadBucket, RemoveFile, RemoveFolder}
+use Rattle.cacache_table.specs.declared.visit.Task.TheVariants.{Make, Stumble}
 use Rattle.cacache_table.specs.Table.{wants, after, opening}
 use Rattle.cacache_table.specs.Walking.{most, failed, give, miss, walk_on, task_of, tasks_of, leaving, too_many, entered, unread_bucket, listed, items_in, visit_step, after_visit}
 use Rattle.cacache_table.proofs.Branches.{cond_leads}
@@ -48,16 +52,16 @@ step_path step = []
 abbrev TasksAt : List Task → List Names → Type 0
 TasksAt [] [] = Unit {0}
 TasksAt [] (q ∷ qs) = ⊥
-TasksAt (visit v ∷ todo) [] = ⊥
-TasksAt (visit v ∷ todo) (q ∷ qs) = (names_of (step_path (visit_step v)) ≡ Ok q) × TasksAt todo qs
-TasksAt (stumble fault ∷ todo) qs = ⊥
+TasksAt (Make v ∷ todo) [] = ⊥
+TasksAt (Make v ∷ todo) (q ∷ qs) = (names_of (step_path (visit_step v)) ≡ Ok q) × TasksAt todo qs
+TasksAt (Stumble fault path ∷ todo) qs = ⊥
 
 at_append : (a b : List Task) (ps qs : List Names) → TasksAt a ps → TasksAt b qs → TasksAt (a ++ b) (ps ++ qs)
 at_append [] b [] qs h k = k
 at_append [] b (p ∷ ps) qs h k = absurd h
-at_append (visit v ∷ a) b [] qs h k = absurd h
-at_append (visit v ∷ a) b (p ∷ ps) qs h k = (h.0, at_append a b ps qs h.1 k)
-at_append (stumble fault ∷ a) b ps qs h k = absurd h
+at_append (Make v ∷ a) b [] qs h k = absurd h
+at_append (Make v ∷ a) b (p ∷ ps) qs h k = (h.0, at_append a b ps qs h.1 k)
+at_append (Stumble fault path ∷ a) b ps qs h k = absurd h
 
 -- a turn's step lies below one of these paths
 Under : List Names → Turn → Type 0
@@ -106,8 +110,8 @@ child_tasks level p q (n ∷ ns) named all s tasks =
     own : names_of (join p n.name) ≡ Ok (q ++ n.name ∷ [])
     own = named n (All-head (λ entry. IsProperName entry.name) n ns all)
 
-    by_level : (b : Bool) → (Tasks s (tasks_of false level p ns) → TasksAt (tasks_of false level p ns) (children q ns)) → Tasks s (cond b (visit (enter (join p n.name) (level + 1))) (stumble faults.TooDeep) ∷ tasks_of false level p ns)
-        → TasksAt (cond b (visit (enter (join p n.name) (level + 1))) (stumble faults.TooDeep) ∷ tasks_of false level p ns) ((q ++ n.name ∷ []) ∷ children q ns)
+    by_level : (b : Bool) → (Tasks s (tasks_of false level p ns) → TasksAt (tasks_of false level p ns) (children q ns)) → Tasks s (cond b (Make (Enter (join p n.name) (level + 1))) (Stumble faults.TooDeep (join p n.name)) ∷ tasks_of false level p ns)
+        → TasksAt (cond b (Make (Enter (join p n.name) (level + 1))) (Stumble faults.TooDeep (join p n.name)) ∷ tasks_of false level p ns) ((q ++ n.name ∷ []) ∷ children q ns)
     by_level true more t = (own, more t.1)
     by_level false more t = absurd t
 
@@ -125,7 +129,7 @@ module _ (s : Setup) where
     at : TasksAt (tasks_of clears level p ns) (children q ns)
 
   brings : (turn : Turn) (p : List ℕ) (level : ℕ) (ns : List Name) (clears : Bool) → clears ≡ false → TurnHolds s turn → KeyedTurn s turn
-      → steps.ReadDir p ≡ turn.move.step → Visits s (enter p level) → names_in turn.move.answer ≡ Ok ns → (q : Names) × Brings p level clears ns q
+      → steps.ReadDir p ≡ turn.move.step → Visits s (Enter p level) → names_in turn.move.answer ≡ Ok ns → (q : Names) × Brings p level clears ns q
   brings turn p level ns true no_clear holds keyed step v e = absurd cc
   brings turn p level ns false no_clear holds keyed step v e =
       let answer : turn.move.answer ≡ (apply turn.place (steps.ReadDir p) turn.move.luck).0 = holds.answered ∙ ap (λ x. (apply turn.place x turn.move.luck).0) (sym step) in
@@ -160,9 +164,9 @@ module _ (s : Setup) where
 
   goes_on : (turns : List Turn) (todo : List Task) (qs : List Names) → Tasks s todo → TasksAt todo qs → AllApart qs → (w : Walk) → w.clears ≡ false → Rest (walk_on todo w) turns → Once qs turns
   goes_on turns [] qs tasks at apart w e h = ends qs turns (pick (λ st. Rest st turns) w.clears (over Done) (over (Listed w.items)) e h)
-  goes_on turns (visit v ∷ todo) [] tasks at apart w e h = absurd at
-  goes_on turns (visit v ∷ todo) (q ∷ qs) tasks at apart w e h = h e tasks.0 tasks.1 q qs at.0 at.1 apart
-  goes_on turns (stumble fault ∷ todo) qs tasks at apart w e h = absurd tasks
+  goes_on turns (Make v ∷ todo) [] tasks at apart w e h = absurd at
+  goes_on turns (Make v ∷ todo) (q ∷ qs) tasks at apart w e h = h e tasks.0 tasks.1 q qs at.0 at.1 apart
+  goes_on turns (Stumble fault path ∷ todo) qs tasks at apart w e h = absurd tasks
 
   module _ (turns : List Turn) (todo : List Task) (qs : List Names) (tasks : Tasks s todo) (at : TasksAt todo qs) (apart : AllApart qs) (w : Walk) (e : w.clears ≡ false) where
     too_many_ends : (v : Walk) → v.clears ≡ false → Rest (too_many v) turns → Once qs turns
@@ -206,7 +210,7 @@ module _ (s : Setup) where
 
   -- what follows a folder, or its failure, with no names
   enter_once : (turn : Turn) (turns : List Turn) (todo : List Task) (q : Names) (qs : List Names) (p : List ℕ) (level : ℕ) (w : Walk) (a : Result (List Name) Refusal) → names_in turn.move.answer ≡ a
-      → w.clears ≡ false → TurnHolds s turn → KeyedTurn s turn → steps.ReadDir p ≡ turn.move.step → Visits s (enter p level) → Tasks s todo → names_of p ≡ Ok q → TasksAt todo qs → AllApart (q ∷ qs)
+      → w.clears ≡ false → TurnHolds s turn → KeyedTurn s turn → steps.ReadDir p ≡ turn.move.step → Visits s (Enter p level) → Tasks s todo → names_of p ≡ Ok q → TasksAt todo qs → AllApart (q ∷ qs)
       → Rest (go_on a (miss w (walk_on todo)) (entered w p level todo)) turns → Once (q ∷ qs) (turn ∷ turns)
   enter_once turn turns todo q qs p level w (Ok ns) got e holds keyed is v tasks named at apart h =
       let b = brings turn p level ns w.clears e holds keyed is v got in
@@ -221,12 +225,12 @@ module _ (s : Setup) where
 
   visit_once : (w : Walk) (v : Visit) (todo : List Task) (turn : Turn) (turns : List Turn) → TurnHolds s turn → KeyedTurn s turn → visit_step v ≡ turn.move.step → w.clears ≡ false → Visits s v → Tasks s todo
       → (q : Names) (qs : List Names) → names_of (step_path (visit_step v)) ≡ Ok q → TasksAt todo qs → AllApart (q ∷ qs) → Rest (after_visit w v todo turn.move.answer) turns → Once (q ∷ qs) (turn ∷ turns)
-  visit_once w (enter p level) todo turn turns holds keyed is e v tasks q qs named at apart h =
+  visit_once w (Enter p level) todo turn turns holds keyed is e v tasks q qs named at apart h =
       enter_once turn turns todo q qs p level w (names_in turn.move.answer) refl e holds keyed is v tasks named at apart h
-  visit_once w (read_bucket p) todo turn turns holds keyed is e v tasks q qs named at apart h =
+  visit_once w (ReadBucket p) todo turn turns holds keyed is e v tasks q qs named at apart h =
       once_more q qs [] turn turns (ap (λ x. names_of (step_path x)) (sym is) ∙ named) apart.0 (reads turns todo qs tasks at apart.1 w e (bytes_in turn.move.answer) h)
-  visit_once w (remove_file p) todo turn turns holds keyed is e v tasks q qs named at apart h = absurd v
-  visit_once w (remove_folder p) todo turn turns holds keyed is e v tasks q qs named at apart h = absurd v
+  visit_once w (RemoveFile p) todo turn turns holds keyed is e v tasks q qs named at apart h = absurd v
+  visit_once w (RemoveFolder p) todo turn turns holds keyed is e v tasks q qs named at apart h = absurd v
 
   some_same : (a b : PlainStep) → Some a ≡ Some b → a ≡ b
   some_same a b e = cc

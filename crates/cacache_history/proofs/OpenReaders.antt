@@ -26,7 +26,9 @@ use Rattle.cacache_table.specs.Answers.{bytes_in}
 use Rattle.cacache_table.specs.Looking.{found_in, found_for, no_bucket, after_bucket}
 use Rattle.cacache_table.specs.StepPaths.{bucket_path, content_path}
 use Rattle.cacache_table.specs.Runs.{Moves, Runs, Gains, plain_reply, without_message}
-use Rattle.cacache_table.specs.State.{State, looking, over, Lookup, to_report}
+use Rattle.cacache_table.specs.State.{State, looking, over}
+use Rattle.cacache_table.specs.declared.carried.Lookup.{Lookup}
+use Rattle.cacache_table.specs.declared.carried.Aim.TheVariants as aims
 use Rattle.cacache_table.specs.Table as table
 use Rattle.cacache_table.proofs.Branches.{go_on_leads}
 use Rattle.cacache_value.specs.Shows.{blob_bytes, ShowsContent}
@@ -154,11 +156,11 @@ abbrev IsOver : State → Type 0
 IsOver (over r) = Unit {0}
 IsOver s = ⊥
 
-missing_over : (l : Lookup) → l.aim ≡ to_report → (fault : Fault) → IsOver (no_bucket l fault)
+missing_over : (l : Lookup) → l.aim ≡ aims.Report → (fault : Fault) → IsOver (no_bucket l fault)
 missing_over l is faults.NotFound = subst (λ aim. IsOver (found_for l aim None)) (sym is) tt
 missing_over l is fault = tt
 
-looked_over : (l : Lookup) → l.aim ≡ to_report → (a : PlainAnswer) → IsOver (table.after (looking l) a)
+looked_over : (l : Lookup) → l.aim ≡ aims.Report → (a : PlainAnswer) → IsOver (table.after (looking l) a)
 looked_over l is a =
     go_on_leads IsOver (bytes_in a) (no_bucket l) (after_bucket l) tt (missing_over l is) (λ bytes e. subst (λ aim. IsOver (found_for l aim (found_in l.key bytes))) (sym is) tt)
 
@@ -167,10 +169,10 @@ over_moves s [] r h run = refl
 over_moves (over x) (m ∷ moves) r h run = absurd (let none : None ≡ Some m.0 = run.0 in cc)
 over_moves s (m ∷ moves) r h run = absurd h
 
-lookup_keeps : (t : Tree) (cache key : List ℕ) (moves : Moves) (r : Reply) → Runs (looking (record { cache = cache; key = key; aim = to_report })) moves r → tree_on t moves ≡ t
+lookup_keeps : (t : Tree) (cache key : List ℕ) (moves : Moves) (r : Reply) → Runs (looking (record { cache = cache; key = key; aim = aims.Report })) moves r → tree_on t moves ≡ t
 lookup_keeps t cache key [] r run = refl
 lookup_keeps t cache key (m ∷ moves) r run =
-    let l : Lookup = record { cache = cache; key = key; aim = to_report } in
+    let l : Lookup = record { cache = cache; key = key; aim = aims.Report } in
     let is : m.0 ≡ steps.ReadAll (bucket_path cache key) = cc in
     let none = over_moves (table.after (looking l) m.1) moves r (looked_over l refl m.1) run.2 in
     ap (tree_on (apply t m.0 Plain).1) none ∙ ap (λ x. (apply t x Plain).1) is ∙ reading_keeps t (bucket_path cache key)

@@ -9,7 +9,9 @@ use Rattle.cacache_store.specs.Plain.{PlainStep, PlainAnswer}
 use Rattle.cacache_disk.specs.declared.luck.Luck.{Luck}
 use Rattle.cacache_disk.specs.Tree.{Tree}
 use Rattle.cacache_disk.specs.Apply.{apply, given, readable, rest_of}
-use Rattle.cacache_table.specs.State.{State, doing, creating, writing, syncing, persisting, linking, confirming, appending, looking, reading, asking, sizing, opening_file, hashing, copying, walking, over, Errand, make_folder, remove, reflink, hard_link, sync_file, sync_dir, Visit, enter, read_bucket, remove_file, remove_folder}
+use Rattle.cacache_table.specs.State.{State, doing, creating, writing, syncing, persisting, linking, confirming, appending, looking, reading, asking, sizing, opening_file, hashing, copying, walking, over, Errand, make_folder, remove, reflink, hard_link, sync_file, sync_dir}
+use Rattle.cacache_table.specs.declared.visit.Visit.{Visit}
+use Rattle.cacache_table.specs.declared.visit.Visit.TheVariants.{Enter, ReadBucket, RemoveFile, RemoveFolder}
 use Rattle.cacache_table.specs.Common.{errand_step}
 use Rattle.cacache_table.specs.Runs.{Moves, Runs}
 use Rattle.cacache_table.specs.Table.{piece, wants, after}
@@ -33,10 +35,10 @@ errand_asks (sync_file path) = tt
 errand_asks (sync_dir path) = tt
 
 visit_asks : (v : Visit) → AsksPiece (visit_step v)
-visit_asks (enter p level) = tt
-visit_asks (read_bucket p) = tt
-visit_asks (remove_file p) = tt
-visit_asks (remove_folder p) = tt
+visit_asks (Enter p level) = tt
+visit_asks (ReadBucket p) = tt
+visit_asks (RemoveFile p) = tt
+visit_asks (RemoveFolder p) = tt
 
 state_asks : (s : State) (step : PlainStep) → wants s ≡ Some step → AsksPiece step
 state_asks (doing errand s) step w = some_is AsksPiece _ step w (errand_asks errand)

@@ -31,7 +31,8 @@ use Rattle.cacache_table.specs.Common.{fails, errand_step}
 use Rattle.cacache_table.specs.Inserting.{unless_refused, bucket_line, recorded, after_append, refused_cause}
 use Rattle.cacache_table.specs.StepPaths.{content_path, content_folder, temp_path, bucket_path}
 use Rattle.cacache_table.specs.Runs.{Moves, Runs}
-use Rattle.cacache_table.specs.State.{State, doing, creating, writing, syncing, persisting, appending, over, Site, Commit, Insertion, make_folder, sync_file, sync_dir, Errand}
+use Rattle.cacache_table.specs.State.{State, doing, creating, writing, syncing, persisting, appending, over, Site, Insertion, make_folder, sync_file, sync_dir, Errand}
+use Rattle.cacache_table.specs.declared.carried.Commit.{Commit}
 use Rattle.cacache_table.specs.Storing.{insertion_of, indexed, sized, compared, matches, write_rest, after_write, put_commit}
 use Rattle.cacache_table.specs.Table.{wants, after, opening}
 use Rattle.cacache_table.proofs.Branches.{cond_leads, go_on_leads}

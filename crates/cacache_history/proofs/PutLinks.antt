@@ -11,7 +11,8 @@ use Rattle.cacache_disk.specs.declared.luck.Luck.{Luck}
 use Rattle.cacache_entry.specs.Bucket.{entries_of}
 use Rattle.cacache_table.specs.declared.reply.Reply.{Reply}
 use Rattle.cacache_table.specs.StepPaths.{content_path}
-use Rattle.cacache_table.specs.State.{Commit, Insertion}
+use Rattle.cacache_table.specs.State.{Insertion}
+use Rattle.cacache_table.specs.declared.carried.Commit.{Commit}
 use Rattle.cacache_table.specs.Storing.{insertion_of}
 use Rattle.cacache_value.specs.Acts.{Act, Nothing, PutBytes, PutLink, AddEntries, Drop, MakeFolders, DropFolder, act_at, act_with, act_if_done, folders_left, amount_left, act_of, change}
 use Rattle.cacache_value.specs.Kinds.{is_path_of}

@@ -15,7 +15,8 @@ use Rattle.cacache_table.specs.declared.reply.Reply.{Reply}
 use Rattle.cacache_table.specs.declared.reply.Reply.TheVariants as replies
 use Rattle.cacache_table.specs.Inserting.{insertion, deletion}
 use Rattle.cacache_table.specs.StepPaths.{content_path, bucket_path}
-use Rattle.cacache_table.specs.State.{Commit, Insertion}
+use Rattle.cacache_table.specs.State.{Insertion}
+use Rattle.cacache_table.specs.declared.carried.Commit.{Commit}
 use Rattle.cacache_table.specs.Storing.{insertion_of, put_commit}
 use Rattle.cacache_value.specs.Kinds.{is_path_of}
 use Rattle.cacache_value.specs.Value.{Blob, InFile, Value, value_of_tree}

@@ -6,39 +6,42 @@ use Rattle.cacache_core.specs.Paths.{join}
 use Rattle.cacache_store.specs.declared.store.answer.Kind.{Kind}
 use Rattle.cacache_store.specs.declared.store.answer.Kind.TheVariants as kinds
 use Rattle.cacache_store.specs.declared.store.answer.Name.{Name}
-use Rattle.cacache_table.specs.State.{Visit, enter, read_bucket, remove_file, remove_folder, Task, visit, stumble}
+use Rattle.cacache_table.specs.declared.visit.Visit.{Visit}
+use Rattle.cacache_table.specs.declared.visit.Task.{Task}
+use Rattle.cacache_table.specs.declared.visit.Visit.TheVariants.{Enter, ReadBucket, RemoveFile, RemoveFolder}
+use Rattle.cacache_table.specs.declared.visit.Task.TheVariants.{Make, Stumble}
 use Rattle.cacache_table.specs.Walking.{go_deeper, task_of, tasks_of, leaving}
 
 -- tasks that a clearing may have: it reads no bucket
 abbrev pub Clears : List Task → Type 0
 Clears [] = Unit {0}
-Clears (visit (read_bucket p) ∷ todo) = ⊥
+Clears (Make (ReadBucket p) ∷ todo) = ⊥
 Clears (other ∷ todo) = Clears todo
 
 -- what it may visit
 abbrev pub ClearsAt : Visit → Type 0
-ClearsAt (read_bucket p) = ⊥
+ClearsAt (ReadBucket p) = ⊥
 ClearsAt other = Unit {0}
 
 pub clears_more : (xs ys : List Task) → Clears xs → Clears ys → Clears (xs ++ ys)
 clears_more [] ys h k = k
-clears_more (stumble fault ∷ xs) ys h k = clears_more xs ys h k
-clears_more (visit (enter p level) ∷ xs) ys h k = clears_more xs ys h k
-clears_more (visit (read_bucket p) ∷ xs) ys h k = absurd h
-clears_more (visit (remove_file p) ∷ xs) ys h k = clears_more xs ys h k
-clears_more (visit (remove_folder p) ∷ xs) ys h k = clears_more xs ys h k
+clears_more (Stumble fault path ∷ xs) ys h k = clears_more xs ys h k
+clears_more (Make (Enter p level) ∷ xs) ys h k = clears_more xs ys h k
+clears_more (Make (ReadBucket p) ∷ xs) ys h k = absurd h
+clears_more (Make (RemoveFile p) ∷ xs) ys h k = clears_more xs ys h k
+clears_more (Make (RemoveFolder p) ∷ xs) ys h k = clears_more xs ys h k
 
 deeper_clears : (level : ℕ) (p : List ℕ) (todo : List Task) → Clears todo → Clears (go_deeper p level ∷ todo)
 deeper_clears level p todo h = by (nat_lt level 16)
   where
-    by : (b : Bool) → Clears (cond b (visit (enter p (level + 1))) (stumble faults.TooDeep) ∷ todo)
+    by : (b : Bool) → Clears (cond b (Make (Enter p (level + 1))) (Stumble faults.TooDeep p) ∷ todo)
     by true = h
     by false = h
 
 file_clears : (level : ℕ) (p : List ℕ) (todo : List Task) → Clears todo → Clears (task_of true level p kinds.File ∷ todo)
 file_clears level p todo h = by (level == 0)
   where
-    by : (b : Bool) → Clears (cond b (stumble faults.NotADirectory) (visit (remove_file p)) ∷ todo)
+    by : (b : Bool) → Clears (cond b (Stumble faults.NotADirectory p) (Make (RemoveFile p)) ∷ todo)
     by true = h
     by false = h
 
@@ -54,6 +57,6 @@ names_clear level p (n ∷ names) = kind_clears level (join p n.name) (tasks_of 
 pub leaves_clear : (level : ℕ) (p : List ℕ) → Clears (leaving true level p)
 leaves_clear level p = by (level == 0)
   where
-    by : (b : Bool) → Clears (cond b [] (visit (remove_folder p) ∷ []))
+    by : (b : Bool) → Clears (cond b [] (Make (RemoveFolder p) ∷ []))
     by true = tt
     by false = tt

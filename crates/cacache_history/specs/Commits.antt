@@ -10,7 +10,9 @@ use Rattle.cacache_table.specs.declared.command.Command.TheVariants as commands
 use Rattle.cacache_table.specs.declared.reply.Reply.{Reply}
 use Rattle.cacache_table.specs.declared.reply.Reply.TheVariants.{Refused}
 use Rattle.cacache_table.specs.StepPaths.{content_path, bucket_path}
-use Rattle.cacache_table.specs.State.{Site, Commit, Insertion, Target}
+use Rattle.cacache_table.specs.State.{Site, Insertion}
+use Rattle.cacache_table.specs.declared.carried.Commit.{Commit}
+use Rattle.cacache_table.specs.declared.target.Target.{Target}
 use Rattle.cacache_table.specs.Inserting.{insertion, deletion}
 use Rattle.cacache_table.specs.Storing.{insertion_of, put_commit}
 use Rattle.cacache_table.specs.Linking.{commit_for, link_target}
@@ -104,13 +106,13 @@ ReadsTarget path P moves =
     × ReadsWhole path P more
 
 -- a link's commit is that of bytes of this count, and its content a link to the target
-abbrev pub LinksTo : Target → List Turn → Option Reply → List ℕ → Type 0
+abbrev pub LinksTo : Target ℕ → List Turn → Option Reply → List ℕ → Type 0
 LinksTo t turns reply bytes =
     (length bytes < 2 ^ 64)
     × CommitsAs (commit_for t bytes) (λ names. PutLink names t.path) (deeds turns) reply
 
 -- a link did nothing, or its commit is that of all bytes that the call itself read from the target
-abbrev pub LinksAs : Target → List Turn → Option Reply → Type 0
+abbrev pub LinksAs : Target ℕ → List Turn → Option Reply → Type 0
 LinksAs t turns reply =
     DidNothing (deeds turns) reply ⊎ ReadsTarget t.path (LinksTo t turns reply) (made_in turns)
 

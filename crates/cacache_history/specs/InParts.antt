@@ -20,7 +20,8 @@ use Rattle.cacache_table.specs.Causes.{Faulted, HasCause, own_of}
 use Rattle.cacache_table.specs.StepPaths.{content_path}
 use Rattle.cacache_table.specs.Runs.{Moves, Runs, Goes, Gains, plain_reply}
 use Rattle.cacache_table.specs.Sound.{MayBegin}
-use Rattle.cacache_table.specs.State.{State, hashing, Commit, Hashing}
+use Rattle.cacache_table.specs.State.{State, hashing, Hashing}
+use Rattle.cacache_table.specs.declared.carried.Commit.{Commit}
 use Rattle.cacache_table.specs.Storing.{persist, write_rest}
 use Rattle.cacache_table.specs.Table.{piece, opening}
 use Rattle.cacache_value.specs.OpeningTrees.{LieApart}

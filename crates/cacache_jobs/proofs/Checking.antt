@@ -8,7 +8,8 @@ use Rattle.cacache_core.specs.Refusals.{IsCheckFailure}
 use Rattle.cacache_core.proofs.Meeting.{meets_finds}
 use Rattle.cacache_table.specs.declared.reply.Reply.TheVariants.{Read}
 use Rattle.cacache_table.specs.ContentReads.{checked}
-use Rattle.cacache_table.specs.State.{Content, over}
+use Rattle.cacache_table.specs.State.{over}
+use Rattle.cacache_table.specs.declared.carried.Content.{Content}
 use Rattle.cacache_table.specs.Runs.{EndsAs}
 
 -- bytes that meet the integrity are answered

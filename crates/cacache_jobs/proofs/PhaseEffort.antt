@@ -13,7 +13,7 @@ use Rattle.cacache_jobs.specs.declared.stage.Stage.{Stage}
 use Rattle.cacache_jobs.specs.declared.stage.Stage.TheVariants as stages
 use Rattle.cacache_jobs.specs.declared.phase.Phase.{Phase}
 use Rattle.cacache_jobs.specs.declared.phase.Phase.TheVariants as phases
-use Rattle.cacache_jobs.specs.JobStates.{commit_of, GoalAt, ThenAt, StageAt, PhaseAt}
+use Rattle.cacache_jobs.specs.JobStates.{GoalAt, ThenAt, StageAt, PhaseAt}
 use Rattle.cacache_jobs.proofs.SyncedFolders.{moved_effort, sync_effort}
 use Rattle.cacache_jobs.specs.declared.syncing.Goal.{Goal}
 use Rattle.cacache_jobs.specs.declared.syncing.Goal.TheVariants as goals
@@ -26,7 +26,7 @@ module _ {T : Type 0} (temp : T → PlainTemp) where
 
   then_effort_is : (then : Then T) (s : State) → ThenAt temp then s → effort s ≡ then_effort then
   then_effort_is (thens.Create c rest path) s e = ap effort e.2
-  then_effort_is (thens.Persist c file path) s e = ap effort e.1 ∙ moved_effort (commit_of c.value) (temp file)
+  then_effort_is (thens.Persist c file path) s e = ap effort e.1 ∙ moved_effort c.value (temp file)
   then_effort_is (thens.Sync y) s e = ap effort e.2 ∙ sync_effort y.folders.items e.0 ∙ ap (λ n. length y.folders.items + n) (goal_effort_is y.goal e.0 e.1)
   then_effort_is (thens.Append i line path) s e = ap effort e.4
   then_effort_is (thens.RemoveBucket content bucket) s e = ap effort e.3

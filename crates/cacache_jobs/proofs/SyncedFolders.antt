@@ -1,7 +1,8 @@
 -- Syncs of folders, one after another.
 use Rattle.std.proofs.Common.{◌≡◌, ℕ, ◌+◌, List, [], ◌∷◌, ◌++◌, Bool, true, false, cond, length, refl, ap, ◌∙◌, arith}
 use Rattle.cacache_store.specs.declared.store.plain.PlainTemp.{PlainTemp}
-use Rattle.cacache_table.specs.State.{State, Commit, doing, syncing, persisting, sync_dir}
+use Rattle.cacache_table.specs.State.{State, doing, syncing, persisting, sync_dir}
+use Rattle.cacache_table.specs.declared.carried.Commit.{Commit}
 use Rattle.cacache_table.specs.Common.{sync_up}
 use Rattle.cacache_table.specs.Storing.{moved}
 use Rattle.cacache_table.specs.Runs.{effort}

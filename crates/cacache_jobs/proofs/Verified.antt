@@ -7,7 +7,7 @@ use Rattle.cacache_core.specs.Refusals.{IsCheckFailure}
 use Rattle.cacache_core.proofs.Meeting.{meets_finds}
 use Rattle.cacache_table.specs.declared.command.Export.{Export}
 use Rattle.cacache_table.specs.Exporting.{verified, export_content}
-use Rattle.cacache_table.specs.State.{Content}
+use Rattle.cacache_table.specs.declared.carried.Content.{Content}
 use Rattle.cacache_table.specs.Runs.{EndsAs}
 use Rattle.cacache_jobs.proofs.Checking.{unmet_test}
 

@@ -3,7 +3,8 @@ use Rattle.std.proofs.Common.{◌≡◌, ◌==◌, ℕ, List, [], ◌∷◌, Boo
 use Rattle.std.proofs.lemmas.Bool.{eqb-true}
 use Rattle.cacache_store.specs.declared.store.plain.PlainTemp.{PlainTemp}
 use Rattle.cacache_table.specs.declared.reply.Reply.{Reply}
-use Rattle.cacache_table.specs.State.{Commit, writing, syncing, persisting}
+use Rattle.cacache_table.specs.State.{writing, syncing, persisting}
+use Rattle.cacache_table.specs.declared.carried.Commit.{Commit}
 use Rattle.cacache_table.specs.Storing.{write_rest, persist, moved}
 use Rattle.cacache_table.specs.Promises.{Stores, Promises}
 

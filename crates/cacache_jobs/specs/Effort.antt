@@ -6,10 +6,9 @@ use Rattle.cacache_store.specs.Plain.{PlainStep, plain_step}
 use Rattle.cacache_store.specs.declared.store.step.Step.TheVariants as steps
 use Rattle.cacache_table.specs.Runs.{weight, weights, effort}
 use Rattle.cacache_table.specs.Storing.{placed}
-use Rattle.cacache_jobs.specs.JobStates.{commit_of}
 use Rattle.cacache_jobs.specs.declared.syncing.Goal.{Goal}
 use Rattle.cacache_jobs.specs.declared.syncing.Goal.TheVariants as goals
-use Rattle.cacache_walks.specs.WalkStates.{visit_of, pending}
+use Rattle.cacache_walks.specs.WalkStates.{pending}
 use Rattle.cacache_jobs.specs.declared.stage.Then.{Then}
 use Rattle.cacache_jobs.specs.declared.stage.Then.TheVariants as thens
 use Rattle.cacache_jobs.specs.declared.stage.Stage.{Stage}
@@ -19,7 +18,7 @@ use Rattle.cacache_jobs.specs.declared.phase.Phase.TheVariants as phases
 
 -- of what follows syncs
 abbrev pub goal_effort : Goal → ℕ
-goal_effort (goals.Place c) = effort (placed (commit_of c.value))
+goal_effort (goals.Place c) = effort (placed c.value)
 goal_effort (goals.Answer i) = 0
 
 -- of what follows an errand
@@ -55,7 +54,7 @@ stage_effort (stages.Hashing h size) step = left_to_read step + 17
 stage_effort (stages.Copying from to verified) step = 1
 stage_effort (stages.Linking c target) step = 15
 stage_effort (stages.Walking w v) step =
-    2 * w.left + weight (visit_of v) + weights (pending w.todo.items)
+    2 * w.left + weight v + weights (pending w.todo.items)
 
 -- of a phase; a call that is over takes no step
 abbrev pub phase_effort : {F T : Type 0} → (F → PlainFile) → (T → PlainTemp) → Phase F T → ℕ

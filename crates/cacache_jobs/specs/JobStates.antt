@@ -9,7 +9,8 @@ use Rattle.cacache_store.specs.declared.store.plain.PlainTemp.{PlainTemp}
 use Rattle.cacache_store.specs.Plain.{PlainStep, plain_step}
 use Rattle.cacache_table.specs.StepPaths.{content_path, bucket_path, temp_path}
 use Rattle.cacache_table.specs.State as states
-use Rattle.cacache_table.specs.State.{State, doing, creating, writing, syncing, persisting, confirming, appending, looking, reading, asking, sizing, opening_file, hashing, copying, linking, over, Errand, to_report, to_read, to_export, to_remove, to_verify, to_link}
+use Rattle.cacache_table.specs.State.{State, doing, creating, writing, syncing, persisting, confirming, appending, looking, reading, asking, sizing, opening_file, hashing, copying, linking, over, Errand, to_verify, to_link}
+use Rattle.cacache_table.specs.declared.carried.Content.{Content}
 use Rattle.cacache_table.specs.Inserting.{bucket_line}
 use Rattle.cacache_table.specs.Common.{sync_up}
 use Rattle.cacache_table.specs.Storing.{placed, moved}
@@ -19,13 +20,7 @@ use Rattle.cacache_table.specs.declared.reply.Reply.{Reply}
 use Rattle.cacache_table.specs.declared.reply.Reply.TheVariants.{Stored, Done}
 use Rattle.cacache_table.specs.Table.{wants}
 use Rattle.cacache_walks.specs.WalkStates.{WalksAt}
-use Rattle.cacache_jobs.specs.declared.storing.Commit.{Commit}
 use Rattle.cacache_jobs.specs.declared.inserting.Insertion.{Insertion}
-use Rattle.cacache_jobs.specs.declared.looking.Aim.{Aim}
-use Rattle.cacache_jobs.specs.declared.looking.Aim.TheVariants as aims
-use Rattle.cacache_jobs.specs.declared.looking.Lookup.{Lookup}
-use Rattle.cacache_jobs.specs.declared.reading.Content.{Content}
-use Rattle.cacache_jobs.specs.Targets.{target_of}
 use Rattle.cacache_jobs.specs.declared.hashing.Hashing.{Hashing}
 use Rattle.cacache_jobs.specs.declared.hashing.Hashing.TheVariants as hashings
 use Rattle.cacache_jobs.specs.declared.syncing.Goal.{Goal}
@@ -38,32 +33,6 @@ use Rattle.cacache_jobs.specs.declared.phase.Phase.{Phase}
 use Rattle.cacache_jobs.specs.declared.phase.Phase.TheVariants as phases
 
 -- ---- what a stage carries, as the table has it
-
--- a commit, as the table has it
-abbrev pub commit_of : Commit → states.Commit
-commit_of c = record {
-  cache = c.cache;
-  key = c.key;
-  computed = c.computed;
-  count = c.count;
-  moment = c.moment;
-  options = c.options;
-}
-
--- what a key is looked up for, as the table has it
-abbrev pub aim_of : Aim → states.Aim
-aim_of aims.Report = to_report
-aim_of aims.Read = to_read
-aim_of (aims.Export export) = to_export export
-aim_of aims.Remove = to_remove
-
--- a lookup, as the table has it
-abbrev pub lookup_of : Lookup → states.Lookup
-lookup_of l = record { cache = l.cache; key = l.key; aim = aim_of l.aim }
-
--- a content, as the table has it
-abbrev pub content_of : Content → states.Content
-content_of k = record { cache = k.cache; integrity = k.integrity }
 
 -- what an insertion answers: this integrity, or a deletion nothing
 abbrev pub told : Option (List Hash) → Reply
@@ -79,27 +48,27 @@ IsInsertion i j =
 -- a file is read for this, and these bytes of it were hashed
 abbrev pub HashesFor : Hashing → states.Hashing → List ℕ → Type 0
 HashesFor (hashings.Verify checker from export) h bytes =
-    (k : states.Content) × (h ≡ to_verify k export) × Compares checker k.integrity bytes
+    (k : Content) × (h ≡ to_verify k export) × Compares checker k.integrity bytes
     × (from ≡ content_path k.cache k.integrity)
 HashesFor (hashings.Link hasher target) h bytes =
-    (h ≡ to_link (target_of target)) × Holds hasher bytes
+    (h ≡ to_link target) × Holds hasher bytes
     × (algorithm_of hasher ≡ target.options.algorithm)
 
 -- ---- of a stage
 
 -- what follows syncs
 abbrev pub GoalAt : Goal → State → Type 0
-GoalAt (goals.Place c) s = s ≡ placed (commit_of c.value)
+GoalAt (goals.Place c) s = s ≡ placed c.value
 GoalAt (goals.Answer i) s = s ≡ over (told i.integrity)
 
 -- what follows an errand; the path of the next step is kept
 abbrev pub ThenAt : {T : Type 0} → (T → PlainTemp) → Then T → State → Type 0
 ThenAt temp (thens.Create c rest path) s =
     (number : ℕ) × (path ≡ temp_path c.value.cache number)
-    × (s ≡ creating number (commit_of c.value) rest)
+    × (s ≡ creating number c.value rest)
 ThenAt temp (thens.Persist c file path) s =
     (path ≡ content_path c.value.cache c.value.computed)
-    × (s ≡ moved (commit_of c.value) (temp file))
+    × (s ≡ moved c.value (temp file))
 ThenAt temp (thens.Sync y) s =
     (next : State) × GoalAt y.goal next × (s ≡ sync_up y.folders.items next)
 ThenAt temp (thens.Append i line path) s =
@@ -110,33 +79,33 @@ ThenAt temp (thens.RemoveBucket content bucket) s =
     × (s ≡ remove_bucket cache key)
 ThenAt temp (thens.Symlink c target path) s =
     (path ≡ content_path c.value.cache c.value.computed)
-    × (s ≡ linking (commit_of c.value) target)
+    × (s ≡ linking c.value target)
 ThenAt temp (thens.Finish last) s = s ≡ over Done
 
 -- the call is in this state while the stage's step is out
 abbrev pub StageAt : {T : Type 0} → (T → PlainTemp) → Stage T → State → Type 0
 StageAt temp (stages.Doing then) s =
     (errand : Errand) × (next : State) × ThenAt temp then next × (s ≡ doing errand next)
-StageAt temp (stages.Creating c rest) s = (number : ℕ) × (s ≡ creating number (commit_of c.value) rest)
-StageAt temp (stages.Writing c rest) s = (file : PlainTemp) × (s ≡ writing (commit_of c.value) file rest)
+StageAt temp (stages.Creating c rest) s = (number : ℕ) × (s ≡ creating number c.value rest)
+StageAt temp (stages.Writing c rest) s = (file : PlainTemp) × (s ≡ writing c.value file rest)
 StageAt temp (stages.Syncing c path) s =
     (path ≡ content_path c.value.cache c.value.computed)
-    × (file : PlainTemp) × (s ≡ syncing (commit_of c.value) file)
-StageAt temp (stages.Persisting c) s = (file : PlainTemp) × (s ≡ persisting (commit_of c.value) file)
-StageAt temp (stages.Confirming c target fault) s = s ≡ confirming (commit_of c.value) fault
+    × (file : PlainTemp) × (s ≡ syncing c.value file)
+StageAt temp (stages.Persisting c) s = (file : PlainTemp) × (s ≡ persisting c.value file)
+StageAt temp (stages.Confirming c target fault) s = s ≡ confirming c.value fault
 StageAt temp (stages.Appending i size) s =
     (j : states.Insertion) × IsInsertion i j × (size ≡ length (bucket_line j)) × (s ≡ appending j)
-StageAt temp (stages.Looking l) s = s ≡ looking (lookup_of l)
-StageAt temp (stages.Reading k) s = s ≡ reading (content_of k)
-StageAt temp (stages.Asking k) s = s ≡ asking (content_of k)
-StageAt temp (stages.Sizing t) s = s ≡ sizing (target_of t.value)
+StageAt temp (stages.Looking l) s = s ≡ looking l
+StageAt temp (stages.Reading k) s = s ≡ reading k
+StageAt temp (stages.Asking k) s = s ≡ asking k
+StageAt temp (stages.Sizing t) s = s ≡ sizing t.value
 StageAt temp (stages.Opening h) s =
     (purpose : states.Hashing) × HashesFor h.value purpose [] × (s ≡ opening_file purpose)
 StageAt temp (stages.Hashing h size) s =
     (purpose : states.Hashing) × (bytes : List ℕ) × HashesFor h.value purpose bytes
     × (size ≡ length bytes) × (file : PlainFile) × (s ≡ hashing purpose file bytes)
 StageAt temp (stages.Copying from to verified) s = s ≡ copying from to verified
-StageAt temp (stages.Linking c target) s = s ≡ linking (commit_of c.value) target
+StageAt temp (stages.Linking c target) s = s ≡ linking c.value target
 StageAt temp (stages.Walking w v) s = WalksAt [] w (Some v) s
 
 -- ---- of a phase

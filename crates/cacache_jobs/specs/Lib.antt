@@ -1,4 +1,3 @@
-pub mod Targets
 pub mod JobStates
 pub mod Sites
 pub mod Environment

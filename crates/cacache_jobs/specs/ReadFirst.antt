@@ -10,7 +10,8 @@ use Rattle.cacache_table.specs.declared.reply.Reply.TheVariants.{Read}
 use Rattle.cacache_table.specs.Replies.{BeginsWithBucket, MeetsFound}
 use Rattle.cacache_table.specs.Runs.{Moves, Gains}
 use Rattle.cacache_table.specs.Linking.{link_target}
-use Rattle.cacache_table.specs.State.{Site, Target}
+use Rattle.cacache_table.specs.State.{Site}
+use Rattle.cacache_table.specs.declared.target.Target.{Target}
 use Rattle.cacache_table.specs.Verifying.{Verifies, LinksWhole, UnlessRefused}
 
 -- the moves begin with a read of the key's bucket; the bytes meet the integrity of the lookup in it
@@ -37,7 +38,7 @@ Verified cache source reply old new =
     (moves : Moves) × Gains old new moves × Verifies cache source moves reply
 
 -- a log that is kept gained moves that read the whole target
-abbrev pub Linked : Target → Reply → Option (List LogItem) → Option (List LogItem) → Type 0
+abbrev pub Linked : Target ℕ → Reply → Option (List LogItem) → Option (List LogItem) → Type 0
 Linked target reply old new =
     (moves : Moves) × Gains old new moves × LinksWhole target moves reply
 

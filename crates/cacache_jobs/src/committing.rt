@@ -5,25 +5,24 @@ ghost use Rattle.cacache_table.specs.Promises.{OnlyStores, Stores};
 ghost use Rattle.cacache_table.specs.Runs.{Ran, plain_reply};
 ghost use Rattle.cacache_table.specs.Storing.{persist};
 ghost use Rattle.cacache_table.specs.declared.reply.Reply.TheVariants.{Refused};
-ghost use Rattle.cacache_jobs.specs.JobStates.{commit_of};
 
 use crate::run::finish;
-use crate::storing::{Commit, begin_commit};
+use crate::storing::begin_commit;
 use cacache_store::env::Env;
 use cacache_store::store::Store;
-use cacache_table::Reply;
+use cacache_table::{Commit, Reply};
 
 /// Makes the temporary file the content that the commit says, and goes on to its end. The reply is that of a run of the
 /// call from there on, and where the store keeps its log, that run is what the log gained. The clock, the numbers and the
 /// base folder stay as they were.
 pub fn commit_from<S: Store, C, N>(env: &mut Env<S, C, N>, commit: Commit, file: S::Temp) -> Reply
-    ensures ran { Ran (persist (commit_of commit) (S.Temp.seen file))
+    ensures ran { Ran (persist commit (S.Temp.seen file))
         (plain_reply result) (S.log env.old.store) (S.log env.new.store) }
-    ensures promised { Stores (commit_of commit) (plain_reply result) }
+    ensures promised { Stores commit (plain_reply result) }
     ensures stored { OnlyStores (plain_reply result) }
 
     // A caller that finds no memory for the reply answers as if the run had found none.
-    ensures lost { Ran (persist (commit_of commit) (S.Temp.seen file))
+    ensures lost { Ran (persist commit (S.Temp.seen file))
         (Refused OutOfMemory) (S.log env.old.store) (S.log env.new.store) }
     ensures clock { env.new.clock ≡ env.old.clock }
     ensures names { env.new.names ≡ env.old.names }

@@ -2,12 +2,11 @@
 ghost use Rattle.std.specs.Prelude.{◌≡◌, IfOk, IfErr};
 ghost use Rattle.cacache_table.specs.Storing.{placed, sized, indexed, matches};
 ghost use Rattle.cacache_table.specs.Runs.{EndsAs};
-ghost use Rattle.cacache_jobs.specs.JobStates.{commit_of};
 
-use crate::storing::Commit;
 use cacache_core::errors::{self, Error, IntegrityFault};
 use cacache_core::integrity::Integrity;
 use cacache_core::laws::integrity_laws;
+use cacache_table::Commit;
 
 /// Whether the expected integrity matches the computed one.
 #[tactic(auto, using(crate::proofs::Matching::same_answer))]
@@ -20,9 +19,9 @@ fn agree(expected: &Integrity, computed: &Integrity) -> bool
 
 /// Refuses a content that isn't of the expected integrity.
 pub(crate) fn compare_integrity(commit: &Commit) -> errors::Result<()>
-    ensures ok { IfOk result (λ _. placed (commit_of commit.now)
-        ≡ sized (commit_of commit.now) commit.now.options.size) }
-    ensures err { IfErr result (λ e. EndsAs e (placed (commit_of commit.now))) }
+    ensures ok { IfOk result (λ _. placed commit.now
+        ≡ sized commit.now commit.now.options.size) }
+    ensures err { IfErr result (λ e. EndsAs e (placed commit.now)) }
 {
     if let Some(expected) = &commit.options.integrity {
         let computed = &commit.computed;
@@ -37,10 +36,10 @@ pub(crate) fn compare_integrity(commit: &Commit) -> errors::Result<()>
 
 /// Refuses a content that isn't of the expected size.
 pub(crate) fn compare_size(commit: &Commit) -> errors::Result<()>
-    ensures ok { IfOk result (λ _. sized (commit_of commit.now) commit.now.options.size
-        ≡ indexed (commit_of commit.now) commit.now.key) }
+    ensures ok { IfOk result (λ _. sized commit.now commit.now.options.size
+        ≡ indexed commit.now commit.now.key) }
     ensures err { IfErr result
-        (λ e. EndsAs e (sized (commit_of commit.now) commit.now.options.size)) }
+        (λ e. EndsAs e (sized commit.now commit.now.options.size)) }
 {
     if let Some(wanted) = commit.options.size {
         if wanted != commit.count {

@@ -3,18 +3,17 @@ ghost use Rattle.cacache_table.specs.Common.{go_on, fails};
 ghost use Rattle.cacache_table.specs.Exporting.{export as export_of, export_from as export_from_of, counted as counted_of};
 ghost use Rattle.cacache_table.specs.State.{over};
 ghost use Rattle.cacache_table.specs.declared.reply.Reply.TheVariants.{Copied};
-ghost use Rattle.cacache_jobs.specs.JobStates.{Leads, content_of};
+ghost use Rattle.cacache_jobs.specs.JobStates.{Leads};
 
 use crate::phase::{Phase, refused};
 use crate::places::content_path;
-use crate::reading::Content;
 use crate::stage::{Last, Stage, Then};
 use crate::{hashing, messages};
 use cacache_core::errors;
 use cacache_core::keeping::{beside, let_go};
 use cacache_core::text::Text;
 use cacache_store::store::{FileHandle, Step, TempHandle};
-use cacache_table::{Export, How, Refusal, Reply};
+use cacache_table::{Content, Export, How, Refusal, Reply};
 use std::alloc::Global;
 
 /// Exports a content; a checked export opens it first.
@@ -23,7 +22,7 @@ pub(crate) fn start<F: FileHandle, T: TempHandle>(
     content: Content,
     export: Export,
 ) -> errors::Result<Phase<F, T>>
-    ensures { Leads F.seen T.seen result (export_of (content_of content) export) }
+    ensures { Leads F.seen T.seen result (export_of content export) }
 {
     let from = content_path(alloc, content.cache.as_str(), &content.integrity);
     let (from, (content, export)) = beside(from, (content, export))?;

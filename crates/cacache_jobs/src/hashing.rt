@@ -7,16 +7,15 @@ ghost use Rattle.cacache_table.specs.Linking.{after_read, hashed as hashed_of};
 ghost use Rattle.cacache_table.specs.StepPaths.{content_path as content_path_of};
 ghost use Rattle.cacache_table.specs.Exporting.{verified as verified_of};
 ghost use Rattle.cacache_core.specs.Pieces.{Compares};
-ghost use Rattle.cacache_table.specs.State.{Content as Named, Hashing as Purpose, opening_file, hashing as hashing_state, to_verify};
+ghost use Rattle.cacache_table.specs.State.{Hashing as Purpose, opening_file, hashing as hashing_state, to_verify};
+ghost use Rattle.cacache_table.specs.declared.carried.Content.{Content as Named};
 ghost use Rattle.cacache_table.specs.Seen.{seen_by, got_as};
-ghost use Rattle.cacache_jobs.specs.JobStates.{Leads, HashesFor, content_of};
+ghost use Rattle.cacache_jobs.specs.JobStates.{Leads, HashesFor};
 
 use crate::brought::opened_file;
 use crate::phase::{Phase, refused};
-use crate::reading::Content;
 use crate::stage::Stage;
-use crate::target::Target;
-use crate::{exporting, messages};
+use crate::{exporting, linking, messages};
 use cacache_core::errors::{self, Error};
 use cacache_core::hasher::Hasher;
 use cacache_core::integrity::IntegrityChecker;
@@ -24,7 +23,7 @@ use cacache_core::keeping::beside;
 use cacache_core::text::Text;
 use cacache_store::store::{Answer, FileHandle, Step, TempHandle};
 use cacache_table::answers::Got;
-use cacache_table::{Export, Refusal};
+use cacache_table::{Content, Export, Refusal, Target};
 use std::alloc::Global;
 
 /// A read asks for at most so many bytes.
@@ -56,7 +55,7 @@ pub(crate) fn verify<F: FileHandle, T: TempHandle>(
     export: Export,
 ) -> errors::Result<Phase<F, T>>
     ensures { from ≡ content_path_of content.cache content.integrity
-        → Leads F.seen T.seen result (opening_file (to_verify (content_of content) export)) }
+        → Leads F.seen T.seen result (opening_file (to_verify content export)) }
 {
     let Content {
         cache: _cache,
@@ -127,7 +126,7 @@ impl Hashing {
             }
             Hashing::Link(hasher, target) => {
                 let computed = hasher.result(alloc)?;
-                target.link(alloc, computed, size)
+                linking::link_target(alloc, target, computed, size)
             }
         }
     }

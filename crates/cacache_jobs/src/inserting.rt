@@ -37,7 +37,7 @@ pub struct Insertion {
     pub integrity: Option<Integrity>,
 }
 
-// Written out for the same reason as a commit's.
+// Written out, so that it is a call of its own: whoever lets one go has a proof that doesn't go through its fields.
 impl Drop for Insertion {
     fn drop(self) {
         let Insertion {

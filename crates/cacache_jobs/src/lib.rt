@@ -23,7 +23,6 @@ mod run;
 mod stage;
 mod storing;
 mod syncing;
-mod target;
 mod walking;
 
 pub use brought::{made_temp, opened_file, told_size};
@@ -37,5 +36,3 @@ pub use places::{bucket_path, bucket_place, content_path, temp_folder, temp_path
 pub use reading::is_there;
 pub use resuming::link_from;
 pub use run::{call, drive};
-pub use storing::Commit;
-pub use target::{Target, based};

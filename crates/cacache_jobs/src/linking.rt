@@ -4,45 +4,40 @@ ghost use Rattle.cacache_core.specs.Integrity.{integrity_under};
 ghost use Rattle.cacache_store.specs.Plain.{plain_answer};
 ghost use Rattle.cacache_table.specs.Answers.{length_in};
 ghost use Rattle.cacache_table.specs.Common.{go_on, fails};
-ghost use Rattle.cacache_table.specs.Linking.{link_target, after_size, commit_for};
+ghost use Rattle.cacache_table.specs.Linking.{link_target as link_target_of, after_size, commit_for};
 ghost use Rattle.cacache_table.specs.StepPaths.{content_path as content_path_of};
 ghost use Rattle.cacache_jobs.specs.Sites.{site_of};
 ghost use Rattle.cacache_table.specs.State.{sizing, opening_file, to_link, linking as linking_state};
 ghost use Rattle.cacache_table.specs.Storing.{link as link_of};
-ghost use Rattle.cacache_jobs.specs.JobStates.{Leads, commit_of};
-ghost use Rattle.cacache_jobs.specs.Targets.{target_of};
+ghost use Rattle.cacache_jobs.specs.JobStates.{Leads};
 
 use crate::brought::told_size;
 use crate::hashing::Hashing;
 use crate::phase::Phase;
 use crate::places::content_place;
 use crate::stage::{Stage, Then};
-use crate::storing::Commit;
-use crate::target::Target;
 use cacache_core::errors;
 use cacache_core::hasher::Hasher;
 use cacache_core::integrity::Integrity;
 use cacache_core::paths::Place;
 use cacache_core::text::Text;
 use cacache_store::store::{Answer, FileHandle, Step, TempHandle};
-use cacache_table::Link;
+use cacache_table::{Commit, Link, Target};
 use std::alloc::Global;
 
-impl Target<u128> {
-    /// The target was read to its end, and has this integrity and size: makes the content's folder.
-    pub(crate) fn link<F: FileHandle, T: TempHandle>(
-        self,
-        alloc: Global,
-        computed: Integrity,
-        count: usize,
-    ) -> errors::Result<Phase<F, T>>
-        ensures { (bytes : List ℕ)
-            → computed ≡ integrity_under self.options.algorithm bytes → count ≡ length bytes
-            → Leads F.seen T.seen result (link_of (commit_for (target_of self) bytes) self.path) }
-    {
-        let (commit, target) = self.into_commit(computed, count);
-        link(alloc, commit, target)
-    }
+/// The target was read to its end, and has this integrity and size: makes the content's folder.
+pub(crate) fn link_target<F: FileHandle, T: TempHandle>(
+    alloc: Global,
+    target: Target<u128>,
+    computed: Integrity,
+    count: usize,
+) -> errors::Result<Phase<F, T>>
+    ensures { (bytes : List ℕ)
+        → computed ≡ integrity_under target.options.algorithm bytes → count ≡ length bytes
+        → Leads F.seen T.seen result (link_of (commit_for target bytes) target.path) }
+{
+    let (commit, path) = target.into_commit(computed, count);
+    link(alloc, commit, path)
 }
 
 /// The target was read to its end, and is to be the content that the commit says: makes the content's folder.
@@ -51,7 +46,7 @@ pub(crate) fn link<F: FileHandle, T: TempHandle>(
     commit: Commit,
     target: Text,
 ) -> errors::Result<Phase<F, T>>
-    ensures { Leads F.seen T.seen result (link_of (commit_of commit) target) }
+    ensures { Leads F.seen T.seen result (link_of commit target) }
 {
     let place = content_place(alloc, commit.cache.as_str(), &commit.computed)?;
     let Place { folder, path } = place;
@@ -71,7 +66,7 @@ pub(crate) fn start<F: FileHandle, T: TempHandle>(
 ) -> errors::Result<Phase<F, T>>
     ensures { (number : ℕ)
         → Leads F.seen T.seen result
-        (sizing (link_target (site_of cache.now base.now number) link)) }
+        (sizing (link_target_of (site_of cache.now base.now number) link)) }
 {
     let Link {
         key,
@@ -90,7 +85,7 @@ fn open_target<F: FileHandle, T: TempHandle>(
     alloc: Global,
     target: Target<u128>,
 ) -> errors::Result<Phase<F, T>>
-    ensures { Leads F.seen T.seen result (opening_file (to_link (target_of target))) }
+    ensures { Leads F.seen T.seen result (opening_file (to_link target)) }
 {
     let path = target.path.clone()?;
     let hasher = Hasher::new(target.options.algorithm);
@@ -106,12 +101,10 @@ pub(crate) fn sized<F: FileHandle, T: TempHandle>(
     answer: Answer<F, T>,
 ) -> errors::Result<Phase<F, T>>
     ensures { Leads F.seen T.seen result (go_on (length_in (plain_answer F.seen T.seen answer)) fails
-        (after_size (target_of target.value))) }
+        (after_size target.value)) }
 {
-    match told_size(alloc, &target.path, answer) {
-        Ok(size) => open_target(alloc, Box::into_inner(target).with_size(size as usize)),
-        Err(error) => Err(error),
-    }
+    let size = told_size(alloc, &target.path, answer)?;
+    open_target(alloc, Box::into_inner(target).with_size(size as usize))
 }
 
 /// The content's folder is there: makes the link to the target at the content's path.
@@ -121,7 +114,7 @@ pub(crate) fn symlink<F: FileHandle, T: TempHandle>(
     path: Text,
 ) -> errors::Result<Phase<F, T>>
     ensures { path ≡ content_path_of commit.value.cache commit.value.computed
-        → Leads F.seen T.seen result (linking_state (commit_of commit.value) target) }
+        → Leads F.seen T.seen result (linking_state commit.value target) }
 {
     let named = target.clone()?;
     Ok(Phase::Wanting(Stage::Linking(commit, named), Step::Symlink(target, path)))

@@ -4,11 +4,10 @@ ghost use Rattle.cacache_core.specs.declared.errors.Error.TheVariants.{OutOfMemo
 ghost use Rattle.cacache_table.specs.Common.{go_on};
 ghost use Rattle.cacache_table.specs.Looking.{found_for, found_in, after_bucket, no_bucket};
 ghost use Rattle.cacache_table.specs.State.{looking as looking_state};
-ghost use Rattle.cacache_jobs.specs.JobStates.{Leads, lookup_of, aim_of};
+ghost use Rattle.cacache_jobs.specs.JobStates.{Leads};
 
 use crate::phase::{Phase, refused};
 use crate::places::bucket_path;
-use crate::reading::Content;
 use crate::stage::Stage;
 use crate::{exporting, messages, reading, removing};
 use cacache_core::bytes::Bytes;
@@ -18,36 +17,15 @@ use cacache_core::keeping::{beside, let_go};
 use cacache_core::text::Text;
 use cacache_entry::{Metadata, latest};
 use cacache_store::store::{FileHandle, Step, TempHandle};
-use cacache_table::{Export, Found, Refusal, Reply};
+use cacache_table::{Aim, Content, Found, Lookup, Refusal, Reply};
 use std::alloc::Global;
-
-/// What a key is looked up for.
-#[derive(Drop)]
-pub enum Aim {
-    /// What the lookup found is answered.
-    Report,
-    /// The content that it found is read.
-    Read,
-    /// The content that it found is exported.
-    Export(Export),
-    /// The content that it found and the bucket are removed.
-    Remove,
-}
-
-/// A key that is looked up.
-#[derive(Drop)]
-pub struct Lookup {
-    pub cache: Text,
-    pub key: Text,
-    pub aim: Aim,
-}
 
 /// Reads the bucket of the key.
 pub(crate) fn start<F: FileHandle, T: TempHandle>(
     alloc: Global,
     lookup: Lookup,
 ) -> errors::Result<Phase<F, T>>
-    ensures { Leads F.seen T.seen result (looking_state (lookup_of lookup)) }
+    ensures { Leads F.seen T.seen result (looking_state lookup) }
 {
     let path = bucket_path(alloc, lookup.cache.as_str(), lookup.key.as_str());
     let (path, lookup) = beside(path, lookup)?;
@@ -76,7 +54,7 @@ fn found<F: FileHandle, T: TempHandle>(
     found: Found,
 ) -> errors::Result<Phase<F, T>>
     ensures { Leads F.seen T.seen result
-        (found_for (lookup_of lookup) (aim_of lookup.aim) (Some found)) }
+        (found_for lookup lookup.aim (Some found)) }
 {
     if let Aim::Report = &lookup.aim {
         let_go(lookup);
@@ -97,7 +75,7 @@ fn not_found<F: FileHandle, T: TempHandle>(
     lookup: Lookup,
 ) -> errors::Result<Phase<F, T>>
     ensures { Leads F.seen T.seen result
-        (found_for (lookup_of lookup) (aim_of lookup.aim) None) }
+        (found_for lookup lookup.aim None) }
 {
     if let Aim::Report = &lookup.aim {
         let_go(lookup);
@@ -136,7 +114,7 @@ pub(crate) fn looked<F: FileHandle, T: TempHandle>(
     bytes: Result<Bytes, Refusal>,
 ) -> errors::Result<Phase<F, T>>
     ensures { Leads F.seen T.seen result
-        (go_on bytes (no_bucket (lookup_of lookup)) (after_bucket (lookup_of lookup))) }
+        (go_on bytes (no_bucket lookup) (after_bucket lookup)) }
 {
     match bytes {
         Ok(bytes) => {

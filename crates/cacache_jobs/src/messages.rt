@@ -1,10 +1,9 @@
 //! What a call says where a step failed. No contract speaks of these texts; tests show them.
 use crate::hashing::Hashing;
 use crate::places::{bucket_path, bucket_place, content_path, content_place, temp_folder};
-use crate::reading::Content;
 use crate::stage::Last;
-use crate::storing::Commit;
 use cacache_core::text::Text;
+use cacache_table::{Commit, Content};
 use std::alloc::{AllocError, Global};
 
 /// Some words, and the path that they speak of.

@@ -6,11 +6,9 @@ ghost use Rattle.cacache_table.specs.Table.{opening};
 ghost use Rattle.cacache_table.specs.Walking.{walk};
 ghost use Rattle.cacache_table.specs.declared.command.Command.TheVariants as commands;
 ghost use Rattle.cacache_jobs.specs.Sites.{site_of};
-ghost use Rattle.cacache_jobs.specs.JobStates.{Leads, aim_of};
+ghost use Rattle.cacache_jobs.specs.JobStates.{Leads};
 
-use crate::looking::{Aim, Lookup};
 use crate::phase::Phase;
-use crate::reading::Content;
 use crate::{exporting, inserting, linking, looking, reading, removing, storing, walking};
 use cacache_core::errors;
 use cacache_core::integrity::Integrity;
@@ -18,7 +16,7 @@ use cacache_core::keeping::beside;
 use cacache_core::paths::{INDEX_AREA, join};
 use cacache_core::text::Text;
 use cacache_store::store::{FileHandle, TempHandle};
-use cacache_table::{Command, Export, Source};
+use cacache_table::{Aim, Command, Content, Export, Lookup, Source};
 use std::alloc::Global;
 
 /// Where a lookup of a key begins.
@@ -29,7 +27,7 @@ fn look<F: FileHandle, T: TempHandle>(
     aim: Aim,
 ) -> errors::Result<Phase<F, T>>
     ensures { Leads F.seen T.seen result
-        (looking_state (record { cache = cache.now; key = key; aim = aim_of aim })) }
+        (looking_state (record { cache = cache.now; key = key; aim = aim })) }
 {
     let cache = Text::from_str(alloc, cache)?;
     looking::start(alloc, Lookup { cache, key, aim })

@@ -6,7 +6,7 @@ ghost use Rattle.cacache_table.specs.Replies.{there_reply};
 ghost use Rattle.cacache_table.specs.Runs.{reply_of};
 ghost use Rattle.std.specs.Prelude.{◌≡◌};
 ghost use Rattle.cacache_table.specs.State.{reading as reading_state, asking as asking_state};
-ghost use Rattle.cacache_jobs.specs.JobStates.{Leads, content_of};
+ghost use Rattle.cacache_jobs.specs.JobStates.{Leads};
 
 use crate::messages;
 use crate::phase::{Phase, refused};
@@ -14,25 +14,16 @@ use crate::places::content_path;
 use crate::stage::Stage;
 use cacache_core::bytes::Bytes;
 use cacache_core::errors::{self, Error};
-use cacache_core::integrity::Integrity;
-use cacache_core::text::Text;
 use cacache_store::store::{FileHandle, Step, TempHandle};
-use cacache_table::{Refusal, Reply};
+use cacache_table::{Content, Refusal, Reply};
 use std::alloc::Global;
-
-/// A content that is read or asked for.
-#[derive(Drop)]
-pub struct Content {
-    pub cache: Text,
-    pub integrity: Integrity,
-}
 
 /// Reads the content.
 pub(crate) fn start<F: FileHandle, T: TempHandle>(
     alloc: Global,
     content: Content,
 ) -> errors::Result<Phase<F, T>>
-    ensures { Leads F.seen T.seen result (reading_state (content_of content)) }
+    ensures { Leads F.seen T.seen result (reading_state content) }
 {
     let path = content_path(alloc, content.cache.as_str(), &content.integrity)?;
     Ok(Phase::Wanting(Stage::Reading(content), Step::ReadAll(path)))
@@ -43,7 +34,7 @@ pub(crate) fn ask<F: FileHandle, T: TempHandle>(
     alloc: Global,
     content: Content,
 ) -> errors::Result<Phase<F, T>>
-    ensures { Leads F.seen T.seen result (asking_state (content_of content)) }
+    ensures { Leads F.seen T.seen result (asking_state content) }
 {
     let path = content_path(alloc, content.cache.as_str(), &content.integrity)?;
     Ok(Phase::Wanting(Stage::Asking(content), Step::Exists(path)))
@@ -55,7 +46,7 @@ fn checked<F: FileHandle, T: TempHandle>(
     content: Content,
     bytes: Bytes,
 ) -> errors::Result<Phase<F, T>>
-    ensures { Leads F.seen T.seen result (checked_of (content_of content) bytes) }
+    ensures { Leads F.seen T.seen result (checked_of content bytes) }
 {
     match content.integrity.check(alloc, bytes.as_slice()) {
         Ok(_) => Ok(Phase::Over(Reply::Read(bytes))),
@@ -69,7 +60,7 @@ pub(crate) fn read<F: FileHandle, T: TempHandle>(
     content: Content,
     bytes: Result<Bytes, Refusal>,
 ) -> errors::Result<Phase<F, T>>
-    ensures { Leads F.seen T.seen result (go_on bytes fails (checked_of (content_of content))) }
+    ensures { Leads F.seen T.seen result (go_on bytes fails (checked_of content)) }
 {
     match bytes {
         Ok(bytes) => checked(alloc, content, bytes),

@@ -5,27 +5,25 @@ ghost use Rattle.cacache_table.specs.Promises.{OnlyStores, Stores};
 ghost use Rattle.cacache_table.specs.Runs.{Ran, plain_reply};
 ghost use Rattle.cacache_table.specs.Storing.{link as link_of};
 ghost use Rattle.cacache_table.specs.declared.reply.Reply.TheVariants.{Refused};
-ghost use Rattle.cacache_jobs.specs.JobStates.{commit_of};
 
 use crate::linking::link;
 use crate::run::finish;
-use crate::storing::Commit;
 use cacache_core::text::Text;
 use cacache_store::env::Env;
 use cacache_store::store::Store;
-use cacache_table::Reply;
+use cacache_table::{Commit, Reply};
 
 /// Makes a link to the target the content that the commit says, and goes on to its end. The reply is that of a run of
 /// the call from there on, and where the store keeps its log, that run is what the log gained. The clock, the numbers and
 /// the base folder stay as they were.
 pub fn link_from<S: Store, C, N>(env: &mut Env<S, C, N>, commit: Commit, target: Text) -> Reply
-    ensures ran { Ran (link_of (commit_of commit) target)
+    ensures ran { Ran (link_of commit target)
         (plain_reply result) (S.log env.old.store) (S.log env.new.store) }
-    ensures promised { Stores (commit_of commit) (plain_reply result) }
+    ensures promised { Stores commit (plain_reply result) }
     ensures stored { OnlyStores (plain_reply result) }
 
     // A caller that finds no memory for the reply answers as if the run had found none.
-    ensures lost { Ran (link_of (commit_of commit) target)
+    ensures lost { Ran (link_of commit target)
         (Refused OutOfMemory) (S.log env.old.store) (S.log env.new.store) }
     ensures clock { env.new.clock ≡ env.old.clock }
     ensures names { env.new.names ≡ env.old.names }

@@ -7,12 +7,8 @@ ghost use Rattle.cacache_jobs.specs.JobStates.{Leads, StageAt, ThenAt};
 
 use crate::hashing::Hashing;
 use crate::inserting::Insertion;
-use crate::looking::Lookup;
 use crate::phase::{Phase, refused};
-use crate::reading::Content;
-use crate::storing::Commit;
 use crate::syncing::Syncing;
-use crate::target::Target;
 use crate::{
     exporting, hashing, inserting, linking, looking, messages, reading, removing, storing, walking,
 };
@@ -24,8 +20,8 @@ use cacache_store::store::{Answer, FileHandle, TempHandle};
 use cacache_table::answers::{
     bytes_of, done_of, got_of, synced_of, taken_of, there_of, written_of,
 };
-use cacache_table::{Refusal, Reply};
-use cacache_walks::{Visit, Walk};
+use cacache_table::{Commit, Content, Lookup, Refusal, Reply, Target, Visit};
+use cacache_walks::Walk;
 use std::alloc::{AllocError, Global};
 
 /// What a call does last, by the paths that its message names.

@@ -9,7 +9,7 @@ ghost use Rattle.cacache_table.specs.StepPaths.{content_path as content_path_of,
 ghost use Rattle.cacache_table.specs.State.{Site, creating, syncing, persisting, confirming};
 ghost use Rattle.cacache_table.specs.Storing.{persist as persist_of, write_rest as write_rest_of, placed as placed_of, settled as settled_of, resettled as resettled_of, moved, indexed, after_write, after_confirm, put_commit, store as store_of};
 ghost use Rattle.cacache_table.specs.Seen.{seen_by, written_as};
-ghost use Rattle.cacache_jobs.specs.JobStates.{Leads, PhaseAt, commit_of};
+ghost use Rattle.cacache_jobs.specs.JobStates.{Leads, PhaseAt};
 
 use crate::brought::made_temp;
 use crate::comparing::{compare_integrity, compare_size};
@@ -28,35 +28,8 @@ use cacache_core::paths::Place;
 use cacache_core::text::Text;
 use cacache_store::store::{Answer, FileHandle, Step, TempHandle};
 use cacache_table::answers::Written;
-use cacache_table::{Options, Put, Refusal, Reply};
+use cacache_table::{Commit, Options, Put, Refusal, Reply};
 use std::alloc::Global;
-
-/// A content on its way to its place: what it is known by, and what was said of it.
-pub struct Commit {
-    pub cache: Text,
-    pub key: Option<Text>,
-    /// The integrity of the bytes.
-    pub computed: Integrity,
-    /// How many bytes there are.
-    pub count: usize,
-    /// The entry's time, in milliseconds since 1970.
-    pub moment: u128,
-    pub options: Options,
-}
-
-// Written out, so that it is a call of its own: whoever lets a commit go has a proof that doesn't go through its fields.
-impl Drop for Commit {
-    fn drop(self) {
-        let Commit {
-            cache: _cache,
-            key: _key,
-            computed: _computed,
-            count: _,
-            moment: _,
-            options: _options,
-        } = self;
-    }
-}
 
 /// The integrity of the bytes of a put.
 fn computed_of(alloc: Global, algorithm: Algorithm, bytes: &[u8]) -> errors::Result<Integrity>
@@ -70,7 +43,7 @@ fn computed_of(alloc: Global, algorithm: Algorithm, bytes: &[u8]) -> errors::Res
 
 /// The commit of a put, with its bytes; its integrity is known before its first step.
 fn commit_of(alloc: Global, cache: &str, put: Put) -> errors::Result<(Box<Commit>, Bytes)>
-    ensures commit { IfOk result (λ r. commit_of r.0.value ≡ put_commit cache.now put) }
+    ensures commit { IfOk result (λ r. r.0.value ≡ put_commit cache.now put) }
     ensures bytes { IfOk result (λ r. r.1 ≡ put.data) }
     ensures err { IfErr result (λ e. e ≡ OutOfMemory) }
 {
@@ -120,7 +93,7 @@ pub(crate) fn create<F: FileHandle, T: TempHandle>(
     path: Text,
 ) -> Phase<F, T>
     ensures { (number : ℕ) → path ≡ temp_path_of commit.value.cache number
-        → PhaseAt F.seen T.seen result (creating number (commit_of commit.value) rest) }
+        → PhaseAt F.seen T.seen result (creating number commit.value rest) }
 {
     Phase::Wanting(Stage::Creating(commit, rest), Step::CreateTemp(path))
 }
@@ -131,7 +104,7 @@ fn make_content_folder<F: FileHandle, T: TempHandle>(
     commit: Box<Commit>,
     file: T,
 ) -> errors::Result<Phase<F, T>>
-    ensures { Leads F.seen T.seen result (persist_of (commit_of commit.value) (T.seen file)) }
+    ensures { Leads F.seen T.seen result (persist_of commit.value (T.seen file)) }
 {
     let place = content_place(alloc, commit.cache.as_str(), &commit.computed)?;
     let Place { folder, path } = place;
@@ -147,7 +120,7 @@ pub(crate) fn begin_commit<F: FileHandle, T: TempHandle>(
     commit: Commit,
     file: T,
 ) -> errors::Result<Phase<F, T>>
-    ensures { Leads F.seen T.seen result (persist_of (commit_of commit) (T.seen file)) }
+    ensures { Leads F.seen T.seen result (persist_of commit (T.seen file)) }
 {
     make_content_folder(alloc, Box::new(alloc, commit)?, file)
 }
@@ -159,7 +132,7 @@ fn write_rest<F: FileHandle, T: TempHandle>(
     file: T,
     rest: Bytes,
 ) -> errors::Result<Phase<F, T>>
-    ensures { Leads F.seen T.seen result (write_rest_of (commit_of commit.value) (T.seen file) rest) }
+    ensures { Leads F.seen T.seen result (write_rest_of commit.value (T.seen file) rest) }
 {
     if rest.is_empty() {
         return make_content_folder(alloc, commit, file);
@@ -177,12 +150,10 @@ pub(crate) fn created<F: FileHandle, T: TempHandle>(
     answer: Answer<F, T>,
 ) -> errors::Result<Phase<F, T>>
     ensures { Leads F.seen T.seen result (go_on (temp_in (plain_answer F.seen T.seen answer)) fails
-        (λ file. write_rest_of (commit_of commit.value) file rest)) }
+        (λ file. write_rest_of commit.value file rest)) }
 {
-    match made_temp(alloc, commit.cache.as_str(), answer) {
-        Ok(file) => write_rest(alloc, commit, file, rest),
-        Err(error) => Err(error),
-    }
+    let file = made_temp(alloc, commit.cache.as_str(), answer)?;
+    write_rest(alloc, commit, file, rest)
 }
 
 /// What a write of so many of the bytes leaves.
@@ -202,7 +173,7 @@ pub(crate) fn written<F: FileHandle, T: TempHandle>(
     written: Result<Written<T>, Refusal>,
 ) -> errors::Result<Phase<F, T>>
     ensures { Leads F.seen T.seen result
-        (go_on (seen_by (written_as T.seen) written) fails (after_write (commit_of commit.value) rest)) }
+        (go_on (seen_by (written_as T.seen) written) fails (after_write commit.value rest)) }
 {
     let refusal = match written {
         Ok(Written { file, count }) => {
@@ -222,7 +193,7 @@ pub(crate) fn written<F: FileHandle, T: TempHandle>(
 /// Moves the temporary file to the content's path.
 fn persist<F: FileHandle, T: TempHandle>(commit: Box<Commit>, file: T, path: Text) -> Phase<F, T>
     ensures { path ≡ content_path_of commit.value.cache commit.value.computed
-        → PhaseAt F.seen T.seen result (persisting (commit_of commit.value) (T.seen file)) }
+        → PhaseAt F.seen T.seen result (persisting commit.value (T.seen file)) }
 {
     Phase::Wanting(Stage::Persisting(commit), Step::Persist(file, path))
 }
@@ -230,7 +201,7 @@ fn persist<F: FileHandle, T: TempHandle>(commit: Box<Commit>, file: T, path: Tex
 /// Syncs the temporary file, before it goes to the content's path.
 fn sync_temp<F: FileHandle, T: TempHandle>(commit: Box<Commit>, file: T, path: Text) -> Phase<F, T>
     ensures { path ≡ content_path_of commit.value.cache commit.value.computed
-        → PhaseAt F.seen T.seen result (syncing (commit_of commit.value) (T.seen file)) }
+        → PhaseAt F.seen T.seen result (syncing commit.value (T.seen file)) }
 {
     Phase::Wanting(Stage::Syncing(commit, path), Step::SyncTemp(file))
 }
@@ -242,7 +213,7 @@ pub(crate) fn move_in<F: FileHandle, T: TempHandle>(
     path: Text,
 ) -> Phase<F, T>
     ensures { path ≡ content_path_of commit.value.cache commit.value.computed
-        → PhaseAt F.seen T.seen result (moved (commit_of commit.value) (T.seen file)) }
+        → PhaseAt F.seen T.seen result (moved commit.value (T.seen file)) }
 {
     if commit.options.durable {
         return sync_temp(commit, file, path);
@@ -259,7 +230,7 @@ pub(crate) fn synced<F: FileHandle, T: TempHandle>(
 ) -> errors::Result<Phase<F, T>>
     ensures { path ≡ content_path_of commit.value.cache commit.value.computed
         → Leads F.seen T.seen result
-        (go_on (seen_by T.seen synced) fails (persisting (commit_of commit.value))) }
+        (go_on (seen_by T.seen synced) fails (persisting commit.value)) }
 {
     match synced {
         Ok(file) => Ok(persist(commit, file, path)),
@@ -272,7 +243,7 @@ fn settle<F: FileHandle, T: TempHandle>(
     alloc: Global,
     commit: Box<Commit>,
 ) -> errors::Result<Phase<F, T>>
-    ensures { Leads F.seen T.seen result (settled_of (commit_of commit.value)) }
+    ensures { Leads F.seen T.seen result (settled_of commit.value) }
 {
     if !commit.options.durable {
         return placed(alloc, commit);
@@ -286,7 +257,7 @@ fn resettle<F: FileHandle, T: TempHandle>(
     alloc: Global,
     commit: Box<Commit>,
 ) -> errors::Result<Phase<F, T>>
-    ensures { Leads F.seen T.seen result (resettled_of (commit_of commit.value)) }
+    ensures { Leads F.seen T.seen result (resettled_of commit.value) }
 {
     if !commit.options.durable {
         return placed(alloc, commit);
@@ -304,7 +275,7 @@ pub(crate) fn arrived<F: FileHandle, T: TempHandle>(
     done: Result<(), Refusal>,
 ) -> errors::Result<Phase<F, T>>
     ensures { Leads F.seen T.seen result
-        (go_on done (confirming (commit_of commit.value)) (λ _. settled_of (commit_of commit.value))) }
+        (go_on done (confirming commit.value) (λ _. settled_of commit.value)) }
 {
     match done {
         Ok(()) => settle(alloc, commit),
@@ -325,7 +296,7 @@ pub(crate) fn confirmed<F: FileHandle, T: TempHandle>(
     there: Result<bool, Refusal>,
 ) -> errors::Result<Phase<F, T>>
     ensures { Leads F.seen T.seen result
-        (go_on there (λ _. fails fault) (after_confirm (commit_of commit.value) fault)) }
+        (go_on there (λ _. fails fault) (after_confirm commit.value fault)) }
 {
     let refusal = match there {
         Ok(true) => return resettle(alloc, commit),
@@ -335,58 +306,55 @@ pub(crate) fn confirmed<F: FileHandle, T: TempHandle>(
     Err(refused(refusal, messages::arriving(alloc, &commit, &target)))
 }
 
-impl Commit {
-    /// What was said of the content is so: with a key its entry follows.
-    fn index<F: FileHandle, T: TempHandle>(self, alloc: Global) -> errors::Result<Phase<F, T>>
-        ensures { Leads F.seen T.seen result (indexed (commit_of self) self.key) }
-    {
-        let Commit {
-            cache,
-            key,
-            computed,
-            count,
-            moment,
-            options,
-        } = self;
-        let Options {
-            algorithm: _,
-            size: _,
-            integrity: expected,
-            metadata,
-            raw_metadata,
-            durable,
-        } = options;
-        let Some(key) = key else {
-            let_go((cache, expected, metadata, raw_metadata));
-            return Ok(Phase::Over(Reply::Stored(computed)));
-        };
-        // the entry has the expected integrity, where there is one
-        let integrity = expected.unwrap_or(computed);
-        let text = integrity.to_string(alloc);
-        let kept = (cache, key, integrity, metadata, raw_metadata);
-        let (text, (cache, key, integrity, metadata, raw_metadata)) = beside(text, kept)?;
-        let key = key.into_string();
-        let entry = entry_of(
-            alloc,
-            key,
-            Some(text),
-            count,
-            moment,
-            metadata,
-            raw_metadata,
-        )?;
-        insert(alloc, cache, entry, durable, Some(integrity))
-    }
+/// What was said of the content is so: with a key its entry follows.
+fn index<F: FileHandle, T: TempHandle>(alloc: Global, commit: Commit) -> errors::Result<Phase<F, T>>
+    ensures { Leads F.seen T.seen result (indexed commit commit.key) }
+{
+    let Commit {
+        cache,
+        key,
+        computed,
+        count,
+        moment,
+        options,
+    } = commit;
+    let Options {
+        algorithm: _,
+        size: _,
+        integrity: expected,
+        metadata,
+        raw_metadata,
+        durable,
+    } = options;
+    let Some(key) = key else {
+        let_go((cache, expected, metadata, raw_metadata));
+        return Ok(Phase::Over(Reply::Stored(computed)));
+    };
+    // the entry has the expected integrity, where there is one
+    let integrity = expected.unwrap_or(computed);
+    let text = integrity.to_string(alloc);
+    let kept = (cache, key, integrity, metadata, raw_metadata);
+    let (text, (cache, key, integrity, metadata, raw_metadata)) = beside(text, kept)?;
+    let key = key.into_string();
+    let entry = entry_of(
+        alloc,
+        key,
+        Some(text),
+        count,
+        moment,
+        metadata,
+        raw_metadata,
+    )?;
+    insert(alloc, cache, entry, durable, Some(integrity))
 }
-
 /// The content is at its place: what was said of it is compared, the integrity first.
 pub(crate) fn placed<F: FileHandle, T: TempHandle>(
     alloc: Global,
     commit: Box<Commit>,
 ) -> errors::Result<Phase<F, T>>
-    ensures { Leads F.seen T.seen result (placed_of (commit_of commit.value)) }
+    ensures { Leads F.seen T.seen result (placed_of commit.value) }
 {
     compare_integrity(&commit)?;
     compare_size(&commit)?;
-    Box::into_inner(commit).index(alloc)
+    index(alloc, Box::into_inner(commit))
 }

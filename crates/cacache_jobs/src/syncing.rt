@@ -7,11 +7,12 @@ use crate::inserting::Insertion;
 use crate::messages;
 use crate::phase::Phase;
 use crate::stage::{Stage, Then};
-use crate::storing::{Commit, placed};
+use crate::storing::placed;
 use cacache_core::errors;
 use cacache_core::keeping::beside;
 use cacache_core::text::Text;
 use cacache_store::store::{FileHandle, Step, TempHandle};
+use cacache_table::Commit;
 use std::alloc::{AllocError, Global};
 
 /// What a durable call does once all is synced.

@@ -3,7 +3,7 @@ ghost use Rattle.std.specs.Prelude.{[]};
 ghost use Rattle.cacache_store.specs.Plain.{plain_answer};
 ghost use Rattle.cacache_table.specs.State.{State};
 ghost use Rattle.cacache_table.specs.Walking.{walk as walk_from, after_visit};
-ghost use Rattle.cacache_walks.specs.WalkStates.{Counts, WalksAt, visit_of, pending, walk_of};
+ghost use Rattle.cacache_walks.specs.WalkStates.{Counts, WalksAt, pending, walk_of};
 ghost use Rattle.cacache_jobs.specs.JobStates.{Leads};
 
 use crate::phase::Phase;
@@ -12,7 +12,8 @@ use cacache_core::errors;
 use cacache_core::keeping::beside;
 use cacache_core::text::Text;
 use cacache_store::store::{Answer, FileHandle, TempHandle};
-use cacache_walks::{Visit, Walk};
+use cacache_table::Visit;
+use cacache_walks::Walk;
 use std::alloc::Global;
 
 /// Asks for the step of a visit; without one the walk is over.
@@ -51,7 +52,7 @@ pub(crate) fn resume<F: FileHandle, T: TempHandle>(
     answer: Answer<F, T>,
 ) -> errors::Result<Phase<F, T>>
     ensures { Counts [] walk → Leads F.seen T.seen result
-        (after_visit (walk_of [] walk) (visit_of visit) (pending walk.todo.items)
+        (after_visit (walk_of [] walk) visit (pending walk.todo.items)
         (plain_answer F.seen T.seen answer)) }
 {
     let mut walk = walk;

@@ -21,7 +21,9 @@ use Rattle.cacache_table.specs.declared.command.Command.TheVariants as commands
 use Rattle.cacache_table.specs.declared.reply.Reply.{Reply}
 use Rattle.cacache_table.specs.declared.reply.Reply.TheVariants.{Listed, Done}
 use Rattle.cacache_table.specs.Common.{fails}
-use Rattle.cacache_table.specs.State.{over, enter, remove_file, Task, Walk}
+use Rattle.cacache_table.specs.State.{over, Walk}
+use Rattle.cacache_table.specs.declared.visit.Task.{Task}
+use Rattle.cacache_table.specs.declared.visit.Visit.TheVariants.{Enter, RemoveFile}
 use Rattle.cacache_table.specs.Walking.{most, failed, give, miss, walk_on, walk_ends, task_of, tasks_of, too_many, walk}
 use Rattle.cacache_table.specs.Runs.{Moves, Runs}
 use Rattle.cacache_value.specs.Kinds.{Content, Way, Stray, path_kind}
@@ -67,10 +69,10 @@ module _ (r : Reply) (whole : BreaksOff commands.Clear r → ⊥) where
   top_name : (k : Kind) (node : Node) (path : List ℕ) (p : Names) (name : List ℕ) (rest : List Task) (w : Walk) (t : Tree) → k ≡ kind_of node → look t (p ++ name ∷ []) ≡ Some node
       → (m : MadeOn (walk_on (task_of true 0 path k ∷ rest) w) t r) → w.clears ≡ true → Rooted t → names_of path ≡ Ok (p ++ name ∷ []) → TopName k path (p ++ name ∷ []) rest w t m
   top_name kinds.Folder Folder path p name rest w t is there m clears rooted named =
-      inr (refl, visited r whole (suc (length m.moves)) (enter path 1) (p ++ name ∷ []) rest w t m (omega arith) clears rooted (named, there, refl, long_names p name))
+      inr (refl, visited r whole (suc (length m.moves)) (Enter path 1) (p ++ name ∷ []) rest w t m (omega arith) clears rooted (named, there, refl, long_names p name))
   top_name kinds.File (File bytes) path p name rest w t is there m clears rooted named = inl (refl, missed t w rest faults.NotADirectory m.moves clears m.run)
   top_name kinds.Link (Link target) path p name rest w t is there m clears rooted named =
-      inr (refl, visited r whole (suc (length m.moves)) (remove_file path) (p ++ name ∷ []) rest w t m (omega arith) clears rooted (named, ap is_leaf there))
+      inr (refl, visited r whole (suc (length m.moves)) (RemoveFile path) (p ++ name ∷ []) rest w t m (omega arith) clears rooted (named, ap is_leaf there))
   top_name k node path p name rest w t is there m clears rooted named = absurd cc
 
   sheds_none : (t new : Tree) (p : Names) (ns : List Name) → ns ≡ [] → new ≡ t → ShedAll t new p ns

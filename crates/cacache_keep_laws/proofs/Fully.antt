@@ -14,7 +14,9 @@ use Rattle.cacache_disk.proofs.KeptFolders.{steps_keep_rooted}
 use Rattle.cacache_entry.specs.Latest.{Found}
 use Rattle.cacache_table.specs.declared.reply.Reply.{Reply}
 use Rattle.cacache_table.specs.declared.reply.Reply.TheVariants.{Done}
-use Rattle.cacache_table.specs.State.{State, doing, looking, over, remove, to_remove, Lookup}
+use Rattle.cacache_table.specs.State.{State, doing, looking, over, remove}
+use Rattle.cacache_table.specs.declared.carried.Lookup.{Lookup}
+use Rattle.cacache_table.specs.declared.carried.Aim.TheVariants as aims
 use Rattle.cacache_table.specs.StepPaths.{bucket_path, content_path}
 use Rattle.cacache_table.specs.Looking.{found_in}
 use Rattle.cacache_table.specs.Removing.{remove_bucket, remove_content, remove_found}
@@ -98,7 +100,7 @@ module _ (cache : List ℕ) (home : Names) where
     found_goes bytes (Some found) e answer b = content_goes found (bytes, answer, e) b
 
     abbrev looks : Lookup
-    looks = record { cache = cache; key = key; aim = to_remove }
+    looks = record { cache = cache; key = key; aim = aims.Remove }
 
     bucket_goes : (u : PlainAnswer) → (apply full (ReadAll (bucket_path cache key)) Plain).0 ≡ u → (b : Both (after (looking looks) u) (after (looking looks) u) full lean) → LackAfter (after (looking looks) u) (after (looking looks) u) full lean b
     bucket_goes (answers.Bytes bytes) answer b = found_goes bytes (found_in key bytes) refl answer b

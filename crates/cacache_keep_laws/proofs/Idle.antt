@@ -20,8 +20,10 @@ use Rattle.cacache_disk.specs.Apply.{apply}
 use Rattle.cacache_entry.specs.Latest.{Found}
 use Rattle.cacache_table.specs.declared.reply.Reply.{Reply}
 use Rattle.cacache_core.specs.Meeting.{meets}
-use Rattle.cacache_table.specs.State.{State, looking, reading, over, to_read, to_report, Lookup, Site}
-use Rattle.cacache_table.specs.State as states
+use Rattle.cacache_table.specs.State.{looking, reading, over}
+use Rattle.cacache_table.specs.declared.carried.Lookup.{Lookup}
+use Rattle.cacache_table.specs.declared.carried.Aim.TheVariants as aims
+use Rattle.cacache_table.specs.declared.carried.Content as carried
 use Rattle.cacache_table.specs.StepPaths.{bucket_path, content_path}
 use Rattle.cacache_table.specs.Looking.{found_in, found_for, found_content}
 use Rattle.cacache_table.specs.Table.{after}
@@ -81,7 +83,7 @@ checked_over t true x y more reply run = over_done t x more reply run
 checked_over t false x y more reply run = over_done t y more reply run
 
 -- after a content was read the call is over
-reading_over : (t : Tree) (k : states.Content) (u : PlainAnswer) (more : Moves) (reply : Reply) → Runs (after (reading k) u) more reply → AnsweredBy t more
+reading_over : (t : Tree) (k : carried.Content) (u : PlainAnswer) (more : Moves) (reply : Reply) → Runs (after (reading k) u) more reply → AnsweredBy t more
 reading_over t k (answers.Bytes b) more reply run = checked_over t (meets k.integrity b) _ _ more reply run
 reading_over t k (answers.Failed fault) more reply run = over_done t _ more reply run
 reading_over t k other more reply run = over_done t _ more reply run
@@ -123,7 +125,7 @@ module _ (cache : List ℕ) (home : Names) (full lean : Tree) (is : home_of cach
 
   module _ (key : List ℕ) (reply : Reply) where
     abbrev by_key : Lookup
-    by_key = record { cache = cache; key = key; aim = to_read }
+    by_key = record { cache = cache; key = key; aim = aims.Read }
 
     content_moves : (found : Found) (more : Moves) → Finds cache full key found → Runs (reading (found_content by_key found)) more reply → AnsweredBy lean more → AnsweredBy full more
     content_moves found [] f run a = tt
@@ -131,7 +133,7 @@ module _ (cache : List ℕ) (home : Names) (full lean : Tree) (is : home_of cach
         let step : ReadAll (content_path cache found.integrity) ≡ m.0 = (let e : Some (ReadAll (content_path cache found.integrity)) ≡ Some m.0 = run.0 in cc) in
         (moved_same full lean m (ReadAll (content_path cache found.integrity)) step a.0 (content_read key found f), reading_over full (found_content by_key found) m.1 more reply run.2)
 
-    found_moves : (b : List ℕ) (o : Option Found) (more : Moves) → found_in key b ≡ o → (apply full (ReadAll (bucket_path cache key)) Plain).0 ≡ Bytes b → Runs (found_for by_key to_read o) more reply → AnsweredBy lean more → AnsweredBy full more
+    found_moves : (b : List ℕ) (o : Option Found) (more : Moves) → found_in key b ≡ o → (apply full (ReadAll (bucket_path cache key)) Plain).0 ≡ Bytes b → Runs (found_for by_key aims.Read o) more reply → AnsweredBy lean more → AnsweredBy full more
     unfolding found_in
     found_moves b None more e answer run a = over_done full _ more reply run
     found_moves b (Some f) more e answer run a = content_moves f more (b, answer, e) run a
@@ -152,7 +154,7 @@ module _ (cache : List ℕ) (home : Names) (full lean : Tree) (is : home_of cach
     -- ---- lookups
 
     abbrev by_report : Lookup
-    by_report = record { cache = cache; key = key; aim = to_report }
+    by_report = record { cache = cache; key = key; aim = aims.Report }
 
     report_over : (u : PlainAnswer) (more : Moves) → Runs (after (looking by_report) u) more reply → AnsweredBy full more
     report_over (answers.Bytes b) more run = over_done full _ more reply run

@@ -28,7 +28,10 @@ use Rattle.cacache_disk.specs.Apply.{apply, unless}
 use Rattle.cacache_entry.specs.Entry.{Entry}
 use Rattle.cacache_entry.specs.Bucket.{entries_of}
 use Rattle.cacache_entry.specs.Latest.{Found, latest, after_entry}
-use Rattle.cacache_table.specs.State.{Item, enter, read_bucket, remove_file, remove_folder, Task, visit, stumble, Site}
+use Rattle.cacache_table.specs.State.{Item, Site}
+use Rattle.cacache_table.specs.declared.visit.Task.{Task}
+use Rattle.cacache_table.specs.declared.visit.Visit.TheVariants.{Enter, ReadBucket, RemoveFile, RemoveFolder}
+use Rattle.cacache_table.specs.declared.visit.Task.TheVariants.{Make, Stumble}
 use Rattle.cacache_table.specs.Walking.{task_of, tasks_of, items_in, items_of, once}
 use Rattle.cacache_table.specs.Runs.{Moves}
 use Rattle.cacache_table.specs.ListReplies.{given, given_by, In, keys_of}
@@ -51,16 +54,16 @@ task_in level p n (k ∷ ns) (inl same) = inl (ap (λ (x : Name). task_of false 
 task_in level p n (k ∷ ns) (inr m) = inr (task_in level p n ns m)
 
 -- whoever reads all stumbles over nothing
-no_stumble : (moves : Moves) (todo : List Task) (fault : Fault) → ReadsAll todo moves → Member (stumble fault) todo → ⊥
-no_stumble moves [] fault r m = m
-no_stumble moves (stumble other ∷ todo) fault r m = r
-no_stumble [] (visit (enter p level) ∷ todo) fault r m = r
-no_stumble [] (visit (read_bucket p) ∷ todo) fault r m = r
-no_stumble moves (visit (remove_file p) ∷ todo) fault r m = r
-no_stumble moves (visit (remove_folder p) ∷ todo) fault r m = r
-no_stumble (x ∷ moves) (visit v ∷ todo) fault r (inl same) = absurd (let wrong : stumble fault ≡ visit v = same in cc)
-no_stumble (x ∷ moves) (visit (enter p level) ∷ todo) fault r (inr m) = no_stumble moves (tasks_of false level p r.1.0 ++ todo) fault r.1.2 (in_right (stumble fault) (tasks_of false level p r.1.0) todo m)
-no_stumble (x ∷ moves) (visit (read_bucket p) ∷ todo) fault r (inr m) = no_stumble moves todo fault r.1 m
+no_stumble : (moves : Moves) (todo : List Task) (fault : Fault) (path : List ℕ) → ReadsAll todo moves → Member (Stumble fault path) todo → ⊥
+no_stumble moves [] fault path r m = m
+no_stumble moves (Stumble other below ∷ todo) fault path r m = r
+no_stumble [] (Make (Enter p level) ∷ todo) fault path r m = r
+no_stumble [] (Make (ReadBucket p) ∷ todo) fault path r m = r
+no_stumble moves (Make (RemoveFile p) ∷ todo) fault path r m = r
+no_stumble moves (Make (RemoveFolder p) ∷ todo) fault path r m = r
+no_stumble (x ∷ moves) (Make v ∷ todo) fault path r (inl same) = absurd (let wrong : Stumble fault path ≡ Make v = same in cc)
+no_stumble (x ∷ moves) (Make (Enter p level) ∷ todo) fault path r (inr m) = no_stumble moves (tasks_of false level p r.1.0 ++ todo) fault path r.1.2 (in_right (Stumble fault path) (tasks_of false level p r.1.0) todo m)
+no_stumble (x ∷ moves) (Make (ReadBucket p) ∷ todo) fault path r (inr m) = no_stumble moves todo fault path r.1 m
 
 -- ---- on a tree
 
@@ -73,37 +76,37 @@ module _ (t : Tree) (rooted : Rooted t) where
   same_move m path step answer = ap₂ (λ (s : PlainStep) (a : PlainAnswer). (s, a)) (sym step) (sym (answer ∙ ap (λ s. (apply t s Plain).0) step))
 
   -- a bucket that is to be read is read
-  bucket_reached : (moves : Moves) (todo : List Task) (path : List ℕ) → ReadsAll todo moves → AnsweredBy t moves → Member (visit (read_bucket path)) todo → Member (reads path) moves
+  bucket_reached : (moves : Moves) (todo : List Task) (path : List ℕ) → ReadsAll todo moves → AnsweredBy t moves → Member (Make (ReadBucket path)) todo → Member (reads path) moves
   bucket_reached moves [] path r a k = absurd k
-  bucket_reached moves (stumble other ∷ todo) path r a k = absurd r
-  bucket_reached [] (visit (enter p level) ∷ todo) path r a k = absurd r
-  bucket_reached [] (visit (read_bucket p) ∷ todo) path r a k = absurd r
-  bucket_reached moves (visit (remove_file p) ∷ todo) path r a k = absurd r
-  bucket_reached moves (visit (remove_folder p) ∷ todo) path r a k = absurd r
-  bucket_reached (m ∷ moves) (visit (enter p level) ∷ todo) path r a (inl same) = absurd (let wrong : visit (read_bucket path) ≡ visit (enter p level) = same in cc)
-  bucket_reached (m ∷ moves) (visit (enter p level) ∷ todo) path r a (inr k) = inr (bucket_reached moves (tasks_of false level p r.1.0 ++ todo) path r.1.2 a.1 (in_right (visit (read_bucket path)) (tasks_of false level p r.1.0) todo k))
-  bucket_reached (m ∷ moves) (visit (read_bucket p) ∷ todo) path r a (inl same) =
-      let is : path ≡ p = (let e : visit (read_bucket path) ≡ visit (read_bucket p) = same in cc) in
+  bucket_reached moves (Stumble other below ∷ todo) path r a k = absurd r
+  bucket_reached [] (Make (Enter p level) ∷ todo) path r a k = absurd r
+  bucket_reached [] (Make (ReadBucket p) ∷ todo) path r a k = absurd r
+  bucket_reached moves (Make (RemoveFile p) ∷ todo) path r a k = absurd r
+  bucket_reached moves (Make (RemoveFolder p) ∷ todo) path r a k = absurd r
+  bucket_reached (m ∷ moves) (Make (Enter p level) ∷ todo) path r a (inl same) = absurd (let wrong : Make (ReadBucket path) ≡ Make (Enter p level) = same in cc)
+  bucket_reached (m ∷ moves) (Make (Enter p level) ∷ todo) path r a (inr k) = inr (bucket_reached moves (tasks_of false level p r.1.0 ++ todo) path r.1.2 a.1 (in_right (Make (ReadBucket path)) (tasks_of false level p r.1.0) todo k))
+  bucket_reached (m ∷ moves) (Make (ReadBucket p) ∷ todo) path r a (inl same) =
+      let is : path ≡ p = (let e : Make (ReadBucket path) ≡ Make (ReadBucket p) = same in cc) in
       inl (same_move m path (r.0 ∙ ap ReadAll (sym is)) a.0)
-  bucket_reached (m ∷ moves) (visit (read_bucket p) ∷ todo) path r a (inr k) = inr (bucket_reached moves todo path r.1 a.1 k)
+  bucket_reached (m ∷ moves) (Make (ReadBucket p) ∷ todo) path r a (inr k) = inr (bucket_reached moves todo path r.1 a.1 k)
 
   -- so is a file or link below a folder that is to be read
   abbrev Reaches : List Task → Moves → Type 0
-  Reaches todo moves = (p : List ℕ) (level : ℕ) (base : Names) (x : List ℕ) (xs : Names) → Member (visit (enter p level)) todo → names_of p ≡ Ok base → is_leaf (look t (base ++ x ∷ xs)) ≡ true → Member (reads (joined p (x ∷ xs))) moves
+  Reaches todo moves = (p : List ℕ) (level : ℕ) (base : Names) (x : List ℕ) (xs : Names) → Member (Make (Enter p level)) todo → names_of p ≡ Ok base → is_leaf (look t (base ++ x ∷ xs)) ≡ true → Member (reads (joined p (x ∷ xs))) moves
 
   no_leaf : (base : Names) (here : Option Node) → here ≡ None → is_leaf here ≡ true → ⊥
   no_leaf base here e leaf = let wrong : false ≡ true = ap is_leaf (sym e) ∙ leaf in cc
 
   module _ (m : PlainStep × PlainAnswer) (moves : Moves) (p : List ℕ) (level : ℕ) (base : Names) (names : List Name) (todo : List Task) (rest : ReadsAll (tasks_of false level p names ++ todo) moves) (a : AnsweredBy t moves) (next : Reaches (tasks_of false level p names ++ todo) moves) (named : names_of p ≡ Ok base) where
-    a_bucket : (x : List ℕ) (kind : Kind) → Member (record { name = x; kind = kind }) names → task_of false level (join p x) kind ≡ visit (read_bucket (join p x)) → Member (reads (join p x)) (m ∷ moves)
+    a_bucket : (x : List ℕ) (kind : Kind) → Member (record { name = x; kind = kind }) names → task_of false level (join p x) kind ≡ Make (ReadBucket (join p x)) → Member (reads (join p x)) (m ∷ moves)
     a_bucket x kind member is =
         let task = subst (λ (k : Task). Member k (tasks_of false level p names)) is (task_in level p (record { name = x; kind = kind }) names member) in
-        inr (bucket_reached moves (tasks_of false level p names ++ todo) (join p x) rest a (in_left (visit (read_bucket (join p x))) (tasks_of false level p names) todo task))
+        inr (bucket_reached moves (tasks_of false level p names ++ todo) (join p x) rest a (in_left (Make (ReadBucket (join p x))) (tasks_of false level p names) todo task))
 
-    a_folder : (x y : List ℕ) (ys : Names) (b : Bool) → Member (cond b (visit (enter (join p x) (level + 1))) (stumble TooDeep)) (tasks_of false level p names) → look t (base ++ x ∷ []) ≡ Some Folder → is_leaf (look t (base ++ x ∷ y ∷ ys)) ≡ true → Member (reads (joined p (x ∷ y ∷ ys))) (m ∷ moves)
+    a_folder : (x y : List ℕ) (ys : Names) (b : Bool) → Member (cond b (Make (Enter (join p x) (level + 1))) (Stumble TooDeep (join p x))) (tasks_of false level p names) → look t (base ++ x ∷ []) ≡ Some Folder → is_leaf (look t (base ++ x ∷ y ∷ ys)) ≡ true → Member (reads (joined p (x ∷ y ∷ ys))) (m ∷ moves)
     a_folder x y ys true task is leaf =
-        inr (next (join p x) (level + 1) (base ++ x ∷ []) y ys (in_left (visit (enter (join p x) (level + 1))) (tasks_of false level p names) todo task) (named_on p base x named (proper_child t base x Folder rooted is)) (ap (λ n. is_leaf (look t n)) (append_assoc base (x ∷ []) (y ∷ ys)) ∙ leaf))
-    a_folder x y ys false task is leaf = absurd (no_stumble moves (tasks_of false level p names ++ todo) TooDeep rest (in_left (stumble TooDeep) (tasks_of false level p names) todo task))
+        inr (next (join p x) (level + 1) (base ++ x ∷ []) y ys (in_left (Make (Enter (join p x) (level + 1))) (tasks_of false level p names) todo task) (named_on p base x named (proper_child t base x Folder rooted is)) (ap (λ n. is_leaf (look t n)) (append_assoc base (x ∷ []) (y ∷ ys)) ∙ leaf))
+    a_folder x y ys false task is leaf = absurd (no_stumble moves (tasks_of false level p names ++ todo) TooDeep (join p x) rest (in_left (Stumble TooDeep (join p x)) (tasks_of false level p names) todo task))
 
     below_no : (x y : List ℕ) (ys : Names) (here : Option Node) → look t (base ++ x ∷ []) ≡ here → (here ≡ Some Folder → ⊥) → is_leaf (look t (base ++ x ∷ y ∷ ys)) ≡ true → ⊥
     below_no x y ys here is apart leaf = no_leaf base (look t (base ++ x ∷ y ∷ ys)) (ap (look t) (sym (append_assoc base (x ∷ []) (y ∷ ys))) ∙ none_below t (base ++ x ∷ []) y ys rooted (λ folder. apart (sym is ∙ folder))) leaf
@@ -124,17 +127,17 @@ module _ (t : Tree) (rooted : Rooted t) where
 
   reaches : (moves : Moves) (todo : List Task) → ReadsAll todo moves → AnsweredBy t moves → Reaches todo moves
   reaches moves [] r a p level base x xs k named leaf = absurd k
-  reaches moves (stumble other ∷ todo) r a p level base x xs k named leaf = absurd r
-  reaches [] (visit (enter q l) ∷ todo) r a p level base x xs k named leaf = absurd r
-  reaches [] (visit (read_bucket q) ∷ todo) r a p level base x xs k named leaf = absurd r
-  reaches moves (visit (remove_file q) ∷ todo) r a p level base x xs k named leaf = absurd r
-  reaches moves (visit (remove_folder q) ∷ todo) r a p level base x xs k named leaf = absurd r
-  reaches (m ∷ moves) (visit (read_bucket q) ∷ todo) r a p level base x xs (inl same) named leaf = absurd (let wrong : visit (enter p level) ≡ visit (read_bucket q) = same in cc)
-  reaches (m ∷ moves) (visit (read_bucket q) ∷ todo) r a p level base x xs (inr k) named leaf = inr (reaches moves todo r.1 a.1 p level base x xs k named leaf)
-  reaches (m ∷ moves) (visit (enter q l) ∷ todo) r a p level base x xs (inr k) named leaf =
-      inr (reaches moves (tasks_of false l q r.1.0 ++ todo) r.1.2 a.1 p level base x xs (in_right (visit (enter p level)) (tasks_of false l q r.1.0) todo k) named leaf)
-  reaches (m ∷ moves) (visit (enter q l) ∷ todo) r a p level base x xs (inl same) named leaf =
-      let is : p ≡ q = (let e : visit (enter p level) ≡ visit (enter q l) = same in cc) in
+  reaches moves (Stumble other path ∷ todo) r a p level base x xs k named leaf = absurd r
+  reaches [] (Make (Enter q l) ∷ todo) r a p level base x xs k named leaf = absurd r
+  reaches [] (Make (ReadBucket q) ∷ todo) r a p level base x xs k named leaf = absurd r
+  reaches moves (Make (RemoveFile q) ∷ todo) r a p level base x xs k named leaf = absurd r
+  reaches moves (Make (RemoveFolder q) ∷ todo) r a p level base x xs k named leaf = absurd r
+  reaches (m ∷ moves) (Make (ReadBucket q) ∷ todo) r a p level base x xs (inl same) named leaf = absurd (let wrong : Make (Enter p level) ≡ Make (ReadBucket q) = same in cc)
+  reaches (m ∷ moves) (Make (ReadBucket q) ∷ todo) r a p level base x xs (inr k) named leaf = inr (reaches moves todo r.1 a.1 p level base x xs k named leaf)
+  reaches (m ∷ moves) (Make (Enter q l) ∷ todo) r a p level base x xs (inr k) named leaf =
+      inr (reaches moves (tasks_of false l q r.1.0 ++ todo) r.1.2 a.1 p level base x xs (in_right (Make (Enter p level)) (tasks_of false l q r.1.0) todo k) named leaf)
+  reaches (m ∷ moves) (Make (Enter q l) ∷ todo) r a p level base x xs (inl same) named leaf =
+      let is : p ≡ q = (let e : Make (Enter p level) ≡ Make (Enter q l) = same in cc) in
       let named_q : names_of q ≡ Ok base = ap names_of (sym is) ∙ named in
       let names = r.1.0 in
       let shows = folder_shown t q base Plain names rooted named_q (ap (λ s. names_shown (apply t s Plain).0) (sym r.0) ∙ ap names_shown (sym a.0) ∙ r.1.1) in
@@ -206,13 +209,13 @@ module _ (site : Site) (home : Names) (t : Tree) (rooted : Rooted t) (is : home_
   index_named : (key : List ℕ) → names_of (join site.cache (codes "index-v5")) ≡ Ok (home ++ codes "index-v5" ∷ [])
   index_named key = joined_texts_name site.cache (codes "index-v5" ∷ []) (All-cons IsProperName (codes "index-v5") [] proper_bucket_folder (All-nil IsProperName)) (omega arith) ∙ rw is refl
 
-  item_in : (key bytes : List ℕ) (found : Found) (moves : Moves) (items : List Item) → (apply t (ReadAll (bucket_path site.cache key)) Plain).0 ≡ Bytes bytes → latest key (entries_of bytes) ≡ Some found → AnsweredBy t moves → Good items moves (visit (enter (join site.cache (codes "index-v5")) 0) ∷ []) [] → Member (Ok found) items
+  item_in : (key bytes : List ℕ) (found : Found) (moves : Moves) (items : List Item) → (apply t (ReadAll (bucket_path site.cache key)) Plain).0 ≡ Bytes bytes → latest key (entries_of bytes) ≡ Some found → AnsweredBy t moves → Good items moves (Make (Enter (join site.cache (codes "index-v5")) 0) ∷ []) [] → Member (Ok found) items
   unfolding items_in bucket_path
   item_in key bytes found moves items answer e answered g =
       let rest = cut_digits (encode_lower (sha1 key)) in
       let path = joined site.cache (bucket_names key) in
       let leaf : is_leaf (look t ((home ++ codes "index-v5" ∷ []) ++ rest)) ≡ true = ap (λ n. is_leaf (look t n)) (append_assoc home (codes "index-v5" ∷ []) rest) ∙ read_leaf t rooted path (home ++ bucket_names key) bytes (bucket_named key) answer in
-      let read = reaches t rooted moves (visit (enter (join site.cache (codes "index-v5")) 0) ∷ []) g.reads answered (join site.cache (codes "index-v5")) 0 (home ++ codes "index-v5" ∷ []) _ _ (inl refl) (index_named key) leaf in
+      let read = reaches t rooted moves (Make (Enter (join site.cache (codes "index-v5")) 0) ∷ []) g.reads answered (join site.cache (codes "index-v5")) 0 (home ++ codes "index-v5" ∷ []) _ _ (inl refl) (index_named key) leaf in
       g.gives (Ok found) (given_member (reads t rooted path) moves (Ok found) read (rw answer (looked_up key (entries_of bytes) found e)))
 
 pub lists_each_key : ListsEachKey

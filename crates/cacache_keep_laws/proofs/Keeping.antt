@@ -29,7 +29,8 @@ use Rattle.cacache_disk.proofs.FoundNodes.{removable_ok}
 use Rattle.cacache_entry.specs.Latest.{Found}
 use Rattle.cacache_table.specs.declared.command.Command.TheVariants as commands
 use Rattle.cacache_table.specs.declared.reply.Reply.{Reply}
-use Rattle.cacache_table.specs.State.{looking, to_report, Site, Item}
+use Rattle.cacache_table.specs.State.{looking, Site, Item}
+use Rattle.cacache_table.specs.declared.carried.Aim.TheVariants as aims
 use Rattle.cacache_table.specs.declared.reply.Reply.TheVariants.{Listed}
 use Rattle.cacache_table.specs.StepPaths.{addressed, bucket_path, content_path}
 use Rattle.cacache_table.specs.Table.{opening, after}
@@ -212,7 +213,7 @@ collections_keep_reads site home t new listing items dropped key moves reply is 
 
 -- ---- lookups
 
-report_over : (t : Tree) (site : Site) (key : List ℕ) (u : PlainAnswer) (more : Moves) (reply : Reply) → Runs (after (looking (record { cache = site.cache; key = key; aim = to_report })) u) more reply → AnsweredBy t more
+report_over : (t : Tree) (site : Site) (key : List ℕ) (u : PlainAnswer) (more : Moves) (reply : Reply) → Runs (after (looking (record { cache = site.cache; key = key; aim = aims.Report })) u) more reply → AnsweredBy t more
 report_over t site key (answers.Bytes b) more reply run = over_done t _ more reply run
 report_over t site key (answers.Failed NotFound) more reply run = over_done t _ more reply run
 report_over t site key (answers.Failed other) more reply run = over_done t _ more reply run

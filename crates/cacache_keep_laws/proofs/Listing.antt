@@ -15,7 +15,11 @@ use Rattle.cacache_table.specs.declared.answers.Refusal.TheVariants as refusals
 use Rattle.cacache_table.specs.declared.reply.Reply.{Reply}
 use Rattle.cacache_table.specs.declared.reply.Reply.TheVariants.{Listed, Refused}
 use Rattle.cacache_table.specs.Answers.{bytes_in, names_in}
-use Rattle.cacache_table.specs.State.{walking, over, Item, Visit, enter, read_bucket, remove_file, remove_folder, Task, visit, stumble, Walk}
+use Rattle.cacache_table.specs.State.{walking, over, Item, Walk}
+use Rattle.cacache_table.specs.declared.visit.Visit.{Visit}
+use Rattle.cacache_table.specs.declared.visit.Task.{Task}
+use Rattle.cacache_table.specs.declared.visit.Visit.TheVariants.{Enter, ReadBucket, RemoveFile, RemoveFolder}
+use Rattle.cacache_table.specs.declared.visit.Task.TheVariants.{Make, Stumble}
 use Rattle.cacache_table.specs.Common.{go_on}
 use Rattle.cacache_table.specs.Walking.{most, failed, miss, walk_on, task_of, tasks_of, too_many, entered, unread_bucket, listed, items_in}
 use Rattle.cacache_table.specs.Runs.{Moves, Runs}
@@ -28,25 +32,25 @@ use Rattle.cacache_keep_laws.specs.Index.{is_bad}
 abbrev pub ReadsAll : List Task → Moves → Type 0
 ReadsAll [] [] = Unit {0}
 ReadsAll [] (m ∷ moves) = ⊥
-ReadsAll (visit (enter p level) ∷ todo) [] = ⊥
-ReadsAll (visit (enter p level) ∷ todo) (m ∷ moves) =
+ReadsAll (Make (Enter p level) ∷ todo) [] = ⊥
+ReadsAll (Make (Enter p level) ∷ todo) (m ∷ moves) =
     (m.0 ≡ ReadDir p) × ((names : List Name) × (names_shown m.1 ≡ Some names) × ReadsAll (tasks_of false level p names ++ todo) moves)
-ReadsAll (visit (read_bucket p) ∷ todo) [] = ⊥
-ReadsAll (visit (read_bucket p) ∷ todo) (m ∷ moves) = (m.0 ≡ ReadAll p) × ReadsAll todo moves
-ReadsAll (visit (remove_file p) ∷ todo) moves = ⊥
-ReadsAll (visit (remove_folder p) ∷ todo) moves = ⊥
-ReadsAll (stumble fault ∷ todo) moves = ⊥
+ReadsAll (Make (ReadBucket p) ∷ todo) [] = ⊥
+ReadsAll (Make (ReadBucket p) ∷ todo) (m ∷ moves) = (m.0 ≡ ReadAll p) × ReadsAll todo moves
+ReadsAll (Make (RemoveFile p) ∷ todo) moves = ⊥
+ReadsAll (Make (RemoveFolder p) ∷ todo) moves = ⊥
+ReadsAll (Stumble fault path ∷ todo) moves = ⊥
 
 -- what a listing has to do
 abbrev pub Fine : List Task → Type 0
 Fine [] = Unit {0}
-Fine (visit (enter p level) ∷ todo) = Fine todo
-Fine (visit (read_bucket p) ∷ todo) = Fine todo
-Fine (visit (remove_file p) ∷ todo) = ⊥
-Fine (visit (remove_folder p) ∷ todo) = ⊥
-Fine (stumble fault ∷ todo) = (fault ≡ TooDeep) × Fine todo
+Fine (Make (Enter p level) ∷ todo) = Fine todo
+Fine (Make (ReadBucket p) ∷ todo) = Fine todo
+Fine (Make (RemoveFile p) ∷ todo) = ⊥
+Fine (Make (RemoveFolder p) ∷ todo) = ⊥
+Fine (Stumble fault path ∷ todo) = (fault ≡ TooDeep) × Fine todo
 
-deeper_fine : (b : Bool) (p : List ℕ) (level : ℕ) (todo : List Task) → Fine todo → Fine (cond b (visit (enter p level)) (stumble TooDeep) ∷ todo)
+deeper_fine : (b : Bool) (p : List ℕ) (level : ℕ) (todo : List Task) → Fine todo → Fine (cond b (Make (Enter p level)) (Stumble TooDeep p) ∷ todo)
 deeper_fine true p level todo h = h
 deeper_fine false p level todo h = (refl, h)
 
@@ -117,13 +121,13 @@ module _ (list : List Item) where
 
   -- the first visit of a walk
   abbrev Visits : Moves → Type 0
-  Visits moves = (v : Visit) (todo : List Task) (items : List Item) (left : ℕ) → Fine (visit v ∷ todo) → Runs (walking (lists items left) v todo) moves (Listed list) → Outcome moves (visit v ∷ todo) items
+  Visits moves = (v : Visit) (todo : List Task) (items : List Item) (left : ℕ) → Fine (Make v ∷ todo) → Runs (walking (lists items left) v todo) moves (Listed list) → Outcome moves (Make v ∷ todo) items
 
-  fine_rest : (v : Visit) (todo : List Task) → Fine (visit v ∷ todo) → Fine todo
-  fine_rest (enter p level) todo h = h
-  fine_rest (read_bucket p) todo h = h
-  fine_rest (remove_file p) todo h = absurd h
-  fine_rest (remove_folder p) todo h = absurd h
+  fine_rest : (v : Visit) (todo : List Task) → Fine (Make v ∷ todo) → Fine todo
+  fine_rest (Enter p level) todo h = h
+  fine_rest (ReadBucket p) todo h = h
+  fine_rest (RemoveFile p) todo h = absurd h
+  fine_rest (RemoveFolder p) todo h = absurd h
 
   goes_on : (moves : Moves) → Visits moves → (todo : List Task) → Fine todo → GoesOn moves todo
   goes_on moves visits [] fine items left run =
@@ -134,15 +138,15 @@ module _ (list : List Item) where
         keeps = λ x m. subst (Member x) same m;
         gives = λ x m. absurd (subst (λ ms. Member x (given ms)) e.0 m);
       })
-  goes_on moves visits (visit v ∷ todo) fine items left run = visits v todo items left fine run
-  goes_on moves visits (stumble fault ∷ todo) fine items left run =
-      spoiled moves todo (stumble fault ∷ todo) items fault moves (rw fine.0 refl) (missed moves todo items left fault (goes_on moves visits todo fine.1) run)
+  goes_on moves visits (Make v ∷ todo) fine items left run = visits v todo items left fine run
+  goes_on moves visits (Stumble fault path ∷ todo) fine items left run =
+      spoiled moves todo (Stumble fault path ∷ todo) items fault moves (rw fine.0 refl) (missed moves todo items left fault (goes_on moves visits todo fine.1) run)
 
   module _ (m : PlainStep × PlainAnswer) (moves : Moves) (visits : Visits moves) where
-    entering : (p : List ℕ) (level : ℕ) (todo : List Task) (items : List Item) (left : ℕ) (a : Result (List Name) Refusal) → names_in m.1 ≡ a → m.0 ≡ ReadDir p → Fine todo → Runs (go_on a (miss (lists items left) (walk_on todo)) (entered (lists items left) p level todo)) moves (Listed list) → Outcome (m ∷ moves) (visit (enter p level) ∷ todo) items
+    entering : (p : List ℕ) (level : ℕ) (todo : List Task) (items : List Item) (left : ℕ) (a : Result (List Name) Refusal) → names_in m.1 ≡ a → m.0 ≡ ReadDir p → Fine todo → Runs (go_on a (miss (lists items left) (walk_on todo)) (entered (lists items left) p level todo)) moves (Listed list) → Outcome (m ∷ moves) (Make (Enter p level) ∷ todo) items
     entering p level todo items left (Ok names) is step fine run = by_count (nat_le (length names) left) run
       where
-        by_count : (b : Bool) → Runs (cond b (walk_on ((tasks_of false level p names ++ []) ++ todo) (lists items (left - length names))) (too_many (lists items left))) moves (Listed list) → Outcome (m ∷ moves) (visit (enter p level) ∷ todo) items
+        by_count : (b : Bool) → Runs (cond b (walk_on ((tasks_of false level p names ++ []) ++ todo) (lists items (left - length names))) (too_many (lists items left))) moves (Listed list) → Outcome (m ∷ moves) (Make (Enter p level) ∷ todo) items
         by_count true run =
             elim (goes_on moves visits (tasks_of false level p names ++ todo) (tasks_fine level p names todo fine) items (left - length names) (rw (append-nil (tasks_of false level p names)) at run)) [
               | inl bad ↦ inl bad
@@ -166,10 +170,10 @@ module _ (list : List Item) where
           })
         ]
     entering p level todo items left (Err (refusals.Fault fault)) is step fine run =
-        spoiled moves todo (visit (enter p level) ∷ todo) items fault (m ∷ moves) refl (missed moves todo items left fault (goes_on moves visits todo fine) run)
+        spoiled moves todo (Make (Enter p level) ∷ todo) items fault (m ∷ moves) refl (missed moves todo items left fault (goes_on moves visits todo fine) run)
     entering p level todo items left (Err refusals.Memory) is step fine run = absurd (let e : Refused OutOfMemory ≡ Listed list = (ended moves (Refused OutOfMemory) run).1 in cc)
 
-    reading : (p : List ℕ) (todo : List Task) (items : List Item) (left : ℕ) (a : Result (List ℕ) Refusal) → bytes_in m.1 ≡ a → m.0 ≡ ReadAll p → Fine todo → Runs (go_on a (unread_bucket (lists items left) todo) (listed (lists items left) todo)) moves (Listed list) → Outcome (m ∷ moves) (visit (read_bucket p) ∷ todo) items
+    reading : (p : List ℕ) (todo : List Task) (items : List Item) (left : ℕ) (a : Result (List ℕ) Refusal) → bytes_in m.1 ≡ a → m.0 ≡ ReadAll p → Fine todo → Runs (go_on a (unread_bucket (lists items left) todo) (listed (lists items left) todo)) moves (Listed list) → Outcome (m ∷ moves) (Make (ReadBucket p) ∷ todo) items
     reading p todo items left (Ok bytes) is step fine run =
         elim (given_on (nat_le (length items + length (items_in bytes)) most) moves todo items (items_in bytes) left (goes_on moves visits todo fine) run) [
           | inl bad ↦ inl bad
@@ -192,19 +196,19 @@ module _ (list : List Item) where
           })
         ]
     reading p todo items left (Err (refusals.Fault fault)) is step fine run =
-        spoiled moves todo (visit (read_bucket p) ∷ todo) items fault (m ∷ moves) refl (missed moves todo items left fault (goes_on moves visits todo fine) run)
+        spoiled moves todo (Make (ReadBucket p) ∷ todo) items fault (m ∷ moves) refl (missed moves todo items left fault (goes_on moves visits todo fine) run)
     reading p todo items left (Err refusals.Memory) is step fine run = absurd (let e : Refused OutOfMemory ≡ Listed list = (ended moves (Refused OutOfMemory) run).1 in cc)
 
   visits_all : (moves : Moves) → Visits moves
   visits_all [] v todo items left fine (inl e) = absurd cc
   visits_all [] v todo items left fine (inr e) = absurd cc
-  visits_all (m ∷ moves) (enter p level) todo items left fine run =
+  visits_all (m ∷ moves) (Enter p level) todo items left fine run =
       entering m moves (visits_all moves) p level todo items left (names_in m.1) refl (let e : Some (ReadDir p) ≡ Some m.0 = run.0 in cc) fine run.2
-  visits_all (m ∷ moves) (read_bucket p) todo items left fine run =
+  visits_all (m ∷ moves) (ReadBucket p) todo items left fine run =
       reading m moves (visits_all moves) p todo items left (bytes_in m.1) refl (let e : Some (ReadAll p) ≡ Some m.0 = run.0 in cc) fine run.2
-  visits_all (m ∷ moves) (remove_file p) todo items left fine run = absurd fine
-  visits_all (m ∷ moves) (remove_folder p) todo items left fine run = absurd fine
+  visits_all (m ∷ moves) (RemoveFile p) todo items left fine run = absurd fine
+  visits_all (m ∷ moves) (RemoveFolder p) todo items left fine run = absurd fine
 
   -- a run of a listing from its folder
-  pub listing_runs : (moves : Moves) (top : List ℕ) → Runs (walking (lists [] most) (enter top 0) []) moves (Listed list) → Outcome moves (visit (enter top 0) ∷ []) []
-  listing_runs moves top run = visits_all moves (enter top 0) [] [] most tt run
+  pub listing_runs : (moves : Moves) (top : List ℕ) → Runs (walking (lists [] most) (Enter top 0) []) moves (Listed list) → Outcome moves (Make (Enter top 0) ∷ []) []
+  listing_runs moves top run = visits_all moves (Enter top 0) [] [] most tt run

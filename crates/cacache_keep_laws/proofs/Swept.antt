@@ -23,7 +23,11 @@ use Rattle.cacache_table.specs.declared.command.Command.TheVariants as commands
 use Rattle.cacache_table.specs.declared.reply.Reply.{Reply}
 use Rattle.cacache_table.specs.declared.reply.Reply.TheVariants.{Listed, Refused}
 use Rattle.cacache_table.specs.Common.{fails}
-use Rattle.cacache_table.specs.State.{State, walking, over, Visit, enter, read_bucket, remove_file, remove_folder, Task, visit, stumble, Walk}
+use Rattle.cacache_table.specs.State.{State, walking, over, Walk}
+use Rattle.cacache_table.specs.declared.visit.Visit.{Visit}
+use Rattle.cacache_table.specs.declared.visit.Task.{Task}
+use Rattle.cacache_table.specs.declared.visit.Visit.TheVariants.{Enter, ReadBucket, RemoveFile, RemoveFolder}
+use Rattle.cacache_table.specs.declared.visit.Task.TheVariants.{Make, Stumble}
 use Rattle.cacache_table.specs.Walking.{failed, give, miss, walk_on, task_of, tasks_of, leaving, too_many, entered}
 use Rattle.cacache_table.specs.Runs.{Moves, Runs}
 use Rattle.cacache_history.specs.Sequence.{tree_on}
@@ -114,8 +118,8 @@ module _ (r : Reply) (whole : BreaksOff commands.Clear r → ⊥) where
 
   -- what may be visited: a file or link, or a folder that isn't the top one
   abbrev pub Ready : Tree → Visit → Names → Type 0
-  Ready t (enter path level) p = (names_of path ≡ Ok p) × (look t p ≡ Some Folder) × ((level == 0) ≡ false) × ((length p == 0) ≡ false)
-  Ready t (remove_file path) p = (names_of path ≡ Ok p) × (is_leaf (look t p) ≡ true)
+  Ready t (Enter path level) p = (names_of path ≡ Ok p) × (look t p ≡ Some Folder) × ((level == 0) ≡ false) × ((length p == 0) ≡ false)
+  Ready t (RemoveFile path) p = (names_of path ≡ Ok p) × (is_leaf (look t p) ≡ true)
   Ready t other p = ⊥
 
   -- each visit with so few moves sheds what it visits
@@ -128,23 +132,23 @@ module _ (r : Reply) (whole : BreaksOff commands.Clear r → ⊥) where
   module _ (fuel : ℕ) (visits : Visits fuel) where
     -- one name of a folder
     folder_swept : (b : Bool) (path : List ℕ) (level : ℕ) (p : Names) (name : List ℕ) (rest : List Task) (w : Walk) (t : Tree)
-        → (m : MadeOn (walk_on (cond b (visit (enter path (level + 1))) (stumble faults.TooDeep) ∷ rest) w) t r) → length m.moves < fuel → w.clears ≡ true → Rooted t → names_of path ≡ Ok (p ++ name ∷ []) → look t (p ++ name ∷ []) ≡ Some Folder
-        → Swept (walk_on (cond b (visit (enter path (level + 1))) (stumble faults.TooDeep) ∷ rest) w) t m rest (λ new. Shed t new (p ++ name ∷ []))
-    folder_swept true path level p name rest w t m low clears rooted named there = visits (enter path (level + 1)) (p ++ name ∷ []) rest w t m low clears rooted (named, there, deep level, long_names p name)
+        → (m : MadeOn (walk_on (cond b (Make (Enter path (level + 1))) (Stumble faults.TooDeep path) ∷ rest) w) t r) → length m.moves < fuel → w.clears ≡ true → Rooted t → names_of path ≡ Ok (p ++ name ∷ []) → look t (p ++ name ∷ []) ≡ Some Folder
+        → Swept (walk_on (cond b (Make (Enter path (level + 1))) (Stumble faults.TooDeep path) ∷ rest) w) t m rest (λ new. Shed t new (p ++ name ∷ []))
+    folder_swept true path level p name rest w t m low clears rooted named there = visits (Enter path (level + 1)) (p ++ name ∷ []) rest w t m low clears rooted (named, there, deep level, long_names p name)
     folder_swept false path level p name rest w t m low clears rooted named there = absurd (never_deeper w (walk_on rest) m.moves clears m.run)
 
     file_swept : (b : Bool) (path : List ℕ) (q : Names) (rest : List Task) (w : Walk) (t : Tree) → b ≡ false
-        → (m : MadeOn (walk_on (cond b (stumble faults.NotADirectory) (visit (remove_file path)) ∷ rest) w) t r) → length m.moves < fuel → w.clears ≡ true → Rooted t → names_of path ≡ Ok q → is_leaf (look t q) ≡ true
-        → Swept (walk_on (cond b (stumble faults.NotADirectory) (visit (remove_file path)) ∷ rest) w) t m rest (λ new. Shed t new q)
+        → (m : MadeOn (walk_on (cond b (Stumble faults.NotADirectory path) (Make (RemoveFile path)) ∷ rest) w) t r) → length m.moves < fuel → w.clears ≡ true → Rooted t → names_of path ≡ Ok q → is_leaf (look t q) ≡ true
+        → Swept (walk_on (cond b (Stumble faults.NotADirectory path) (Make (RemoveFile path)) ∷ rest) w) t m rest (λ new. Shed t new q)
     file_swept true path q rest w t e m low clears rooted named there = absurd cc
-    file_swept false path q rest w t e m low clears rooted named there = visits (remove_file path) q rest w t m low clears rooted (named, there)
+    file_swept false path q rest w t e m low clears rooted named there = visits (RemoveFile path) q rest w t m low clears rooted (named, there)
 
     kind_swept : (k : Kind) (node : Node) (path : List ℕ) (level : ℕ) (p : Names) (name : List ℕ) (rest : List Task) (w : Walk) (t : Tree) → k ≡ kind_of node → look t (p ++ name ∷ []) ≡ Some node → (level == 0) ≡ false
         → (m : MadeOn (walk_on (task_of true level path k ∷ rest) w) t r) → length m.moves < fuel → w.clears ≡ true → Rooted t → names_of path ≡ Ok (p ++ name ∷ [])
         → Swept (walk_on (task_of true level path k ∷ rest) w) t m rest (λ new. Shed t new (p ++ name ∷ []))
     kind_swept kinds.Folder Folder path level p name rest w t is there inner m low clears rooted named = folder_swept (nat_lt level 16) path level p name rest w t m low clears rooted named there
     kind_swept kinds.File (File bytes) path level p name rest w t is there inner m low clears rooted named = file_swept (level == 0) path (p ++ name ∷ []) rest w t inner m low clears rooted named (ap is_leaf there)
-    kind_swept kinds.Link (Link target) path level p name rest w t is there inner m low clears rooted named = visits (remove_file path) (p ++ name ∷ []) rest w t m low clears rooted (named, ap is_leaf there)
+    kind_swept kinds.Link (Link target) path level p name rest w t is there inner m low clears rooted named = visits (RemoveFile path) (p ++ name ∷ []) rest w t m low clears rooted (named, ap is_leaf there)
     kind_swept k node path level p name rest w t is there inner m low clears rooted named = absurd cc
 
     -- names of a folder, one after another
@@ -171,16 +175,16 @@ module _ (r : Reply) (whole : BreaksOff commands.Clear r → ⊥) where
 
   -- after a folder was listed come its names, and then the folder
   entered_run : (w : Walk) (path : List ℕ) (level : ℕ) (todo : List Task) (names : List Name) (moves : Moves) → w.clears ≡ true → (level == 0) ≡ false → Runs (entered w path level todo names) moves r
-      → Runs (walk_on (tasks_of true level path names ++ visit (remove_folder path) ∷ todo) (record w { left = w.left - length names })) moves r
+      → Runs (walk_on (tasks_of true level path names ++ Make (RemoveFolder path) ∷ todo) (record w { left = w.left - length names })) moves r
   entered_run w path level todo names moves clears inner run =
       let next : Walk = record w { left = w.left - length names } in
       let cleared = subst (λ b. Runs (cond (nat_le (length names) w.left) (walk_on (tasks_of b level path names ++ leaving b level path ++ todo) (record w { left = w.left - length names })) (too_many w)) moves r) clears run in
-      let left = subst (λ b. Runs (cond (nat_le (length names) w.left) (walk_on (tasks_of true level path names ++ cond b [] (visit (remove_folder path) ∷ []) ++ todo) (record w { left = w.left - length names })) (too_many w)) moves r) inner cleared in
-      subst (λ tasks. Runs (walk_on tasks (record w { left = w.left - length names })) moves r) (append_assoc (tasks_of true level path names) (visit (remove_folder path) ∷ []) todo)
+      let left = subst (λ b. Runs (cond (nat_le (length names) w.left) (walk_on (tasks_of true level path names ++ cond b [] (Make (RemoveFolder path) ∷ []) ++ todo) (record w { left = w.left - length names })) (too_many w)) moves r) inner cleared in
+      subst (λ tasks. Runs (walk_on tasks (record w { left = w.left - length names })) moves r) (append_assoc (tasks_of true level path names) (Make (RemoveFolder path) ∷ []) todo)
       (by (nat_le (length names) w.left) left)
     where
-      by : (b : Bool) → Runs (cond b (walk_on (tasks_of true level path names ++ (visit (remove_folder path) ∷ []) ++ todo) (record w { left = w.left - length names })) (too_many w)) moves r
-          → Runs (walk_on (tasks_of true level path names ++ (visit (remove_folder path) ∷ []) ++ todo) (record w { left = w.left - length names })) moves r
+      by : (b : Bool) → Runs (cond b (walk_on (tasks_of true level path names ++ (Make (RemoveFolder path) ∷ []) ++ todo) (record w { left = w.left - length names })) (too_many w)) moves r
+          → Runs (walk_on (tasks_of true level path names ++ (Make (RemoveFolder path) ∷ []) ++ todo) (record w { left = w.left - length names })) moves r
       by true run = run
       by false run = absurd (never_too_many w moves clears run)
 
@@ -202,9 +206,9 @@ module _ (r : Reply) (whole : BreaksOff commands.Clear r → ⊥) where
 
   pub visited : (fuel : ℕ) → Visits fuel
   visited zero v p todo w t m low clears rooted ready = absurd (omega (arith, low))
-  visited (suc fuel) (remove_file path) p todo w t m low clears rooted ready =
+  visited (suc fuel) (RemoveFile path) p todo w t m low clears rooted ready =
       let gone = leaf_goes t path p (look t p) rooted ready.0 refl ready.1 in
-      let next = goes (walking w (remove_file path) todo) (steps.RemoveFile path) t r answers.Done (cut t p) m refl gone alive in
+      let next = goes (walking w (RemoveFile path) todo) (steps.RemoveFile path) t r answers.Done (cut t p) m refl gone alive in
       record {
         w = w;
         clears = clears;
@@ -215,16 +219,16 @@ module _ (r : Reply) (whole : BreaksOff commands.Clear r → ⊥) where
         fewer = omega (arith, next.shorter);
         is = cut_sheds t p rooted (λ n. none_below t p n [] rooted (leaf_only (look t p) ready.1));
       }
-  visited (suc fuel) (enter path level) p todo w t m low clears rooted ready =
+  visited (suc fuel) (Enter path level) p todo w t m low clears rooted ready =
       let names = listing t p in
-      let first = goes (walking w (enter path level) todo) (steps.ReadDir path) t r (answers.Names (listing t p)) t m refl (lists_folder t path p rooted ready.0 ready.1) alive in
-      let inside : MadeOn (walk_on (tasks_of true level path (listing t p) ++ visit (remove_folder path) ∷ todo) (record w { left = w.left - length (listing t p) })) t r
+      let first = goes (walking w (Enter path level) todo) (steps.ReadDir path) t r (answers.Names (listing t p)) t m refl (lists_folder t path p rooted ready.0 ready.1) alive in
+      let inside : MadeOn (walk_on (tasks_of true level path (listing t p) ++ Make (RemoveFolder path) ∷ todo) (record w { left = w.left - length (listing t p) })) t r
       = record { moves = first.on.moves; run = entered_run w path level todo (listing t p) first.on.moves clears ready.2 first.on.run; answered = first.on.answered } in
-      let x = all_swept fuel (visited fuel) (listing t p) path p level (visit (remove_folder path) ∷ todo) (record w { left = w.left - length (listing t p) }) t ready.2 inside (omega (arith, first.shorter, low)) clears rooted ready.0 (listing_told t p) (listing_distinct t p) in
+      let x = all_swept fuel (visited fuel) (listing t p) path p level (Make (RemoveFolder path) ∷ todo) (record w { left = w.left - length (listing t p) }) t ready.2 inside (omega (arith, first.shorter, low)) clears rooted ready.0 (listing_told t p) (listing_distinct t p) in
       let none = λ (n : List ℕ). child_gone t x.new p n (look t (p ++ n ∷ [])) x.is refl in
       let there : look x.new p ≡ Some Folder = x.is p ∙ ap (λ b. cond b None (look t p)) (folder_apart p (listing t p)) ∙ ready.1 in
       let gone = empties x.new path p x.rooted ready.0 there ready.3 (none_listed x.new p (listing x.new p) (listing_told x.new p) none) in
-      let last = goes (walking x.w (remove_folder path) todo) (steps.RemoveDir path) x.new r answers.Done (cut x.new p) x.on refl gone alive in
+      let last = goes (walking x.w (RemoveFolder path) todo) (steps.RemoveDir path) x.new r answers.Done (cut x.new p) x.on refl gone alive in
       record {
         w = x.w;
         clears = x.clears;
@@ -235,5 +239,5 @@ module _ (r : Reply) (whole : BreaksOff commands.Clear r → ⊥) where
         fewer = omega (arith, first.shorter, x.fewer, last.shorter);
         is = λ q. cut_sheds x.new p x.rooted none q ∙ folder_shed t x.new p q (listing t p) (under p q) (among p (listing t p) q) refl refl (x.is q);
       }
-  visited (suc fuel) (read_bucket path) p todo w t m low clears rooted ready = absurd ready
-  visited (suc fuel) (remove_folder path) p todo w t m low clears rooted ready = absurd ready
+  visited (suc fuel) (ReadBucket path) p todo w t m low clears rooted ready = absurd ready
+  visited (suc fuel) (RemoveFolder path) p todo w t m low clears rooted ready = absurd ready

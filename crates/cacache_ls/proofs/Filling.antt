@@ -7,7 +7,7 @@ use Rattle.cacache_store.specs.declared.store.log.LogItem.{LogItem}
 use Rattle.cacache_table.specs.declared.reply.Reply.TheVariants.{Refused}
 use Rattle.cacache_table.specs.State.{Item}
 use Rattle.cacache_table.specs.Runs.{Ran, plain_item}
-use Rattle.cacache_walks.specs.declared.visit.Visit.{Visit}
+use Rattle.cacache_table.specs.declared.visit.Visit.{Visit}
 use Rattle.cacache_walks.specs.declared.walk.Walk.{Walk}
 use Rattle.cacache_ls.specs.declared.iterator.Ls.{Ls}
 use Rattle.cacache_walks.specs.WalkStates.{walk_of}

@@ -16,9 +16,9 @@ use Rattle.cacache_table.proofs.Going.{answer_cases, gone_on, gone_over, gone_lo
 use Rattle.cacache_table.proofs.ListReplies.{lists_shown}
 use Rattle.cacache_table.proofs.Memory.{no_memory_after, memory_said}
 use Rattle.cacache_table.proofs.Promises.{calls_answer}
-use Rattle.cacache_walks.specs.declared.visit.Visit.{Visit}
+use Rattle.cacache_table.specs.declared.visit.Visit.{Visit}
 use Rattle.cacache_walks.specs.declared.walk.Walk.{Walk}
-use Rattle.cacache_walks.specs.WalkStates.{Bounds, WalksAt, WalkLeads, visit_of, walk_of}
+use Rattle.cacache_walks.specs.WalkStates.{Bounds, WalksAt, WalkLeads, walk_of}
 use Rattle.cacache_ls.specs.Iterating.{Lists, listing, steps_left, items_left}
 
 module _ (cache : List ℕ) (old new : Option (List LogItem)) where
@@ -59,7 +59,7 @@ lost cache old new items (Ok None) w run h = absurd (by_test w.clears h.1)
 lost cache old new items (Err e) w run (inl said) = (memory_said e (let same : over (Refused OutOfMemory) ≡ over (Refused (without_message e)) = said in cc), run)
 lost cache old new items (Err e) w run (inr m) = (m, run)
 
-module _ (cache : List ℕ) (old mid new : Option (List LogItem)) (items : List Item) (v : Visit) (w0 w1 : Walk) (s : State) (a : PlainStep) (t : PlainAnswer) (gone : Gone (listing cache) s old mid) (stands : WalksAt items w0 (Some v) s) (is : a ≡ visit_step (visit_of v)) (fits : Fits a t) (logs : Logs mid new a t) where
+module _ (cache : List ℕ) (old mid new : Option (List LogItem)) (items : List Item) (v : Visit) (w0 w1 : Walk) (s : State) (a : PlainStep) (t : PlainAnswer) (gone : Gone (listing cache) s old mid) (stands : WalksAt items w0 (Some v) s) (is : a ≡ visit_step v) (fits : Fits a t) (logs : Logs mid new a t) where
   wanted : wants s ≡ Some a
   wanted = rw (stands.1, is) refl
 

@@ -10,10 +10,10 @@ use Rattle.cacache_table.specs.declared.reply.Reply.TheVariants.{Listed, Refused
 use Rattle.cacache_table.specs.State.{State, Item}
 use Rattle.cacache_table.specs.Table.{opening}
 use Rattle.cacache_table.specs.Runs.{Ran, Gone, plain_item, without_message, weight, weights}
-use Rattle.cacache_walks.specs.declared.visit.Visit.{Visit}
+use Rattle.cacache_table.specs.declared.visit.Visit.{Visit}
 use Rattle.cacache_walks.specs.declared.walk.Walk.{Walk}
 use Rattle.cacache_ls.specs.declared.iterator.Ls.{Ls}
-use Rattle.cacache_walks.specs.WalkStates.{WalksAt, visit_of, pending}
+use Rattle.cacache_walks.specs.WalkStates.{WalksAt, pending}
 
 -- ---- what a listing gives
 
@@ -38,7 +38,7 @@ item_of (Err error) = Err (without_message error)
 
 -- how many steps may still come
 abbrev pub steps_left : Option Visit → Walk → ℕ
-steps_left (Some v) w = 2 * w.left + weight (visit_of v) + weights (pending w.todo.items)
+steps_left (Some v) w = 2 * w.left + weight v + weights (pending w.todo.items)
 steps_left None w = 0
 
 -- how many items may still come that aren't ready

@@ -14,8 +14,8 @@ use cacache_core::paths::{INDEX_AREA, join};
 use cacache_entry::Metadata;
 use cacache_store::env::Env;
 use cacache_store::store::Store;
-use cacache_table::Found;
-use cacache_walks::{Visit, Walk};
+use cacache_table::{Found, Visit};
+use cacache_walks::Walk;
 use std::mem::swap;
 
 /// The entries of a cache, one after another: each key once, where its lookup finds an entry. It

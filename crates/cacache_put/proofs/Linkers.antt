@@ -18,7 +18,8 @@ use Rattle.cacache_table.specs.Answers.{file_in, got_in, length_in}
 use Rattle.cacache_table.specs.Common.{fails, go_on, refuse}
 use Rattle.cacache_table.specs.Linking.{after_size, after_read}
 use Rattle.cacache_table.specs.Runs.{Moves, Runs, Goes, Gone, Gains, Ran, EndsAs, without_message}
-use Rattle.cacache_table.specs.State.{State, hashing, over, Hashing, Target, to_link}
+use Rattle.cacache_table.specs.State.{State, hashing, over, Hashing, to_link}
+use Rattle.cacache_table.specs.declared.target.Target.{Target}
 use Rattle.cacache_table.specs.Table.{wants, after, piece}
 use Rattle.cacache_table.proofs.Going.{answer_cases, no_gain, gone_nowhere, gone_on, gone_over, gone_lost, unmoved}
 use Rattle.cacache_table.proofs.Memory.{no_memory_after}
@@ -28,7 +29,7 @@ use Rattle.cacache_content.specs.OpenReads.{FailsToOpen}
 use Rattle.cacache_table.specs.SingleSteps.{Does, FailsAt}
 use Rattle.cacache_content.proofs.StepAnswers.{Refuses, file_refused, refused_fails}
 use Rattle.cacache_put.specs.OpenLinkers.{AsksSize, HasSize, FailsToSize, OpensLinker, OpensSized, OpensTarget, LinkTarget, asks_size, asks_file}
-use Rattle.cacache_jobs.specs.Targets.{target_at}
+use Rattle.cacache_table.specs.Linking.{target_at}
 use Rattle.cacache_put.specs.Rest.{links}
 
 -- ---- one part of a run after another
@@ -188,28 +189,28 @@ opened_sized file l next (Err e) old mid new h opens = inr (h.0, mid, h.2, subst
 
 -- ---- its rest is read
 
-abbrev reads_to : Target → PlainFile → List ℕ → State
+abbrev reads_to : Target ℕ → PlainFile → List ℕ → State
 reads_to t file bytes = hashing (to_link t) file bytes
 
 -- a read that gave bytes
-pub more_taken : (s : State) (t : Target) (all more : List ℕ) (f g : PlainFile) (answer : PlainAnswer) (old mid new : Option (List LogItem)) → Gone s (reads_to t f all) old mid → Ok (g, more) ≡ got_in answer → Fits (steps.Read f piece) answer → Logs mid new (steps.Read f piece) answer → (length more == 0) ≡ false → Gone s (reads_to t g (all ++ more)) old new
+pub more_taken : (s : State) (t : Target ℕ) (all more : List ℕ) (f g : PlainFile) (answer : PlainAnswer) (old mid new : Option (List LogItem)) → Gone s (reads_to t f all) old mid → Ok (g, more) ≡ got_in answer → Fits (steps.Read f piece) answer → Logs mid new (steps.Read f piece) answer → (length more == 0) ≡ false → Gone s (reads_to t g (all ++ more)) old new
 more_taken s t all more f g answer old mid new gone e fits logs some =
     step_on s (reads_to t f all) _ (steps.Read f piece) answer old mid new gone refl fits logs (got_told answer (g, more) e)
     (go_gave (got_in answer) (g, more) (after_read (to_link t) all) e ∙ more_read (to_link t) all more g some)
 
-no_more : (t : Target) (all more : List ℕ) (g : PlainFile) → (length more == 0) ≡ true → after_read (to_link t) all (g, more) ≡ links t all
+no_more : (t : Target ℕ) (all more : List ℕ) (g : PlainFile) → (length more == 0) ≡ true → after_read (to_link t) all (g, more) ≡ links t all
 no_more t all [] g none = refl
 no_more t all (b ∷ bs) g none =
     let zero : length (b ∷ bs) ≡ 0 = eqb-true (length (b ∷ bs)) 0 none in absurd (omega arith)
 
 -- a read that gave none
-pub all_taken : (s : State) (t : Target) (all more : List ℕ) (f g : PlainFile) (answer : PlainAnswer) (old mid new : Option (List LogItem)) → Gone s (reads_to t f all) old mid → Ok (g, more) ≡ got_in answer → Fits (steps.Read f piece) answer → Logs mid new (steps.Read f piece) answer → (length more == 0) ≡ true → Gone s (links t all) old new
+pub all_taken : (s : State) (t : Target ℕ) (all more : List ℕ) (f g : PlainFile) (answer : PlainAnswer) (old mid new : Option (List LogItem)) → Gone s (reads_to t f all) old mid → Ok (g, more) ≡ got_in answer → Fits (steps.Read f piece) answer → Logs mid new (steps.Read f piece) answer → (length more == 0) ≡ true → Gone s (links t all) old new
 all_taken s t all more f g answer old mid new gone e fits logs none =
     step_on s (reads_to t f all) _ (steps.Read f piece) answer old mid new gone refl fits logs (got_told answer (g, more) e)
     (go_gave (got_in answer) (g, more) (after_read (to_link t) all) e ∙ no_more t all more g none)
 
 -- a read that was refused
-pub none_taken : (s : State) (t : Target) (all : List ℕ) (f : PlainFile) (answer : PlainAnswer) (refusal : Refusal) (e : Error) (old mid new : Option (List LogItem)) → Gone s (reads_to t f all) old mid → Err refusal ≡ got_in answer → Fits (steps.Read f piece) answer → Logs mid new (steps.Read f piece) answer → EndsAs e (refuse refusal fails) → Ran s (Refused (without_message e)) old new
+pub none_taken : (s : State) (t : Target ℕ) (all : List ℕ) (f : PlainFile) (answer : PlainAnswer) (refusal : Refusal) (e : Error) (old mid new : Option (List LogItem)) → Gone s (reads_to t f all) old mid → Err refusal ≡ got_in answer → Fits (steps.Read f piece) answer → Logs mid new (steps.Read f piece) answer → EndsAs e (refuse refusal fails) → Ran s (Refused (without_message e)) old new
 none_taken s t all f answer refusal e old mid new gone is fits logs ends =
     step_refused s (reads_to t f all) (steps.Read f piece) answer refusal e old mid new gone refl fits logs
     (go_refused (got_in answer) refusal (after_read (to_link t) all) is) ends

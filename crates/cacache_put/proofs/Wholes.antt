@@ -18,16 +18,17 @@ use Rattle.cacache_table.specs.Common.{ends_with, fails, go_on, refuse}
 use Rattle.cacache_table.specs.Linking.{after_read, commit_for}
 use Rattle.cacache_table.specs.Promises.{Stores}
 use Rattle.cacache_table.specs.Runs.{Moves, Runs, Ran, reply_of}
-use Rattle.cacache_table.specs.State.{Target, hashing, to_link}
+use Rattle.cacache_table.specs.State.{hashing, to_link}
+use Rattle.cacache_table.specs.declared.target.Target.{Target}
 use Rattle.cacache_table.specs.Table.{piece}
 use Rattle.cacache_table.specs.Verifying.{Gives}
 use Rattle.cacache_table.proofs.Promises.{runs_keep}
 use Rattle.cacache_put.specs.declared.linker.SyncToLinker.{SyncToLinker}
-use Rattle.cacache_jobs.specs.Targets.{target_at}
+use Rattle.cacache_table.specs.Linking.{target_at}
 use Rattle.cacache_put.specs.OpenLinkers.{StoresWhole, stands_at}
 use Rattle.cacache_put.specs.Rest.{links}
 
-module _ (t : Target) (i : List Hash) where
+module _ (t : Target ℕ) (i : List Hash) where
   -- a call that was refused stores nothing
   not_refused : (refusal : Refusal) (moves : Moves) → Runs (refuse refusal fails) moves (Stored i) → ⊥
   not_refused (refusals.Fault fault) moves run =
@@ -63,6 +64,6 @@ stores_whole file l bytes moment (Ok i) old new ran =
 stores_whole file l bytes moment (Err e) old new ran = tt
 
 -- the same of a target that is the linker's at its moment
-pub stores_whole_of : {F : Type 0} (file : F → PlainFile) (l : SyncToLinker F) (bytes : List ℕ) (moment : ℕ) (t : Target) (r : Result (List Hash) Error) (old new : Option (List LogItem)) → t ≡ target_at l.linked moment → Ran (hashing (to_link t) (file l.file) bytes) (reply_of Stored r) old new → IfOk r (λ i. StoresWhole file l bytes i old new)
+pub stores_whole_of : {F : Type 0} (file : F → PlainFile) (l : SyncToLinker F) (bytes : List ℕ) (moment : ℕ) (t : Target ℕ) (r : Result (List Hash) Error) (old new : Option (List LogItem)) → t ≡ target_at l.linked moment → Ran (hashing (to_link t) (file l.file) bytes) (reply_of Stored r) old new → IfOk r (λ i. StoresWhole file l bytes i old new)
 stores_whole_of file l bytes moment t r old new same ran =
-    stores_whole file l bytes moment r old new (subst (λ (u : Target). Ran (hashing (to_link u) (file l.file) bytes) (reply_of Stored r) old new) same ran)
+    stores_whole file l bytes moment r old new (subst (λ (u : Target ℕ). Ran (hashing (to_link u) (file l.file) bytes) (reply_of Stored r) old new) same ran)

@@ -6,7 +6,7 @@ use Rattle.cacache_store.specs.declared.store.log.LogItem.{LogItem}
 use Rattle.cacache_store.specs.declared.store.plain.PlainTemp.{PlainTemp}
 use Rattle.cacache_store.specs.Given.{AddsAnswer}
 use Rattle.cacache_table.specs.declared.reply.Reply.{Reply}
-use Rattle.cacache_table.specs.State.{Commit}
+use Rattle.cacache_table.specs.declared.carried.Commit.{Commit}
 use Rattle.cacache_content.specs.OpenWrites.{IsFresh, Makes, FailsToMake, EndsWriter, content_commit}
 use Rattle.cacache_put.specs.declared.writer.SyncWriter.{SyncWriter}
 use Rattle.cacache_put.specs.Options.{Said, options_of}

@@ -10,7 +10,7 @@ use Rattle.cacache_store.specs.declared.store.plain.PlainFile.{PlainFile}
 use Rattle.cacache_store.specs.declared.store.step.Step.TheVariants as steps
 use Rattle.cacache_table.specs.declared.reply.Reply.{Reply}
 use Rattle.cacache_table.specs.declared.reply.Reply.TheVariants.{Stored, Refused}
-use Rattle.cacache_table.specs.Linking.{commit_for}
+use Rattle.cacache_table.specs.Linking.{commit_for, linked_to, with_size, target_at}
 use Rattle.cacache_table.specs.Promises.{Stores}
 use Rattle.cacache_table.specs.Runs.{Moves, Gains, Gone, Ran, without_message}
 use Rattle.cacache_table.specs.State.{State, sizing, opening_file, hashing, to_link}
@@ -19,9 +19,8 @@ use Rattle.cacache_put.specs.declared.linker.SyncToLinker.{SyncToLinker}
 use Rattle.cacache_content.specs.OpenReads.{OpensFile, FailsToOpen}
 use Rattle.cacache_table.specs.SingleSteps.{Does, FailsAt}
 use Rattle.cacache_put.specs.Options.{Said, options_of}
-use Rattle.cacache_jobs.specs.declared.target.Target.{Target}
+use Rattle.cacache_table.specs.declared.target.Target.{Target}
 use Rattle.cacache_jobs.specs.Environment.{HasMoment, KeepsRest}
-use Rattle.cacache_jobs.specs.Targets.{linked_to, sized_link, target_at}
 
 -- a target that is to be linked to; where it has no moment, the clock is asked for it
 abbrev pub LinkTarget : Type 0
@@ -78,7 +77,7 @@ FailsToSize path e old new = FailsAt (steps.Size path) e old new
 abbrev pub AsksSize :
     LinkTarget → Result LinkTarget Error → Option (List LogItem) → Option (List LogItem) → Type 0
 AsksSize l (Ok next) old new =
-    (size : ℕ) × (next ≡ sized_link l size) × HasSize l.path size old new
+    (size : ℕ) × (next ≡ with_size l size) × HasSize l.path size old new
 AsksSize l (Err e) old new = FailsToSize l.path e old new
 
 module _ {F : Type 0} (file : F → PlainFile) where
@@ -94,7 +93,7 @@ module _ {F : Type 0} (file : F → PlainFile) where
       LinkTarget → Result (SyncToLinker F) Error → Option (List LogItem) → Option (List LogItem) → Type 0
   OpensSized linked (Ok l) old new =
       (size : ℕ) × (mid : Option (List LogItem)) × HasSize linked.path size old mid
-      × OpensTarget (sized_link linked size) (Ok l) mid new
+      × OpensTarget (with_size linked size) (Ok l) mid new
   OpensSized linked (Err e) old new =
       FailsToSize linked.path e old new
       ⊎ ((size : ℕ) × (mid : Option (List LogItem)) × HasSize linked.path size old mid

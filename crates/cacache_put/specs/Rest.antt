@@ -8,11 +8,12 @@ use Rattle.cacache_store.specs.declared.store.plain.PlainFile.{PlainFile}
 use Rattle.cacache_table.specs.declared.reply.Reply.TheVariants.{Refused}
 use Rattle.cacache_table.specs.Linking.{commit_for}
 use Rattle.cacache_table.specs.Runs.{Gone, Ran, without_message}
-use Rattle.cacache_table.specs.State.{State, hashing, to_link, Target}
+use Rattle.cacache_table.specs.State.{State, hashing, to_link}
+use Rattle.cacache_table.specs.declared.target.Target.{Target}
 use Rattle.cacache_table.specs.Storing.{link}
 
 -- a link is made of its target once these bytes were read of it, and no more
-abbrev pub links : Target → List ℕ → State
+abbrev pub links : Target ℕ → List ℕ → State
 links t bytes = link (commit_for t bytes) t.path
 
 -- the hasher went on to these bytes
@@ -21,7 +22,7 @@ HoldsOn old new bytes = Holds new bytes × (algorithm_of new ≡ algorithm_of ol
 
 -- the rest of the target was read, whose bytes are so many then; or why it wasn't
 abbrev pub ReadsRest :
-    Target → PlainFile → List ℕ → Hasher → Hasher → Result ℕ Error
+    Target ℕ → PlainFile → List ℕ → Hasher → Hasher → Result ℕ Error
     → Option (List LogItem) → Option (List LogItem) → Type 0
 ReadsRest t file bytes hasher next (Ok n) old new =
     (all : List ℕ) × HoldsOn hasher next all × (n ≡ length all)

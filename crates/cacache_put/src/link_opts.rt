@@ -2,7 +2,7 @@
 ghost use Rattle.std.specs.Prelude.{None, Some};
 ghost use Rattle.cacache_put.specs.OpenLinkers.{BeginsLink, OpensLink, asks_file, linked_by};
 ghost use Rattle.cacache_put.specs.Options.{options_of};
-ghost use Rattle.cacache_jobs.specs.Targets.{linked_to};
+ghost use Rattle.cacache_table.specs.Linking.{linked_to};
 
 use crate::linker::{SyncToLinker, linked, open_target};
 use crate::opts::WriteOpts;

@@ -11,7 +11,7 @@ ghost use Rattle.cacache_table.specs.State.{hashing, to_link};
 ghost use Rattle.cacache_core.specs.Hashers.{Holds, algorithm_of};
 ghost use Rattle.cacache_content.specs.Passed.{passed};
 ghost use Rattle.cacache_put.specs.OpenLinkers.{AsksSize, BeginsLink, CommitsLink, HasHashed, OpensLink, OpensLinker, OpensSized, OpensTarget, OpensWithSize, Sizes, StoresWhole, asks_file, asks_size, linked_by};
-ghost use Rattle.cacache_jobs.specs.Targets.{linked_to, target_of};
+ghost use Rattle.cacache_table.specs.Linking.{linked_to};
 ghost use Rattle.cacache_table.specs.Blank.{blank};
 ghost use Rattle.cacache_put.specs.Options.{nothing_said};
 ghost use Rattle.cacache_put.specs.Rest.{links};
@@ -22,10 +22,10 @@ use cacache_core::hasher::Hasher;
 use cacache_core::integrity::{Algorithm, Integrity};
 use cacache_core::keeping::{beside, let_go};
 use cacache_core::text::Text;
-use cacache_jobs::{Target, link_from, moment, opened_file, told_size};
+use cacache_jobs::{link_from, moment, opened_file, told_size};
 use cacache_store::env::{Clock, Env, Names};
 use cacache_store::store::{OpenedFile, Step, Store};
-use cacache_table::Options;
+use cacache_table::{Options, Target};
 use std::alloc::{AllocError, Global};
 use std::io;
 use std::io::Read;
@@ -123,7 +123,7 @@ fn finish<S: Store, C, N>(
 ) -> Result<Integrity>
     ensures ran { (bytes : List ℕ)
         → computed ≡ integrity_under target.options.algorithm bytes → count ≡ length bytes
-        → Ran (links (target_of target) bytes) (reply_of Stored result)
+        → Ran (links target bytes) (reply_of Stored result)
         (S.log env.old.store) (S.log env.new.store) }
     ensures clock { env.new.clock ≡ env.old.clock }
     ensures names { env.new.names ≡ env.old.names }
@@ -144,7 +144,7 @@ fn link_rest<S: Store, C, N>(
     ensures ran { (bytes : List ℕ)
         → Holds hasher bytes → algorithm_of hasher ≡ target.options.algorithm
         → count ≡ length bytes
-        → Ran (hashing (to_link (target_of target)) (S.File.seen file) bytes)
+        → Ran (hashing (to_link target) (S.File.seen file) bytes)
         (reply_of Stored result) (S.log env.old.store) (S.log env.new.store) }
     ensures clock { env.new.clock ≡ env.old.clock }
     ensures names { env.new.names ≡ env.old.names }

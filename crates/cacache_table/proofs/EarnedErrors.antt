@@ -32,7 +32,16 @@ use Rattle.cacache_table.specs.declared.reply.Reply.TheVariants.{Stored, Read, L
 use Rattle.cacache_table.specs.Answers.{done_in, temp_in, written_in, synced_in, there_in, taken_in, bytes_in, file_in, got_in, length_in, names_in}
 use Rattle.cacache_core.specs.Meeting.{meets}
 use Rattle.cacache_table.specs.StepPaths.{temp_path, content_path, content_folders, bucket_path, bucket_folders}
-use Rattle.cacache_table.specs.State.{State, doing, creating, writing, syncing, persisting, linking, confirming, appending, looking, reading, asking, sizing, opening_file, hashing, copying, walking, over, Site, Commit, Insertion, Aim, to_report, to_read, to_export, to_remove, Lookup, Content, Hashing, to_verify, to_link, Errand, make_folder, remove, reflink, hard_link, sync_file, sync_dir, Item, Visit, enter, read_bucket, remove_file, remove_folder, Task, visit, stumble, Walk}
+use Rattle.cacache_table.specs.State.{State, doing, creating, writing, syncing, persisting, linking, confirming, appending, looking, reading, asking, sizing, opening_file, hashing, copying, walking, over, Site, Insertion, Hashing, to_verify, to_link, Errand, make_folder, remove, reflink, hard_link, sync_file, sync_dir, Item, Walk}
+use Rattle.cacache_table.specs.declared.carried.Commit.{Commit}
+use Rattle.cacache_table.specs.declared.carried.Aim.{Aim}
+use Rattle.cacache_table.specs.declared.carried.Lookup.{Lookup}
+use Rattle.cacache_table.specs.declared.carried.Content.{Content}
+use Rattle.cacache_table.specs.declared.visit.Visit.{Visit}
+use Rattle.cacache_table.specs.declared.visit.Task.{Task}
+use Rattle.cacache_table.specs.declared.visit.Visit.TheVariants.{Enter, ReadBucket, RemoveFile, RemoveFolder}
+use Rattle.cacache_table.specs.declared.visit.Task.TheVariants.{Make, Stumble}
+use Rattle.cacache_table.specs.declared.carried.Aim.TheVariants as aims
 use Rattle.cacache_table.specs.Common.{ends_with, fails, go_on, errand_step, sync_up}
 use Rattle.cacache_table.specs.Inserting.{insertion, deletion, unless_refused, refused_cause, bucket_line, recorded, after_append}
 use Rattle.cacache_table.specs.Storing.{insertion_of, indexed, sized, matches, compared, placed, settled, resettled, moved, write_rest, after_write, after_confirm}
@@ -159,8 +168,8 @@ Sound s = Unit {0}
 
 abbrev OwnTo : List Task → Fault → Type 0
 OwnTo [] f = OfWalk f
-OwnTo (stumble g ∷ todo) f = (f ≡ g) ⊎ OwnTo todo f
-OwnTo (visit v ∷ todo) f = OwnTo todo f
+OwnTo (Stumble g path ∷ todo) f = (f ≡ g) ⊎ OwnTo todo f
+OwnTo (Make v ∷ todo) f = OwnTo todo f
 
 -- the faults that a state holds already
 abbrev own : State → Fault → Type 0
@@ -304,13 +313,13 @@ module _ (O : Fault → Type 0) (a : PlainStep) (t : PlainAnswer) (moves : Moves
   exports k e h = cond_leads (λ s. Causes s moves r → Now) e.checked (opening_file (to_verify k e)) (export_content k e None) (λ _ g. holds_none (g tt)) (λ _. exports_from e.how (content_path k.cache k.integrity) e.to None) h
 
   founds : (l : Lookup) (aim : Aim) (found : Option Found) → Causes (found_for l aim found) moves r → Now
-  founds l to_report found h = over_now (LookedUp found) tt h
-  founds l to_read (Some f) h = holds_none (h tt)
-  founds l to_read None h = over_now (Refused (EntryNotFound l.cache l.key)) tt h
-  founds l (to_export e) (Some f) h = exports (found_content l f) e h
-  founds l (to_export e) None h = over_now (Refused (EntryNotFound l.cache l.key)) tt h
-  founds l to_remove (Some f) h = holds_none (h tt)
-  founds l to_remove None h = holds_none (h tt)
+  founds l aims.Report found h = over_now (LookedUp found) tt h
+  founds l aims.Read (Some f) h = holds_none (h tt)
+  founds l aims.Read None h = over_now (Refused (EntryNotFound l.cache l.key)) tt h
+  founds l (aims.Export e) (Some f) h = exports (found_content l f) e h
+  founds l (aims.Export e) None h = over_now (Refused (EntryNotFound l.cache l.key)) tt h
+  founds l aims.Remove (Some f) h = holds_none (h tt)
+  founds l aims.Remove None h = holds_none (h tt)
 
   unreads : (l : Lookup) (f : Fault) → Faults a t f → Causes (no_bucket l f) moves r → Now
   unreads l faults.NotFound x h = founds l l.aim None h
@@ -323,29 +332,29 @@ module _ (O : Fault → Type 0) (a : PlainStep) (t : PlainAnswer) (moves : Moves
 
 own_base : (todo : List Task) (f : Fault) → OfWalk f → OwnTo todo f
 own_base [] f o = o
-own_base (stumble g ∷ todo) f o = inr (own_base todo f o)
-own_base (visit v ∷ todo) f o = own_base todo f o
+own_base (Stumble g path ∷ todo) f o = inr (own_base todo f o)
+own_base (Make v ∷ todo) f o = own_base todo f o
 
 abbrev Ordinary : List Task → Type 0
 Ordinary [] = Unit {0}
-Ordinary (stumble g ∷ todo) = OfWalk g × Ordinary todo
-Ordinary (visit v ∷ todo) = Ordinary todo
+Ordinary (Stumble g path ∷ todo) = OfWalk g × Ordinary todo
+Ordinary (Make v ∷ todo) = Ordinary todo
 
 ordinary_append : (a b : List Task) → Ordinary a → Ordinary b → Ordinary (a ++ b)
 ordinary_append [] b h k = k
-ordinary_append (stumble g ∷ a) b h k = (h.0, ordinary_append a b h.1 k)
-ordinary_append (visit v ∷ a) b h k = ordinary_append a b h k
+ordinary_append (Stumble g path ∷ a) b h k = (h.0, ordinary_append a b h.1 k)
+ordinary_append (Make v ∷ a) b h k = ordinary_append a b h k
 
 own_rest : (a b : List Task) (f : Fault) → Ordinary a → OwnTo (a ++ b) f → OwnTo b f
 own_rest [] b f h o = o
-own_rest (stumble g ∷ a) b f h (inl e) = own_base b f (rw e h.0)
-own_rest (stumble g ∷ a) b f h (inr o) = own_rest a b f h.1 o
-own_rest (visit v ∷ a) b f h o = own_rest a b f h o
+own_rest (Stumble g path ∷ a) b f h (inl e) = own_base b f (rw e h.0)
+own_rest (Stumble g path ∷ a) b f h (inr o) = own_rest a b f h.1 o
+own_rest (Make v ∷ a) b f h o = own_rest a b f h o
 
 task_ordinary : (clears : Bool) (level : ℕ) (p : List ℕ) (kind : Kind) → Ordinary (task_of clears level p kind ∷ [])
 task_ordinary clears level p kinds.Folder = by_level (nat_lt level 16)
   where
-    by_level : (b : Bool) → Ordinary (cond b (visit (enter p (level + 1))) (stumble faults.TooDeep) ∷ [])
+    by_level : (b : Bool) → Ordinary (cond b (Make (Enter p (level + 1))) (Stumble faults.TooDeep p) ∷ [])
     by_level true = tt
     by_level false = (inl refl, tt)
 task_ordinary false level p kinds.File = tt
@@ -353,7 +362,7 @@ task_ordinary false level p kinds.Link = tt
 task_ordinary true level p kinds.Link = tt
 task_ordinary true level p kinds.File = by_top (level == 0)
   where
-    by_top : (b : Bool) → Ordinary (cond b (stumble faults.NotADirectory) (visit (remove_file p)) ∷ [])
+    by_top : (b : Bool) → Ordinary (cond b (Stumble faults.NotADirectory p) (Make (RemoveFile p)) ∷ [])
     by_top true = (inr refl, tt)
     by_top false = tt
 
@@ -364,7 +373,7 @@ tasks_ordinary clears level p (n ∷ ns) = ordinary_append (task_of clears level
 leaving_ordinary : (clears : Bool) (level : ℕ) (p : List ℕ) → Ordinary (leaving clears level p)
 leaving_ordinary clears level p = by_both clears (level == 0)
   where
-    by_both : (b c : Bool) → Ordinary (cond b (cond c [] (visit (remove_folder p) ∷ [])) [])
+    by_both : (b c : Bool) → Ordinary (cond b (cond c [] (Make (RemoveFolder p) ∷ [])) [])
     by_both true true = tt
     by_both true false = tt
     by_both false c = tt
@@ -391,11 +400,11 @@ module _ (O : Fault → Type 0) (a : PlainStep) (t : PlainAnswer) (moves : Moves
 
   goes_on : (todo : List Task) → ((f : Fault) → OwnTo todo f → IsCaused f) → (w : Walk) → Becomes (walk_on todo w)
   goes_on [] k w = cond_leads Becomes w.clears (over Done) (over (Listed w.items)) (λ _. over_now O a t moves r Done tt) (λ _. over_now O a t moves r (Listed w.items) tt)
-  goes_on (stumble g ∷ todo) k w = misses w (walk_on todo) g (k g (inl refl)) (k faults.TooDeep (inr (own_base todo faults.TooDeep (inl refl)))) (goes_on todo (λ f o. k f (inr o)))
-  goes_on (visit v ∷ todo) k w = λ h. later O a t moves r (OwnTo todo) k (h tt)
+  goes_on (Stumble g path ∷ todo) k w = misses w (walk_on todo) g (k g (inl refl)) (k faults.TooDeep (inr (own_base todo faults.TooDeep (inl refl)))) (goes_on todo (λ f o. k f (inr o)))
+  goes_on (Make v ∷ todo) k w = λ h. later O a t moves r (OwnTo todo) k (h tt)
 
 visits : (w : Walk) (v : Visit) (todo : List Task) (t : PlainAnswer) (moves : Moves) (r : Reply) → Fits (visit_step v) t → Causes (after_visit w v todo t) moves r → HasCause (OwnTo todo) ((visit_step v, t) ∷ moves) r
-visits w (enter p level) todo t moves r fits =
+visits w (Enter p level) todo t moves r fits =
     goes (OwnTo todo) (steps.ReadDir p) t moves r (names_in t) (miss w (walk_on todo)) (entered w p level todo)
     (λ f e. misses (OwnTo todo) (steps.ReadDir p) t moves r w (walk_on todo) f (inr (names_faults p t f fits e)) (inl (own_base todo faults.TooDeep (inl refl))) (goes_on (OwnTo todo) (steps.ReadDir p) t moves r todo (λ g o. inl o)))
     (λ names _.
@@ -405,7 +414,7 @@ visits w (enter p level) todo t moves r fits =
     cond_leads (λ s. Causes s moves r → HasCause (OwnTo todo) ((steps.ReadDir p, t) ∷ moves) r) (nat_le (length names) w.left) (walk_on (front ++ todo) v) (too_many w)
     (λ _. goes_on (OwnTo todo) (steps.ReadDir p) t moves r (front ++ todo) (λ g o. inl (own_rest front todo g ordinary o)) v)
     (λ _. too_many_causes (OwnTo todo) (steps.ReadDir p) t moves r w (inl (own_base todo faults.TooDeep (inl refl)))))
-visits w (read_bucket p) todo t moves r fits =
+visits w (ReadBucket p) todo t moves r fits =
     goes (OwnTo todo) (steps.ReadAll p) t moves r (bytes_in t) (unread_bucket w todo) (listed w todo)
     (λ f e. bucketless f (bytes_faults p t f fits e))
     (λ bytes _. gives (OwnTo todo) (steps.ReadAll p) t moves r w (items_in bytes) (walk_on todo) (inl (own_base todo faults.TooDeep (inl refl))) (goes_on (OwnTo todo) (steps.ReadAll p) t moves r todo (λ g o. inl o)))
@@ -413,11 +422,11 @@ visits w (read_bucket p) todo t moves r fits =
     bucketless : (f : Fault) → Faults (steps.ReadAll p) t f → Causes (unread_bucket w todo f) moves r → HasCause (OwnTo todo) ((steps.ReadAll p, t) ∷ moves) r
     bucketless faults.NotFound x = goes_on (OwnTo todo) (steps.ReadAll p) t moves r todo (λ g o. inl o) w
     bucketless f x = misses (OwnTo todo) (steps.ReadAll p) t moves r w (walk_on todo) f (inr x) (inl (own_base todo faults.TooDeep (inl refl))) (goes_on (OwnTo todo) (steps.ReadAll p) t moves r todo (λ g o. inl o))
-visits w (remove_file p) todo t moves r fits =
+visits w (RemoveFile p) todo t moves r fits =
     goes (OwnTo todo) (steps.RemoveFile p) t moves r (done_in t) (miss w (walk_on todo)) (λ _. walk_on todo w)
     (λ f e. misses (OwnTo todo) (steps.RemoveFile p) t moves r w (walk_on todo) f (inr (remove_faults p t f fits e)) (inl (own_base todo faults.TooDeep (inl refl))) (goes_on (OwnTo todo) (steps.RemoveFile p) t moves r todo (λ g o. inl o)))
     (λ _ _. goes_on (OwnTo todo) (steps.RemoveFile p) t moves r todo (λ g o. inl o) w)
-visits w (remove_folder p) todo t moves r fits =
+visits w (RemoveFolder p) todo t moves r fits =
     goes (OwnTo todo) (steps.RemoveDir p) t moves r (done_in t) (miss w (walk_on todo)) (λ _. walk_on todo w)
     (λ f e. misses (OwnTo todo) (steps.RemoveDir p) t moves r w (walk_on todo) f (inr (remove_folder_faults p t f fits e)) (inl (own_base todo faults.TooDeep (inl refl))) (goes_on (OwnTo todo) (steps.RemoveDir p) t moves r todo (λ g o. inl o)))
     (λ _ _. goes_on (OwnTo todo) (steps.RemoveDir p) t moves r todo (λ g o. inl o) w)

@@ -25,7 +25,9 @@ use Rattle.cacache_table.specs.declared.reply.Reply.{Reply}
 use Rattle.cacache_table.specs.declared.reply.Reply.TheVariants.{Refused}
 use Rattle.cacache_table.specs.Answers.{done_in, temp_in, written_in, synced_in, there_in, taken_in, file_in, got_in, length_in}
 use Rattle.cacache_table.specs.StepPaths.{content_path, content_folders, bucket_path, bucket_folders}
-use Rattle.cacache_table.specs.State.{State, doing, creating, writing, syncing, persisting, linking, confirming, appending, sizing, opening_file, hashing, over, Site, Commit, Insertion, Target, to_link, Errand, make_folder, remove, reflink, hard_link, sync_file, sync_dir}
+use Rattle.cacache_table.specs.State.{State, doing, creating, writing, syncing, persisting, linking, confirming, appending, sizing, opening_file, hashing, over, Site, Insertion, to_link, Errand, make_folder, remove, reflink, hard_link, sync_file, sync_dir}
+use Rattle.cacache_table.specs.declared.carried.Commit.{Commit}
+use Rattle.cacache_table.specs.declared.target.Target.{Target}
 use Rattle.cacache_table.specs.Common.{ends_with, fails, go_on, errand_step, sync_up}
 use Rattle.cacache_table.specs.Inserting.{insertion, deletion, unless_refused, refused_cause, bucket_line, recorded, after_append}
 use Rattle.cacache_table.specs.Storing.{insertion_of, indexed, sized, matches, compared, placed, settled, resettled, moved, write_rest, after_write, after_confirm, put_commit}
@@ -161,26 +163,26 @@ appends i t effects r h = let k = refused (IoError faults.Device []) effects r h
 
 -- ---- links
 
-links_on : (t : Target) (bytes : List ℕ) (effects : List Effect) (r : Reply) (file : PlainFile) (more : List ℕ) → file.left + length more + length bytes < 2 ^ 64
+links_on : (t : Target ℕ) (bytes : List ℕ) (effects : List Effect) (r : Reply) (file : PlainFile) (more : List ℕ) → file.left + length more + length bytes < 2 ^ 64
     → Does (after_read (to_link t) bytes (file, more)) effects r → Links t effects r
 links_on t bytes effects r file [] bound (inl h) = inl h
 links_on t bytes effects r file [] bound (inr h) = inr (bytes, omega (arith, bound), h)
 links_on t bytes effects r file (b ∷ bs) bound h = h (omega (arith, bound, length-append bytes (b ∷ bs)))
 
-links_opened : (t : Target) (a : PlainAnswer) (effects : List Effect) (r : Reply) → Fits (steps.Open t.path) a → Does (go_on (file_in a) fails (λ file. hashing (to_link t) file [])) effects r → Links t effects r
+links_opened : (t : Target ℕ) (a : PlainAnswer) (effects : List Effect) (r : Reply) → Fits (steps.Open t.path) a → Does (go_on (file_in a) fails (λ file. hashing (to_link t) file [])) effects r → Links t effects r
 links_opened t (answers.File file) effects r fits h = h (omega (arith, fits))
 links_opened t (answers.Failed fault) effects r fits h = inl (refused (IoError fault []) effects r h)
 links_opened t (answers.NoMemory step) effects r fits h = inl (refused OutOfMemory effects r h)
 links_opened t other effects r fits h = absurd fits
 
-links_read : (t : Target) (file : PlainFile) (bytes : List ℕ) (a : PlainAnswer) (effects : List Effect) (r : Reply) → Fits (steps.Read file piece) a
+links_read : (t : Target ℕ) (file : PlainFile) (bytes : List ℕ) (a : PlainAnswer) (effects : List Effect) (r : Reply) → Fits (steps.Read file piece) a
     → Does (go_on (got_in a) fails (after_read (to_link t) bytes)) effects r → file.left + length bytes < 2 ^ 64 → Links t effects r
 links_read t file bytes (answers.Got rest more) effects r fits h bound = links_on t bytes effects r rest more (omega (arith, fits.1, bound)) h
 links_read t file bytes (answers.Failed fault) effects r fits h bound = inl (refused (IoError fault []) effects r h)
 links_read t file bytes (answers.NoMemory step) effects r fits h bound = inl (refused OutOfMemory effects r h)
 links_read t file bytes other effects r fits h bound = absurd fits
 
-module _ (t : Target) (effects : List Effect) (r : Reply) where
+module _ (t : Target ℕ) (effects : List Effect) (r : Reply) where
   links_go_on : {X : Type 0} (a : Result X Refusal) (next : X → State) → ((x : X) → Does (next x) effects r → Links t effects r) → Does (go_on a fails next) effects r → Links t effects r
   links_go_on a next k = go_on_leads (λ s. Does s effects r → Links t effects r) a fails next (λ h. inl (refused OutOfMemory effects r h)) (λ fault h. inl (refused (IoError fault []) effects r h)) (λ x _. k x)
 

@@ -27,7 +27,16 @@ use Rattle.cacache_table.specs.declared.reply.Reply.TheVariants.{Read, Exists, C
 use Rattle.cacache_table.specs.Answers.{done_in, temp_in, written_in, synced_in, there_in, taken_in, bytes_in, file_in, got_in, length_in, names_in}
 use Rattle.cacache_core.specs.Meeting.{meets}
 use Rattle.cacache_table.specs.StepPaths.{content_path, addressed, content_folders, bucket_path, bucket_folders}
-use Rattle.cacache_table.specs.State.{State, doing, creating, writing, syncing, persisting, linking, confirming, appending, looking, reading, asking, sizing, opening_file, hashing, copying, walking, over, Commit, Insertion, Aim, to_report, to_read, to_export, to_remove, Lookup, Content, Hashing, to_verify, to_link, Item, Visit, enter, read_bucket, remove_file, remove_folder, Task, visit, stumble, Walk, sync_file, sync_dir}
+use Rattle.cacache_table.specs.State.{State, doing, creating, writing, syncing, persisting, linking, confirming, appending, looking, reading, asking, sizing, opening_file, hashing, copying, walking, over, Insertion, Hashing, to_verify, to_link, Item, Walk, sync_file, sync_dir}
+use Rattle.cacache_table.specs.declared.carried.Commit.{Commit}
+use Rattle.cacache_table.specs.declared.carried.Aim.{Aim}
+use Rattle.cacache_table.specs.declared.carried.Lookup.{Lookup}
+use Rattle.cacache_table.specs.declared.carried.Content.{Content}
+use Rattle.cacache_table.specs.declared.visit.Visit.{Visit}
+use Rattle.cacache_table.specs.declared.visit.Task.{Task}
+use Rattle.cacache_table.specs.declared.visit.Visit.TheVariants.{Enter, ReadBucket, RemoveFile, RemoveFolder}
+use Rattle.cacache_table.specs.declared.visit.Task.TheVariants.{Make, Stumble}
+use Rattle.cacache_table.specs.declared.carried.Aim.TheVariants as aims
 use Rattle.cacache_table.specs.Common.{ends_with, fails, sync_up}
 use Rattle.cacache_table.specs.Inserting.{unless_refused, refused_cause, bucket_line, recorded, after_append}
 use Rattle.cacache_table.specs.Storing.{insertion_of, indexed, sized, matches, compared, placed, settled, resettled, moved, write_rest, after_write, after_confirm}
@@ -159,13 +168,13 @@ left_after old t x fits e = absurd cc
 -- ---- lookups
 
 found_below : (l : Lookup) (aim : Aim) (found : Option Found) → Below (2 ^ 64 + 18) (found_for l aim found)
-found_below l to_report found = omega arith
-found_below l to_read (Some f) = omega arith
-found_below l to_read None = omega arith
-found_below l (to_export e) (Some f) = export_below _ e
-found_below l (to_export e) None = omega arith
-found_below l to_remove (Some f) = omega arith
-found_below l to_remove None = omega arith
+found_below l aims.Report found = omega arith
+found_below l aims.Read (Some f) = omega arith
+found_below l aims.Read None = omega arith
+found_below l (aims.Export e) (Some f) = export_below _ e
+found_below l (aims.Export e) None = omega arith
+found_below l aims.Remove (Some f) = omega arith
+found_below l aims.Remove None = omega arith
 
 unread_below : (l : Lookup) (fault : Fault) → Below (2 ^ 64 + 18) (no_bucket l fault)
 unread_below l faults.NotFound = found_below l l.aim None
@@ -178,8 +187,8 @@ checked_below k bytes = cond_leads (Below 1) (meets k.integrity bytes) (over (Re
 
 weights_append : (a b : List Task) → weights (a ++ b) ≡ weights a + weights b
 weights_append [] b = omega arith
-weights_append (visit v ∷ a) b = omega (arith, weights_append a b)
-weights_append (stumble fault ∷ a) b = weights_append a b
+weights_append (Make v ∷ a) b = omega (arith, weights_append a b)
+weights_append (Stumble fault path ∷ a) b = weights_append a b
 
 too_many_below : (w : Walk) (n : ℕ) → 0 < n → Below n (too_many w)
 too_many_below w n h = cond_leads (Below n) w.clears (fails faults.TooDeep) (over (Listed (w.items ++ failed faults.TooDeep ∷ []))) (λ _. h) (λ _. h)
@@ -197,17 +206,17 @@ miss_below w next fault n h k =
 
 on_below : (todo : List Task) (w : Walk) → Below (2 * w.left + weights todo + 1) (walk_on todo w)
 on_below [] w = cond_leads (Below (2 * w.left + 0 + 1)) w.clears (over Done) (over (Listed w.items)) (λ _. omega arith) (λ _. omega arith)
-on_below (stumble fault ∷ todo) w = miss_below w (walk_on todo) fault (2 * w.left + weights todo + 1) (omega arith) (λ v e. omega (arith, on_below todo v))
-on_below (visit v ∷ todo) w = omega arith
+on_below (Stumble fault path ∷ todo) w = miss_below w (walk_on todo) fault (2 * w.left + weights todo + 1) (omega arith) (λ v e. omega (arith, on_below todo v))
+on_below (Make v ∷ todo) w = omega arith
 
 deeper_light : (p : List ℕ) (level : ℕ) → weights (go_deeper p level ∷ []) ≤ 2
 deeper_light p level = by_level (nat_lt level 16)
   where
-    by_level : (b : Bool) → weights (cond b (visit (enter p (level + 1))) (stumble faults.TooDeep) ∷ []) ≤ 2
+    by_level : (b : Bool) → weights (cond b (Make (Enter p (level + 1))) (Stumble faults.TooDeep p) ∷ []) ≤ 2
     by_level true = omega arith
     by_level false = omega arith
 
-file_light : (p : List ℕ) (b : Bool) → weights (cond b (stumble faults.NotADirectory) (visit (remove_file p)) ∷ []) ≤ 2
+file_light : (p : List ℕ) (b : Bool) → weights (cond b (Stumble faults.NotADirectory p) (Make (RemoveFile p)) ∷ []) ≤ 2
 file_light p true = omega arith
 file_light p false = omega arith
 
@@ -226,7 +235,7 @@ tasks_light clears level p (n ∷ ns) =
 leaving_light : (clears : Bool) (level : ℕ) (p : List ℕ) → weights (leaving clears level p) ≤ 1
 leaving_light clears level p = by_both clears (level == 0)
   where
-    by_both : (b c : Bool) → weights (cond b (cond c [] (visit (remove_folder p) ∷ [])) []) ≤ 1
+    by_both : (b c : Bool) → weights (cond b (cond c [] (Make (RemoveFolder p) ∷ [])) []) ≤ 1
     by_both true true = omega arith
     by_both true false = omega arith
     by_both false c = omega arith
@@ -254,13 +263,13 @@ bucketless_below w todo faults.NotFound = same_left w todo 0 w refl
 bucketless_below w todo fault = miss_below w (walk_on todo) fault (2 * w.left + 1 + weights todo) (omega arith) (same_left w todo 0)
 
 visit_below : (w : Walk) (v : Visit) (todo : List Task) (t : PlainAnswer) → Below (2 * w.left + weight v + weights todo) (after_visit w v todo t)
-visit_below w (enter p level) todo t =
+visit_below w (Enter p level) todo t =
     go_on_leads (Below (2 * w.left + 2 + weights todo)) (names_in t) _ _ (omega arith) (λ fault. miss_below w (walk_on todo) fault _ (omega arith) (same_left w todo 1)) (λ names _. entered_below w p level todo names)
-visit_below w (read_bucket p) todo t =
+visit_below w (ReadBucket p) todo t =
     go_on_leads (Below (2 * w.left + 1 + weights todo)) (bytes_in t) _ _ (omega arith) (bucketless_below w todo) (λ bytes _. give_below w (items_in bytes) (walk_on todo) _ (omega arith) (same_left w todo 0))
-visit_below w (remove_file p) todo t =
+visit_below w (RemoveFile p) todo t =
     go_on_leads (Below (2 * w.left + 1 + weights todo)) (done_in t) _ _ (omega arith) (λ fault. miss_below w (walk_on todo) fault _ (omega arith) (same_left w todo 0)) (λ _ _. same_left w todo 0 w refl)
-visit_below w (remove_folder p) todo t =
+visit_below w (RemoveFolder p) todo t =
     go_on_leads (Below (2 * w.left + 1 + weights todo)) (done_in t) _ _ (omega arith) (λ fault. miss_below w (walk_on todo) fault _ (omega arith) (same_left w todo 0)) (λ _ _. same_left w todo 0 w refl)
 
 -- ---- all states

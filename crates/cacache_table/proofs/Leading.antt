@@ -8,7 +8,8 @@ use Rattle.cacache_store.specs.declared.store.plain.PlainTemp.{PlainTemp}
 use Rattle.cacache_table.specs.declared.reply.Reply.{Reply}
 use Rattle.cacache_table.specs.Common.{ends_with, sync_up}
 use Rattle.cacache_table.specs.Inserting.{unless_refused, refused_cause, recorded}
-use Rattle.cacache_table.specs.State.{State, doing, syncing, persisting, appending, over, Commit, Insertion, make_folder, sync_file, sync_dir}
+use Rattle.cacache_table.specs.State.{State, doing, syncing, persisting, appending, over, Insertion, make_folder, sync_file, sync_dir}
+use Rattle.cacache_table.specs.declared.carried.Commit.{Commit}
 use Rattle.cacache_table.specs.StepPaths.{content_path, content_folders, bucket_path, bucket_folders}
 use Rattle.cacache_table.specs.Storing.{insertion_of, indexed, sized, matches, compared, placed, settled, resettled, moved}
 use Rattle.cacache_table.proofs.Branches.{cond_leads}

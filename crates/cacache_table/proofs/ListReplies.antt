@@ -16,7 +16,11 @@ use Rattle.cacache_table.specs.declared.command.Command.TheVariants as commands
 use Rattle.cacache_table.specs.declared.reply.Reply.{Reply}
 use Rattle.cacache_table.specs.declared.reply.Reply.TheVariants.{Stored, Read, LookedUp, Exists, Copied, Listed, Done, Refused}
 use Rattle.cacache_table.specs.Answers.{bytes_in, names_in}
-use Rattle.cacache_table.specs.State.{State, walking, over, Site, Item, Visit, enter, read_bucket, remove_file, remove_folder, Task, visit, stumble, Walk}
+use Rattle.cacache_table.specs.State.{State, walking, over, Site, Item, Walk}
+use Rattle.cacache_table.specs.declared.visit.Visit.{Visit}
+use Rattle.cacache_table.specs.declared.visit.Task.{Task}
+use Rattle.cacache_table.specs.declared.visit.Visit.TheVariants.{Enter, ReadBucket, RemoveFile, RemoveFolder}
+use Rattle.cacache_table.specs.declared.visit.Task.TheVariants.{Make, Stumble}
 use Rattle.cacache_table.specs.Common.{fails, go_on}
 use Rattle.cacache_table.specs.Walking.{most, failed, give, miss, walk_on, task_of, tasks_of, leaving, too_many, entered, unread_bucket, listed, items_in}
 use Rattle.cacache_table.specs.Table.{wants, after, opening}
@@ -27,27 +31,27 @@ use Rattle.cacache_table.specs.ListReplies.{by_bucket, by_folder, given_by, give
 -- ---- what is still to do on a listing
 
 abbrev Reads : Visit → Type 0
-Reads (enter p level) = Unit {0}
-Reads (read_bucket p) = Unit {0}
-Reads (remove_file p) = ⊥
-Reads (remove_folder p) = ⊥
+Reads (Enter p level) = Unit {0}
+Reads (ReadBucket p) = Unit {0}
+Reads (RemoveFile p) = ⊥
+Reads (RemoveFolder p) = ⊥
 
 abbrev Lists : List Task → Type 0
 Lists [] = Unit {0}
-Lists (visit v ∷ todo) = Reads v × Lists todo
-Lists (stumble fault ∷ todo) = (fault ≡ faults.TooDeep) × Lists todo
+Lists (Make v ∷ todo) = Reads v × Lists todo
+Lists (Stumble fault path ∷ todo) = (fault ≡ faults.TooDeep) × Lists todo
 
 lists_append : (a b : List Task) → Lists a → Lists b → Lists (a ++ b)
 lists_append [] b h k = k
-lists_append (visit v ∷ a) b h k = (h.0, lists_append a b h.1 k)
-lists_append (stumble fault ∷ a) b h k = (h.0, lists_append a b h.1 k)
+lists_append (Make v ∷ a) b h k = (h.0, lists_append a b h.1 k)
+lists_append (Stumble fault path ∷ a) b h k = (h.0, lists_append a b h.1 k)
 
 task_lists : (level : ℕ) (p : List ℕ) (kind : Kind) (todo : List Task) → Lists todo → Lists (task_of false level p kind ∷ todo)
 task_lists level p kinds.File todo h = (tt, h)
 task_lists level p kinds.Link todo h = (tt, h)
 task_lists level p kinds.Folder todo h = by_level (nat_lt level 16)
   where
-    by_level : (b : Bool) → Lists (cond b (visit (enter p (level + 1))) (stumble faults.TooDeep) ∷ todo)
+    by_level : (b : Bool) → Lists (cond b (Make (Enter p (level + 1))) (Stumble faults.TooDeep p) ∷ todo)
     by_level true = (tt, h)
     by_level false = (refl, h)
 
@@ -131,8 +135,8 @@ module _ (r : Reply) where
 
   goes_on : (items : List Item) (todo : List Task) → Lists todo → (w : Walk) → w.clears ≡ false → Given (walk_on todo w) items r → Gives w items r
   goes_on items [] l w e h = ends w [] items refl (rw append-nil (pick (λ s. Given s items r) w.clears (over Done) (over (Listed w.items)) e h))
-  goes_on items (stumble fault ∷ todo) l w e h = misses w items items fault (walk_on todo) e (λ tail k. inl (ap (failed) l.0, k)) (goes_on items todo l.1) h
-  goes_on items (visit v ∷ todo) l w e h = h e l.0 l.1
+  goes_on items (Stumble fault path ∷ todo) l w e h = misses w items items fault (walk_on todo) e (λ tail k. inl (ap (failed) l.0, k)) (goes_on items todo l.1) h
+  goes_on items (Make v ∷ todo) l w e h = h e l.0 l.1
 
   fails_on : (items : List Item) (todo : List Task) → Lists todo → (w : Walk) → w.clears ≡ false → (fault : Fault) → Given (miss w (walk_on todo) fault) items r → Gives w (failed fault ∷ items) r
   fails_on items todo l w e fault h = misses w items (failed fault ∷ items) fault (walk_on todo) e (λ tail k. inr (items, refl, k)) (goes_on items todo l) h
@@ -160,10 +164,10 @@ with_given None t items = items
 with_given (Some step) t items = given_by step t ++ items
 
 given_before : (s : State) (t : PlainAnswer) (items : List Item) (r : Reply) → Given (after s t) items r → Given s (with_given (wants s) t items) r
-given_before (walking w (enter p level) todo) t items r = λ h e k l. enters r w p level todo items (names_in t) e l h
-given_before (walking w (read_bucket p) todo) t items r = λ h e k l. reads r w todo items (bytes_in t) e l h
-given_before (walking w (remove_file p) todo) t items r = λ h e k l. absurd k
-given_before (walking w (remove_folder p) todo) t items r = λ h e k l. absurd k
+given_before (walking w (Enter p level) todo) t items r = λ h e k l. enters r w p level todo items (names_in t) e l h
+given_before (walking w (ReadBucket p) todo) t items r = λ h e k l. reads r w todo items (bytes_in t) e l h
+given_before (walking w (RemoveFile p) todo) t items r = λ h e k l. absurd k
+given_before (walking w (RemoveFolder p) todo) t items r = λ h e k l. absurd k
 given_before (over reply) t items r = λ h. h
 given_before s t items r = λ h. tt
 

@@ -7,14 +7,15 @@ use Rattle.cacache_store.specs.Plain.{PlainStep}
 use Rattle.cacache_table.specs.declared.reply.Reply.{Reply}
 use Rattle.cacache_table.specs.declared.reply.Reply.TheVariants.{Refused}
 use Rattle.cacache_table.specs.Runs.{without_message}
-use Rattle.cacache_table.specs.State.{State, walking, over, enter, read_bucket, remove_file, remove_folder}
+use Rattle.cacache_table.specs.State.{State, walking, over}
+use Rattle.cacache_table.specs.declared.visit.Visit.TheVariants.{Enter, ReadBucket, RemoveFile, RemoveFolder}
 use Rattle.cacache_table.specs.Table.{wants, after}
 
 pub no_memory_after : (s : State) (a b : PlainStep) → wants s ≡ Some a → after s (answers.NoMemory b) ≡ over (Refused OutOfMemory)
-no_memory_after (walking w (enter p level) todo) a b e = refl
-no_memory_after (walking w (read_bucket p) todo) a b e = refl
-no_memory_after (walking w (remove_file p) todo) a b e = refl
-no_memory_after (walking w (remove_folder p) todo) a b e = refl
+no_memory_after (walking w (Enter p level) todo) a b e = refl
+no_memory_after (walking w (ReadBucket p) todo) a b e = refl
+no_memory_after (walking w (RemoveFile p) todo) a b e = refl
+no_memory_after (walking w (RemoveFolder p) todo) a b e = refl
 no_memory_after (over reply) a b e = absurd cc
 no_memory_after s a b e = refl
 

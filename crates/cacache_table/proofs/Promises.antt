@@ -26,7 +26,17 @@ use Rattle.cacache_table.specs.declared.reply.Reply.TheVariants.{Stored, Read, L
 use Rattle.cacache_table.specs.Answers.{done_in, temp_in, written_in, synced_in, there_in, taken_in, bytes_in, file_in, got_in, length_in, names_in}
 use Rattle.cacache_core.specs.Meeting.{meets}
 use Rattle.cacache_table.specs.StepPaths.{content_path, content_folders, bucket_path, bucket_folders}
-use Rattle.cacache_table.specs.State.{State, doing, creating, writing, syncing, persisting, linking, confirming, appending, looking, reading, asking, sizing, opening_file, hashing, copying, walking, over, Site, Commit, Insertion, Aim, to_report, to_read, to_export, to_remove, Lookup, Content, Target, Hashing, to_verify, to_link, Item, Visit, enter, read_bucket, remove_file, remove_folder, Task, visit, stumble, Walk, sync_file, sync_dir}
+use Rattle.cacache_table.specs.State.{State, doing, creating, writing, syncing, persisting, linking, confirming, appending, looking, reading, asking, sizing, opening_file, hashing, copying, walking, over, Site, Insertion, Hashing, to_verify, to_link, Item, Walk, sync_file, sync_dir}
+use Rattle.cacache_table.specs.declared.carried.Commit.{Commit}
+use Rattle.cacache_table.specs.declared.carried.Aim.{Aim}
+use Rattle.cacache_table.specs.declared.carried.Lookup.{Lookup}
+use Rattle.cacache_table.specs.declared.carried.Content.{Content}
+use Rattle.cacache_table.specs.declared.target.Target.{Target}
+use Rattle.cacache_table.specs.declared.visit.Visit.{Visit}
+use Rattle.cacache_table.specs.declared.visit.Task.{Task}
+use Rattle.cacache_table.specs.declared.visit.Visit.TheVariants.{Enter, ReadBucket, RemoveFile, RemoveFolder}
+use Rattle.cacache_table.specs.declared.visit.Task.TheVariants.{Make, Stumble}
+use Rattle.cacache_table.specs.declared.carried.Aim.TheVariants as aims
 use Rattle.cacache_table.specs.Common.{ends_with, fails, go_on, sync_up}
 use Rattle.cacache_table.specs.Inserting.{insertion, deletion, unless_refused, refused_cause, bucket_line, after_append, recorded}
 use Rattle.cacache_table.specs.Storing.{insertion_of, indexed, sized, matches, compared, placed, settled, resettled, moved, write_rest, after_write, after_confirm}
@@ -49,10 +59,10 @@ exports_refused Reflink e = tt
 exports_refused HardLink e = tt
 
 aims_refused : (aim : Aim) (e : Error) → Aims aim (Refused e)
-aims_refused to_report e = tt
-aims_refused to_read e = tt
-aims_refused (to_export x) e = exports_refused x.how e
-aims_refused to_remove e = tt
+aims_refused aims.Report e = tt
+aims_refused aims.Read e = tt
+aims_refused (aims.Export x) e = exports_refused x.how e
+aims_refused aims.Remove e = tt
 
 hashes_refused : (h : Hashing) (bytes : List ℕ) (e : Error) → Hashes h bytes (Refused e)
 hashes_refused (to_verify k x) bytes e = (exports_refused x.how e, tt)
@@ -243,7 +253,7 @@ module _ (r : Reply) where
       cond_leads (λ s. Promises s r → Exports e.how r × (e.checked ≡ true → MadeOf k.integrity [] r)) e.checked (opening_file (to_verify k e)) (export_content k e None)
       (λ _ g. (g.0, λ _. g.1)) (λ no g. (exports_from e.how (content_path k.cache k.integrity) e.to None g, λ yes. absurd cc)) h
 
-  stores_here : (t : Target) (bytes : List ℕ) → Stores (commit_for t bytes) r → StoresRead t bytes r
+  stores_here : (t : Target ℕ) (bytes : List ℕ) → Stores (commit_for t bytes) r → StoresRead t bytes r
   stores_here t bytes = by_reply r
     where
       by_reply : (r : Reply) → Stores (commit_for t bytes) r → StoresRead t bytes r
@@ -256,7 +266,7 @@ module _ (r : Reply) where
       by_reply (Listed items) h = absurd h
       by_reply Done h = absurd h
 
-  stores_later : (t : Target) (bytes more : List ℕ) → StoresRead t (bytes ++ more) r → StoresRead t bytes r
+  stores_later : (t : Target ℕ) (bytes more : List ℕ) → StoresRead t (bytes ++ more) r → StoresRead t bytes r
   stores_later t bytes more = by_reply r
     where
       by_reply : (r : Reply) → StoresRead t (bytes ++ more) r → StoresRead t bytes r
@@ -269,7 +279,7 @@ module _ (r : Reply) where
       by_reply (Listed items) h = absurd h
       by_reply Done h = absurd h
 
-  sizes : (t : Target) (n : ℕ) → StoresRead (with_size t n) [] r → StoresSized t r
+  sizes : (t : Target ℕ) (n : ℕ) → StoresRead (with_size t n) [] r → StoresSized t r
   sizes t n = by_reply r
     where
       by_reply : (r : Reply) → StoresRead (with_size t n) [] r → StoresSized t r
@@ -326,13 +336,13 @@ module _ (r : Reply) where
       by_reply Done h = h
 
   founds : (l : Lookup) (aim : Aim) (found : Option Found) → Promises (found_for l aim found) r → Aims aim r
-  founds l to_report found h = over_keeps (Aims to_report) (λ _. tt) r (LookedUp found) tt h
-  founds l to_read (Some f) h = meeting_reads f.integrity h
-  founds l to_read None h = ends_keeps (Aims to_read) (λ _. tt) r (EntryNotFound l.cache l.key) h
-  founds l (to_export e) (Some f) h = (hash_exports (found_content l f) e h).0
-  founds l (to_export e) None h = ends_keeps (Exports e.how) (exports_refused e.how) r (EntryNotFound l.cache l.key) h
-  founds l to_remove (Some f) h = h
-  founds l to_remove None h = h
+  founds l aims.Report found h = over_keeps (Aims aims.Report) (λ _. tt) r (LookedUp found) tt h
+  founds l aims.Read (Some f) h = meeting_reads f.integrity h
+  founds l aims.Read None h = ends_keeps (Aims aims.Read) (λ _. tt) r (EntryNotFound l.cache l.key) h
+  founds l (aims.Export e) (Some f) h = (hash_exports (found_content l f) e h).0
+  founds l (aims.Export e) None h = ends_keeps (Exports e.how) (exports_refused e.how) r (EntryNotFound l.cache l.key) h
+  founds l aims.Remove (Some f) h = h
+  founds l aims.Remove None h = h
 
   unreads : (l : Lookup) (fault : Fault) → Promises (no_bucket l fault) r → Aims l.aim r
   unreads l faults.NotFound h = founds l l.aim None h
@@ -370,8 +380,8 @@ module _ (r : Reply) where
 
   goes_on : (todo : List Task) (w : Walk) → Promises (walk_on todo w) r → Walks w.clears r
   goes_on [] w h = finishes_or_lists w.clears w.items h
-  goes_on (stumble fault ∷ todo) w h = misses w (walk_on todo) fault (λ v e g. rw (← e) (goes_on todo v g)) h
-  goes_on (visit v ∷ todo) w h = h
+  goes_on (Stumble fault path ∷ todo) w h = misses w (walk_on todo) fault (λ v e g. rw (← e) (goes_on todo v g)) h
+  goes_on (Make v ∷ todo) w h = h
 
   follows : (w : Walk) (todo : List Task) → Follows w (walk_on todo)
   follows w todo v e h = rw (← e) (goes_on todo v h)
@@ -387,13 +397,13 @@ module _ (r : Reply) where
   bucketless w todo fault h = misses w (walk_on todo) fault (follows w todo) h
 
   visits : (w : Walk) (v : Visit) (todo : List Task) (t : PlainAnswer) → Promises (after_visit w v todo t) r → Walks w.clears r
-  visits w (enter p level) todo t =
+  visits w (Enter p level) todo t =
       go_on_keeps (Walks w.clears) (walks_refused w.clears) r (names_in t) (miss w (walk_on todo)) (entered w p level todo) (λ fault. misses w (walk_on todo) fault (follows w todo)) (enters w p level todo)
-  visits w (read_bucket p) todo t =
+  visits w (ReadBucket p) todo t =
       go_on_keeps (Walks w.clears) (walks_refused w.clears) r (bytes_in t) (unread_bucket w todo) (listed w todo) (bucketless w todo) (λ bytes. gives w (items_in bytes) (walk_on todo) (follows w todo))
-  visits w (remove_file p) todo t =
+  visits w (RemoveFile p) todo t =
       go_on_keeps (Walks w.clears) (walks_refused w.clears) r (done_in t) (miss w (walk_on todo)) (λ _. walk_on todo w) (λ fault. misses w (walk_on todo) fault (follows w todo)) (λ _. goes_on todo w)
-  visits w (remove_folder p) todo t =
+  visits w (RemoveFolder p) todo t =
       go_on_keeps (Walks w.clears) (walks_refused w.clears) r (done_in t) (miss w (walk_on todo)) (λ _. walk_on todo w) (λ fault. misses w (walk_on todo) fault (follows w todo)) (λ _. goes_on todo w)
 
   counts : (count : Option ℕ) (n m : ℕ) → count ≡ Some m → counted count n ≡ m

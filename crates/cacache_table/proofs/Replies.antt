@@ -17,7 +17,10 @@ use Rattle.cacache_table.specs.declared.reply.Reply.TheVariants.{Read, Refused}
 use Rattle.cacache_table.specs.Answers.{there_in, bytes_in}
 use Rattle.cacache_core.specs.Meeting.{meets}
 use Rattle.cacache_table.specs.StepPaths.{content_path, bucket_path}
-use Rattle.cacache_table.specs.State.{State, looking, reading, asking, over, Site, to_report, to_read, Lookup, Content}
+use Rattle.cacache_table.specs.State.{State, looking, reading, asking, over, Site}
+use Rattle.cacache_table.specs.declared.carried.Lookup.{Lookup}
+use Rattle.cacache_table.specs.declared.carried.Content.{Content}
+use Rattle.cacache_table.specs.declared.carried.Aim.TheVariants as aims
 use Rattle.cacache_table.specs.Common.{ends_with, fails, go_on}
 use Rattle.cacache_table.specs.ContentReads.{checked, is_there, is_absent}
 use Rattle.cacache_table.specs.Looking.{found_in, found_for, after_bucket, no_bucket}
@@ -60,7 +63,7 @@ one_run s step reply w ends (m ∷ moves) r run =
 -- ---- lookups
 
 abbrev look : Site → List ℕ → Lookup
-look site key = record { cache = site.cache; key = key; aim = to_report }
+look site key = record { cache = site.cache; key = key; aim = aims.Report }
 
 found_after : (site : Site) (key : List ℕ) (a : Result (List ℕ) Refusal) → go_on a (no_bucket (look site key)) (after_bucket (look site key)) ≡ over (find_reply key (entries_shown a))
 unfolding found_in
@@ -110,9 +113,9 @@ exists_shown site i moves r run = one_step (asking (content site.cache i)) (step
 -- ---- one after the other
 
 abbrev look_to_read : List ℕ → List ℕ → Lookup
-look_to_read cache key = record { cache = cache; key = key; aim = to_read }
+look_to_read cache key = record { cache = cache; key = key; aim = aims.Read }
 
-found_shown : (cache key : List ℕ) (found : Option Found) (moves : Moves) (r : Reply) → Runs (found_for (look_to_read cache key) to_read found) moves r → OrMemory (ReadsOn cache key (Ok found) moves r) r
+found_shown : (cache key : List ℕ) (found : Option Found) (moves : Moves) (r : Reply) → Runs (found_for (look_to_read cache key) aims.Read found) moves r → OrMemory (ReadsOn cache key (Ok found) moves r) r
 found_shown cache key (Some f) moves r run = content_shown cache f.integrity moves r run
 found_shown cache key None moves r run = over_run (Refused (EntryNotFound cache key)) moves r run
 

@@ -1,5 +1,5 @@
 -- Which kind of reply a call gives, by what it promises.
-use Rattle.std.proofs.Common.{◌≡◌, List, Result, Ok, Err}
+use Rattle.std.proofs.Common.{◌≡◌, ℕ, List, Result, Ok, Err}
 use Rattle.std.specs.Prelude.{IfOk}
 use Rattle.cacache_core.specs.declared.errors.Error.{Error}
 use Rattle.cacache_core.specs.declared.integrity.digest.Hash.{Hash}
@@ -7,7 +7,7 @@ use Rattle.cacache_table.specs.declared.reply.Reply.{Reply}
 use Rattle.cacache_table.specs.declared.reply.Reply.TheVariants.{Stored, Read, LookedUp, Exists, Copied, Listed, Done, Refused}
 use Rattle.cacache_table.specs.Promises.{Only, OnlyStores, OnlyReads, ReadsMeeting, StoresIf, StoresSized}
 use Rattle.cacache_table.specs.Runs.{reply_of}
-use Rattle.cacache_table.specs.State.{Target}
+use Rattle.cacache_table.specs.declared.target.Target.{Target}
 
 -- a reply that may store one integrity stores
 pub stores_only : (i : List Hash) (P : Type 0) (r : Reply) → StoresIf i P r → OnlyStores r
@@ -21,7 +21,7 @@ stores_only i P Done h = absurd h
 stores_only i P (Refused e) h = tt
 
 -- so does a link's
-pub sized_only : (t : Target) (r : Reply) → StoresSized t r → OnlyStores r
+pub sized_only : (t : Target ℕ) (r : Reply) → StoresSized t r → OnlyStores r
 sized_only t (Stored i) h = tt
 sized_only t (Read bytes) h = absurd h
 sized_only t (LookedUp found) h = absurd h

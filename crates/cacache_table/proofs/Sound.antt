@@ -30,7 +30,17 @@ use Rattle.cacache_table.specs.declared.reply.Reply.TheVariants.{Read, Copied, L
 use Rattle.cacache_table.specs.Answers.{done_in, temp_in, written_in, synced_in, there_in, taken_in, bytes_in, file_in, got_in, length_in, names_in}
 use Rattle.cacache_core.specs.Meeting.{meets}
 use Rattle.cacache_table.specs.StepPaths.{temp_path, content_path, content_folder, bucket_path, bucket_folder, content_folders, bucket_folders}
-use Rattle.cacache_table.specs.State.{State, doing, creating, writing, syncing, persisting, linking, confirming, appending, looking, reading, asking, sizing, opening_file, hashing, copying, walking, over, Site, Commit, Insertion, Aim, to_report, to_read, to_export, to_remove, Lookup, Content, Target, Hashing, to_verify, to_link, Item, Visit, enter, read_bucket, remove_file, remove_folder, Task, visit, stumble, Walk, sync_dir, sync_file}
+use Rattle.cacache_table.specs.State.{State, doing, creating, writing, syncing, persisting, linking, confirming, appending, looking, reading, asking, sizing, opening_file, hashing, copying, walking, over, Site, Insertion, Hashing, to_verify, to_link, Item, Walk, sync_dir, sync_file}
+use Rattle.cacache_table.specs.declared.carried.Commit.{Commit}
+use Rattle.cacache_table.specs.declared.carried.Aim.{Aim}
+use Rattle.cacache_table.specs.declared.carried.Lookup.{Lookup}
+use Rattle.cacache_table.specs.declared.carried.Content.{Content}
+use Rattle.cacache_table.specs.declared.target.Target.{Target}
+use Rattle.cacache_table.specs.declared.visit.Visit.{Visit}
+use Rattle.cacache_table.specs.declared.visit.Task.{Task}
+use Rattle.cacache_table.specs.declared.visit.Visit.TheVariants.{Enter, ReadBucket, RemoveFile, RemoveFolder}
+use Rattle.cacache_table.specs.declared.visit.Task.TheVariants.{Make, Stumble}
+use Rattle.cacache_table.specs.declared.carried.Aim.TheVariants as aims
 use Rattle.cacache_table.specs.Common.{ends_with, fails, sync_up}
 use Rattle.cacache_table.specs.Inserting.{insertion, deletion, unless_refused, refused_cause, bucket_line, recorded, after_append}
 use Rattle.cacache_table.specs.Storing.{insertion_of, indexed, sized, matches, compared, placed, settled, resettled, moved, write_rest, after_write, after_confirm}
@@ -140,7 +150,7 @@ module _ (site : Site) (apart outside : List ℕ → Bool) where
   exports : (k : Content) (e : Export) → apart e.to ≡ true → Is (export k e)
   exports k e h = cond_leads Is e.checked (opening_file (to_verify k e)) (export_content k e None) (λ _. h) (λ _. exports_from e.how (content_path k.cache k.integrity) e.to None h)
 
-  links : (t : Target) (bytes : List ℕ) → SoundTarget site t → length bytes < 2 ^ 64 → SoundCommit site (commit_for t bytes)
+  links : (t : Target ℕ) (bytes : List ℕ) → SoundTarget site t → length bytes < 2 ^ 64 → SoundCommit site (commit_for t bytes)
   links t bytes h lt = record { here = h.here; bytes = bytes; computed_of = refl; formed = h.formed bytes lt }
 
   hashes : (h : Hashing) (bytes : List ℕ) → SoundHashing site apart outside h → length bytes < 2 ^ 64 → Is (hashed h bytes)
@@ -169,12 +179,12 @@ module _ (site : Site) (apart outside : List ℕ → Bool) where
   removes cache key None e = (inr (inl (key, ap (λ c. bucket_path c key) e)), tt)
 
   founds : (l : Lookup) (aim : Aim) (found : Option Found) → l.cache ≡ site.cache → SoundAim site apart outside aim → Is (found_for l aim found)
-  founds l to_report found e h = tt
-  founds l to_remove found e h = removes l.cache l.key found e
-  founds l to_read (Some f) e h = e
-  founds l to_read None e h = tt
-  founds l (to_export x) (Some f) e h = exports (found_content l f) x h
-  founds l (to_export x) None e h = tt
+  founds l aims.Report found e h = tt
+  founds l aims.Remove found e h = removes l.cache l.key found e
+  founds l aims.Read (Some f) e h = e
+  founds l aims.Read None e h = tt
+  founds l (aims.Export x) (Some f) e h = exports (found_content l f) x h
+  founds l (aims.Export x) None e h = tt
 
   unreads : (l : Lookup) (fault : Fault) → l.cache ≡ site.cache → SoundAim site apart outside l.aim → Is (no_bucket l fault)
   unreads l faults.NotFound e h = founds l l.aim None e h
@@ -197,8 +207,8 @@ module _ (site : Site) (apart outside : List ℕ → Bool) where
 
   tasks_append : (a b : List Task) → SoundTasks site a → SoundTasks site b → SoundTasks site (a ++ b)
   tasks_append [] b h k = k
-  tasks_append (visit v ∷ a) b h k = (h.0, tasks_append a b h.1 k)
-  tasks_append (stumble fault ∷ a) b h k = tasks_append a b h k
+  tasks_append (Make v ∷ a) b h k = (h.0, tasks_append a b h.1 k)
+  tasks_append (Stumble fault path ∷ a) b h k = tasks_append a b h k
 
   -- a task that is one of two
   one_of : (b : Bool) (x y : Task) → SoundTasks site (x ∷ []) → SoundTasks site (y ∷ []) → SoundTasks site (cond b x y ∷ [])
@@ -206,10 +216,10 @@ module _ (site : Site) (apart outside : List ℕ → Bool) where
   one_of false x y h k = k
 
   task_sound : (clears : Bool) (level : ℕ) (p : List ℕ) (kind : Kind) → IsBelow site p → SoundTasks site (task_of clears level p kind ∷ [])
-  task_sound clears level p kinds.Folder h = one_of (nat_lt level 16) (visit (enter p (level + 1))) (stumble faults.TooDeep) (h, tt) tt
+  task_sound clears level p kinds.Folder h = one_of (nat_lt level 16) (Make (Enter p (level + 1))) (Stumble faults.TooDeep p) (h, tt) tt
   task_sound false level p kinds.File h = (h, tt)
   task_sound false level p kinds.Link h = (h, tt)
-  task_sound true level p kinds.File h = one_of (level == 0) (stumble faults.NotADirectory) (visit (remove_file p)) tt (h, tt)
+  task_sound true level p kinds.File h = one_of (level == 0) (Stumble faults.NotADirectory p) (Make (RemoveFile p)) tt (h, tt)
   task_sound true level p kinds.Link h = (h, tt)
 
   tasks_sound : (clears : Bool) (level : ℕ) (p : List ℕ) (names : List Name) → AreProperNames names → IsBelow site p → SoundTasks site (tasks_of clears level p names)
@@ -221,7 +231,7 @@ module _ (site : Site) (apart outside : List ℕ → Bool) where
   leaving_sound : (clears : Bool) (level : ℕ) (p : List ℕ) → IsBelow site p → SoundTasks site (leaving clears level p)
   leaving_sound clears level p h = by_both clears (level == 0)
     where
-      by_both : (b c : Bool) → SoundTasks site (cond b (cond c [] (visit (remove_folder p) ∷ [])) [])
+      by_both : (b c : Bool) → SoundTasks site (cond b (cond c [] (Make (RemoveFolder p) ∷ [])) [])
       by_both true true = tt
       by_both true false = (h, tt)
       by_both false c = tt
@@ -240,8 +250,8 @@ module _ (site : Site) (apart outside : List ℕ → Bool) where
 
   goes_on : (todo : List Task) → SoundTasks site todo → (w : Walk) → Is (walk_on todo w)
   goes_on [] h w = cond_leads Is w.clears (over Done) (over (Listed w.items)) (λ _. tt) (λ _. tt)
-  goes_on (stumble fault ∷ todo) h w = misses w (walk_on todo) fault (goes_on todo h)
-  goes_on (visit v ∷ todo) h w = h
+  goes_on (Stumble fault path ∷ todo) h w = misses w (walk_on todo) fault (goes_on todo h)
+  goes_on (Make v ∷ todo) h w = h
 
   enters : (w : Walk) (p : List ℕ) (level : ℕ) (todo : List Task) (names : List Name) → AreProperNames names → IsBelow site p → SoundTasks site todo → Is (entered w p level todo names)
   enters w p level todo names proper h k =
@@ -255,10 +265,10 @@ module _ (site : Site) (apart outside : List ℕ → Bool) where
   unread w todo fault k = misses w (walk_on todo) fault (goes_on todo k)
 
   visits : (w : Walk) (v : Visit) (todo : List Task) (t : PlainAnswer) → Fits (visit_step v) t → SoundVisit site v → SoundTasks site todo → Is (after_visit w v todo t)
-  visits w (enter p level) todo t f h k = go_on_leads Is (names_in t) (miss w (walk_on todo)) (entered w p level todo) tt (λ fault. misses w (walk_on todo) fault (goes_on todo k)) (λ names e. enters w p level todo names (named p t names f e) h k)
-  visits w (read_bucket p) todo t f h k = go_on_leads Is (bytes_in t) (unread_bucket w todo) (listed w todo) tt (λ fault. unread w todo fault k) (λ bytes _. gives w (items_in bytes) (walk_on todo) (goes_on todo k))
-  visits w (remove_file p) todo t f h k = go_on_leads Is (done_in t) (miss w (walk_on todo)) (λ _. walk_on todo w) tt (λ fault. misses w (walk_on todo) fault (goes_on todo k)) (λ _ _. goes_on todo k w)
-  visits w (remove_folder p) todo t f h k = go_on_leads Is (done_in t) (miss w (walk_on todo)) (λ _. walk_on todo w) tt (λ fault. misses w (walk_on todo) fault (goes_on todo k)) (λ _ _. goes_on todo k w)
+  visits w (Enter p level) todo t f h k = go_on_leads Is (names_in t) (miss w (walk_on todo)) (entered w p level todo) tt (λ fault. misses w (walk_on todo) fault (goes_on todo k)) (λ names e. enters w p level todo names (named p t names f e) h k)
+  visits w (ReadBucket p) todo t f h k = go_on_leads Is (bytes_in t) (unread_bucket w todo) (listed w todo) tt (λ fault. unread w todo fault k) (λ bytes _. gives w (items_in bytes) (walk_on todo) (goes_on todo k))
+  visits w (RemoveFile p) todo t f h k = go_on_leads Is (done_in t) (miss w (walk_on todo)) (λ _. walk_on todo w) tt (λ fault. misses w (walk_on todo) fault (goes_on todo k)) (λ _ _. goes_on todo k w)
+  visits w (RemoveFolder p) todo t f h k = go_on_leads Is (done_in t) (miss w (walk_on todo)) (λ _. walk_on todo w) tt (λ fault. misses w (walk_on todo) fault (goes_on todo k)) (λ _ _. goes_on todo k w)
 
   -- ---- a command may begin
 
@@ -281,10 +291,10 @@ module _ (site : Site) (apart outside : List ℕ → Bool) where
   -- ---- its steps
 
   visit_allowed : (v : Visit) → SoundVisit site v → Allowed site apart outside (visit_step v)
-  visit_allowed (enter p level) h = tt
-  visit_allowed (read_bucket p) h = tt
-  visit_allowed (remove_file p) h = inr (inr h)
-  visit_allowed (remove_folder p) h = h
+  visit_allowed (Enter p level) h = tt
+  visit_allowed (ReadBucket p) h = tt
+  visit_allowed (RemoveFile p) h = inr (inr h)
+  visit_allowed (RemoveFolder p) h = h
 
   line_at : (i : Insertion) → SoundInsertion site i → refused_cause i ≡ None → IsLine site (bucket_path i.cache i.entry.key) (bucket_line i)
   unfolding bucket_line refused_cause

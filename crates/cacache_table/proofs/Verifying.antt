@@ -26,7 +26,11 @@ use Rattle.cacache_table.specs.declared.reply.Reply.{Reply}
 use Rattle.cacache_table.specs.declared.reply.Reply.TheVariants.{Stored, Read, LookedUp, Exists, Copied, Listed, Done, Refused}
 use Rattle.cacache_table.specs.Answers.{file_in, got_in, bytes_in, length_in, refusal_in}
 use Rattle.cacache_table.specs.StepPaths.{content_path, bucket_path}
-use Rattle.cacache_table.specs.State.{State, looking, sizing, opening_file, hashing, over, Site, Lookup, Content, Target, Hashing, to_export, to_verify, to_link}
+use Rattle.cacache_table.specs.State.{State, looking, sizing, opening_file, hashing, over, Site, Hashing, to_verify, to_link}
+use Rattle.cacache_table.specs.declared.carried.Lookup.{Lookup}
+use Rattle.cacache_table.specs.declared.carried.Content.{Content}
+use Rattle.cacache_table.specs.declared.target.Target.{Target}
+use Rattle.cacache_table.specs.declared.carried.Aim.TheVariants as aims
 use Rattle.cacache_table.specs.Common.{ends_with, fails, refuse, go_on}
 use Rattle.cacache_table.specs.Exporting.{export_from, export_content, export, verified}
 use Rattle.cacache_table.specs.Looking.{found_in, found_for, found_content, after_bucket, no_bucket}
@@ -128,9 +132,9 @@ module _ (r : Reply) (good : (e : Error) → r ≡ Refused e → ⊥) where
 
   module _ (cache key : List ℕ) (e : Export) (checks : e.checked ≡ true) where
     abbrev look : Lookup
-    look = record { cache = cache; key = key; aim = to_export e }
+    look = record { cache = cache; key = key; aim = aims.Export e }
 
-    by_found : (found : Option Found) (moves : Moves) → Runs (found_for look (to_export e) found) moves r → (f : Found) × (found ≡ Some f) × VerifiesContent cache f.integrity moves r
+    by_found : (found : Option Found) (moves : Moves) → Runs (found_for look (aims.Export e) found) moves r → (f : Found) × (found ≡ Some f) × VerifiesContent cache f.integrity moves r
     by_found (Some f) moves run = (f, refl, exports (found_content look f) e moves checks run)
     by_found None moves run = absurd (over_refused _ moves run)
 
@@ -150,7 +154,7 @@ module _ (r : Reply) (good : (e : Error) → r ≡ Refused e → ⊥) where
 
   -- ---- links
 
-  sizes : (t : Target) (moves : Moves) → Runs (sizing t) moves r → LinksWhole t moves r
+  sizes : (t : Target ℕ) (moves : Moves) → Runs (sizing t) moves r → LinksWhole t moves r
   sizes t [] run = absurd (no_moves _ (steps.Size t.path) refl run)
   sizes t ((a, answer) ∷ moves) run =
       let same : a ≡ steps.Size t.path = sym (same_Some _ _ run.0) in

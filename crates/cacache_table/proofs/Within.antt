@@ -33,7 +33,16 @@ use Rattle.cacache_table.specs.Licence.{Licence, May, allows, as_far, KeepsTo, A
 use Rattle.cacache_table.specs.Linking.{after_size, after_read, hashed_path}
 use Rattle.cacache_table.specs.Looking.{found_in, found_for, found_content, after_bucket, no_bucket}
 use Rattle.cacache_table.specs.Runs.{Moves, Runs, Goes}
-use Rattle.cacache_table.specs.State.{State, doing, creating, writing, syncing, persisting, linking, confirming, appending, looking, reading, asking, sizing, opening_file, hashing, copying, walking, over, Site, Commit, Insertion, Aim, to_report, to_read, to_export, to_remove, Lookup, Content, Hashing, to_verify, to_link, Item, Visit, enter, read_bucket, remove_file, remove_folder, Task, visit, stumble, Walk}
+use Rattle.cacache_table.specs.State.{State, doing, creating, writing, syncing, persisting, linking, confirming, appending, looking, reading, asking, sizing, opening_file, hashing, copying, walking, over, Site, Insertion, Hashing, to_verify, to_link, Item, Walk}
+use Rattle.cacache_table.specs.declared.carried.Commit.{Commit}
+use Rattle.cacache_table.specs.declared.carried.Aim.{Aim}
+use Rattle.cacache_table.specs.declared.carried.Lookup.{Lookup}
+use Rattle.cacache_table.specs.declared.carried.Content.{Content}
+use Rattle.cacache_table.specs.declared.visit.Visit.{Visit}
+use Rattle.cacache_table.specs.declared.visit.Task.{Task}
+use Rattle.cacache_table.specs.declared.visit.Visit.TheVariants.{Enter, ReadBucket, RemoveFile, RemoveFolder}
+use Rattle.cacache_table.specs.declared.visit.Task.TheVariants.{Make, Stumble}
+use Rattle.cacache_table.specs.declared.carried.Aim.TheVariants as aims
 use Rattle.cacache_table.specs.StepPaths.{temp_path, bucket_path, content_path}
 use Rattle.cacache_table.specs.Storing.{placed, settled, resettled, write_rest, after_write, after_confirm}
 use Rattle.cacache_table.specs.Table.{piece, wants, after, opening}
@@ -65,10 +74,10 @@ module _ (l : Licence) where
   Links = MayAdd l l.links
 
   abbrev Aims : Aim → Type 0
-  Aims to_report = Unit {0}
-  Aims to_read = Unit {0}
-  Aims (to_export e) = May l.exports
-  Aims to_remove = May l.removes
+  Aims aims.Report = Unit {0}
+  Aims aims.Read = Unit {0}
+  Aims (aims.Export e) = May l.exports
+  Aims aims.Remove = May l.removes
 
   abbrev Hashes : Hashing → Type 0
   Hashes (to_verify k e) = May l.exports
@@ -80,8 +89,8 @@ module _ (l : Licence) where
 
   abbrev Tasks : List Task → Type 0
   Tasks [] = Unit {0}
-  Tasks (visit v ∷ todo) = May (allows l (visit_step v)) × Tasks todo
-  Tasks (stumble fault ∷ todo) = Tasks todo
+  Tasks (Make v ∷ todo) = May (allows l (visit_step v)) × Tasks todo
+  Tasks (Stumble fault path ∷ todo) = Tasks todo
 
   abbrev pub Within : State → Type 0
   Within (doing errand s) = May (allows l (errand_step errand)) × Within s
@@ -157,13 +166,13 @@ module _ (l : Licence) where
       (λ _. exports_from h e.how (content_path k.cache k.integrity) e.to (Some (length bytes))) (λ _. tt)
 
   founds : (k : Lookup) (aim : Aim) → Aims aim → (found : Option Found) → Within (found_for k aim found)
-  founds k to_report h found = tt
-  founds k to_read h None = tt
-  founds k to_read h (Some f) = tt
-  founds k (to_export e) h None = tt
-  founds k (to_export e) h (Some f) = exports h (found_content k f) e
-  founds k to_remove h None = (h, tt)
-  founds k to_remove h (Some f) = (h, (h, tt))
+  founds k aims.Report h found = tt
+  founds k aims.Read h None = tt
+  founds k aims.Read h (Some f) = tt
+  founds k (aims.Export e) h None = tt
+  founds k (aims.Export e) h (Some f) = exports h (found_content k f) e
+  founds k aims.Remove h None = (h, tt)
+  founds k aims.Remove h (Some f) = (h, (h, tt))
 
   unfound : (k : Lookup) (fault : Fault) → Aims k.aim → Within (no_bucket k fault)
   unfound k faults.NotFound h = founds k k.aim h None
@@ -178,14 +187,14 @@ module _ (l : Licence) where
   task_within : (b : Bool) → Walks b → (level : ℕ) (p : List ℕ) (kind : Kind) (todo : List Task) → Tasks todo → Tasks (task_of b level p kind ∷ todo)
   task_within b h level p kinds.Folder todo k = by (nat_lt level 16)
     where
-      by : (c : Bool) → Tasks (cond c (visit (enter p (level + 1))) (stumble faults.TooDeep) ∷ todo)
+      by : (c : Bool) → Tasks (cond c (Make (Enter p (level + 1))) (Stumble faults.TooDeep p) ∷ todo)
       by true = (may_list b h, k)
       by false = k
   task_within false h level p kinds.File todo k = (tt, k)
   task_within false h level p kinds.Link todo k = (tt, k)
   task_within true h level p kinds.File todo k = by (level == 0)
     where
-      by : (c : Bool) → Tasks (cond c (stumble faults.NotADirectory) (visit (remove_file p)) ∷ todo)
+      by : (c : Bool) → Tasks (cond c (Stumble faults.NotADirectory p) (Make (RemoveFile p)) ∷ todo)
       by true = k
       by false = (h.1, k)
   task_within true h level p kinds.Link todo k = (h.1, k)
@@ -194,7 +203,7 @@ module _ (l : Licence) where
   leaves_within false h level p = tt
   leaves_within true h level p = by (level == 0)
     where
-      by : (c : Bool) → Tasks (cond c [] (visit (remove_folder p) ∷ []))
+      by : (c : Bool) → Tasks (cond c [] (Make (RemoveFolder p) ∷ []))
       by true = tt
       by false = (h.1, tt)
 
@@ -204,8 +213,8 @@ module _ (l : Licence) where
 
   tasks_append : (xs ys : List Task) → Tasks xs → Tasks ys → Tasks (xs ++ ys)
   tasks_append [] ys h k = k
-  tasks_append (visit v ∷ xs) ys h k = (h.0, tasks_append xs ys h.1 k)
-  tasks_append (stumble fault ∷ xs) ys h k = tasks_append xs ys h k
+  tasks_append (Make v ∷ xs) ys h k = (h.0, tasks_append xs ys h.1 k)
+  tasks_append (Stumble fault path ∷ xs) ys h k = tasks_append xs ys h k
 
   too_many_within : (w : Walk) → Within (too_many w)
   too_many_within w = cond_leads Within w.clears (fails faults.TooDeep) (over (Listed (w.items ++ failed faults.TooDeep ∷ []))) (λ _. tt) (λ _. tt)
@@ -220,8 +229,8 @@ module _ (l : Licence) where
 
   walks_on : (todo : List Task) → Tasks todo → (w : Walk) → Walks w.clears → Within (walk_on todo w)
   walks_on [] k w h = cond_leads Within w.clears (over Done) (over (Listed w.items)) (λ _. tt) (λ _. tt)
-  walks_on (stumble fault ∷ todo) k w h = misses w (walk_on todo) fault h (walks_on todo k)
-  walks_on (visit v ∷ todo) k w h = (h, k.0, k.1)
+  walks_on (Stumble fault path ∷ todo) k w h = misses w (walk_on todo) fault h (walks_on todo k)
+  walks_on (Make v ∷ todo) k w h = (h, k.0, k.1)
 
   module _ (w : Walk) (h : Walks w.clears) (todo : List Task) (k : Tasks todo) where
     enters : (p : List ℕ) (level : ℕ) (names : List Name) → Within (entered w p level todo names)
@@ -240,10 +249,10 @@ module _ (l : Licence) where
     unread fault = missed fault
 
     visits : (v : Visit) (a : PlainAnswer) → Within (after_visit w v todo a)
-    visits (enter p level) a = go_on_leads Within (names_in a) (miss w (walk_on todo)) (entered w p level todo) tt missed (λ names _. enters p level names)
-    visits (read_bucket p) a = go_on_leads Within (bytes_in a) (unread_bucket w todo) (listed w todo) tt unread (λ bytes _. gives w (items_in bytes) (walk_on todo) h (walks_on todo k))
-    visits (remove_file p) a = go_on_leads Within (done_in a) (miss w (walk_on todo)) (λ _. walk_on todo w) tt missed (λ _ _. walks_on todo k w h)
-    visits (remove_folder p) a = go_on_leads Within (done_in a) (miss w (walk_on todo)) (λ _. walk_on todo w) tt missed (λ _ _. walks_on todo k w h)
+    visits (Enter p level) a = go_on_leads Within (names_in a) (miss w (walk_on todo)) (entered w p level todo) tt missed (λ names _. enters p level names)
+    visits (ReadBucket p) a = go_on_leads Within (bytes_in a) (unread_bucket w todo) (listed w todo) tt unread (λ bytes _. gives w (items_in bytes) (walk_on todo) h (walks_on todo k))
+    visits (RemoveFile p) a = go_on_leads Within (done_in a) (miss w (walk_on todo)) (λ _. walk_on todo w) tt missed (λ _ _. walks_on todo k w h)
+    visits (RemoveFolder p) a = go_on_leads Within (done_in a) (miss w (walk_on todo)) (λ _. walk_on todo w) tt missed (λ _ _. walks_on todo k w h)
 
   -- ---- after a step
 

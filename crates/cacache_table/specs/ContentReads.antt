@@ -6,7 +6,8 @@ use Rattle.cacache_core.specs.declared.errors.Error.TheVariants.{IntegrityError}
 use Rattle.cacache_core.specs.Integrity.{actual}
 use Rattle.cacache_table.specs.declared.reply.Reply.TheVariants.{Read, Exists}
 use Rattle.cacache_core.specs.Meeting.{meets}
-use Rattle.cacache_table.specs.State.{State, over, Content}
+use Rattle.cacache_table.specs.State.{State, over}
+use Rattle.cacache_table.specs.declared.carried.Content.{Content}
 use Rattle.cacache_table.specs.Common.{ends_with}
 
 -- only bytes that meet the integrity are answered

@@ -14,7 +14,9 @@ use Rattle.cacache_table.specs.declared.reply.Reply.{Reply}
 use Rattle.cacache_table.specs.declared.reply.Reply.TheVariants.{Refused}
 use Rattle.cacache_table.specs.Answers.{done_in, there_in}
 use Rattle.cacache_table.specs.StepPaths.{content_path, bucket_path}
-use Rattle.cacache_table.specs.State.{Site, Commit, Insertion, Target, Errand}
+use Rattle.cacache_table.specs.State.{Site, Insertion, Errand}
+use Rattle.cacache_table.specs.declared.carried.Commit.{Commit}
+use Rattle.cacache_table.specs.declared.target.Target.{Target}
 use Rattle.cacache_table.specs.Common.{errand_step}
 use Rattle.cacache_table.specs.Inserting.{bucket_line, refused_cause, insertion, deletion}
 use Rattle.cacache_table.specs.Storing.{insertion_of, put_commit}
@@ -112,7 +114,7 @@ Commits c effects r =
     × (effects ≡ stored (content_path c.cache c.computed) ∷ more) × Indexes c c.key more r)
 
 -- a link's commit is that of the bytes that were read
-abbrev pub Links : Target → List Effect → Reply → Type 0
+abbrev pub Links : Target ℕ → List Effect → Reply → Type 0
 Links t effects r =
     DoesNothing effects r
     ⊎ ((bytes : List ℕ) × (length bytes < 2 ^ 64) × Commits (commit_for t bytes) effects r)

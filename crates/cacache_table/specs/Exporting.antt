@@ -9,7 +9,8 @@ use Rattle.cacache_table.specs.declared.command.Export.{Export}
 use Rattle.cacache_table.specs.declared.reply.Reply.TheVariants.{Done}
 use Rattle.cacache_core.specs.Meeting.{meets}
 use Rattle.cacache_table.specs.StepPaths.{content_path}
-use Rattle.cacache_table.specs.State.{State, doing, opening_file, copying, over, Content, to_verify, reflink, hard_link}
+use Rattle.cacache_table.specs.State.{State, doing, opening_file, copying, over, to_verify, reflink, hard_link}
+use Rattle.cacache_table.specs.declared.carried.Content.{Content}
 use Rattle.cacache_table.specs.Common.{ends_with}
 
 -- an export of the file at a path, with the count that was verified, if any

@@ -1,11 +1,14 @@
 -- Links: the target is read to its end, and a link to it becomes the content.
-use Rattle.std.specs.Prelude.{ℕ, ◌==◌, List, [], ◌∷◌, ◌++◌, Some, false, if◌then◌else◌, length}
+use Rattle.std.specs.Prelude.{ℕ, ◌==◌, List, [], ◌∷◌, ◌++◌, Option, Some, false, if◌then◌else◌, length}
 use Rattle.cacache_core.specs.Integrity.{integrity_under}
 use Rattle.cacache_core.specs.Paths.{join}
 use Rattle.cacache_store.specs.declared.store.plain.PlainFile.{PlainFile}
 use Rattle.cacache_table.specs.declared.command.Link.{Link}
+use Rattle.cacache_table.specs.declared.command.Options.{Options}
 use Rattle.cacache_table.specs.StepPaths.{content_path}
-use Rattle.cacache_table.specs.State.{State, opening_file, hashing, Site, Commit, Target, Hashing, to_verify, to_link}
+use Rattle.cacache_table.specs.State.{State, opening_file, hashing, Site, Hashing, to_verify, to_link}
+use Rattle.cacache_table.specs.declared.carried.Commit.{Commit}
+use Rattle.cacache_table.specs.declared.target.Target.{Target}
 use Rattle.cacache_table.specs.Storing.{link}
 use Rattle.cacache_table.specs.Exporting.{verified}
 
@@ -14,26 +17,41 @@ abbrev pub based : List ℕ → List ℕ → List ℕ
 based base [] = join base []
 based base (c ∷ cs) = if c == 47 then c ∷ cs else join base (c ∷ cs)
 
--- the target of a link at this site
-abbrev pub link_target : Site → Link → Target
-link_target site l = record {
-  cache = site.cache;
-  key = l.key;
-  path = based site.base l.target;
-  moment = l.moment;
-  options = l.options;
+-- a file that is to be linked to, at this base folder
+abbrev pub linked_to :
+    {M : Type 0} → List ℕ → List ℕ → Option (List ℕ) → List ℕ → M → Options → Target M
+linked_to base cache key target moment options = record {
+  cache = cache;
+  key = key;
+  path = based base target;
+  moment = moment;
+  options = options;
 }
 
+-- the same target at this moment
+abbrev pub target_at : {M : Type 0} → Target M → ℕ → Target ℕ
+target_at t moment = record {
+  cache = t.cache;
+  key = t.key;
+  path = t.path;
+  moment = moment;
+  options = t.options;
+}
+
+-- the target of a link at this site
+abbrev pub link_target : Site → Link → Target ℕ
+link_target site l = linked_to site.base site.cache l.key l.target l.moment l.options
+
 -- the size that a target has is the one that its link is to have
-abbrev pub with_size : Target → ℕ → Target
+abbrev pub with_size : {M : Type 0} → Target M → ℕ → Target M
 with_size t n = record t { options = record t.options { size = Some n } }
 
 -- once its size is known, the target is opened
-abbrev pub after_size : Target → ℕ → State
+abbrev pub after_size : Target ℕ → ℕ → State
 after_size t n = opening_file (to_link (with_size t n))
 
 -- the content is what was read from the target; links are never durable
-abbrev pub commit_for : Target → List ℕ → Commit
+abbrev pub commit_for : Target ℕ → List ℕ → Commit
 commit_for t bytes = record {
   cache = t.cache;
   key = t.key;

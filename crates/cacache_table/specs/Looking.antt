@@ -6,7 +6,11 @@ use Rattle.cacache_core.specs.declared.errors.Error.TheVariants.{EntryNotFound}
 use Rattle.cacache_entry.specs.Bucket.{entries_of}
 use Rattle.cacache_entry.specs.Latest.{Found, latest}
 use Rattle.cacache_table.specs.declared.reply.Reply.TheVariants.{LookedUp}
-use Rattle.cacache_table.specs.State.{State, reading, over, Aim, to_report, to_read, to_export, to_remove, Lookup, Content}
+use Rattle.cacache_table.specs.State.{State, reading, over}
+use Rattle.cacache_table.specs.declared.carried.Aim.{Aim}
+use Rattle.cacache_table.specs.declared.carried.Lookup.{Lookup}
+use Rattle.cacache_table.specs.declared.carried.Content.{Content}
+use Rattle.cacache_table.specs.declared.carried.Aim.TheVariants as aims
 use Rattle.cacache_table.specs.Common.{ends_with, fails}
 use Rattle.cacache_table.specs.Exporting.{export}
 use Rattle.cacache_table.specs.Removing.{remove_found}
@@ -21,10 +25,10 @@ found_content l f = record { cache = l.cache; integrity = f.integrity }
 
 -- what the lookup is for; only a report and a removal go on where nothing was found
 abbrev pub found_for : Lookup → Aim → Option Found → State
-found_for l to_report found = over (LookedUp found)
-found_for l to_remove found = remove_found l.cache l.key found
-found_for l to_read (Some f) = reading (found_content l f)
-found_for l (to_export e) (Some f) = export (found_content l f) e
+found_for l aims.Report found = over (LookedUp found)
+found_for l aims.Remove found = remove_found l.cache l.key found
+found_for l aims.Read (Some f) = reading (found_content l f)
+found_for l (aims.Export e) (Some f) = export (found_content l f) e
 found_for l aim None = ends_with (EntryNotFound l.cache l.key)
 
 -- the key is looked up in the bytes of its bucket

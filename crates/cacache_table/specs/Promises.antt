@@ -9,7 +9,11 @@ use Rattle.cacache_table.specs.declared.command.How.{How}
 use Rattle.cacache_table.specs.declared.command.How.TheVariants.{Copy, Reflink, HardLink}
 use Rattle.cacache_table.specs.declared.reply.Reply.{Reply}
 use Rattle.cacache_table.specs.declared.reply.Reply.TheVariants.{Stored, Read, LookedUp, Exists, Copied, Listed, Done, Refused}
-use Rattle.cacache_table.specs.State.{State, doing, creating, writing, syncing, persisting, linking, confirming, appending, looking, reading, asking, sizing, opening_file, hashing, copying, walking, over, Site, Commit, Aim, to_report, to_read, to_export, to_remove, Target, Hashing, to_verify, to_link}
+use Rattle.cacache_table.specs.State.{State, doing, creating, writing, syncing, persisting, linking, confirming, appending, looking, reading, asking, sizing, opening_file, hashing, copying, walking, over, Site, Hashing, to_verify, to_link}
+use Rattle.cacache_table.specs.declared.carried.Commit.{Commit}
+use Rattle.cacache_table.specs.declared.carried.Aim.{Aim}
+use Rattle.cacache_table.specs.declared.target.Target.{Target}
+use Rattle.cacache_table.specs.declared.carried.Aim.TheVariants as aims
 use Rattle.cacache_table.specs.Inserting.{given_or, no_integrity}
 use Rattle.cacache_table.specs.Storing.{matches, put_commit}
 use Rattle.cacache_table.specs.Linking.{commit_for, with_size, link_target}
@@ -90,13 +94,13 @@ abbrev pub Stores : Commit → Reply → Type 0
 Stores c = StoresIf (answered c.computed c.options.integrity c.key) (Suits c)
 
 -- a link's bytes are those so far and what is read after them
-abbrev pub StoresRead : Target → List ℕ → Reply → Type 0
+abbrev pub StoresRead : Target ℕ → List ℕ → Reply → Type 0
 StoresRead t bytes (Stored i) = (more : List ℕ) × Stores (commit_for t (bytes ++ more)) (Stored i)
 StoresRead t bytes (Refused e) = Unit {0}
 StoresRead t bytes r = ⊥
 
 -- a link's size is the one that the target had
-abbrev pub StoresSized : Target → Reply → Type 0
+abbrev pub StoresSized : Target ℕ → Reply → Type 0
 StoresSized t (Stored i) = (n : ℕ) × StoresRead (with_size t n) [] (Stored i)
 StoresSized t (Refused e) = Unit {0}
 StoresSized t r = ⊥
@@ -124,10 +128,10 @@ MadeOf i bytes r = Unit {0}
 
 -- what a lookup promises of the reply, by what it is for
 abbrev pub Aims : Aim → Reply → Type 0
-Aims to_report r = OnlyLooksUp r
-Aims to_read r = OnlyReads r
-Aims (to_export e) r = Exports e.how r
-Aims to_remove r = Only Done r
+Aims aims.Report r = OnlyLooksUp r
+Aims aims.Read r = OnlyReads r
+Aims (aims.Export e) r = Exports e.how r
+Aims aims.Remove r = Only Done r
 
 -- what a read to a file's end promises of the reply, by what it is for
 abbrev pub Hashes : Hashing → List ℕ → Reply → Type 0

@@ -9,7 +9,11 @@ use Rattle.cacache_store.specs.Plain.{PlainStep, PlainAnswer}
 use Rattle.cacache_store.specs.Fits.{Fits}
 use Rattle.cacache_table.specs.declared.reply.Reply.{Reply}
 use Rattle.cacache_table.specs.declared.reply.Reply.TheVariants.{Listed, Refused}
-use Rattle.cacache_table.specs.State.{State, doing, creating, writing, syncing, persisting, linking, confirming, appending, looking, reading, asking, sizing, opening_file, hashing, copying, walking, over, Item, Visit, enter, read_bucket, remove_file, remove_folder, Task, visit, stumble}
+use Rattle.cacache_table.specs.State.{State, doing, creating, writing, syncing, persisting, linking, confirming, appending, looking, reading, asking, sizing, opening_file, hashing, copying, walking, over, Item}
+use Rattle.cacache_table.specs.declared.visit.Visit.{Visit}
+use Rattle.cacache_table.specs.declared.visit.Task.{Task}
+use Rattle.cacache_table.specs.declared.visit.Visit.TheVariants.{Enter, ReadBucket, RemoveFile, RemoveFolder}
+use Rattle.cacache_table.specs.declared.visit.Task.TheVariants.{Make, Stumble}
 use Rattle.cacache_table.specs.Common.{ends_with}
 use Rattle.cacache_table.specs.Table.{wants, after}
 
@@ -72,16 +76,16 @@ EndsAs e s = (s ≡ ends_with (without_message e)) ⊎ (e ≡ OutOfMemory)
 
 -- a folder is entered, and perhaps removed; each name in it is one task more
 abbrev pub weight : Visit → ℕ
-weight (enter p level) = 2
-weight (read_bucket p) = 1
-weight (remove_file p) = 1
-weight (remove_folder p) = 1
+weight (Enter p level) = 2
+weight (ReadBucket p) = 1
+weight (RemoveFile p) = 1
+weight (RemoveFolder p) = 1
 
 -- the weights of all tasks together; what a walk stumbles over has none
 abbrev pub weights : List Task → ℕ
 weights [] = 0
-weights (visit v ∷ todo) = weight v + weights todo
-weights (stumble fault ∷ todo) = weights todo
+weights (Make v ∷ todo) = weight v + weights todo
+weights (Stumble fault path ∷ todo) = weights todo
 
 -- how many steps a call takes at most from this state on
 abbrev pub effort : State → ℕ

@@ -14,7 +14,15 @@ use Rattle.cacache_entry.specs.FittingEntries.{IsEntry, cause_of}
 use Rattle.cacache_table.specs.declared.command.Command.{Command}
 use Rattle.cacache_table.specs.declared.command.Command.TheVariants as commands
 use Rattle.cacache_table.specs.StepPaths.{temp_path, temp_folder, content_path, content_folder, bucket_path, bucket_folder}
-use Rattle.cacache_table.specs.State.{State, doing, creating, writing, syncing, persisting, linking, confirming, appending, looking, reading, asking, sizing, opening_file, hashing, copying, walking, over, Site, Commit, Insertion, Aim, to_export, Target, Hashing, to_verify, to_link, Visit, enter, read_bucket, remove_file, remove_folder, Task, visit, stumble}
+use Rattle.cacache_table.specs.State.{State, doing, creating, writing, syncing, persisting, linking, confirming, appending, looking, reading, asking, sizing, opening_file, hashing, copying, walking, over, Site, Insertion, Hashing, to_verify, to_link}
+use Rattle.cacache_table.specs.declared.carried.Commit.{Commit}
+use Rattle.cacache_table.specs.declared.carried.Aim.{Aim}
+use Rattle.cacache_table.specs.declared.target.Target.{Target}
+use Rattle.cacache_table.specs.declared.visit.Visit.{Visit}
+use Rattle.cacache_table.specs.declared.visit.Task.{Task}
+use Rattle.cacache_table.specs.declared.visit.Visit.TheVariants.{Enter, ReadBucket, RemoveFile, RemoveFolder}
+use Rattle.cacache_table.specs.declared.visit.Task.TheVariants.{Make, Stumble}
+use Rattle.cacache_table.specs.declared.carried.Aim.TheVariants as aims
 use Rattle.cacache_table.specs.Common.{errand_step}
 use Rattle.cacache_table.specs.Inserting.{insertion, deletion, refused_cause}
 use Rattle.cacache_table.specs.Storing.{insertion_of, put_commit}
@@ -40,7 +48,7 @@ pub record SoundInsertion (site : Site) (i : Insertion) : Type 0 where
   pub formed : FormedIfWritten i
 
 -- a target, whatever is read from it
-pub record SoundTarget (site : Site) (t : Target) : Type 0 where
+pub record SoundTarget (site : Site) (t : Target ℕ) : Type 0 where
   pub here : t.cache ≡ site.cache
   pub formed :
       (bytes : List ℕ) → length bytes < 2 ^ 64 → (key : List ℕ) → t.key ≡ Some key
@@ -86,16 +94,16 @@ IsRemovable site p =
 
 -- a visit to the cache folder, or to something below it
 abbrev pub SoundVisit : Site → Visit → Type 0
-SoundVisit site (enter p level) = IsBelow site p
-SoundVisit site (read_bucket p) = IsBelow site p
-SoundVisit site (remove_file p) = IsBelow site p
-SoundVisit site (remove_folder p) = IsBelow site p
+SoundVisit site (Enter p level) = IsBelow site p
+SoundVisit site (ReadBucket p) = IsBelow site p
+SoundVisit site (RemoveFile p) = IsBelow site p
+SoundVisit site (RemoveFolder p) = IsBelow site p
 
 -- each visit among the tasks is such a visit
 abbrev pub SoundTasks : Site → List Task → Type 0
 SoundTasks site [] = Unit {0}
-SoundTasks site (visit v ∷ todo) = SoundVisit site v × SoundTasks site todo
-SoundTasks site (stumble fault ∷ todo) = SoundTasks site todo
+SoundTasks site (Make v ∷ todo) = SoundVisit site v × SoundTasks site todo
+SoundTasks site (Stumble fault path ∷ todo) = SoundTasks site todo
 
 -- exports go only where `apart` says so, and links only lead where `outside` does
 module _ (site : Site) (apart outside : List ℕ → Bool) where
@@ -124,7 +132,7 @@ module _ (site : Site) (apart outside : List ℕ → Bool) where
 
   -- an export that a lookup is for goes apart
   abbrev pub SoundAim : Aim → Type 0
-  SoundAim (to_export e) = apart e.to ≡ true
+  SoundAim (aims.Export e) = apart e.to ≡ true
   SoundAim aim = Unit {0}
 
   -- a file is read for an export that goes apart, or for a link that leads outside

@@ -2,14 +2,18 @@
 use Rattle.std.specs.Prelude.{ℕ, List, Option, Bool, Result}
 use Rattle.cacache_core.specs.declared.errors.Fault.{Fault}
 use Rattle.cacache_core.specs.declared.errors.Error.{Error}
-use Rattle.cacache_core.specs.declared.integrity.digest.Hash.{Hash}
 use Rattle.cacache_store.specs.declared.store.plain.PlainFile.{PlainFile}
 use Rattle.cacache_store.specs.declared.store.plain.PlainTemp.{PlainTemp}
 use Rattle.cacache_entry.specs.Entry.{Entry}
 use Rattle.cacache_entry.specs.Latest.{Found}
-use Rattle.cacache_table.specs.declared.command.Options.{Options}
 use Rattle.cacache_table.specs.declared.command.Export.{Export}
 use Rattle.cacache_table.specs.declared.reply.Reply.{Reply}
+use Rattle.cacache_table.specs.declared.carried.Commit.{Commit}
+use Rattle.cacache_table.specs.declared.carried.Lookup.{Lookup}
+use Rattle.cacache_table.specs.declared.carried.Content.{Content}
+use Rattle.cacache_table.specs.declared.target.Target.{Target}
+use Rattle.cacache_table.specs.declared.visit.Visit.{Visit}
+use Rattle.cacache_table.specs.declared.visit.Task.{Task}
 
 -- where a call works
 pub record Site : Type 0 where
@@ -19,15 +23,6 @@ pub record Site : Type 0 where
   -- the number of the call's temporary file
   pub number : ℕ
 
--- a content on its way to its place: what it is known by, and what was said of it
-pub record Commit : Type 0 where
-  pub cache : List ℕ
-  pub key : Option (List ℕ)
-  pub computed : List Hash
-  pub count : ℕ
-  pub moment : ℕ
-  pub options : Options
-
 -- an entry on its way into its bucket, and what the call answers once it is there
 pub record Insertion : Type 0 where
   pub cache : List ℕ
@@ -35,36 +30,10 @@ pub record Insertion : Type 0 where
   pub durable : Bool
   pub reply : Reply
 
--- what a key is looked up for
-pub data Aim : Type 0 where
-  to_report : Aim
-  to_read : Aim
-  to_export : Export → Aim
-  to_remove : Aim
-
--- a key that is looked up
-pub record Lookup : Type 0 where
-  pub cache : List ℕ
-  pub key : List ℕ
-  pub aim : Aim
-
--- a content that is read or exported
-pub record Content : Type 0 where
-  pub cache : List ℕ
-  pub integrity : List Hash
-
--- a file that is to be linked to
-pub record Target : Type 0 where
-  pub cache : List ℕ
-  pub key : Option (List ℕ)
-  pub path : List ℕ
-  pub moment : ℕ
-  pub options : Options
-
 -- why a file is read to its end, piece by piece
 pub data Hashing : Type 0 where
   to_verify : Content → Export → Hashing
-  to_link : Target → Hashing
+  to_link : Target ℕ → Hashing
 
 -- a step whose plain answer is Done; none makes a content or an entry
 pub data Errand : Type 0 where
@@ -78,18 +47,6 @@ pub data Errand : Type 0 where
 -- an item of a listing: an entry, or why one couldn't be read
 abbrev pub Item : Type 0
 Item = Result Found Error
-
--- one step of a walk; a folder has its level
-pub data Visit : Type 0 where
-  enter : List ℕ → ℕ → Visit
-  read_bucket : List ℕ → Visit
-  remove_file : List ℕ → Visit
-  remove_folder : List ℕ → Visit
-
--- what a walk has still to do; what it stumbles over takes no step
-pub data Task : Type 0 where
-  visit : Visit → Task
-  stumble : Fault → Task
 
 -- a walk: a listing collects items, a clearing removes; it may still take so many names
 pub record Walk : Type 0 where
@@ -117,7 +74,7 @@ pub data State : Type 0 where
   -- is the content there?
   asking : Content → State
   -- the target's size, and a file read to its end, with the bytes so far
-  sizing : Target → State
+  sizing : Target ℕ → State
   opening_file : Hashing → State
   hashing : Hashing → PlainFile → List ℕ → State
   -- from, to, and the count that was verified

@@ -12,7 +12,8 @@ use Rattle.cacache_table.specs.declared.command.Put.{Put}
 use Rattle.cacache_table.specs.declared.reply.Reply.TheVariants.{Stored}
 use Rattle.cacache_core.specs.Meeting.{matching}
 use Rattle.cacache_table.specs.StepPaths.{temp_folder, content_path, content_folder, content_folders}
-use Rattle.cacache_table.specs.State.{State, doing, creating, writing, syncing, persisting, linking, over, Site, Commit, Insertion, make_folder, sync_file}
+use Rattle.cacache_table.specs.State.{State, doing, creating, writing, syncing, persisting, linking, over, Site, Insertion, make_folder, sync_file}
+use Rattle.cacache_table.specs.declared.carried.Commit.{Commit}
 use Rattle.cacache_table.specs.Common.{ends_with, fails, sync_up}
 use Rattle.cacache_table.specs.Inserting.{insert, entry_of, given_or}
 

@@ -9,7 +9,8 @@ use Rattle.cacache_table.specs.declared.command.Source.TheVariants as sources
 use Rattle.cacache_table.specs.declared.reply.Reply.TheVariants.{Copied, Done}
 use Rattle.cacache_table.specs.Answers.{done_in, temp_in, written_in, synced_in, there_in, taken_in, bytes_in, file_in, got_in, length_in}
 use Rattle.cacache_table.specs.StepPaths.{temp_path, content_path, bucket_path}
-use Rattle.cacache_table.specs.State.{State, doing, creating, writing, syncing, persisting, linking, confirming, appending, looking, reading, asking, sizing, opening_file, hashing, copying, walking, over, Site, to_report, to_read, to_export, to_remove}
+use Rattle.cacache_table.specs.State.{State, doing, creating, writing, syncing, persisting, linking, confirming, appending, looking, reading, asking, sizing, opening_file, hashing, copying, walking, over, Site}
+use Rattle.cacache_table.specs.declared.carried.Aim.TheVariants as aims
 use Rattle.cacache_table.specs.Common.{fails, go_on, errand_step}
 use Rattle.cacache_table.specs.Inserting.{insert, insertion, deletion, bucket_line, after_append}
 use Rattle.cacache_table.specs.Storing.{settled, write_rest, after_write, after_confirm, store}
@@ -73,17 +74,17 @@ opening site (commands.Link l) = sizing (link_target site l)
 opening site (commands.Insert i) = insert (insertion site.cache i)
 opening site (commands.Delete d) = insert (deletion site.cache d)
 opening site (commands.Find key) =
-    looking (record { cache = site.cache; key = key; aim = to_report })
+    looking (record { cache = site.cache; key = key; aim = aims.Report })
 opening site (commands.Get key) =
-    looking (record { cache = site.cache; key = key; aim = to_read })
+    looking (record { cache = site.cache; key = key; aim = aims.Read })
 opening site (commands.GetHash i) = reading (record { cache = site.cache; integrity = i })
 opening site (commands.Exists i) = asking (record { cache = site.cache; integrity = i })
 opening site commands.Ls = walk false (join site.cache index_area)
 opening site (commands.Export (sources.Key key) e) =
-    looking (record { cache = site.cache; key = key; aim = to_export e })
+    looking (record { cache = site.cache; key = key; aim = aims.Export e })
 opening site (commands.Export (sources.Hash i) e) =
     export (record { cache = site.cache; integrity = i }) e
 opening site (commands.RemoveHash i) = remove_content site.cache i (over Done)
 opening site (commands.RemoveFully key) =
-    looking (record { cache = site.cache; key = key; aim = to_remove })
+    looking (record { cache = site.cache; key = key; aim = aims.Remove })
 opening site commands.Clear = walk true site.cache

@@ -19,7 +19,8 @@ use Rattle.cacache_table.specs.StepPaths.{content_path}
 use Rattle.cacache_table.specs.Promises.{Stores}
 use Rattle.cacache_table.specs.Replies.{BeginsWithBucket, bucket_shown, lookup}
 use Rattle.cacache_table.specs.Runs.{Moves, Runs}
-use Rattle.cacache_table.specs.State.{Site, Target}
+use Rattle.cacache_table.specs.State.{Site}
+use Rattle.cacache_table.specs.declared.target.Target.{Target}
 use Rattle.cacache_table.specs.Table.{opening}
 
 -- the moves begin with reads of the file to its end, which gave these bytes
@@ -63,7 +64,7 @@ UnlessRefused P r = P
 -- ---- links
 
 -- the target's size was asked, then it was read whole: the link stores what it gave, of that size
-abbrev pub LinksWhole : Target → Moves → Reply → Type 0
+abbrev pub LinksWhole : Target ℕ → Moves → Reply → Type 0
 LinksWhole t moves r =
     (n : ℕ) × (more : Moves) × (moves ≡ (steps.Size t.path, answers.Length n) ∷ more)
     × ReadsWhole t.path (λ bytes. Stores (commit_for (with_size t n) bytes) r) more

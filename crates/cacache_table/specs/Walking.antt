@@ -15,7 +15,11 @@ use Rattle.cacache_entry.specs.Bucket.{entries_of}
 use Rattle.cacache_entry.specs.Latest.{latest}
 use Rattle.cacache_table.specs.declared.reply.Reply.TheVariants.{Listed, Done}
 use Rattle.cacache_table.specs.Answers.{done_in, bytes_in, names_in}
-use Rattle.cacache_table.specs.State.{State, walking, over, Item, Visit, enter, read_bucket, remove_file, remove_folder, Task, visit, stumble, Walk}
+use Rattle.cacache_table.specs.State.{State, walking, over, Item, Walk}
+use Rattle.cacache_table.specs.declared.visit.Visit.{Visit}
+use Rattle.cacache_table.specs.declared.visit.Task.{Task}
+use Rattle.cacache_table.specs.declared.visit.Visit.TheVariants.{Enter, ReadBucket, RemoveFile, RemoveFolder}
+use Rattle.cacache_table.specs.declared.visit.Task.TheVariants.{Make, Stumble}
 use Rattle.cacache_table.specs.Common.{fails, go_on}
 
 -- a walk takes at most so many names, and gives at most so many items
@@ -56,10 +60,10 @@ too_many w =
 
 -- the step of a visit
 abbrev pub visit_step : Visit → PlainStep
-visit_step (enter p level) = steps.ReadDir p
-visit_step (read_bucket p) = steps.ReadAll p
-visit_step (remove_file p) = steps.RemoveFile p
-visit_step (remove_folder p) = steps.RemoveDir p
+visit_step (Enter p level) = steps.ReadDir p
+visit_step (ReadBucket p) = steps.ReadAll p
+visit_step (RemoveFile p) = steps.RemoveFile p
+visit_step (RemoveFolder p) = steps.RemoveDir p
 
 -- the walk goes on with more items, unless that are too many
 abbrev pub give : Walk → List Item → (Walk → State) → State
@@ -75,24 +79,24 @@ miss w next fault = if w.clears then fails fault else give w (failed fault ∷ [
 -- the next task that wants a step
 abbrev pub walk_on : List Task → Walk → State
 walk_on [] w = walk_ends w
-walk_on (stumble fault ∷ todo) w = miss w (walk_on todo) fault
-walk_on (visit v ∷ todo) w = walking w v todo
+walk_on (Stumble fault path ∷ todo) w = miss w (walk_on todo) fault
+walk_on (Make v ∷ todo) w = walking w v todo
 
 -- ---- the tasks that a folder brings
 
 -- the top folder is at level 0, and folders past level 16 aren't entered
 abbrev pub go_deeper : List ℕ → ℕ → Task
 go_deeper p level =
-    if nat_lt level 16 then visit (enter p (level + 1)) else stumble faults.TooDeep
+    if nat_lt level 16 then Make (Enter p (level + 1)) else Stumble faults.TooDeep p
 
 -- a clearing stumbles over a file in the top folder
 abbrev pub task_of : Bool → ℕ → List ℕ → Kind → Task
 task_of clears level p kinds.Folder = go_deeper p level
-task_of false level p kinds.File = visit (read_bucket p)
-task_of false level p kinds.Link = visit (read_bucket p)
+task_of false level p kinds.File = Make (ReadBucket p)
+task_of false level p kinds.Link = Make (ReadBucket p)
 task_of true level p kinds.File =
-    if level == 0 then stumble faults.NotADirectory else visit (remove_file p)
-task_of true level p kinds.Link = visit (remove_file p)
+    if level == 0 then Stumble faults.NotADirectory p else Make (RemoveFile p)
+task_of true level p kinds.Link = Make (RemoveFile p)
 
 -- the tasks that a folder's names bring, one for each
 abbrev pub tasks_of : Bool → ℕ → List ℕ → List Name → List Task
@@ -103,7 +107,7 @@ tasks_of clears level p (n ∷ ns) =
 -- a clearing removes each folder but the top one, once it is empty
 abbrev pub leaving : Bool → ℕ → List ℕ → List Task
 leaving clears level p =
-    if clears then (if level == 0 then [] else visit (remove_folder p) ∷ []) else []
+    if clears then (if level == 0 then [] else Make (RemoveFolder p) ∷ []) else []
 
 -- ---- after a step
 
@@ -126,17 +130,17 @@ listed w todo bytes = give w (items_in bytes) (walk_on todo)
 
 -- where the answer to a visit takes the walk
 abbrev pub after_visit : Walk → Visit → List Task → PlainAnswer → State
-after_visit w (enter p level) todo t =
+after_visit w (Enter p level) todo t =
     go_on (names_in t) (miss w (walk_on todo)) (entered w p level todo)
-after_visit w (read_bucket p) todo t =
+after_visit w (ReadBucket p) todo t =
     go_on (bytes_in t) (unread_bucket w todo) (listed w todo)
-after_visit w (remove_file p) todo t =
+after_visit w (RemoveFile p) todo t =
     go_on (done_in t) (miss w (walk_on todo)) (λ _. walk_on todo w)
-after_visit w (remove_folder p) todo t =
+after_visit w (RemoveFolder p) todo t =
     go_on (done_in t) (miss w (walk_on todo)) (λ _. walk_on todo w)
 
 -- ---- where the calls begin
 
 -- a walk begins at its top folder
 abbrev pub walk : Bool → List ℕ → State
-walk clears top = walking (record { clears = clears; items = []; left = most }) (enter top 0) []
+walk clears top = walking (record { clears = clears; items = []; left = most }) (Enter top 0) []

@@ -64,7 +64,7 @@ pub struct Insert {
 }
 
 /// Adds a tombstone to the index.
-#[derive(Debug, Drop)]
+#[derive(Clone, Debug, Drop)]
 pub struct Delete {
     /// The key that is deleted.
     pub key: Text,
@@ -84,7 +84,7 @@ pub enum How {
 }
 
 /// What names the content of an export.
-#[derive(Debug, Drop)]
+#[derive(Clone, Debug, Drop)]
 pub enum Source {
     /// The key whose lookup finds it.
     Key(Text),
@@ -93,7 +93,7 @@ pub enum Source {
 }
 
 /// Gives a content a second place, outside the cache.
-#[derive(Debug, Drop)]
+#[derive(Clone, Debug, Drop)]
 pub struct Export {
     /// Whether it is copied or linked.
     pub how: How,
@@ -197,21 +197,9 @@ impl Options {
     pub fn with_size(self, size: usize) -> Options
         ensures { result ≡ record self { size = Some size } }
     {
-        let Options {
-            algorithm,
-            size: _,
-            integrity,
-            metadata,
-            raw_metadata,
-            durable,
-        } = self;
         Options {
-            algorithm,
             size: Some(size),
-            integrity,
-            metadata,
-            raw_metadata,
-            durable,
+            ..self
         }
     }
 }
@@ -257,43 +245,6 @@ impl Insert {
     }
 }
 
-impl Delete {
-    /// A copy.
-    pub fn copy(&self) -> Result<Delete, AllocError>
-        ensures { IfOk result (λ delete. delete ≡ self.now) }
-    {
-        Ok(Delete {
-            key: self.key.clone()?,
-            moment: self.moment,
-        })
-    }
-}
-
-impl Source {
-    /// A copy.
-    pub fn copy(&self) -> Result<Source, AllocError>
-        ensures { IfOk result (λ source. source ≡ self.now) }
-    {
-        match self {
-            Source::Key(key) => Ok(Source::Key(key.clone()?)),
-            Source::Hash(integrity) => Ok(Source::Hash(integrity.clone()?)),
-        }
-    }
-}
-
-impl Export {
-    /// A copy.
-    pub fn copy(&self) -> Result<Export, AllocError>
-        ensures { IfOk result (λ export. export ≡ self.now) }
-    {
-        Ok(Export {
-            how: self.how,
-            checked: self.checked,
-            to: self.to.clone()?,
-        })
-    }
-}
-
 impl Command {
     /// A copy, which shares its bytes.
     pub fn copy(&self) -> Result<Command, AllocError>
@@ -303,15 +254,15 @@ impl Command {
             Command::Put(put) => Ok(Command::Put(put.copy()?)),
             Command::Link(link) => Ok(Command::Link(link.copy()?)),
             Command::Insert(insert) => Ok(Command::Insert(insert.copy()?)),
-            Command::Delete(delete) => Ok(Command::Delete(delete.copy()?)),
+            Command::Delete(delete) => Ok(Command::Delete(delete.clone()?)),
             Command::Find(key) => Ok(Command::Find(key.clone()?)),
             Command::Get(key) => Ok(Command::Get(key.clone()?)),
             Command::GetHash(integrity) => Ok(Command::GetHash(integrity.clone()?)),
             Command::Exists(integrity) => Ok(Command::Exists(integrity.clone()?)),
             Command::Ls => Ok(Command::Ls),
             Command::Export(source, export) => {
-                let source = source.copy()?;
-                Ok(Command::Export(source, export.copy()?))
+                let source = source.clone()?;
+                Ok(Command::Export(source, export.clone()?))
             }
             Command::RemoveHash(integrity) => Ok(Command::RemoveHash(integrity.clone()?)),
             Command::RemoveFully(key) => Ok(Command::RemoveFully(key.clone()?)),

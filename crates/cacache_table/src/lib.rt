@@ -2,16 +2,22 @@
 #![tactic(auto)]
 
 pub mod answers;
+mod carried;
 mod command;
 mod json;
 mod kinds;
 mod laws;
 mod reply;
+mod target;
+mod visit;
 
 pub use answers::Refusal;
+pub use carried::{Aim, Commit, Content, Lookup};
 pub use command::{Command, Delete, Export, How, Insert, Link, Options, Put, Source};
 pub use json::Json;
 pub use laws::{
     effect_laws, licence_laws, promise_laws, reply_laws, row_laws, run_laws, sound_laws,
 };
 pub use reply::{Found, Items, Reply};
+pub use target::{Target, based};
+pub use visit::{Task, Visit};

@@ -7,8 +7,8 @@ use Rattle.cacache_table.specs.State.{State, Item, Walk}
 use Rattle.cacache_table.specs.Walking.{most, give, miss, too_many, walk_on, walk_ends}
 use Rattle.cacache_table.specs.Runs.{plain_item}
 use Rattle.cacache_core.specs.declared.errors.Fault.{Fault}
-use Rattle.cacache_walks.specs.declared.visit.Task.{Task}
-use Rattle.cacache_walks.specs.declared.visit.Task.TheVariants.{Stumble}
+use Rattle.cacache_table.specs.declared.visit.Task.{Task}
+use Rattle.cacache_table.specs.declared.visit.Task.TheVariants.{Stumble}
 use Rattle.cacache_walks.specs.declared.walk.Walk as walks
 use Rattle.cacache_walks.specs.WalkStates.{Counts, Bounds, WalkGives, pending, walk_of}
 use Rattle.cacache_walks.proofs.Walks.{taken_more, pending_push}

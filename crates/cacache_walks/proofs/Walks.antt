@@ -3,12 +3,12 @@ use Rattle.std.proofs.Common.{◌≡◌, List, [], ◌∷◌, ◌++◌, map, sym
 use Rattle.std.proofs.lemmas.List.{map-append, reverse-append}
 use Rattle.cacache_table.specs.State.{Item}
 use Rattle.cacache_table.specs.Runs.{plain_item}
-use Rattle.cacache_walks.specs.declared.visit.Task.{Task}
-use Rattle.cacache_walks.specs.WalkStates.{task_of, pending}
+use Rattle.cacache_table.specs.declared.visit.Task.{Task}
+use Rattle.cacache_walks.specs.WalkStates.{pending}
 
 -- a task that is put on the stack comes first
-pub pending_push : (stack : List Task) (t : Task) → pending (stack ++ t ∷ []) ≡ task_of t ∷ pending stack
-pending_push stack t = rw (map-append task_of stack (t ∷ [])) (reverse-append (map task_of stack) (task_of t ∷ []))
+pub pending_push : (stack : List Task) (t : Task) → pending (stack ++ t ∷ []) ≡ t ∷ pending stack
+pending_push stack t = reverse-append stack (t ∷ [])
 
 -- more items come after those that were there
 pub taken_more : (taken xs ys : List Item) → taken ++ map plain_item (xs ++ ys) ≡ (taken ++ map plain_item xs) ++ map plain_item ys

@@ -2,32 +2,18 @@
 use Rattle.std.specs.Prelude.{◌≡◌, ◌+◌, ◌≤◌, List, ◌++◌, Option, Some, None, Bool, true, false, Result, Ok, Err, length, map, reverse}
 use Rattle.cacache_core.specs.declared.errors.Error.{Error}
 use Rattle.cacache_table.specs.State as states
-use Rattle.cacache_table.specs.State.{State, Item, walking, enter, read_bucket, remove_file, remove_folder, visit, stumble}
+use Rattle.cacache_table.specs.State.{State, Item, walking}
+use Rattle.cacache_table.specs.declared.visit.Visit.{Visit}
+use Rattle.cacache_table.specs.declared.visit.Task.{Task}
 use Rattle.cacache_table.specs.Walking.{most, walk_ends}
 use Rattle.cacache_table.specs.Runs.{plain_item, EndsAs}
-use Rattle.cacache_walks.specs.declared.visit.Visit.{Visit}
-use Rattle.cacache_walks.specs.declared.visit.Visit.TheVariants as visits
-use Rattle.cacache_walks.specs.declared.visit.Task.{Task}
-use Rattle.cacache_walks.specs.declared.visit.Task.TheVariants as tasks
 use Rattle.cacache_walks.specs.declared.walk.Walk.{Walk}
 
 -- ---- what a walk carries, as the table has it
 
--- a visit, as the table has it
-abbrev pub visit_of : Visit → states.Visit
-visit_of (visits.Enter path level) = enter path level
-visit_of (visits.ReadBucket path) = read_bucket path
-visit_of (visits.RemoveFile path) = remove_file path
-visit_of (visits.RemoveFolder path) = remove_folder path
-
--- a task, as the table has it
-abbrev pub task_of : Task → states.Task
-task_of (tasks.Visit v) = visit (visit_of v)
-task_of (tasks.Stumble fault path) = stumble fault
-
 -- the tasks of a stack: the table has the next one first, and the stack has it last
-abbrev pub pending : List Task → List states.Task
-pending stack = reverse (map task_of stack)
+abbrev pub pending : List Task → List Task
+pending stack = reverse stack
 
 -- a walk of which these items were taken before
 abbrev pub walk_of : List Item → Walk → states.Walk
@@ -47,7 +33,7 @@ Bounds taken w = length taken + length w.items.items ≤ most + 1
 -- it wants the step of this visit, or is over
 abbrev pub WalksAt : List Item → Walk → Option Visit → State → Type 0
 WalksAt taken w (Some v) s =
-    Counts taken w × (s ≡ walking (walk_of taken w) (visit_of v) (pending w.todo.items))
+    Counts taken w × (s ≡ walking (walk_of taken w) v (pending w.todo.items))
 WalksAt taken w None s = Bounds taken w × (s ≡ walk_ends (walk_of taken w))
 
 -- it goes on to this state, or an error ends it
@@ -65,7 +51,7 @@ WalkGives taken (Err e) w next s = EndsAs e s
 
 -- it goes on to this state of the old walk and of what that was to do
 abbrev pub GoesOn :
-    Walk → Walk → Result (Option Visit) Error → (states.Walk → List states.Task → State) → Type 0
+    Walk → Walk → Result (Option Visit) Error → (states.Walk → List Task → State) → Type 0
 GoesOn old new r next =
     (taken : List Item) → Counts taken old
     → WalkLeads taken r new (next (walk_of taken old) (pending old.todo.items))

@@ -1,17 +1,16 @@
 //! The names of a folder that a walk enters, and the tasks that they bring.
 ghost use Rattle.std.specs.Prelude.{◌≡◌, ◌++◌, OnOk};
 ghost use Rattle.cacache_table.specs.Common.{go_on};
-ghost use Rattle.cacache_table.specs.Walking.{walk_on as walk_on_of, miss as miss_of, entered as entered_of, task_of as table_task, tasks_of, leaving};
-ghost use Rattle.cacache_walks.specs.WalkStates.{GoesOn, task_of, pending};
+ghost use Rattle.cacache_table.specs.Walking.{walk_on as walk_on_of, miss as miss_of, entered as entered_of, task_of, tasks_of, leaving};
+ghost use Rattle.cacache_walks.specs.WalkStates.{GoesOn, pending};
 
 use crate::messages;
-use crate::visit::{Task, Visit};
 use crate::walk::Walk;
 use cacache_core::errors::{self, Fault};
 use cacache_core::paths::join;
 use cacache_core::text::Text;
 use cacache_store::store::{Kind, Listing, Name};
-use cacache_table::Refusal;
+use cacache_table::{Refusal, Task, Visit};
 use std::alloc::{AllocError, Global};
 
 /// Folders below this level aren't entered.
@@ -19,29 +18,29 @@ const DEEPEST: u8 = 16;
 
 /// The task that a name in a folder of this level brings, by its path. Links are never followed.
 fn task_at(clears: bool, level: u8, path: Text, kind: Kind) -> Task
-    ensures { task_of result ≡ table_task clears level path kind }
+    ensures { result ≡ task_of clears level path kind }
 {
     match kind {
         Kind::Folder => {
             if level < DEEPEST {
-                return Task::Visit(Visit::Enter(path, level + 1));
+                return Task::Make(Visit::Enter(path, level + 1));
             }
             Task::Stumble(Fault::TooDeep, path)
         }
         Kind::File => {
             if !clears {
-                return Task::Visit(Visit::ReadBucket(path));
+                return Task::Make(Visit::ReadBucket(path));
             }
             if level == 0 {
                 return Task::Stumble(Fault::NotADirectory, path);
             }
-            Task::Visit(Visit::RemoveFile(path))
+            Task::Make(Visit::RemoveFile(path))
         }
         Kind::Link => {
             if clears {
-                return Task::Visit(Visit::RemoveFile(path));
+                return Task::Make(Visit::RemoveFile(path));
             }
-            Task::Visit(Visit::ReadBucket(path))
+            Task::Make(Visit::ReadBucket(path))
         }
     }
 }
@@ -82,7 +81,7 @@ fn push_leaving(
 {
     if clears && level != 0 {
         let path = folder.clone()?;
-        todo.push(Task::Visit(Visit::RemoveFolder(path)))?;
+        todo.push(Task::Make(Visit::RemoveFolder(path)))?;
     }
     Ok(())
 }

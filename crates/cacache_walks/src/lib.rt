@@ -4,8 +4,6 @@
 mod bucket;
 mod entering;
 mod messages;
-mod visit;
 mod walk;
 
-pub use visit::{Task, Visit};
 pub use walk::Walk;

@@ -5,16 +5,15 @@ ghost use Rattle.cacache_table.specs.Common.{go_on, refuse};
 ghost use Rattle.cacache_table.specs.Runs.{plain_item, plain_reply, EndsAs};
 ghost use Rattle.cacache_table.specs.State.{Item, over};
 ghost use Rattle.cacache_table.specs.Walking.{walk as walk_from, give as give_of, walk_on as walk_on_of, walk_ends, too_many as too_many_of, miss as miss_of, unread_bucket, listed as listed_of, after_visit};
-ghost use Rattle.cacache_walks.specs.WalkStates.{WalksAt, GoesOn, GivesOn, visit_of, walk_of};
+ghost use Rattle.cacache_walks.specs.WalkStates.{WalksAt, GoesOn, GivesOn, walk_of};
 
-use crate::visit::{Task, Visit};
 use crate::{bucket, messages};
 use cacache_core::bytes::Bytes;
 use cacache_core::errors::{self, Error, Fault};
 use cacache_core::text::Text;
 use cacache_store::store::{Answer, FileHandle, TempHandle};
 use cacache_table::answers::{bytes_of, done_of, names_of};
-use cacache_table::{Found, Items, Refusal, Reply};
+use cacache_table::{Found, Items, Refusal, Reply, Task, Visit};
 use std::alloc::{AllocError, Global};
 
 /// A walk through all folders below one.
@@ -159,7 +158,7 @@ impl Walk {
     {
         while let Some(task) = self.todo.pop() {
             match task {
-                Task::Visit(visit) => return Ok(Some(visit)),
+                Task::Make(visit) => return Ok(Some(visit)),
                 Task::Stumble(fault, path) => {
                     let message = self.message(alloc, &path);
                     match self.miss(alloc, fault, message) {
@@ -254,7 +253,7 @@ impl Walk {
         answer: Answer<F, T>,
     ) -> errors::Result<Option<Visit>>
         ensures { GoesOn self.old self.new result
-            (λ w todo. after_visit w (visit_of visit) todo (plain_answer F.seen T.seen answer)) }
+            (λ w todo. after_visit w visit todo (plain_answer F.seen T.seen answer)) }
     {
         match visit {
             Visit::Enter(folder, level) => self.after_listing(

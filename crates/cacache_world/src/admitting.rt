@@ -15,8 +15,7 @@ use crate::names::{is_outside, may_take};
 use cacache_core::bytes::Bytes;
 use cacache_core::integrity::Integrity;
 use cacache_core::text::Text;
-use cacache_jobs::based;
-use cacache_table::{Command, Delete, Export, Insert, Link, Options, Put, Source};
+use cacache_table::{Command, Delete, Export, Insert, Link, Options, Put, Source, based};
 use std::alloc::{AllocError, Global};
 
 /// That an integrity is one, as each is.

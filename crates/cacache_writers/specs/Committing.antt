@@ -10,7 +10,7 @@ use Rattle.cacache_store.specs.declared.store.log.LogItem.{LogItem}
 use Rattle.cacache_store.specs.declared.store.plain.PlainTemp.{PlainTemp}
 use Rattle.cacache_table.specs.declared.reply.Reply.{Reply}
 use Rattle.cacache_table.specs.declared.reply.Reply.TheVariants.{Stored}
-use Rattle.cacache_table.specs.State.{Commit}
+use Rattle.cacache_table.specs.declared.carried.Commit.{Commit}
 use Rattle.cacache_table.specs.Runs.{Ran, reply_of}
 use Rattle.cacache_table.specs.Storing.{persist}
 use Rattle.cacache_jobs.specs.Environment.{MomentOf}

@@ -1,15 +1,13 @@
 //! What is said of a content that is written by polls.
 ghost use Rattle.std.specs.Prelude.{◌≡◌, IfOk};
-ghost use Rattle.cacache_jobs.specs.JobStates.{commit_of};
 ghost use Rattle.cacache_writers.specs.Committing.{commit_about};
 ghost use Rattle.cacache_writers.specs.Opening.{IsAbout};
 
 use cacache_core::integrity::Integrity;
 use cacache_core::keeping::beside;
 use cacache_core::text::Text;
-use cacache_jobs::Commit;
 use cacache_put::opts::WriteOpts;
-use cacache_table::Options;
+use cacache_table::{Commit, Options};
 use std::alloc::{AllocError, Global};
 
 /// What was said of a content that is written.
@@ -56,7 +54,7 @@ impl About {
 
     /// The commit of so many bytes with this integrity.
     pub(crate) fn into_commit(self, computed: Integrity, count: usize, moment: u128) -> Commit
-        ensures { commit_of result ≡ commit_about self computed count moment }
+        ensures { result ≡ commit_about self computed count moment }
     {
         let About {
             cache,

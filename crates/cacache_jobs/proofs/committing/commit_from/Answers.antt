@@ -1,13 +1,12 @@
 use Rattle.cacache_table.specs.Storing.{persist}
 use Rattle.cacache_table.proofs.ReplyKinds.{stores_only}
 use Rattle.cacache_table.proofs.Promises.{runs_keep}
-use Rattle.cacache_jobs.specs.JobStates.{commit_of}
 use Rattle.cacache_jobs.proofs.WrittenCommits.{moved_promise}
 use Rattle.cacache_jobs.proofs.Running.{memory_lost}
 use Rattle.cacache_jobs.proofs.committing.commit_from.Goals as goal
 
 pub finish-requires : goal.finish-requires
-finish-requires g c = (persist (commit_of c.args.commit) (g.S.Temp.TempHandle.seen c.args.file), c.begin_commit-phase.ensures)
+finish-requires g c = (persist c.args.commit (g.S.Temp.TempHandle.seen c.args.file), c.begin_commit-phase.ensures)
 
 pub returns-clause-ran : goal.returns-clause-ran
 returns-clause-ran g c = c.finish.ensures _ c.begin_commit-phase.ensures
@@ -16,7 +15,7 @@ pub returns-clause-promised : goal.returns-clause-promised
 returns-clause-promised g c =
     let run = returns-clause-ran g c in
     let file = g.S.Temp.TempHandle.seen c.args.file in
-    moved_promise (commit_of c.args.commit) file _ (runs_keep (persist (commit_of c.args.commit) file) run.0 _ run.1)
+    moved_promise c.args.commit file _ (runs_keep (persist c.args.commit file) run.0 _ run.1)
 
 pub returns-clause-lost : goal.returns-clause-lost
 returns-clause-lost g c = let run = returns-clause-ran g c in (run.0, memory_lost _ run.0 _ run.1, run.2)

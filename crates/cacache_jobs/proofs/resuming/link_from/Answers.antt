@@ -1,12 +1,11 @@
 use Rattle.cacache_table.specs.Storing.{link}
 use Rattle.cacache_table.proofs.ReplyKinds.{stores_only}
 use Rattle.cacache_table.proofs.Promises.{runs_keep}
-use Rattle.cacache_jobs.specs.JobStates.{commit_of}
 use Rattle.cacache_jobs.proofs.Running.{memory_lost}
 use Rattle.cacache_jobs.proofs.resuming.link_from.Goals as goal
 
 pub finish-requires : goal.finish-requires
-finish-requires g c = (link (commit_of c.args.commit) c.args.target, c.link-phase.ensures)
+finish-requires g c = (link c.args.commit c.args.target, c.link-phase.ensures)
 
 pub returns-clause-ran : goal.returns-clause-ran
 returns-clause-ran g c = c.finish.ensures _ c.link-phase.ensures
@@ -14,7 +13,7 @@ returns-clause-ran g c = c.finish.ensures _ c.link-phase.ensures
 pub returns-clause-promised : goal.returns-clause-promised
 returns-clause-promised g c =
     let run = returns-clause-ran g c in
-    runs_keep (link (commit_of c.args.commit) c.args.target) run.0 _ run.1
+    runs_keep (link c.args.commit c.args.target) run.0 _ run.1
 
 pub returns-clause-lost : goal.returns-clause-lost
 returns-clause-lost g c = let run = returns-clause-ran g c in (run.0, memory_lost _ run.0 _ run.1, run.2)

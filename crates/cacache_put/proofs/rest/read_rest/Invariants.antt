@@ -1,14 +1,15 @@
 use Rattle.std.specs.Prelude.{◌≡◌, ℕ, List, length}
 use Rattle.cacache_core.specs.Hashers.{Holds}
 use Rattle.cacache_table.specs.Runs.{Gone}
-use Rattle.cacache_table.specs.State.{Target, hashing, to_link}
+use Rattle.cacache_table.specs.State.{hashing, to_link}
+use Rattle.cacache_table.specs.declared.target.Target.{Target}
 use Rattle.cacache_put.specs.Rest.{HoldsOn}
 use Rattle.cacache_put.proofs.rest.read_rest.Given as goal
 
 abbrev pub invariant-pieces : goal.invariant-pieces
 invariant-pieces g l =
     let file = g.S.File.FileHandle.seen in
-    (t : Target) (bytes : List ℕ) → Holds l.fn.hasher bytes → l.fn.before ≡ length bytes
+    (t : Target ℕ) (bytes : List ℕ) → Holds l.fn.hasher bytes → l.fn.before ≡ length bytes
     → (all : List ℕ) × HoldsOn l.fn.hasher l.hasher all × (l.count ≡ length all)
     × Gone (hashing (to_link t) (file l.fn.file) bytes) (hashing (to_link t) (file l.file) all) (g.S.Store.log l.fn.store) (g.S.Store.log l.store)
 

@@ -1,25 +1,27 @@
 //! What is to be linked, and what becomes of it.
 ghost use Rattle.std.specs.Prelude.{◌≡◌, ℕ, List, IfOk, length};
 ghost use Rattle.cacache_core.specs.Integrity.{integrity_under};
-ghost use Rattle.cacache_table.specs.Linking.{based as based_of, commit_for};
-ghost use Rattle.cacache_jobs.specs.JobStates.{commit_of};
-ghost use Rattle.cacache_jobs.specs.Targets.{linked_to, sized_link, target_at, target_of};
+ghost use Rattle.cacache_table.specs.Linking.{based as based_of, commit_for, linked_to, target_at, with_size as with_size_of};
 
-use crate::storing::Commit;
+use crate::carried::Commit;
+use crate::command::Options;
 use cacache_core::integrity::Integrity;
 use cacache_core::keeping::beside;
 use cacache_core::paths;
 use cacache_core::text::Text;
-use cacache_table::Options;
 use std::alloc::{AllocError, Global};
 
 /// A file that is to be linked to, and what is said of the link.
 pub struct Target<M> {
+    /// The cache's folder.
     pub cache: Text,
+    /// The key of the entry that follows; without one none does.
     pub key: Option<Text>,
+    /// The file's path.
     pub path: Text,
     /// The entry's time, in milliseconds since 1970. An open linker has none yet where its commit is to ask the clock.
     pub moment: M,
+    /// What is said of the link and of its entry.
     pub options: Options,
 }
 
@@ -67,7 +69,7 @@ impl<M: Drop> Target<M> {
 
     /// The same with the size that the link is to have.
     pub fn with_size(self, size: usize) -> Target<M>
-        ensures { result ≡ sized_link self size }
+        ensures { result ≡ with_size_of self size }
     {
         let Target {
             cache,
@@ -76,20 +78,18 @@ impl<M: Drop> Target<M> {
             moment,
             options,
         } = self;
-        let options = options.with_size(size);
         Target {
             cache,
             key,
             path,
             moment,
-            options,
+            options: options.with_size(size),
         }
     }
 
     /// The same with this moment.
     pub fn at(self, moment: u128) -> Target<u128>
-        ensures target { target_of result ≡ target_at self moment }
-        ensures options { result.options ≡ self.options }
+        ensures { result ≡ target_at self moment }
     {
         let Target {
             cache,
@@ -114,7 +114,7 @@ impl Target<u128> {
     pub fn into_commit(self, computed: Integrity, count: usize) -> (Commit, Text)
         ensures commit { (bytes : List ℕ)
             → computed ≡ integrity_under self.options.algorithm bytes → count ≡ length bytes
-            → commit_of result.0 ≡ commit_for (target_of self) bytes }
+            → result.0 ≡ commit_for self bytes }
         ensures path { result.1 ≡ self.path }
     {
         let Target {

@@ -1,8 +1,7 @@
-//! What a walk does next.
+//! What a walk through folders does next.
 ghost use Rattle.std.specs.Prelude.{◌≡◌, IfOk};
 ghost use Rattle.cacache_store.specs.Plain.{plain_step};
 ghost use Rattle.cacache_table.specs.Walking.{visit_step};
-ghost use Rattle.cacache_walks.specs.WalkStates.{visit_of};
 
 use cacache_core::errors::Fault;
 use cacache_core::text::Text;
@@ -26,7 +25,7 @@ pub enum Visit {
 #[derive(Drop)]
 pub enum Task {
     /// It makes this visit.
-    Visit(Visit),
+    Make(Visit),
     /// It stumbles over what lies at a path, which takes no step.
     Stumble(Fault, Text),
 }
@@ -34,8 +33,7 @@ pub enum Task {
 impl Visit {
     /// The step of the visit.
     pub fn step<F: FileHandle, T: TempHandle>(&self) -> Result<Step<F, T>, AllocError>
-        ensures { IfOk result (λ step.
-            plain_step F.seen T.seen step ≡ visit_step (visit_of self.now)) }
+        ensures { IfOk result (λ step. plain_step F.seen T.seen step ≡ visit_step self.now) }
     {
         match self {
             Visit::Enter(path, _) => Ok(Step::ReadDir(path.clone()?)),
