@@ -1,11 +1,9 @@
 -- What a commit carries on its way: its bytes, or where its link leads.
-use Rattle.std.proofs.Common.{◌≡◌, ◌+◌, ◌-◌, ◌==◌, ℕ, List, [], ◌∷◌, ◌++◌, Option, None, Some, Result, Ok, Err, length, take, drop, take-append-drop, nat_le, refl, sym, ap, subst, ◌∙◌, append_assoc}
+use Rattle.std.proofs.Common.{◌≡◌, ℕ, List, [], ◌∷◌, ◌++◌, Option, None, Some, Result, Ok, Err, length, take, drop, take-append-drop, refl, sym, ap, subst, ◌∙◌, append_assoc}
 use Rattle.cacache_core.specs.declared.errors.Fault.{Fault}
-use Rattle.cacache_core.specs.declared.errors.Fault.TheVariants as faults
 use Rattle.cacache_core.specs.declared.errors.SerdeCause.{SerdeCause}
-use Rattle.cacache_core.specs.declared.errors.Error.TheVariants.{SizeMismatch, IntegrityError}
+use Rattle.cacache_core.specs.declared.errors.Error.TheVariants.{IntegrityError}
 use Rattle.cacache_core.specs.declared.errors.IntegrityFault.TheVariants.{Check}
-use Rattle.cacache_core.specs.declared.integrity.digest.Hash.{Hash}
 use Rattle.cacache_core.specs.PathNames.{Names}
 use Rattle.cacache_store.specs.declared.store.plain.PlainTemp.{PlainTemp}
 use Rattle.cacache_store.specs.declared.store.plain.PlainFile.{PlainFile}
@@ -23,34 +21,30 @@ use Rattle.cacache_table.specs.declared.command.Export.{Export}
 use Rattle.cacache_table.specs.declared.command.How.{How}
 use Rattle.cacache_table.specs.declared.command.How.TheVariants.{Copy, Reflink, HardLink}
 use Rattle.cacache_table.specs.declared.command.Source.TheVariants as sources
-use Rattle.cacache_table.specs.declared.reply.Reply.TheVariants.{Read, Copied, Listed, Done}
 use Rattle.cacache_core.specs.Integrity.{integrity_under, actual}
 use Rattle.cacache_core.specs.Meeting.{meets}
-use Rattle.cacache_store.specs.declared.store.answer.Name.{Name}
 use Rattle.cacache_entry.specs.Latest.{Found}
-use Rattle.cacache_table.specs.StepPaths.{content_path}
-use Rattle.cacache_table.specs.ContentReads.{checked, is_there, is_absent}
-use Rattle.cacache_table.specs.Exporting.{export_from, export_content, export, verified, counted}
-use Rattle.cacache_table.specs.Looking.{found_in, found_content, found_for, after_bucket, no_bucket}
-use Rattle.cacache_table.specs.Walking.{most, failed, give, miss, walk_on, tasks_of, leaving, too_many, entered, unread_bucket, listed, visit_step, after_visit, items_in}
-use Rattle.cacache_table.specs.State.{State, doing, creating, writing, syncing, persisting, linking, confirming, appending, looking, reading, asking, sizing, opening_file, hashing, copying, walking, over, Site, Insertion, to_verify, to_link, Errand, make_folder, remove, reflink, hard_link, sync_file, sync_dir, Item, Walk}
+use Rattle.cacache_table.specs.StepPaths.{temp_path, content_path}
+use Rattle.cacache_table.specs.Exporting.{export_from, export_content, export, verified}
+use Rattle.cacache_table.specs.Looking.{found_content, found_for}
+use Rattle.cacache_table.specs.Walking.{visit_step}
+use Rattle.cacache_table.specs.State.{State, doing, creating, writing, syncing, persisting, linking, confirming, appending, looking, reading, asking, sizing, opening_file, hashing, copying, walking, over, Site, Insertion, Hashing, to_verify, to_link, Errand, make_folder, remove, reflink, hard_link, sync_file, sync_dir}
 use Rattle.cacache_table.specs.declared.carried.Commit.{Commit}
 use Rattle.cacache_table.specs.declared.carried.Aim.{Aim}
 use Rattle.cacache_table.specs.declared.carried.Lookup.{Lookup}
 use Rattle.cacache_table.specs.declared.carried.Content.{Content}
 use Rattle.cacache_table.specs.declared.visit.Visit.{Visit}
-use Rattle.cacache_table.specs.declared.visit.Task.{Task}
 use Rattle.cacache_table.specs.declared.visit.Visit.TheVariants.{Enter, ReadBucket, RemoveFile, RemoveFolder}
-use Rattle.cacache_table.specs.declared.visit.Task.TheVariants.{Make, Stumble}
 use Rattle.cacache_table.specs.declared.carried.Aim.TheVariants as aims
-use Rattle.cacache_table.specs.Answers.{done_in, temp_in, written_in, synced_in, there_in, taken_in, bytes_in, file_in, got_in, length_in, names_in}
-use Rattle.cacache_table.specs.Common.{ends_with, fails, errand_step}
-use Rattle.cacache_table.specs.Inserting.{insertion, deletion, unless_refused, refused_cause, bucket_line, recorded, after_append}
-use Rattle.cacache_table.specs.Storing.{insertion_of, indexed, sized, matches, compared, placed, settled, resettled, write_rest, after_write, after_confirm}
-use Rattle.cacache_table.specs.Linking.{link_target, after_size, after_read}
+use Rattle.cacache_table.specs.Answers.{temp_in, written_in, synced_in}
+use Rattle.cacache_table.specs.Common.{ends_with, errand_step}
+use Rattle.cacache_table.specs.Inserting.{insertion, deletion, unless_refused, refused_cause}
+use Rattle.cacache_table.specs.Linking.{link_target, after_read}
 use Rattle.cacache_table.specs.Table.{wants, after, opening}
-use Rattle.cacache_table.proofs.Branches.{cond_leads, go_on_leads}
-use Rattle.cacache_table.proofs.Leading.{moves_on, settles, resettles, records}
+use Rattle.cacache_table.proofs.Branches.{cond_leads}
+use Rattle.cacache_table.proofs.Closed.{AnyWalk, ClosedCommit, ClosedWalk, Closed, kept}
+use Rattle.cacache_table.proofs.Leading.{inserts as adds, places}
+use Rattle.cacache_table.proofs.Visits.{AnyVisit, any_visits}
 use Rattle.cacache_value.specs.Acts.{Act, PutBytes, PutLink}
 use Rattle.cacache_value.proofs.Shows.{apply_answer}
 use Rattle.cacache_table.proofs.Sound.{some_is}
@@ -175,37 +169,11 @@ temp_written t file rest old luck w is =
 
 module _ (own : Own) where
   pub inserts : (i : Insertion) (cause : Option SerdeCause) → Carries own (unless_refused i cause)
-  inserts i None = tt
-  inserts i (Some cause) = tt
+  inserts i cause = adds (Carries own) (λ reply. tt) (λ folder i. tt) i cause
 
-  unindexed : (c : Commit) (key : Option (List ℕ)) → Carries own (indexed c key)
-  unindexed c None = tt
-  unindexed c (Some key) = inserts (insertion_of c key) (refused_cause (insertion_of c key))
-
-  unsized : (c : Commit) (size : Option ℕ) → Carries own (sized c size)
-  unsized c None = unindexed c c.key
-  unsized c (Some size) = cond_leads (Carries own) (size == c.count) (indexed c c.key) (ends_with (SizeMismatch size c.count)) (λ _. unindexed c c.key) (λ _. tt)
-
-  uncompared : (c : Commit) (expected : Option (List Hash)) → Carries own (compared c expected)
-  uncompared c None = unsized c c.options.size
-  uncompared c (Some expected) =
-      cond_leads (Carries own) (matches expected c.computed) (sized c c.options.size) (ends_with (IntegrityError (Check expected c.computed))) (λ _. unsized c c.options.size) (λ _. tt)
-
-  places : (c : Commit) → Carries own (placed c)
-  places c = uncompared c c.options.integrity
-
-  settled_carry : (c : Commit) → Carries own (settled c)
-  settled_carry c = settles (Carries own) (λ p s h. (h, h)) c (places c)
-
-  rests : (c : Commit) (file : PlainTemp) (rest : List ℕ) → GoesTo own c → Holds own file rest → Carries own (write_rest c file rest)
-  rests c file [] goes h = moves_on (Carries own) c file (h, goes) (h, goes)
-  rests c file (b ∷ bs) goes h = (h, goes)
-
-  writes : (c : Commit) (rest : List ℕ) (old : List ℕ) (w : PlainTemp × ℕ) → GoesTo own c → w.0.bytes ≡ Some (old ++ take w.1 rest) → AreBytes own (old ++ rest) → Carries own (after_write c rest w)
-  writes c rest old w goes e h =
-      cond_leads (Carries own) (w.1 == 0) (fails faults.WriteZero) (write_rest c w.0 (drop w.1 rest)) (λ _. tt)
-      (λ _. rests c w.0 (drop w.1 rest) goes
-      (old ++ take w.1 rest, e, subst (AreBytes own) (sym (append_assoc old (take w.1 rest) (drop w.1 rest) ∙ ap (λ l. old ++ l) (take-append-drop w.1 rest))) h))
+  -- the bytes so far and those that were taken are the first ones, if those to write are the rest
+  goes_on : (old rest : List ℕ) (n : ℕ) → AreBytes own (old ++ rest) → AreBytes own ((old ++ take n rest) ++ drop n rest)
+  goes_on old rest n h = subst (AreBytes own) (sym (append_assoc old (take n rest) (drop n rest) ∙ ap (λ l. old ++ l) (take-append-drop n rest))) h
 
   -- ---- calls that make no content
 
@@ -231,107 +199,56 @@ module _ (own : Own) where
   founds l (aims.Export e) None = tt
   founds l (aims.Export e) (Some f) = exports (found_content l f) e
 
-  unfound : (l : Lookup) (fault : Fault) → Carries own (no_bucket l fault)
-  unfound l faults.NotFound = founds l l.aim None
-  unfound l fault = tt
+  reads_on : (x : Hashing) (file : PlainFile) (bytes : List ℕ) (got : PlainFile × List ℕ) → Carries own (hashing x file bytes) → Carries own (after_read x bytes got)
+  reads_on (to_link t) file bytes (rest, []) h = h
+  reads_on (to_link t) file bytes (rest, b ∷ bs) h = h
+  reads_on (to_verify k e) file bytes (rest, []) h = verifies k e bytes
+  reads_on (to_verify k e) file bytes (rest, b ∷ bs) h = tt
 
-  too_many_carry : (w : Walk) → Carries own (too_many w)
-  too_many_carry w = cond_leads (Carries own) w.clears (fails faults.TooDeep) (over (Listed (w.items ++ failed faults.TooDeep ∷ []))) (λ _. tt) (λ _. tt)
-
-  gives : (w : Walk) (items : List Item) (next : Walk → State) → ((v : Walk) → Carries own (next v)) → Carries own (give w items next)
-  gives w items next k =
-      cond_leads (Carries own) (nat_le (length w.items + length items) most) (next (record w { items = w.items ++ items })) (too_many (record w { items = take most (w.items ++ items) }))
-      (λ _. k (record w { items = w.items ++ items })) (λ _. too_many_carry (record w { items = take most (w.items ++ items) }))
-
-  misses : (w : Walk) (next : Walk → State) (fault : Fault) → ((v : Walk) → Carries own (next v)) → Carries own (miss w next fault)
-  misses w next fault k = cond_leads (Carries own) w.clears (fails fault) (give w (failed fault ∷ []) next) (λ _. tt) (λ _. gives w (failed fault ∷ []) next k)
-
-  walks_on : (todo : List Task) (w : Walk) → Carries own (walk_on todo w)
-  walks_on [] w = cond_leads (Carries own) w.clears (over Done) (over (Listed w.items)) (λ _. tt) (λ _. tt)
-  walks_on (Stumble fault path ∷ todo) w = misses w (walk_on todo) fault (walks_on todo)
-  walks_on (Make v ∷ todo) w = tt
-
-  enters : (w : Walk) (p : List ℕ) (level : ℕ) (todo : List Task) (names : List Name) → Carries own (entered w p level todo names)
-  enters w p level todo names =
-      let tasks : List Task = tasks_of w.clears level p names ++ leaving w.clears level p ++ todo in
-      cond_leads (Carries own) (nat_le (length names) w.left) (walk_on tasks (record w { left = w.left - length names })) (too_many w) (λ _. walks_on tasks (record w { left = w.left - length names })) (λ _. too_many_carry w)
-
-  unread : (w : Walk) (todo : List Task) (fault : Fault) → Carries own (unread_bucket w todo fault)
-  unread w todo faults.NotFound = walks_on todo w
-  unread w todo fault = misses w (walk_on todo) fault (walks_on todo)
-
-  visits : (w : Walk) (v : Visit) (todo : List Task) (a : PlainAnswer) → Carries own (after_visit w v todo a)
-  visits w (Enter p level) todo a = go_on_leads (Carries own) (names_in a) (miss w (walk_on todo)) (entered w p level todo) tt (λ fault. misses w (walk_on todo) fault (walks_on todo)) (λ names e. enters w p level todo names)
-  visits w (ReadBucket p) todo a = go_on_leads (Carries own) (bytes_in a) (unread_bucket w todo) (listed w todo) tt (λ fault. unread w todo fault) (λ bytes e. gives w (items_in bytes) (walk_on todo) (walks_on todo))
-  visits w (RemoveFile p) todo a = go_on_leads (Carries own) (done_in a) (miss w (walk_on todo)) (λ _. walk_on todo w) tt (λ fault. misses w (walk_on todo) fault (walks_on todo)) (λ x e. walks_on todo w)
-  visits w (RemoveFolder p) todo a = go_on_leads (Carries own) (done_in a) (miss w (walk_on todo)) (λ _. walk_on todo w) tt (λ fault. misses w (walk_on todo) fault (walks_on todo)) (λ x e. walks_on todo w)
+  opens : (x : Hashing) (file : PlainFile) → Carries own (opening_file x) → Carries own (hashing x file [])
+  opens (to_link t) file h = h
+  opens (to_verify k e) file h = tt
 
   -- ---- any step
 
-  module _ (t : Tree) (luck : Luck) (a : PlainAnswer) where
-    Goes : State → PlainStep → Type 0
-    Goes s step = a ≡ (apply t step luck).0 → Carries own (after s a)
+  module _ (t : Tree) (luck : Luck) where
+    -- the disk answers so
+    abbrev Told : PlainStep → PlainAnswer → Type 0
+    Told step a = a ≡ (apply t step luck).0
 
-    to_wanted : (s : State) (asked step : PlainStep) → Some asked ≡ Some step → Goes s asked → Goes s step
-    to_wanted s asked step w h = some_is (Goes s) asked step w h
+    commits_carry : ClosedCommit Told (Carries own)
+    commits_carry = record {
+      created = λ number c rest file b h. (([], temp_made t (temp_path c.cache number) luck file (ap temp_in (sym b.1) ∙ b.2), h.0), h.1);
+      wrote = λ c file rest w b h. ((h.0.0 ++ take w.1 rest, temp_written t file rest h.0.0 luck w h.0.1 (ap written_in (sym b.1) ∙ b.2), goes_on h.0.0 rest w.1 h.0.2), h.1);
+      moved = λ c file h. (h, h);
+      synced = λ c file new b h. (subst (λ f. Holds own f []) (temp_synced t file new luck (ap synced_in (sym b.1) ∙ b.2)) h.0, h.1);
+      persisted = λ c file fault h. tt;
+      linked = λ c target fault h. tt;
+      there = λ c fault h. (places (Carries own) (λ reply. tt) (λ folder i. tt) c, λ p s k. (k, k));
+    }
 
-    creates : (number : ℕ) (c : Commit) (rest path : List ℕ) → GoesTo own c → AreBytes own rest → Goes (creating number c rest) (steps.CreateTemp path)
-    unfolding Goes
-    creates number c rest path goes h is =
-        go_on_leads (Carries own) (temp_in a) fails (λ file. write_rest c file rest) tt (λ fault. tt)
-        (λ file e. rests c file rest goes ([], temp_made t path luck file (ap temp_in (sym is) ∙ e), h))
+    walks_carry : ClosedWalk Told (Carries own) AnyWalk AnyVisit
+    walks_carry = record {
+      visited = λ w v todo h. (tt, (tt, any_visits todo));
+      visiting = λ w v todo h k all. tt;
+      names = λ b level p names br h k i d lt. (tt, tt);
+      left = λ level p h k. tt;
+      cleared = λ h. tt;
+      listed = λ items h. tt;
+    }
 
-    writes_on : (c : Commit) (file : PlainTemp) (rest : List ℕ) → GoesTo own c → Holds own file rest → Goes (writing c file rest) (steps.Write file rest)
-    unfolding Goes
-    writes_on c file rest goes h is =
-        go_on_leads (Carries own) (written_in a) fails (after_write c rest) tt (λ fault. tt)
-        (λ w e. writes c rest h.0 w goes (temp_written t file rest h.0 luck w h.1 (ap written_in (sym is) ∙ e)) h.2)
+    closed : Closed Told (Carries own) AnyWalk AnyVisit
+    closed = record {
+      ends = record { failed = λ s fault h. tt; memory = λ s h. tt; errand = λ e s h. h };
+      commits = commits_carry;
+      inserts = λ i h. (tt, λ p s k. (k, k));
+      reads = record { found = λ l found h. founds l l.aim found; met = λ k bytes e h. tt; unmet = λ k bytes h. tt; asked = λ k there h. tt };
+      files = record { sized = λ x n h. h; opened = λ x file b h. opens x file h; got = λ x file bytes g b h. reads_on x file bytes g h; copied = λ from to count n h. tt };
+      walks = walks_carry;
+    }
 
-    syncs_on : (c : Commit) (file : PlainTemp) → GoesTo own c → Holds own file [] → Goes (syncing c file) (steps.SyncTemp file)
-    unfolding Goes
-    syncs_on c file goes h is =
-        go_on_leads (Carries own) (synced_in a) fails (persisting c) tt (λ fault. tt)
-        (λ new e. (subst (λ f. Holds own f []) (temp_synced t file new luck (ap synced_in (sym is) ∙ e)) h, goes))
-
-    pub carries_on : (s : State) (step : PlainStep) → Carries own s → wants s ≡ Some step → a ≡ (apply t step luck).0 → Carries own (after s a)
-    unfolding Goes
-    carries_on (doing errand s) step h w is = go_on_leads (Carries own) (done_in a) fails (λ _. s) tt (λ fault. tt) (λ x e. h)
-    carries_on (creating number c rest) step h w is = to_wanted (creating number c rest) _ step w (creates number c rest _ h.1 h.0) is
-    carries_on (writing c file rest) step h w is = to_wanted (writing c file rest) (steps.Write file rest) step w (writes_on c file rest h.1 h.0) is
-    carries_on (syncing c file) step h w is = to_wanted (syncing c file) (steps.SyncTemp file) step w (syncs_on c file h.1 h.0) is
-    carries_on (persisting c file) step h w is = go_on_leads (Carries own) (done_in a) (confirming c) (λ _. settled c) tt (λ fault. tt) (λ x e. settled_carry c)
-    carries_on (linking c target) step h w is = go_on_leads (Carries own) (done_in a) (confirming c) (λ _. settled c) tt (λ fault. tt) (λ x e. settled_carry c)
-    carries_on (confirming c fault) step h w is =
-        go_on_leads (Carries own) (there_in a) (λ _. fails fault) (after_confirm c fault) tt (λ other. tt)
-        (λ there e. cond_leads (Carries own) there (resettled c) (fails fault) (λ _. resettles (Carries own) (λ p s h. (h, h)) c (places c)) (λ _. tt))
-    carries_on (appending i) step h w is =
-        go_on_leads (Carries own) (taken_in a) fails (after_append i) tt (λ fault. tt)
-        (λ n e. cond_leads (Carries own) (nat_le (length (bucket_line i)) n) (recorded i) (fails faults.ShortAppend) (λ _. records (Carries own) (λ p s h. (h, h)) i tt) (λ _. tt))
-    carries_on (sizing target) step h w is = go_on_leads (Carries own) (length_in a) fails (after_size target) tt (λ fault. tt) (λ n e. h)
-    carries_on (opening_file (to_link target)) step h w is =
-        go_on_leads (Carries own) (file_in a) fails (λ file. hashing (to_link target) file []) tt (λ fault. tt) (λ file e. h)
-    carries_on (hashing (to_link target) file bytes) step h w is =
-        go_on_leads (Carries own) (got_in a) fails (after_read (to_link target) bytes) tt (λ fault. tt) (λ got e. by got.0 got.1)
-      where
-        by : (rest : PlainFile) (more : List ℕ) → Carries own (after_read (to_link target) bytes (rest, more))
-        by rest [] = h
-        by rest (b ∷ bs) = h
-    carries_on (over reply) step h w is = tt
-    carries_on (looking l) step h w is = go_on_leads (Carries own) (bytes_in a) (no_bucket l) (after_bucket l) tt (λ fault. unfound l fault) (λ bytes e. founds l l.aim (found_in l.key bytes))
-    carries_on (reading k) step h w is =
-        go_on_leads (Carries own) (bytes_in a) fails (checked k) tt (λ fault. tt)
-        (λ bytes e. cond_leads (Carries own) (meets k.integrity bytes) (over (Read bytes)) (ends_with (IntegrityError (Check k.integrity (actual k.integrity bytes)))) (λ _. tt) (λ _. tt))
-    carries_on (asking k) step h w is = go_on_leads (Carries own) (there_in a) is_absent is_there tt (λ fault. tt) (λ there e. tt)
-    carries_on (opening_file (to_verify k e)) step h w is =
-        go_on_leads (Carries own) (file_in a) fails (λ file. hashing (to_verify k e) file []) tt (λ fault. tt) (λ file x. tt)
-    carries_on (hashing (to_verify k e) file bytes) step h w is =
-        go_on_leads (Carries own) (got_in a) fails (after_read (to_verify k e) bytes) tt (λ fault. tt) (λ got x. by got.0 got.1)
-      where
-        by : (rest : PlainFile) (more : List ℕ) → Carries own (after_read (to_verify k e) bytes (rest, more))
-        by rest [] = verifies k e bytes
-        by rest (b ∷ bs) = tt
-    carries_on (copying from to verified) step h w is = go_on_leads (Carries own) (taken_in a) fails (λ n. over (Copied (counted verified n))) tt (λ fault. tt) (λ n e. tt)
-    carries_on (walking w v todo) step h e is = visits w v todo a
+  pub carries_on : (t : Tree) (luck : Luck) (a : PlainAnswer) (s : State) (step : PlainStep) → Carries own s → wants s ≡ Some step → a ≡ (apply t step luck).0 → Carries own (after s a)
+  carries_on t luck a s step h w is = kept (Told t luck) (Carries own) AnyWalk AnyVisit (closed t luck) s step a h w is
 
 -- ---- of a command
 

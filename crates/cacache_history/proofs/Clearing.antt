@@ -90,10 +90,7 @@ goes_on moves visits [] w t clears k ends =
     let none = no_moves Done moves over_done in
     subst (λ ms. Cleared t (tree_on t ms) []) (sym none) (record { shrinks = λ names e. e; gone = tt })
 goes_on moves visits (Stumble fault path ∷ todo) w t clears k ends = absurd (never_misses w clears moves (walk_on todo) fault ends.0)
-goes_on moves visits (Make (Enter p level) ∷ todo) w t clears k ends = visits w (Enter p level) todo t clears tt k ends
-goes_on moves visits (Make (ReadBucket p) ∷ todo) w t clears k ends = absurd k
-goes_on moves visits (Make (RemoveFile p) ∷ todo) w t clears k ends = visits w (RemoveFile p) todo t clears tt k ends
-goes_on moves visits (Make (RemoveFolder p) ∷ todo) w t clears k ends = visits w (RemoveFolder p) todo t clears tt k ends
+goes_on moves visits (Make v ∷ todo) w t clears k ends = visits w v todo t clears k.0 k.1 ends
 
 -- the tasks of two lists
 pub tasks_front : (t : Tree) (xs ys : List Task) → TasksGone t (xs ++ ys) → TasksGone t xs

@@ -10,6 +10,8 @@ pub mod EarnedErrors
 pub mod Rows
 pub mod Sound
 pub mod Leading
+pub mod Visits
+pub mod Closed
 pub mod Within
 pub mod Verifying
 pub mod Going

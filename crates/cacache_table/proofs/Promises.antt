@@ -1,20 +1,16 @@
 -- A call's replies keep what its state promises, whatever the answers are.
-use Rattle.std.proofs.Common.{◌≡◌, inl, inr, ℕ, ◌+◌, ◌-◌, ◌==◌, List, [], ◌∷◌, ◌++◌, Option, Some, None, Bool, true, false, cond, nat_le, Result, refl, subst, ◌∙◌, drop, take, length, append_assoc, append-nil}
+use Rattle.std.proofs.Common.{◌≡◌, inl, inr, ℕ, ◌==◌, List, [], ◌∷◌, ◌++◌, Option, Some, None, Bool, true, false, refl, subst, ◌∙◌, length, append_assoc, append-nil}
 use Rattle.std.proofs.lemmas.Bool.{eqb-true}
 use Rattle.cacache_core.specs.declared.errors.Fault.{Fault}
-use Rattle.cacache_core.specs.declared.errors.Fault.TheVariants as faults
 use Rattle.cacache_core.specs.declared.errors.SerdeCause.{SerdeCause}
 use Rattle.cacache_core.specs.declared.errors.IntegrityFault.TheVariants.{Check}
 use Rattle.cacache_core.specs.declared.errors.Error.{Error}
 use Rattle.cacache_core.specs.declared.errors.Error.TheVariants.{SizeMismatch, IoError, SerdeError, EntryNotFound, IntegrityError, OutOfMemory}
 use Rattle.cacache_core.specs.declared.integrity.digest.Hash.{Hash}
 use Rattle.cacache_core.specs.Integrity.{Meets, actual}
-use Rattle.cacache_store.specs.declared.store.plain.PlainTemp.{PlainTemp}
 use Rattle.cacache_store.specs.declared.store.plain.PlainFile.{PlainFile}
-use Rattle.cacache_store.specs.declared.store.answer.Name.{Name}
 use Rattle.cacache_store.specs.Plain.{PlainAnswer}
 use Rattle.cacache_entry.specs.Latest.{Found}
-use Rattle.cacache_table.specs.declared.answers.Refusal.{Refusal}
 use Rattle.cacache_table.specs.declared.command.Command.{Command}
 use Rattle.cacache_table.specs.declared.command.Command.TheVariants as commands
 use Rattle.cacache_table.specs.declared.command.Source.TheVariants as sources
@@ -23,31 +19,27 @@ use Rattle.cacache_table.specs.declared.command.How.{How}
 use Rattle.cacache_table.specs.declared.command.How.TheVariants.{Copy, Reflink, HardLink}
 use Rattle.cacache_table.specs.declared.reply.Reply.{Reply}
 use Rattle.cacache_table.specs.declared.reply.Reply.TheVariants.{Stored, Read, LookedUp, Exists, Copied, Listed, Done, Refused}
-use Rattle.cacache_table.specs.Answers.{done_in, temp_in, written_in, synced_in, there_in, taken_in, bytes_in, file_in, got_in, length_in, names_in}
 use Rattle.cacache_core.specs.Meeting.{meets}
-use Rattle.cacache_table.specs.StepPaths.{content_path, content_folders, bucket_path, bucket_folders}
-use Rattle.cacache_table.specs.State.{State, doing, creating, writing, syncing, persisting, linking, confirming, appending, looking, reading, asking, sizing, opening_file, hashing, copying, walking, over, Site, Insertion, Hashing, to_verify, to_link, Item, Walk, sync_file, sync_dir}
+use Rattle.cacache_table.specs.StepPaths.{content_path}
+use Rattle.cacache_table.specs.State.{State, doing, looking, opening_file, hashing, walking, over, Site, Insertion, Hashing, to_verify, to_link}
 use Rattle.cacache_table.specs.declared.carried.Commit.{Commit}
 use Rattle.cacache_table.specs.declared.carried.Aim.{Aim}
 use Rattle.cacache_table.specs.declared.carried.Lookup.{Lookup}
 use Rattle.cacache_table.specs.declared.carried.Content.{Content}
 use Rattle.cacache_table.specs.declared.target.Target.{Target}
-use Rattle.cacache_table.specs.declared.visit.Visit.{Visit}
-use Rattle.cacache_table.specs.declared.visit.Task.{Task}
-use Rattle.cacache_table.specs.declared.visit.Visit.TheVariants.{Enter, ReadBucket, RemoveFile, RemoveFolder}
-use Rattle.cacache_table.specs.declared.visit.Task.TheVariants.{Make, Stumble}
 use Rattle.cacache_table.specs.declared.carried.Aim.TheVariants as aims
-use Rattle.cacache_table.specs.Common.{ends_with, fails, go_on, sync_up}
-use Rattle.cacache_table.specs.Inserting.{insertion, deletion, unless_refused, refused_cause, bucket_line, after_append, recorded}
-use Rattle.cacache_table.specs.Storing.{insertion_of, indexed, sized, matches, compared, placed, settled, resettled, moved, write_rest, after_write, after_confirm}
-use Rattle.cacache_table.specs.ContentReads.{checked, is_there, is_absent}
+use Rattle.cacache_table.specs.Common.{ends_with, fails}
+use Rattle.cacache_table.specs.Inserting.{insertion, deletion, unless_refused, refused_cause}
+use Rattle.cacache_table.specs.Storing.{insertion_of, indexed, sized, matches, compared, placed, moved}
+use Rattle.cacache_table.specs.ContentReads.{checked}
 use Rattle.cacache_table.specs.Exporting.{export_from, export_content, export, verified, counted}
-use Rattle.cacache_table.specs.Linking.{with_size, after_size, commit_for, hashed, after_read}
-use Rattle.cacache_table.specs.Looking.{found_in, found_content, found_for, after_bucket, no_bucket}
-use Rattle.cacache_table.specs.Walking.{most, failed, give, miss, walk_on, tasks_of, leaving, too_many, entered, unread_bucket, listed, after_visit, items_in}
+use Rattle.cacache_table.specs.Linking.{with_size, commit_for, hashed, after_read}
+use Rattle.cacache_table.specs.Looking.{found_content, found_for}
 use Rattle.cacache_table.specs.Table.{after, opening}
 use Rattle.cacache_table.specs.Runs.{Moves, Runs}
-use Rattle.cacache_table.proofs.Branches.{cond_leads, go_on_leads}
+use Rattle.cacache_table.proofs.Branches.{cond_leads}
+use Rattle.cacache_table.proofs.Closed.{AnyAnswer, ClosedCommit, ClosedReads, ClosedFiles, ClosedWalk, Closed, kept_always}
+use Rattle.cacache_table.proofs.Visits.{AnyVisit, any_visits}
 use Rattle.cacache_table.specs.Promises.{Only, OnlyReads, OnlyExists, OnlyCopies, Copies, MadeOf, ReadsMeeting, answered, Suits, StoresIf, StoresSized, Stores, StoresRead, Exports, Aims, Hashes, Walks, Promises, Answers}
 use Rattle.cacache_core.proofs.Meeting.{meets_finds}
 
@@ -106,12 +98,6 @@ module _ (P : Reply → Type 0) (refuses : (e : Error) → P (Refused e)) (r : R
   pub fails_keeps : (fault : Fault) → Keeps (fails fault)
   fails_keeps fault = ends_keeps (IoError fault [])
 
-  pub go_on_keeps : {X : Type 0} (a : Result X Refusal) (failed : Fault → State) (next : X → State) → ((fault : Fault) → Keeps (failed fault)) → ((x : X) → Keeps (next x)) → Keeps (go_on a failed next)
-  go_on_keeps a failed next f k = go_on_leads Keeps a failed next (ends_keeps OutOfMemory) f (λ x _. k x)
-
-  pub go_on_or_fails : {X : Type 0} (a : Result X Refusal) (next : X → State) → ((x : X) → Keeps (next x)) → Keeps (go_on a fails next)
-  go_on_or_fails a next k = go_on_keeps a fails next fails_keeps k
-
 -- ---- commits
 
 module _ (r : Reply) where
@@ -159,43 +145,6 @@ module _ (r : Reply) where
 
   places : (c : Commit) → Promises (placed c) r → Stores c r
   places c h = by_integrity c c.options.integrity refl h
-
-  -- what is promised after syncs is promised before them
-  synced : (folders : List (List ℕ)) (s : State) → Promises (sync_up folders s) r → Promises s r
-  synced [] s h = h
-  synced (p ∷ ps) s h = synced ps (doing (sync_dir p) s) h
-
-  settles : (c : Commit) → Promises (settled c) r → Stores c r
-  settles c h =
-      cond_leads (Keeps (Stores c) (λ _. tt) r) c.options.durable (sync_up (content_folders c.cache c.computed) (placed c)) (placed c)
-      (λ _ g. places c (synced (content_folders c.cache c.computed) (placed c) g)) (λ _. places c) h
-
-  resettles : (c : Commit) → Promises (resettled c) r → Stores c r
-  resettles c h =
-      cond_leads (Keeps (Stores c) (λ _. tt) r) c.options.durable (doing (sync_file (content_path c.cache c.computed)) (settled c)) (settled c) (λ _. settles c) (λ _. settles c) h
-
-  moves : (c : Commit) (file : PlainTemp) → Promises (moved c file) r → Stores c r
-  moves c file h = cond_leads (Keeps (Stores c) (λ _. tt) r) c.options.durable (syncing c file) (persisting c file) (λ _ g. g) (λ _ g. g) h
-
-  records : (i : Insertion) → Promises (recorded i) r → Only i.reply r
-  records i h =
-      cond_leads (Keeps (Only i.reply) (λ _. tt) r) i.durable (doing (sync_file (bucket_path i.cache i.entry.key)) (sync_up (bucket_folders i.cache i.entry.key) (over i.reply))) (over i.reply)
-      (λ _ g. synced (bucket_folders i.cache i.entry.key) (over i.reply) g) (λ _ g. g) h
-
-  writes_rest : (c : Commit) (file : PlainTemp) (rest : List ℕ) → Promises (write_rest c file rest) r → Stores c r
-  writes_rest c file [] h = moves c file h
-  writes_rest c file (b ∷ bs) h = h
-
-  writes : (c : Commit) (rest : List ℕ) (w : PlainTemp × ℕ) → Promises (after_write c rest w) r → Stores c r
-  writes c rest w h =
-      cond_leads (Keeps (Stores c) (λ _. tt) r) (w.1 == 0) (fails faults.WriteZero) (write_rest c w.0 (drop w.1 rest)) (λ _. fails_keeps (Stores c) (λ _. tt) r faults.WriteZero) (λ _. writes_rest c w.0 (drop w.1 rest)) h
-
-  confirms : (c : Commit) (fault : Fault) (there : Bool) → Promises (after_confirm c fault there) r → Stores c r
-  confirms c fault true h = resettles c h
-  confirms c fault false h = fails_keeps (Stores c) (λ _. tt) r fault h
-
-  appends : (i : Insertion) (n : ℕ) → Promises (after_append i n) r → Only i.reply r
-  appends i n h = cond_leads (Keeps (Only i.reply) (λ _. tt) r) (nat_le (length (bucket_line i)) n) (recorded i) (fails faults.ShortAppend) (λ _ k. records i k) (λ _. fails_keeps (Only i.reply) (λ _. tt) r faults.ShortAppend) h
 
   -- ---- files that are read to their end
 
@@ -344,67 +293,7 @@ module _ (r : Reply) where
   founds l aims.Remove (Some f) h = h
   founds l aims.Remove None h = h
 
-  unreads : (l : Lookup) (fault : Fault) → Promises (no_bucket l fault) r → Aims l.aim r
-  unreads l faults.NotFound h = founds l l.aim None h
-  unreads l fault h = fails_keeps (Aims l.aim) (aims_refused l.aim) r fault h
-
-  checks : (k : Content) (bytes : List ℕ) → Promises (checked k bytes) r → ReadsMeeting k.integrity r
-  checks k bytes h =
-      cond_leads (Keeps (ReadsMeeting k.integrity) (λ _. tt) r) (meets k.integrity bytes) (over (Read bytes)) (ends_with (IntegrityError (Check k.integrity (actual k.integrity bytes))))
-      (λ met. over_keeps (ReadsMeeting k.integrity) (λ _. tt) r (Read bytes) ((meets_finds k.integrity bytes).0 met)) (λ _. ends_keeps (ReadsMeeting k.integrity) (λ _. tt) r (IntegrityError (Check k.integrity (actual k.integrity bytes)))) h
-
-  -- ---- walks
-
-  finishes_or_lists : (clears : Bool) (items : List Item) → Promises (cond clears (over Done) (over (Listed items))) r → Walks clears r
-  finishes_or_lists true items h = h
-  finishes_or_lists false items h = over_keeps (Walks false) (λ _. tt) r (Listed items) tt h
-
-  fails_or_lists : (clears : Bool) (fault : Fault) (items : List Item) → Promises (cond clears (fails fault) (over (Listed items))) r → Walks clears r
-  fails_or_lists true fault items h = fails_keeps (Walks true) (λ _. tt) r fault h
-  fails_or_lists false fault items h = over_keeps (Walks false) (λ _. tt) r (Listed items) tt h
-
-  -- what the walk promises, all that follows keeps
-  abbrev Follows : Walk → (Walk → State) → Type 0
-  Follows w next = (v : Walk) → v.clears ≡ w.clears → Promises (next v) r → Walks w.clears r
-
-  gives : (w : Walk) (items : List Item) (next : Walk → State) → Follows w next → Promises (give w items next) r → Walks w.clears r
-  gives w items next k h =
-      let v : Walk = record w { items = w.items ++ items } in
-      let full : Walk = record w { items = take most (w.items ++ items) } in
-      cond_leads (λ s. Promises s r → Walks w.clears r) (nat_le (length w.items + length items) most) (next v) (too_many full) (λ _. k v refl) (λ _. fails_or_lists w.clears faults.TooDeep (full.items ++ failed faults.TooDeep ∷ [])) h
-
-  misses : (w : Walk) (next : Walk → State) (fault : Fault) → Follows w next → Promises (miss w next fault) r → Walks w.clears r
-  misses w next fault k h =
-      let items : List Item = failed fault ∷ [] in
-      cond_leads (λ s. Promises s r → Walks w.clears r) w.clears (fails fault) (give w items next) (λ _. fails_keeps (Walks w.clears) (walks_refused w.clears) r fault) (λ _. gives w items next k) h
-
-  goes_on : (todo : List Task) (w : Walk) → Promises (walk_on todo w) r → Walks w.clears r
-  goes_on [] w h = finishes_or_lists w.clears w.items h
-  goes_on (Stumble fault path ∷ todo) w h = misses w (walk_on todo) fault (λ v e g. rw (← e) (goes_on todo v g)) h
-  goes_on (Make v ∷ todo) w h = h
-
-  follows : (w : Walk) (todo : List Task) → Follows w (walk_on todo)
-  follows w todo v e h = rw (← e) (goes_on todo v h)
-
-  enters : (w : Walk) (p : List ℕ) (level : ℕ) (todo : List Task) (names : List Name) → Promises (entered w p level todo names) r → Walks w.clears r
-  enters w p level todo names h =
-      let v : Walk = record w { left = w.left - length names } in
-      let tasks : List Task = tasks_of w.clears level p names ++ leaving w.clears level p ++ todo in
-      cond_leads (λ s. Promises s r → Walks w.clears r) (nat_le (length names) w.left) (walk_on tasks v) (too_many w) (λ _. goes_on tasks v) (λ _. fails_or_lists w.clears faults.TooDeep (w.items ++ failed faults.TooDeep ∷ [])) h
-
-  bucketless : (w : Walk) (todo : List Task) (fault : Fault) → Promises (unread_bucket w todo fault) r → Walks w.clears r
-  bucketless w todo faults.NotFound h = goes_on todo w h
-  bucketless w todo fault h = misses w (walk_on todo) fault (follows w todo) h
-
-  visits : (w : Walk) (v : Visit) (todo : List Task) (t : PlainAnswer) → Promises (after_visit w v todo t) r → Walks w.clears r
-  visits w (Enter p level) todo t =
-      go_on_keeps (Walks w.clears) (walks_refused w.clears) r (names_in t) (miss w (walk_on todo)) (entered w p level todo) (λ fault. misses w (walk_on todo) fault (follows w todo)) (enters w p level todo)
-  visits w (ReadBucket p) todo t =
-      go_on_keeps (Walks w.clears) (walks_refused w.clears) r (bytes_in t) (unread_bucket w todo) (listed w todo) (bucketless w todo) (λ bytes. gives w (items_in bytes) (walk_on todo) (follows w todo))
-  visits w (RemoveFile p) todo t =
-      go_on_keeps (Walks w.clears) (walks_refused w.clears) r (done_in t) (miss w (walk_on todo)) (λ _. walk_on todo w) (λ fault. misses w (walk_on todo) fault (follows w todo)) (λ _. goes_on todo w)
-  visits w (RemoveFolder p) todo t =
-      go_on_keeps (Walks w.clears) (walks_refused w.clears) r (done_in t) (miss w (walk_on todo)) (λ _. walk_on todo w) (λ fault. misses w (walk_on todo) fault (follows w todo)) (λ _. goes_on todo w)
+  -- ---- copies
 
   counts : (count : Option ℕ) (n m : ℕ) → count ≡ Some m → counted count n ≡ m
   counts None n m e = absurd cc
@@ -412,25 +301,68 @@ module _ (r : Reply) where
 
   -- ---- all states
 
+  -- what follows from all that a state promises follows from all that is promised after its step
+  module _ (G : Type 0) where
+    abbrev Gives : State → Type 0
+    Gives s = Promises s r → G
+
+    abbrev WalkGives : Bool → Type 0
+    WalkGives clears = Walks clears r → G
+
+    commits_give : ClosedCommit AnyAnswer Gives
+    commits_give = record {
+      created = λ number c rest file b h. h;
+      wrote = λ c file rest w b h. h;
+      moved = λ c file h. (h, h);
+      synced = λ c file new b h. h;
+      persisted = λ c file fault h. h;
+      linked = λ c target fault h. h;
+      there = λ c fault h. (λ p. h (places c p), λ p s k. (k, k));
+    }
+
+    reads_give : ClosedReads AnyAnswer Gives
+    reads_give = record {
+      found = λ l found h p. h (founds l l.aim found p);
+      met = λ k bytes e h p. h (over_keeps (ReadsMeeting k.integrity) (λ _. tt) r (Read bytes) ((meets_finds k.integrity bytes).0 e) p);
+      unmet = λ k bytes h p. h (ends_keeps (ReadsMeeting k.integrity) (λ _. tt) r (IntegrityError (Check k.integrity (actual k.integrity bytes))) p);
+      asked = λ k there h p. h (over_keeps OnlyExists (λ _. tt) r (Exists there) tt p);
+    }
+
+    files_give : ClosedFiles AnyAnswer Gives
+    files_give = record {
+      sized = λ t n h p. h (sizes t n p);
+      opened = λ x file b h. h;
+      got = λ x file bytes g b h p. h (reads_on x bytes g.0 g.1 p);
+      copied = λ from to count n h p. h (over_keeps (Copies count) (λ _. tt) r (Copied (counted count n)) (counts count n) p);
+    }
+
+    walks_give : ClosedWalk AnyAnswer Gives WalkGives AnyVisit
+    walks_give = record {
+      visited = λ w v todo h. (h, (tt, any_visits todo));
+      visiting = λ w v todo h k all. h;
+      names = λ b level p names br h k i d lt. (tt, tt);
+      left = λ level p h k. tt;
+      cleared = λ h. h;
+      listed = λ items h p. h (over_keeps (Walks false) (λ _. tt) r (Listed items) tt p);
+    }
+
+    closed : Closed AnyAnswer Gives WalkGives AnyVisit
+    closed = record {
+      ends = record {
+        failed = λ s fault h p. h (fails_keeps (Promises s) (refused_kept s) r fault p);
+        memory = λ s h p. h (ends_keeps (Promises s) (refused_kept s) r OutOfMemory p);
+        errand = λ e s h. h;
+      };
+      commits = commits_give;
+      inserts = λ i h. (h, λ p s k. (k, k));
+      reads = reads_give;
+      files = files_give;
+      walks = walks_give;
+    }
+
   -- what every reply after an answer keeps, every reply before it does
   pub kept_before : (s : State) (t : PlainAnswer) → Promises (after s t) r → Promises s r
-  kept_before (doing errand s) t = go_on_or_fails (Promises s) (refused_kept s) r (done_in t) (λ _. s) (λ _ h. h)
-  kept_before (creating number c rest) t = go_on_or_fails (Stores c) (λ _. tt) r (temp_in t) (λ file. write_rest c file rest) (λ file. writes_rest c file rest)
-  kept_before (writing c file rest) t = go_on_or_fails (Stores c) (λ _. tt) r (written_in t) (after_write c rest) (writes c rest)
-  kept_before (syncing c file) t = go_on_or_fails (Stores c) (λ _. tt) r (synced_in t) (persisting c) (λ _ h. h)
-  kept_before (persisting c file) t = go_on_keeps (Stores c) (λ _. tt) r (done_in t) (confirming c) (λ _. settled c) (λ _ h. h) (λ _. settles c)
-  kept_before (linking c target) t = go_on_keeps (Stores c) (λ _. tt) r (done_in t) (confirming c) (λ _. settled c) (λ _ h. h) (λ _. settles c)
-  kept_before (confirming c fault) t = go_on_keeps (Stores c) (λ _. tt) r (there_in t) (λ _. fails fault) (after_confirm c fault) (λ _. fails_keeps (Stores c) (λ _. tt) r fault) (confirms c fault)
-  kept_before (appending i) t = go_on_or_fails (Only i.reply) (λ _. tt) r (taken_in t) (after_append i) (appends i)
-  kept_before (looking l) t = go_on_keeps (Aims l.aim) (aims_refused l.aim) r (bytes_in t) (no_bucket l) (after_bucket l) (unreads l) (λ bytes. founds l l.aim (found_in l.key bytes))
-  kept_before (reading k) t = go_on_or_fails (ReadsMeeting k.integrity) (λ _. tt) r (bytes_in t) (checked k) (checks k)
-  kept_before (sizing target) t = go_on_or_fails (StoresSized target) (λ _. tt) r (length_in t) (after_size target) (sizes target)
-  kept_before (opening_file x) t = go_on_or_fails (Hashes x []) (hashes_refused x []) r (file_in t) (λ file. hashing x file []) (λ file h. h)
-  kept_before (hashing x file bytes) t = go_on_or_fails (Hashes x bytes) (hashes_refused x bytes) r (got_in t) (after_read x bytes) (λ got. reads_on x bytes got.0 got.1)
-  kept_before (asking k) t = go_on_keeps OnlyExists (λ _. tt) r (there_in t) is_absent is_there (λ _. over_keeps OnlyExists (λ _. tt) r (Exists false) tt) (λ there. over_keeps OnlyExists (λ _. tt) r (Exists there) tt)
-  kept_before (copying from to count) t = go_on_or_fails (Copies count) (λ _. tt) r (taken_in t) (λ n. over (Copied (counted count n))) (λ n. over_keeps (Copies count) (λ _. tt) r (Copied (counted count n)) (counts count n))
-  kept_before (walking w v todo) t = visits w v todo t
-  kept_before (over reply) t = λ h. h
+  kept_before s t = kept_always (Gives (Promises s r)) (WalkGives (Promises s r)) AnyVisit (closed (Promises s r)) s t (λ p. p)
 
 own_kept : (r : Reply) → Only r r
 own_kept (Refused e) = tt

@@ -1,7 +1,5 @@
 -- Sound states make allowed steps, and stay sound.
-use Rattle.std.proofs.Common.{◌≡◌, inl, inr, ℕ, ◌+◌, ◌-◌, ◌<◌, ◌^◌, ◌==◌, List, [], ◌∷◌, ◌++◌, Option, Some, None, Bool, true, false, cond, nat_le, nat_lt, Ok, refl, ap, ap₂, sym, subst, ◌∙◌, drop, take, length, length-append, arith}
-use Rattle.cacache_core.specs.declared.errors.Fault.{Fault}
-use Rattle.cacache_core.specs.declared.errors.Fault.TheVariants as faults
+use Rattle.std.proofs.Common.{◌≡◌, inl, inr, ℕ, ◌+◌, ◌<◌, ◌^◌, ◌==◌, List, [], ◌∷◌, ◌++◌, Option, Some, None, Bool, true, false, Ok, refl, ap, ap₂, sym, subst, ◌∙◌, length, length-append, arith}
 use Rattle.cacache_core.specs.declared.errors.SerdeCause.{SerdeCause}
 use Rattle.cacache_core.specs.declared.errors.IntegrityFault.TheVariants.{Check}
 use Rattle.cacache_core.specs.declared.errors.Error.TheVariants.{SizeMismatch, IntegrityError}
@@ -10,15 +8,13 @@ use Rattle.cacache_core.specs.Integrity.{actual}
 use Rattle.cacache_core.specs.Paths.{index_area, join}
 use Rattle.cacache_store.specs.declared.store.plain.PlainTemp.{PlainTemp}
 use Rattle.cacache_store.specs.declared.store.plain.PlainFile.{PlainFile}
-use Rattle.cacache_store.specs.declared.store.answer.Kind.{Kind}
-use Rattle.cacache_store.specs.declared.store.answer.Kind.TheVariants as kinds
 use Rattle.cacache_store.specs.declared.store.answer.Name.{Name}
 use Rattle.cacache_store.specs.declared.store.answer.Answer.TheVariants as answers
 use Rattle.cacache_store.specs.declared.store.step.Step.TheVariants as steps
 use Rattle.cacache_store.specs.Plain.{PlainStep, PlainAnswer}
 use Rattle.cacache_store.specs.Fits.{Fits, AreProperNames}
 use Rattle.cacache_core.specs.PathNames.{IsProperName}
-use Rattle.std.proofs.lemmas.List.Elements.{All-append, All-nil, All-cons, All-head, All-tail}
+use Rattle.std.proofs.lemmas.List.Elements.{All-append, All-nil, All-cons, All-weaker}
 use Rattle.cacache_entry.specs.Latest.{Found}
 use Rattle.cacache_table.specs.declared.command.Command.{Command}
 use Rattle.cacache_table.specs.declared.command.Command.TheVariants as commands
@@ -26,41 +22,37 @@ use Rattle.cacache_table.specs.declared.command.Source.TheVariants as sources
 use Rattle.cacache_table.specs.declared.command.Export.{Export}
 use Rattle.cacache_table.specs.declared.command.How.{How}
 use Rattle.cacache_table.specs.declared.command.How.TheVariants.{Copy, Reflink, HardLink}
-use Rattle.cacache_table.specs.declared.reply.Reply.TheVariants.{Read, Copied, Listed, Done}
-use Rattle.cacache_table.specs.Answers.{done_in, temp_in, written_in, synced_in, there_in, taken_in, bytes_in, file_in, got_in, length_in, names_in}
+use Rattle.cacache_table.specs.declared.reply.Reply.TheVariants.{Read}
+use Rattle.cacache_table.specs.Answers.{temp_in, written_in, synced_in, file_in, got_in, names_in}
 use Rattle.cacache_core.specs.Meeting.{meets}
-use Rattle.cacache_table.specs.StepPaths.{temp_path, content_path, content_folder, bucket_path, bucket_folder, content_folders, bucket_folders}
-use Rattle.cacache_table.specs.State.{State, doing, creating, writing, syncing, persisting, linking, confirming, appending, looking, reading, asking, sizing, opening_file, hashing, copying, walking, over, Site, Insertion, Hashing, to_verify, to_link, Item, Walk, sync_dir, sync_file}
+use Rattle.cacache_table.specs.StepPaths.{temp_path, content_path, content_folder, bucket_path, bucket_folder}
+use Rattle.cacache_table.specs.State.{State, doing, creating, writing, syncing, persisting, linking, confirming, appending, looking, reading, asking, sizing, opening_file, hashing, copying, walking, over, Site, Insertion, Hashing, to_verify, to_link}
 use Rattle.cacache_table.specs.declared.carried.Commit.{Commit}
 use Rattle.cacache_table.specs.declared.carried.Aim.{Aim}
 use Rattle.cacache_table.specs.declared.carried.Lookup.{Lookup}
 use Rattle.cacache_table.specs.declared.carried.Content.{Content}
 use Rattle.cacache_table.specs.declared.target.Target.{Target}
 use Rattle.cacache_table.specs.declared.visit.Visit.{Visit}
-use Rattle.cacache_table.specs.declared.visit.Task.{Task}
 use Rattle.cacache_table.specs.declared.visit.Visit.TheVariants.{Enter, ReadBucket, RemoveFile, RemoveFolder}
-use Rattle.cacache_table.specs.declared.visit.Task.TheVariants.{Make, Stumble}
 use Rattle.cacache_table.specs.declared.carried.Aim.TheVariants as aims
-use Rattle.cacache_table.specs.Common.{ends_with, fails, sync_up}
-use Rattle.cacache_table.specs.Inserting.{insertion, deletion, unless_refused, refused_cause, bucket_line, recorded, after_append}
-use Rattle.cacache_table.specs.Storing.{insertion_of, indexed, sized, matches, compared, placed, settled, resettled, moved, write_rest, after_write, after_confirm}
+use Rattle.cacache_table.specs.Common.{ends_with}
+use Rattle.cacache_table.specs.Inserting.{insertion, deletion, unless_refused, refused_cause, bucket_line}
+use Rattle.cacache_table.specs.Storing.{insertion_of, indexed, sized, matches, compared, placed}
 use Rattle.cacache_table.specs.Removing.{remove_found}
-use Rattle.cacache_table.specs.ContentReads.{checked, is_there, is_absent}
-use Rattle.cacache_table.specs.Exporting.{export_from, export_content, export, counted}
-use Rattle.cacache_table.specs.Linking.{after_size, commit_for, hashed_path, hashed, after_read}
-use Rattle.cacache_table.specs.Looking.{found_in, found_content, found_for, after_bucket, no_bucket}
-use Rattle.cacache_table.specs.Walking.{most, failed, give, miss, walk_on, task_of, tasks_of, leaving, too_many, entered, unread_bucket, listed, visit_step, after_visit, items_in}
+use Rattle.cacache_table.specs.Exporting.{export_from, export_content, export}
+use Rattle.cacache_table.specs.Linking.{commit_for, hashed_path, hashed, after_read}
+use Rattle.cacache_table.specs.Looking.{found_content, found_for}
+use Rattle.cacache_table.specs.Walking.{visit_step}
 use Rattle.cacache_table.specs.Table.{piece, wants, after, opening}
-use Rattle.cacache_table.proofs.Branches.{cond_leads, go_on_leads}
+use Rattle.cacache_table.proofs.Closed.{AnyWalk, ClosedCommit, ClosedFiles, ClosedWalk, Closed, kept}
+use Rattle.cacache_table.proofs.Branches.{cond_leads}
+use Rattle.cacache_table.proofs.Visits.{MayMeet}
 use Rattle.cacache_core.specs.Paths.{joined}
-use Rattle.cacache_table.specs.Sound.{SoundCommit, SoundInsertion, SoundTarget, IsTemp, IsBelow, IsContent, IsFolder, IsLine, SoundVisit, SoundTasks, Allowed, SoundAim, SoundHashing, Sound, MayBegin}
+use Rattle.cacache_table.specs.Sound.{SoundCommit, SoundInsertion, SoundTarget, IsBelow, IsContent, IsFolder, IsLine, SoundVisit, Allowed, SoundAim, SoundHashing, Sound, MayBegin}
 
 -- what follows from an equation of steps
 pub some_is : (P : PlainStep → Type 0) (a b : PlainStep) → Some a ≡ Some b → P a → P b
 some_is P a b e h = let same : a ≡ b = cc in subst P same h
-
-from_some : (P : PlainStep → Type 0) (a b : PlainStep) → Some a ≡ Some b → P b → P a
-from_some P a b e h = let same : b ≡ a = cc in subst P same h
 
 module _ (site : Site) (apart outside : List ℕ → Bool) where
   abbrev Is : State → Type 0
@@ -94,38 +86,6 @@ module _ (site : Site) (apart outside : List ℕ → Bool) where
 
   places : (c : Commit) → SoundCommit site c → Is (placed c)
   places c h = by_integrity c c.options.integrity h
-
-  syncs : (folders : List (List ℕ)) (s : State) → Is s → Is (sync_up folders s)
-  syncs [] s h = h
-  syncs (p ∷ ps) s h = syncs ps (doing (sync_dir p) s) (tt, h)
-
-  settles : (c : Commit) → SoundCommit site c → Is (settled c)
-  settles c h =
-      cond_leads Is c.options.durable (sync_up (content_folders c.cache c.computed) (placed c)) (placed c)
-      (λ _. syncs (content_folders c.cache c.computed) (placed c) (places c h)) (λ _. places c h)
-
-  resettles : (c : Commit) → SoundCommit site c → Is (resettled c)
-  resettles c h =
-      cond_leads Is c.options.durable (doing (sync_file (content_path c.cache c.computed)) (settled c)) (settled c) (λ _. (tt, settles c h)) (λ _. settles c h)
-
-  moves : (c : Commit) (file : PlainTemp) → SoundCommit site c → IsTemp site file → Is (moved c file)
-  moves c file h t = cond_leads Is c.options.durable (syncing c file) (persisting c file) (λ _. (h, t)) (λ _. (h, t))
-
-  records : (i : Insertion) → Is (recorded i)
-  records i =
-      cond_leads Is i.durable (doing (sync_file (bucket_path i.cache i.entry.key)) (sync_up (bucket_folders i.cache i.entry.key) (over i.reply))) (over i.reply)
-      (λ _. (tt, syncs (bucket_folders i.cache i.entry.key) (over i.reply) tt)) (λ _. tt)
-
-  rests : (c : Commit) (file : PlainTemp) (rest : List ℕ) → SoundCommit site c → IsTemp site file → Is (write_rest c file rest)
-  rests c file [] h t = (folder_at c h, moves c file h t)
-  rests c file (b ∷ bs) h t = (h, t)
-
-  writes : (c : Commit) (rest : List ℕ) (w : PlainTemp × ℕ) → SoundCommit site c → IsTemp site w.0 → Is (after_write c rest w)
-  writes c rest w h t = cond_leads Is (w.1 == 0) (fails faults.WriteZero) (write_rest c w.0 (drop w.1 rest)) (λ _. tt) (λ _. rests c w.0 (drop w.1 rest) h t)
-
-  confirms : (c : Commit) (fault : Fault) (there : Bool) → SoundCommit site c → Is (after_confirm c fault there)
-  confirms c fault true h = resettles c h
-  confirms c fault false h = tt
 
   -- the temporary file that an answer gives
   made_temp : (p : List ℕ) (t : PlainAnswer) (file : PlainTemp) → Fits (steps.CreateTemp p) t → temp_in t ≡ Ok file → file.path ≡ p
@@ -186,10 +146,6 @@ module _ (site : Site) (apart outside : List ℕ → Bool) where
   founds l (aims.Export x) (Some f) e h = exports (found_content l f) x h
   founds l (aims.Export x) None e h = tt
 
-  unreads : (l : Lookup) (fault : Fault) → l.cache ≡ site.cache → SoundAim site apart outside l.aim → Is (no_bucket l fault)
-  unreads l faults.NotFound e h = founds l l.aim None e h
-  unreads l fault e h = tt
-
   -- ---- walks
 
   joined_more : (path : List ℕ) (names : List (List ℕ)) (n : List ℕ) → joined path (names ++ n ∷ []) ≡ join (joined path names) n
@@ -205,70 +161,9 @@ module _ (site : Site) (apart outside : List ℕ → Bool) where
   named p (answers.Names given) names fits e = let same : given ≡ names = cc in rw (← same) fits
   named p t names fits e = absurd cc
 
-  tasks_append : (a b : List Task) → SoundTasks site a → SoundTasks site b → SoundTasks site (a ++ b)
-  tasks_append [] b h k = k
-  tasks_append (Make v ∷ a) b h k = (h.0, tasks_append a b h.1 k)
-  tasks_append (Stumble fault path ∷ a) b h k = tasks_append a b h k
-
-  -- a task that is one of two
-  one_of : (b : Bool) (x y : Task) → SoundTasks site (x ∷ []) → SoundTasks site (y ∷ []) → SoundTasks site (cond b x y ∷ [])
-  one_of true x y h k = h
-  one_of false x y h k = k
-
-  task_sound : (clears : Bool) (level : ℕ) (p : List ℕ) (kind : Kind) → IsBelow site p → SoundTasks site (task_of clears level p kind ∷ [])
-  task_sound clears level p kinds.Folder h = one_of (nat_lt level 16) (Make (Enter p (level + 1))) (Stumble faults.TooDeep p) (h, tt) tt
-  task_sound false level p kinds.File h = (h, tt)
-  task_sound false level p kinds.Link h = (h, tt)
-  task_sound true level p kinds.File h = one_of (level == 0) (Stumble faults.NotADirectory p) (Make (RemoveFile p)) tt (h, tt)
-  task_sound true level p kinds.Link h = (h, tt)
-
-  tasks_sound : (clears : Bool) (level : ℕ) (p : List ℕ) (names : List Name) → AreProperNames names → IsBelow site p → SoundTasks site (tasks_of clears level p names)
-  tasks_sound clears level p [] all h = tt
-  tasks_sound clears level p (n ∷ ns) all h =
-      let deeper : IsBelow site (join p n.name) = below_more p n.name (All-head (λ entry. IsProperName entry.name) n ns all) h in
-      tasks_append (task_of clears level (join p n.name) n.kind ∷ []) (tasks_of clears level p ns) (task_sound clears level (join p n.name) n.kind deeper) (tasks_sound clears level p ns (All-tail (λ entry. IsProperName entry.name) n ns all) h)
-
-  leaving_sound : (clears : Bool) (level : ℕ) (p : List ℕ) → IsBelow site p → SoundTasks site (leaving clears level p)
-  leaving_sound clears level p h = by_both clears (level == 0)
-    where
-      by_both : (b c : Bool) → SoundTasks site (cond b (cond c [] (Make (RemoveFolder p) ∷ [])) [])
-      by_both true true = tt
-      by_both true false = (h, tt)
-      by_both false c = tt
-
-  too_many_sound : (w : Walk) → Is (too_many w)
-  too_many_sound w = cond_leads Is w.clears (fails faults.TooDeep) (over (Listed (w.items ++ failed faults.TooDeep ∷ []))) (λ _. tt) (λ _. tt)
-
-  gives : (w : Walk) (items : List Item) (next : Walk → State) → ((v : Walk) → Is (next v)) → Is (give w items next)
-  gives w items next k =
-      let v : Walk = record w { items = w.items ++ items } in
-      let full : Walk = record w { items = take most (w.items ++ items) } in
-      cond_leads Is (nat_le (length w.items + length items) most) (next v) (too_many full) (λ _. k v) (λ _. too_many_sound full)
-
-  misses : (w : Walk) (next : Walk → State) (fault : Fault) → ((v : Walk) → Is (next v)) → Is (miss w next fault)
-  misses w next fault k = cond_leads Is w.clears (fails fault) (give w (failed fault ∷ []) next) (λ _. tt) (λ _. gives w (failed fault ∷ []) next k)
-
-  goes_on : (todo : List Task) → SoundTasks site todo → (w : Walk) → Is (walk_on todo w)
-  goes_on [] h w = cond_leads Is w.clears (over Done) (over (Listed w.items)) (λ _. tt) (λ _. tt)
-  goes_on (Stumble fault path ∷ todo) h w = misses w (walk_on todo) fault (goes_on todo h)
-  goes_on (Make v ∷ todo) h w = h
-
-  enters : (w : Walk) (p : List ℕ) (level : ℕ) (todo : List Task) (names : List Name) → AreProperNames names → IsBelow site p → SoundTasks site todo → Is (entered w p level todo names)
-  enters w p level todo names proper h k =
-      let first : List Task = tasks_of w.clears level p names in
-      let leave : List Task = leaving w.clears level p in
-      let all : SoundTasks site (first ++ leave ++ todo) = tasks_append (first ++ leave) todo (tasks_append first leave (tasks_sound w.clears level p names proper h) (leaving_sound w.clears level p h)) k in
-      cond_leads Is (nat_le (length names) w.left) (walk_on (first ++ leave ++ todo) (record w { left = w.left - length names })) (too_many w) (λ _. goes_on (first ++ leave ++ todo) all _) (λ _. too_many_sound w)
-
-  unread : (w : Walk) (todo : List Task) (fault : Fault) → SoundTasks site todo → Is (unread_bucket w todo fault)
-  unread w todo faults.NotFound k = goes_on todo k w
-  unread w todo fault k = misses w (walk_on todo) fault (goes_on todo k)
-
-  visits : (w : Walk) (v : Visit) (todo : List Task) (t : PlainAnswer) → Fits (visit_step v) t → SoundVisit site v → SoundTasks site todo → Is (after_visit w v todo t)
-  visits w (Enter p level) todo t f h k = go_on_leads Is (names_in t) (miss w (walk_on todo)) (entered w p level todo) tt (λ fault. misses w (walk_on todo) fault (goes_on todo k)) (λ names e. enters w p level todo names (named p t names f e) h k)
-  visits w (ReadBucket p) todo t f h k = go_on_leads Is (bytes_in t) (unread_bucket w todo) (listed w todo) tt (λ fault. unread w todo fault k) (λ bytes _. gives w (items_in bytes) (walk_on todo) (goes_on todo k))
-  visits w (RemoveFile p) todo t f h k = go_on_leads Is (done_in t) (miss w (walk_on todo)) (λ _. walk_on todo w) tt (λ fault. misses w (walk_on todo) fault (goes_on todo k)) (λ _ _. goes_on todo k w)
-  visits w (RemoveFolder p) todo t f h k = go_on_leads Is (done_in t) (miss w (walk_on todo)) (λ _. walk_on todo w) tt (λ fault. misses w (walk_on todo) fault (goes_on todo k)) (λ _ _. goes_on todo k w)
+  may_meet : (clears : Bool) (level : ℕ) (p : List ℕ) → IsBelow site p → (n : Name) → IsProperName n.name → MayMeet (SoundVisit site) level p clears n
+  may_meet true level p h n proper = let k = below_more p n.name proper h in (k, k)
+  may_meet false level p h n proper = let k = below_more p n.name proper h in (k, k)
 
   -- ---- a command may begin
 
@@ -321,31 +216,44 @@ module _ (site : Site) (apart outside : List ℕ → Bool) where
 
   -- ---- the states after them
 
+  commits_sound : ClosedCommit Fits Is
+  commits_sound = record {
+    created = λ number c rest file b h. (h.1, made_temp (temp_path c.cache number) b.0 file b.1 b.2 ∙ ap₂ temp_path h.1.here h.0);
+    wrote = λ c file rest w b h. (h.0, written_temp file rest b.0 w b.1 b.2 ∙ h.1);
+    moved = λ c file h. ((folder_at c h.0, h), (folder_at c h.0, h));
+    synced = λ c file new b h. (h.0, synced_temp file b.0 new b.1 b.2 ∙ h.1);
+    persisted = λ c file fault h. h.0;
+    linked = λ c target fault h. h.0;
+    there = λ c fault h. (places c h, λ p s k. ((tt, k), (tt, k)));
+  }
+
+  files_sound : ClosedFiles Fits Is
+  files_sound = record {
+    sized = λ t n h. (record { here = h.0.here; formed = h.0.formed }, h.1);
+    opened = λ x file b h. (h, omega (arith, opened (hashed_path x) b.0 file b.1 b.2));
+    got = λ x file bytes g b h. reads_on x bytes file.left g.0 g.1 h.0 h.1 (left_after file b.0 g b.1 b.2);
+    copied = λ from to count n h. tt;
+  }
+
+  walks_sound : ClosedWalk Fits Is AnyWalk (SoundVisit site)
+  walks_sound = record {
+    visited = λ w v todo h. (tt, h);
+    visiting = λ w v todo h k t. (k, t);
+    names = λ clears level p names b h k. All-weaker (λ n. IsProperName n.name) (MayMeet (SoundVisit site) level p clears) (may_meet clears level p k) names (named p b.0 names b.1 b.2);
+    left = λ level p h k. k;
+    cleared = λ h. tt;
+    listed = λ items h. tt;
+  }
+
+  closed : Closed Fits Is AnyWalk (SoundVisit site)
+  closed = record {
+    ends = record { failed = λ s fault h. tt; memory = λ s h. tt; errand = λ e s h. h.1 };
+    commits = commits_sound;
+    inserts = λ i h. (tt, λ p s k. ((tt, k), (tt, k)));
+    reads = record { found = λ l found h. founds l l.aim found h.0 h.1; met = λ k bytes e h. tt; unmet = λ k bytes h. tt; asked = λ k there h. tt };
+    files = files_sound;
+    walks = walks_sound;
+  }
+
   pub stays_sound : (s : State) (step : PlainStep) (t : PlainAnswer) → Is s → wants s ≡ Some step → Fits step t → Is (after s t)
-  stays_sound (doing errand s) step t h e f = go_on_leads Is (done_in t) fails (λ _. s) tt (λ _. tt) (λ _ _. h.1)
-  stays_sound (creating number c rest) step t h e f =
-      go_on_leads Is (temp_in t) fails (λ file. write_rest c file rest) tt (λ _. tt)
-      (λ file k. rests c file rest h.1 (made_temp (temp_path c.cache number) t file (from_some (λ a. Fits a t) _ step e f) k ∙ ap₂ temp_path h.1.here h.0))
-  stays_sound (writing c file rest) step t h e f =
-      go_on_leads Is (written_in t) fails (after_write c rest) tt (λ _. tt)
-      (λ w k. writes c rest w h.0 (written_temp file rest t w (from_some (λ a. Fits a t) _ step e f) k ∙ h.1))
-  stays_sound (syncing c file) step t h e f =
-      go_on_leads Is (synced_in t) fails (persisting c) tt (λ _. tt)
-      (λ g k. (h.0, synced_temp file t g (from_some (λ a. Fits a t) _ step e f) k ∙ h.1))
-  stays_sound (persisting c file) step t h e f = go_on_leads Is (done_in t) (confirming c) (λ _. settled c) tt (λ _. h.0) (λ _ _. settles c h.0)
-  stays_sound (linking c target) step t h e f = go_on_leads Is (done_in t) (confirming c) (λ _. settled c) tt (λ _. h.0) (λ _ _. settles c h.0)
-  stays_sound (confirming c fault) step t h e f = go_on_leads Is (there_in t) (λ _. fails fault) (after_confirm c fault) tt (λ _. tt) (λ there _. confirms c fault there h)
-  stays_sound (appending i) step t h e f = go_on_leads Is (taken_in t) fails (after_append i) tt (λ _. tt) (λ n _. cond_leads Is (nat_le (length (bucket_line i)) n) (recorded i) (fails faults.ShortAppend) (λ _. records i) (λ _. tt))
-  stays_sound (looking l) step t h e f = go_on_leads Is (bytes_in t) (no_bucket l) (after_bucket l) tt (λ fault. unreads l fault h.0 h.1) (λ bytes _. founds l l.aim (found_in l.key bytes) h.0 h.1)
-  stays_sound (reading k) step t h e f = go_on_leads Is (bytes_in t) fails (checked k) tt (λ _. tt) (λ bytes _. cond_leads Is (meets k.integrity bytes) (over (Read bytes)) (ends_with (IntegrityError (Check k.integrity (actual k.integrity bytes)))) (λ _. tt) (λ _. tt))
-  stays_sound (asking k) step t h e f = go_on_leads Is (there_in t) is_absent is_there tt (λ _. tt) (λ _ _. tt)
-  stays_sound (sizing target) step t h e f = go_on_leads Is (length_in t) fails (after_size target) tt (λ _. tt) (λ n _. (record { here = h.0.here; formed = h.0.formed }, h.1))
-  stays_sound (opening_file x) step t h e f =
-      go_on_leads Is (file_in t) fails (λ file. hashing x file []) tt (λ _. tt)
-      (λ file k. (h, omega (arith, opened (hashed_path x) t file (from_some (λ a. Fits a t) _ step e f) k)))
-  stays_sound (hashing x file bytes) step t h e f =
-      go_on_leads Is (got_in t) fails (after_read x bytes) tt (λ _. tt)
-      (λ got k. reads_on x bytes file.left got.0 got.1 h.0 h.1 (left_after file t got (from_some (λ a. Fits a t) _ step e f) k))
-  stays_sound (copying from to count) step t h e f = go_on_leads Is (taken_in t) fails (λ n. over (Copied (counted count n))) tt (λ _. tt) (λ _ _. tt)
-  stays_sound (walking w v todo) step t h e f = visits w v todo t (from_some (λ a. Fits a t) _ step e f) h.0 h.1
-  stays_sound (over reply) step t h e f = tt
+  stays_sound s step t h e f = kept Fits Is AnyWalk (SoundVisit site) closed s step t h e f

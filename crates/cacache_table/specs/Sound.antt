@@ -1,5 +1,5 @@
 -- Which states the calls at a site stand in, and which steps they may make there.
-use Rattle.std.specs.Prelude.{All, ◌≡◌, ◌⊎◌, ◌<◌, ◌+◌, ◌^◌, ℕ, List, [], ◌∷◌, None, Some, Bool, true, length}
+use Rattle.std.specs.Prelude.{All, ◌≡◌, ◌⊎◌, ◌<◌, ◌+◌, ◌^◌, ℕ, List, None, Some, Bool, true, length}
 use Rattle.cacache_core.specs.declared.integrity.algorithm.Algorithm.{Algorithm}
 use Rattle.cacache_core.specs.declared.integrity.digest.Hash.{Hash}
 use Rattle.cacache_core.specs.Integrity.{integrity_under}
@@ -21,13 +21,13 @@ use Rattle.cacache_table.specs.declared.target.Target.{Target}
 use Rattle.cacache_table.specs.declared.visit.Visit.{Visit}
 use Rattle.cacache_table.specs.declared.visit.Task.{Task}
 use Rattle.cacache_table.specs.declared.visit.Visit.TheVariants.{Enter, ReadBucket, RemoveFile, RemoveFolder}
-use Rattle.cacache_table.specs.declared.visit.Task.TheVariants.{Make, Stumble}
 use Rattle.cacache_table.specs.declared.carried.Aim.TheVariants as aims
 use Rattle.cacache_table.specs.Common.{errand_step}
 use Rattle.cacache_table.specs.Inserting.{insertion, deletion, refused_cause}
 use Rattle.cacache_table.specs.Storing.{insertion_of, put_commit}
 use Rattle.cacache_table.specs.Linking.{commit_for, link_target}
 use Rattle.cacache_table.specs.Table.{wants, after, opening}
+use Rattle.cacache_table.specs.Walking.{EachVisit}
 
 -- ---- what a state carries
 
@@ -101,9 +101,7 @@ SoundVisit site (RemoveFolder p) = IsBelow site p
 
 -- each visit among the tasks is such a visit
 abbrev pub SoundTasks : Site → List Task → Type 0
-SoundTasks site [] = Unit {0}
-SoundTasks site (Make v ∷ todo) = SoundVisit site v × SoundTasks site todo
-SoundTasks site (Stumble fault path ∷ todo) = SoundTasks site todo
+SoundTasks site = EachVisit (SoundVisit site)
 
 -- exports go only where `apart` says so, and links only lead where `outside` does
 module _ (site : Site) (apart outside : List ℕ → Bool) where

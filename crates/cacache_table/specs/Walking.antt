@@ -109,6 +109,12 @@ abbrev pub leaving : Bool → ℕ → List ℕ → List Task
 leaving clears level p =
     if clears then (if level == 0 then [] else Make (RemoveFolder p) ∷ []) else []
 
+-- this holds of each visit among the tasks
+abbrev pub EachVisit : (Visit → Type 0) → List Task → Type 0
+EachVisit V [] = Unit {0}
+EachVisit V (Make v ∷ todo) = V v × EachVisit V todo
+EachVisit V (Stumble fault path ∷ todo) = EachVisit V todo
+
 -- ---- after a step
 
 -- the tasks of a folder come before those that were to do
