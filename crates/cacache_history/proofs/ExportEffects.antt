@@ -1,6 +1,7 @@
 -- An export to a path apart from the cache leaves what the cache holds.
 use Rattle.std.proofs.Common.{◌≡◌, ◌&&◌, ℕ, zero, suc, Bool, true, false, cond, List, [], ◌∷◌, ◌++◌, Option, None, Some, Result, Ok, Err, refl, sym, ap, subst, ◌∙◌}
-use Rattle.std.specs.Prelude.{IfOk, bytes_eq, codes}
+use Rattle.std.specs.Prelude.{IfOk, bytes_eq}
+use Rattle.cacache_core.specs.Paths.{content_area, index_area, temp_area}
 use Rattle.cacache_core.specs.declared.errors.Fault.{Fault}
 use Rattle.cacache_core.specs.PathNames.{Names, names_of, home_of}
 use Rattle.cacache_store.specs.declared.store.answer.Answer.TheVariants as answers
@@ -59,7 +60,7 @@ beside_by false kind apart h e = refl
 
 beside : (folder path : Names) → kind_beside folder path ≡ Elsewhere → are_apart folder path ≡ true
 beside [] [] e = absurd cc
-beside [] (area ∷ rest) e = absurd (below_kind (bytes_eq area (codes "content-v2")) (bytes_eq area (codes "index-v5")) (bytes_eq area (codes "tmp")) rest e)
+beside [] (area ∷ rest) e = absurd (below_kind (bytes_eq area content_area) (bytes_eq area index_area) (bytes_eq area temp_area) rest e)
 beside (n ∷ ns) [] e = absurd cc
 beside (n ∷ ns) (m ∷ ms) e = beside_by (bytes_eq n m) (kind_beside ns ms) (are_apart ns ms) (beside ns ms) e
 

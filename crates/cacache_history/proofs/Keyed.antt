@@ -1,10 +1,10 @@
 -- A step makes no bucket but that of a key.
-use Rattle.std.proofs.Common.{◌≡◌, ◌-◌, ◌==◌, ℕ, Bool, true, false, cond, List, ◌∷◌, ◌++◌, Option, None, Some, Result, Ok, Err, take, refl, sym, ap, subst, ◌∙◌, codes, bytes_eq, append_assoc}
+use Rattle.std.proofs.Common.{◌≡◌, ◌-◌, ◌==◌, ℕ, Bool, true, false, cond, List, ◌∷◌, ◌++◌, Option, None, Some, Result, Ok, Err, take, refl, sym, ap, subst, ◌∙◌, bytes_eq, append_assoc}
 use Rattle.std.specs.Prelude.{IfOk, []}
 use Rattle.cacache_core.specs.declared.errors.Fault.{Fault}
 use Rattle.cacache_core.specs.declared.errors.Fault.TheVariants.{NotFound, IsADirectory, InvalidInput}
 use Rattle.cacache_core.specs.PathNames.{Names, names_of, names_below}
-use Rattle.cacache_core.specs.Paths.{bucket_names}
+use Rattle.cacache_core.specs.Paths.{bucket_names, content_area, index_area, temp_area}
 use Rattle.cacache_store.specs.declared.store.step.Step.TheVariants.{MakeDirs, CreateTemp, Write, Persist, Append, ReadAll, Open, Read, Size, Exists, Symlink, Copy, Reflink, HardLink, ReadDir, RemoveFile, RemoveDir, SyncTemp, SyncFile, SyncDir}
 use Rattle.cacache_store.specs.Plain.{PlainStep, PlainAnswer}
 use Rattle.cacache_disk.specs.declared.luck.Luck.{Luck}
@@ -162,7 +162,7 @@ pub record Deep (home path : Names) : Type 0 where
 
 below_deep : (path : Names) → kind_below path ≡ Bucket → Deep [] path
 below_deep [] e = absurd cc
-below_deep (x ∷ []) e = absurd (one_below (bytes_eq x (codes "content-v2")) (bytes_eq x (codes "index-v5")) (bytes_eq x (codes "tmp")) e)
+below_deep (x ∷ []) e = absurd (one_below (bytes_eq x content_area) (bytes_eq x index_area) (bytes_eq x temp_area) e)
 below_deep (x ∷ y ∷ rest) e = record { first = x; second = y; rest = rest; is = refl }
 
 beside_deep : (home path : Names) → kind_beside home path ≡ Bucket → Deep home path

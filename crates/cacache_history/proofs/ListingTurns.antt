@@ -1,5 +1,5 @@
 -- A listing answers what its turns gave.
-use Rattle.std.proofs.Common.{◌≡◌, ◌⊎◌, inl, inr, ◌≤◌, ◌<◌, ◌+◌, ◌-◌, ℕ, true, false, cond, ◌||◌, List, [], ◌∷◌, ◌++◌, Option, None, Some, Result, Ok, Err, length, take, drop, nat_le, nat_lt, refl, sym, ap, subst, ◌∙◌, codes, arith, append-nil, length-append}
+use Rattle.std.proofs.Common.{◌≡◌, ◌⊎◌, inl, inr, ◌≤◌, ◌<◌, ◌+◌, ◌-◌, ℕ, true, false, cond, ◌||◌, List, [], ◌∷◌, ◌++◌, Option, None, Some, Result, Ok, Err, length, take, drop, nat_le, nat_lt, refl, sym, ap, subst, ◌∙◌, arith, append-nil, length-append}
 use Rattle.std.specs.Prelude.{All}
 use Rattle.std.proofs.lemmas.Bool.{leb-true, leb-false}
 use Rattle.std.proofs.lemmas.List.{take_all, take_at}
@@ -10,7 +10,7 @@ use Rattle.cacache_core.specs.declared.errors.Fault.TheVariants as faults
 use Rattle.cacache_core.specs.declared.errors.Error.TheVariants.{OutOfMemory}
 use Rattle.hex.specs.Hex.{encode_lower}
 use Rattle.cacache_core.specs.PathNames.{IsProperName}
-use Rattle.cacache_core.specs.Paths.{join, joined, bucket_names}
+use Rattle.cacache_core.specs.Paths.{join, joined, bucket_names, index_area}
 use Rattle.cacache_store.specs.declared.store.answer.Name.{Name}
 use Rattle.cacache_store.specs.declared.store.answer.Answer.TheVariants as answers
 use Rattle.cacache_store.specs.declared.store.step.Step.TheVariants as steps
@@ -195,9 +195,9 @@ module _ (s : Setup) (r : Reply) where
     fails_follow : (p : List ℕ) (level : ℕ) (todo : List Task) (refusal : Refusal) → steps.ReadDir p ≡ turn.move.step → names_in turn.move.answer ≡ Err refusal
         → Follows turn (Make (Enter p level) ∷ todo) todo
     fails_follow p level todo refusal is e key has (inl c) =
-        let front : codes "index-v5" ∷ c.0 ≡ take (length (codes "index-v5" ∷ c.0)) (bucket_names key)
-        = sym (take_at (codes "index-v5" ∷ c.0) (c.1 ∷ c.2) (length (codes "index-v5" ∷ c.0)) refl) ∙ ap (take (length (codes "index-v5" ∷ c.0))) c.4 in
-        inl (inr (length (codes "index-v5" ∷ c.0), refusal, sym is ∙ ap steps.ReadDir (c.3 ∙ ap (joined s.cache) front), e))
+        let front : index_area ∷ c.0 ≡ take (length (index_area ∷ c.0)) (bucket_names key)
+        = sym (take_at (index_area ∷ c.0) (c.1 ∷ c.2) (length (index_area ∷ c.0)) refl) ∙ ap (take (length (index_area ∷ c.0))) c.4 in
+        inl (inr (length (index_area ∷ c.0), refusal, sym is ∙ ap steps.ReadDir (c.3 ∙ ap (joined s.cache) front), e))
     fails_follow p level todo refusal is e key has (inr c) = inr c
 
     enters_follow : (p : List ℕ) (level : ℕ) (w : Walk) (todo : List Task) (ns : List Name) → w.clears ≡ false → TurnHolds s turn → steps.ReadDir p ≡ turn.move.step → names_in turn.move.answer ≡ Ok ns
@@ -240,7 +240,7 @@ module _ (s : Setup) (r : Reply) where
   runs_rest st (turn ∷ turns) hold keyed run = before st turn turns hold.0 keyed.0 run.0 (runs_rest (after st turn.move.answer) turns hold.1 keyed.1 run.2)
 
   -- the walk begins above each bucket
-  top_covers : (key : List ℕ) → CoversAny s key (Make (Enter (join s.cache (codes "index-v5")) 0) ∷ [])
+  top_covers : (key : List ℕ) → CoversAny s key (Make (Enter (join s.cache index_area) 0) ∷ [])
   top_covers key = inl ([], take 2 (encode_lower (sha1 key)), take 2 (drop 2 (encode_lower (sha1 key))) ∷ drop 4 (encode_lower (sha1 key)) ∷ [], refl, refl, refl)
 
   pub runs_list : (n : ℕ) (turns : List Turn) → TurnsHold s turns → EachTurn (KeyedTurn s) turns → Runs (opening (call_site s n) commands.Ls) (made_in turns) r

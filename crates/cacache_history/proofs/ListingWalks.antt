@@ -1,5 +1,5 @@
 -- A listing reads folders of the index and buckets of keys, and answers what they give.
-use Rattle.std.proofs.Common.{◌≡◌, ◌⊎◌, inl, inr, ◌≤◌, ◌<◌, ◌+◌, ℕ, zero, suc, Bool, true, false, cond, List, [], ◌∷◌, ◌++◌, Option, None, Some, Ok, length, take, nat_lt, refl, sym, ap, subst, ◌∙◌, codes, arith, append_assoc, length-append}
+use Rattle.std.proofs.Common.{◌≡◌, ◌⊎◌, inl, inr, ◌≤◌, ◌<◌, ◌+◌, ℕ, zero, suc, Bool, true, false, cond, List, [], ◌∷◌, ◌++◌, Option, None, Some, Ok, length, take, nat_lt, refl, sym, ap, subst, ◌∙◌, arith, append_assoc, length-append}
 use Rattle.std.specs.Prelude.{All}
 use Rattle.std.proofs.lemmas.Bool.{ltb-false}
 use Rattle.std.proofs.lemmas.List.{append_cancel_left, take_at}
@@ -7,7 +7,7 @@ use Rattle.std.proofs.lemmas.List.Elements.{All-nil, All-cons, All-append, All-h
 use Rattle.sha1.specs.Sha1.{sha1}
 use Rattle.cacache_core.specs.declared.errors.Fault.TheVariants as faults
 use Rattle.cacache_core.specs.PathNames.{Names, names_of, names_below, IsProperName}
-use Rattle.cacache_core.specs.Paths.{join, joined, bucket_names}
+use Rattle.cacache_core.specs.Paths.{join, joined, bucket_names, index_area}
 use Rattle.cacache_core.proofs.JoinedNames.{joined_texts_name}
 use Rattle.cacache_core.proofs.PathLemmas.{keys_have_digests}
 use Rattle.cacache_core.proofs.ProperNames.{names_are_proper}
@@ -48,7 +48,7 @@ use Rattle.cacache_history.proofs.Bucketed.{KeyedTurn}
 
 -- a folder of the index at its level, or the bucket of a key
 abbrev pub Visits : Setup → Visit → Type 0
-Visits s (Enter p level) = IsIndexFolder s p × ((names : Names) × All IsProperName names × (length names ≤ 2) × (p ≡ joined s.cache (codes "index-v5" ∷ names)) × (level ≡ length names))
+Visits s (Enter p level) = IsIndexFolder s p × ((names : Names) × All IsProperName names × (length names ≤ 2) × (p ≡ joined s.cache (index_area ∷ names)) × (level ≡ length names))
 Visits s (ReadBucket p) = (key : List ℕ) × (p ≡ bucket_path s.cache key)
 Visits s v = ⊥
 
@@ -83,11 +83,11 @@ no_link home target (suc n) [] s = s
 no_link home target (suc n) (x ∷ rest) s = no_link home target n rest s
 
 -- no folder of the index lies deeper
-folder_low : (t : Tree) (home : Option Names) (folder names : Names) → Placed home t → home ≡ Some folder → look t (folder ++ codes "index-v5" ∷ names) ≡ Some Folder → length names ≤ 2
+folder_low : (t : Tree) (home : Option Names) (folder names : Names) → Placed home t → home ≡ Some folder → look t (folder ++ index_area ∷ names) ≡ Some Folder → length names ≤ 2
 folder_low t home folder names placed here there =
-    let suits : MayStand (Some folder) (Some Folder) (path_kind (Some folder) (folder ++ codes "index-v5" ∷ names))
-    = subst (λ o. MayStand (Some folder) o (path_kind (Some folder) (folder ++ codes "index-v5" ∷ names))) there (subst (λ o. Placed o t) here placed (folder ++ codes "index-v5" ∷ names)) in
-    let low = folder_high (Some folder) 3 names (subst (MayStand (Some folder) (Some Folder)) (kind-below folder (codes "index-v5" ∷ names)) suits) in
+    let suits : MayStand (Some folder) (Some Folder) (path_kind (Some folder) (folder ++ index_area ∷ names))
+    = subst (λ o. MayStand (Some folder) o (path_kind (Some folder) (folder ++ index_area ∷ names))) there (subst (λ o. Placed o t) here placed (folder ++ index_area ∷ names)) in
+    let low = folder_high (Some folder) 3 names (subst (MayStand (Some folder) (Some Folder)) (kind-below folder (index_area ∷ names)) suits) in
     omega (arith, low)
 
 pub index_is_shallow : (h : History) → IsLegal h → IndexIsShallow h
@@ -103,17 +103,17 @@ below_is None names path e = absurd cc
 below_is (Some folder) names path e = (folder, refl, cc)
 
 module _ (s : Setup) (t : Tree) (folder names : Names) (placed : Placed (Some folder) t) (keyed : BucketsHaveKeys (Some folder) t)
-    (proper : All IsProperName names) (high : length names ≤ 2) (p : List ℕ) (is : p ≡ joined s.cache (codes "index-v5" ∷ names)) where
+    (proper : All IsProperName names) (high : length names ≤ 2) (p : List ℕ) (is : p ≡ joined s.cache (index_area ∷ names)) where
   -- the path of a name in the folder
   child : List ℕ → Names
-  child n = (folder ++ codes "index-v5" ∷ names) ++ n ∷ []
+  child n = (folder ++ index_area ∷ names) ++ n ∷ []
 
   child_kind : (n : List ℕ) → path_kind (Some folder) (child n) ≡ kind_in_area Bucket 3 (names ++ n ∷ [])
   unfolding child
-  child_kind n = ap (kind_beside folder) (append_assoc folder (codes "index-v5" ∷ names) (n ∷ [])) ∙ kind-below folder (codes "index-v5" ∷ names ++ n ∷ [])
+  child_kind n = ap (kind_beside folder) (append_assoc folder (index_area ∷ names) (n ∷ [])) ∙ kind-below folder (index_area ∷ names ++ n ∷ [])
 
-  child_path : (n : List ℕ) → joined s.cache (codes "index-v5" ∷ names ++ n ∷ []) ≡ join p n
-  child_path n = joined_more s.cache (codes "index-v5" ∷ names) n ∙ ap (λ q. join q n) (sym is)
+  child_path : (n : List ℕ) → joined s.cache (index_area ∷ names ++ n ∷ []) ≡ join p n
+  child_path n = joined_more s.cache (index_area ∷ names) n ∙ ap (λ q. join q n) (sym is)
 
   child_suits : (n : List ℕ) (node : Node) → look t (child n) ≡ Some node → MayStand (Some folder) (Some node) (kind_in_area Bucket 3 (names ++ n ∷ []))
   child_suits n node there = subst (MayStand (Some folder) (Some node)) (child_kind n) (subst (λ here. MayStand (Some folder) here (path_kind (Some folder) (child n))) there (placed (child n)))
@@ -129,8 +129,8 @@ module _ (s : Setup) (t : Tree) (folder names : Names) (placed : Placed (Some fo
   child_reads n node there k =
       let own = keyed (child n) node (child_kind n ∙ k) there in
       let whole : folder ++ bucket_names own.0 ≡ child n = (let e = own.1 in cc) in
-      let same : bucket_names own.0 ≡ codes "index-v5" ∷ names ++ n ∷ []
-      = append_cancel_left folder (bucket_names own.0) (codes "index-v5" ∷ names ++ n ∷ []) (whole ∙ append_assoc folder (codes "index-v5" ∷ names) (n ∷ [])) in
+      let same : bucket_names own.0 ≡ index_area ∷ names ++ n ∷ []
+      = append_cancel_left folder (bucket_names own.0) (index_area ∷ names ++ n ∷ []) (whole ∙ append_assoc folder (index_area ∷ names) (n ∷ [])) in
       (own.0, sym (ap (joined s.cache) same ∙ child_path n))
 
   node_task : (n : List ℕ) (level : ℕ) (node : Node) (todo : List Task) → IsProperName n → level ≡ length names → look t (child n) ≡ Some node → Tasks s todo
@@ -144,7 +144,7 @@ module _ (s : Setup) (t : Tree) (folder names : Names) (placed : Placed (Some fo
       (child_reads n (File bytes) there (file_bucket (Some folder) bytes 3 (names ++ n ∷ []) (child_suits n (File bytes) there)), h)
   node_task n level (Link target) todo own at there h = absurd (no_link (Some folder) target 3 (names ++ n ∷ []) (child_suits n (Link target) there))
 
-  name_tasks : (level : ℕ) (ns : List Name) → level ≡ length names → AreProperNames ns → Each (Told t (folder ++ codes "index-v5" ∷ names)) ns → Tasks s (tasks_of false level p ns)
+  name_tasks : (level : ℕ) (ns : List Name) → level ≡ length names → AreProperNames ns → Each (Told t (folder ++ index_area ∷ names)) ns → Tasks s (tasks_of false level p ns)
   unfolding child
   name_tasks level [] at all told = tt
   name_tasks level (n ∷ ns) at all told =
@@ -153,14 +153,14 @@ module _ (s : Setup) (t : Tree) (folder names : Names) (placed : Placed (Some fo
       (name_tasks level ns at (All-tail (λ entry. IsProperName entry.name) n ns all) told.1))
 
 -- the names of the path of a name in a folder of the index
-pub child_named : (s : Setup) (p : List ℕ) (folder names : Names) (n : List ℕ) → All IsProperName names → home s ≡ Some folder → p ≡ joined s.cache (codes "index-v5" ∷ names) → IsProperName n
-    → names_of (join p n) ≡ Ok ((folder ++ codes "index-v5" ∷ names) ++ n ∷ [])
+pub child_named : (s : Setup) (p : List ℕ) (folder names : Names) (n : List ℕ) → All IsProperName names → home s ≡ Some folder → p ≡ joined s.cache (index_area ∷ names) → IsProperName n
+    → names_of (join p n) ≡ Ok ((folder ++ index_area ∷ names) ++ n ∷ [])
 child_named s p folder names n proper here is own =
-    let all : All IsProperName (codes "index-v5" ∷ names ++ n ∷ [])
-    = All-cons IsProperName (codes "index-v5") (names ++ n ∷ []) (refl, refl, refl) (All-append IsProperName names (n ∷ []) proper (All-cons IsProperName n [] own (All-nil IsProperName))) in
-    let path : joined s.cache (codes "index-v5" ∷ names ++ n ∷ []) ≡ join p n = joined_more s.cache (codes "index-v5" ∷ names) n ∙ ap (λ q. join q n) (sym is) in
-    ap names_of (sym path) ∙ joined_texts_name s.cache (codes "index-v5" ∷ names ++ n ∷ []) all (omega arith)
-    ∙ ap (λ o. names_below o (codes "index-v5" ∷ names ++ n ∷ [])) here ∙ ap Ok (sym (append_assoc folder (codes "index-v5" ∷ names) (n ∷ [])))
+    let all : All IsProperName (index_area ∷ names ++ n ∷ [])
+    = All-cons IsProperName index_area (names ++ n ∷ []) (refl, refl, refl) (All-append IsProperName names (n ∷ []) proper (All-cons IsProperName n [] own (All-nil IsProperName))) in
+    let path : joined s.cache (index_area ∷ names ++ n ∷ []) ≡ join p n = joined_more s.cache (index_area ∷ names) n ∙ ap (λ q. join q n) (sym is) in
+    ap names_of (sym path) ∙ joined_texts_name s.cache (index_area ∷ names ++ n ∷ []) all (omega arith)
+    ∙ ap (λ o. names_below o (index_area ∷ names ++ n ∷ [])) here ∙ ap Ok (sym (append_assoc folder (index_area ∷ names) (n ∷ [])))
 
 -- a listing leaves no task behind a folder
 pub no_leaving : (s : Setup) (clears : Bool) (level : ℕ) (p : List ℕ) → clears ≡ false → Tasks s (leaving clears level p)
@@ -179,10 +179,10 @@ folder_tasks s turn p level ns true no_clear holds keyed step v e = absurd cc
 folder_tasks s turn p level ns false no_clear holds keyed step v e =
     let answer : turn.move.answer ≡ (apply turn.place (steps.ReadDir p) turn.move.luck).0 = holds.answered ∙ ap (λ x. (apply turn.place x turn.move.luck).0) (sym step) in
     let told = names_told turn.place p turn.move.luck ns (ap names_in (sym answer) ∙ e) in
-    let some : All IsProperName (codes "index-v5" ∷ v.1.0) = All-cons IsProperName (codes "index-v5") v.1.0 (refl, refl, refl) v.1.1 in
-    let here : names_below (home s) (codes "index-v5" ∷ v.1.0) ≡ Ok told.0
-    = sym (joined_texts_name s.cache (codes "index-v5" ∷ v.1.0) some (omega arith)) ∙ ap names_of (sym v.1.3) ∙ told.1 in
-    let f = below_is (home s) (codes "index-v5" ∷ v.1.0) told.0 here in
+    let some : All IsProperName (index_area ∷ v.1.0) = All-cons IsProperName index_area v.1.0 (refl, refl, refl) v.1.1 in
+    let here : names_below (home s) (index_area ∷ v.1.0) ≡ Ok told.0
+    = sym (joined_texts_name s.cache (index_area ∷ v.1.0) some (omega arith)) ∙ ap names_of (sym v.1.3) ∙ told.1 in
+    let f = below_is (home s) (index_area ∷ v.1.0) told.0 here in
     name_tasks s turn.place f.0 v.1.0 (subst (λ o. Placed o turn.place) f.1 holds.placed) (subst (λ o. BucketsHaveKeys o turn.place) f.1 keyed.keyed) v.1.1 v.1.2 p v.1.3 level ns v.1.4
     (proper_names p turn.move.answer ns (subst (λ x. Fits x turn.move.answer) (sym step) holds.fits) e)
     (subst (λ q. Each (Told turn.place q) ns) (sym f.2) told.2)
@@ -192,7 +192,7 @@ folder_tasks s turn p level ns false no_clear holds keyed step v e =
 -- a visit that leads to the bucket of a key
 abbrev pub Covers : Setup → List ℕ → Visit → Type 0
 Covers s key (Enter p level) =
-    (names : Names) × (x : List ℕ) × (rest : Names) × (p ≡ joined s.cache (codes "index-v5" ∷ names)) × (codes "index-v5" ∷ names ++ x ∷ rest ≡ bucket_names key) × (level ≡ length names)
+    (names : Names) × (x : List ℕ) × (rest : Names) × (p ≡ joined s.cache (index_area ∷ names)) × (index_area ∷ names ++ x ∷ rest ≡ bucket_names key) × (level ≡ length names)
 Covers s key (ReadBucket p) = p ≡ bucket_path s.cache key
 Covers s key v = ⊥
 
@@ -238,12 +238,12 @@ module _ (s : Setup) (key : List ℕ) (t : Tree) (rooted : Rooted t) (p : List �
   child_at kind among c = among_covers s key level p (record { name = x; kind = kind }) ns among c
 
   -- what leads on to the bucket is listed
-  leads_on : (rest : Names) (bytes : List ℕ) → p ≡ joined s.cache (codes "index-v5" ∷ names) → codes "index-v5" ∷ names ++ x ∷ rest ≡ bucket_names key → level ≡ length names
+  leads_on : (rest : Names) (bytes : List ℕ) → p ≡ joined s.cache (index_area ∷ names) → index_area ∷ names ++ x ∷ rest ≡ bucket_names key → level ≡ length names
       → look t (folder ++ x ∷ rest) ≡ Some (File bytes) → listing t folder ≡ ns → CoversAny s key (tasks_of false level p ns)
   unfolding bucket_path
   leads_on [] bytes is whole at there all =
       child_at kinds.File (subst (IsAmong (record { name = x; kind = kinds.File })) all (child_listed t folder x (File bytes) there))
-      (inl (ap (λ q. join q x) is ∙ sym (joined_more s.cache (codes "index-v5" ∷ names) x) ∙ ap (joined s.cache) whole))
+      (inl (ap (λ q. join q x) is ∙ sym (joined_more s.cache (index_area ∷ names) x) ∙ ap (joined s.cache) whole))
   leads_on (y ∷ ys) bytes is whole at there all =
       let upper : look t (folder ++ x ∷ []) ≡ Some Folder = upper_folder t (folder ++ x ∷ []) ys y (File bytes) rooted (ap (look t) (append_assoc folder (x ∷ []) (y ∷ ys)) ∙ there) in
       child_at kinds.Folder (subst (IsAmong (record { name = x; kind = kinds.Folder })) all (child_listed t folder x Folder upper)) (by (nat_lt level 16) refl)
@@ -253,15 +253,15 @@ module _ (s : Setup) (key : List ℕ) (t : Tree) (rooted : Rooted t) (p : List �
         names ++ x ∷ [],
         y,
         ys,
-        ap (λ q. join q x) is ∙ sym (joined_more s.cache (codes "index-v5" ∷ names) x),
-        append_assoc (codes "index-v5" ∷ names) (x ∷ []) (y ∷ ys) ∙ whole,
+        ap (λ q. join q x) is ∙ sym (joined_more s.cache (index_area ∷ names) x),
+        append_assoc (index_area ∷ names) (x ∷ []) (y ∷ ys) ∙ whole,
         omega (arith, at, length-append names (x ∷ [])),
       )
 
       by : (b : Bool) → nat_lt level 16 ≡ b → CoversAny s key (cond b (Make (Enter (join p x) (level + 1))) (Stumble faults.TooDeep (join p x)) ∷ [])
       by true e = inl deeper
       by false e =
-          let four : length (codes "index-v5" ∷ names ++ x ∷ y ∷ ys) ≡ 4 = ap (λ (l : Names). length l) whole in
+          let four : length (index_area ∷ names ++ x ∷ y ∷ ys) ≡ 4 = ap (λ (l : Names). length l) whole in
           absurd (omega (arith, ltb-false level 16 e, at, four, length-append names (x ∷ y ∷ ys)))
 
 -- a folder on the way to a bucket that stands brings what leads on to it
@@ -271,12 +271,12 @@ folder_covers s turn p level ns true no_clear holds step e key has c = absurd cc
 folder_covers s turn p level ns false no_clear holds step e key has c =
     let answer : turn.move.answer ≡ (apply turn.place (steps.ReadDir p) turn.move.luck).0 = holds.answered ∙ ap (λ x. (apply turn.place x turn.move.luck).0) (sym step) in
     let told = names_told turn.place p turn.move.luck ns (ap names_in (sym answer) ∙ e) in
-    let front : Names = codes "index-v5" ∷ c.0 in
-    let here : names_below (home s) (codes "index-v5" ∷ c.0) ≡ Ok told.0
-    = sym (joined_texts_name s.cache (codes "index-v5" ∷ c.0) (front_proper key (codes "index-v5" ∷ c.0) (c.1 ∷ c.2) c.4) (omega arith)) ∙ ap names_of (sym c.3) ∙ told.1 in
-    let f = below_is (home s) (codes "index-v5" ∷ c.0) told.0 here in
+    let front : Names = index_area ∷ c.0 in
+    let here : names_below (home s) (index_area ∷ c.0) ≡ Ok told.0
+    = sym (joined_texts_name s.cache (index_area ∷ c.0) (front_proper key (index_area ∷ c.0) (c.1 ∷ c.2) c.4) (omega arith)) ∙ ap names_of (sym c.3) ∙ told.1 in
+    let f = below_is (home s) (index_area ∷ c.0) told.0 here in
     let file = bucket_file (node_below (home s) turn.place (bucket_names key)) has.0 has.1 in
     let there : look turn.place (told.0 ++ c.1 ∷ c.2) ≡ Some (File file.0)
-    = ap (λ q. look turn.place (q ++ c.1 ∷ c.2)) (sym f.2) ∙ ap (look turn.place) (append_assoc f.0 (codes "index-v5" ∷ c.0) (c.1 ∷ c.2) ∙ ap (λ q. f.0 ++ q) c.4)
+    = ap (λ q. look turn.place (q ++ c.1 ∷ c.2)) (sym f.2) ∙ ap (look turn.place) (append_assoc f.0 (index_area ∷ c.0) (c.1 ∷ c.2) ∙ ap (λ q. f.0 ++ q) c.4)
     ∙ ap (λ o. node_below o turn.place (bucket_names key)) (sym f.1) ∙ file.1 in
     leads_on s key turn.place holds.rooted p level ns told.0 c.0 c.1 c.2 file.0 c.3 c.4 c.5 there told.3

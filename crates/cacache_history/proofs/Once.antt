@@ -1,11 +1,11 @@
 -- A listing reads nothing twice.
-use Rattle.std.proofs.Common.{◌≡◌, inl, inr, ◌+◌, ◌-◌, ℕ, Bool, true, false, cond, List, [], ◌∷◌, ◌++◌, Some, Result, Ok, Err, length, take, nat_le, nat_lt, refl, sym, ap, subst, ◌∙◌, codes, arith, append-nil}
+use Rattle.std.proofs.Common.{◌≡◌, inl, inr, ◌+◌, ◌-◌, ℕ, Bool, true, false, cond, List, [], ◌∷◌, ◌++◌, Some, Result, Ok, Err, length, take, nat_le, nat_lt, refl, sym, ap, subst, ◌∙◌, arith, append-nil}
 use Rattle.std.specs.Prelude.{All}
 use Rattle.std.proofs.lemmas.List.Elements.{All-nil, All-cons, All-head, All-tail}
 use Rattle.cacache_core.specs.declared.errors.Fault.{Fault}
 use Rattle.cacache_core.specs.declared.errors.Fault.TheVariants as faults
 use Rattle.cacache_core.specs.PathNames.{Names, names_of, names_below, IsProperName}
-use Rattle.cacache_core.specs.Paths.{join, joined}
+use Rattle.cacache_core.specs.Paths.{join, joined, index_area}
 use Rattle.cacache_core.proofs.JoinedNames.{joined_texts_name}
 use Rattle.cacache_store.specs.declared.store.answer.Kind.{Kind}
 use Rattle.cacache_store.specs.declared.store.answer.Kind.TheVariants as kinds
@@ -134,10 +134,10 @@ module _ (s : Setup) where
   brings turn p level ns false no_clear holds keyed step v e =
       let answer : turn.move.answer ≡ (apply turn.place (steps.ReadDir p) turn.move.luck).0 = holds.answered ∙ ap (λ x. (apply turn.place x turn.move.luck).0) (sym step) in
       let told = names_told turn.place p turn.move.luck ns (ap names_in (sym answer) ∙ e) in
-      let some : All IsProperName (codes "index-v5" ∷ v.1.0) = All-cons IsProperName (codes "index-v5") v.1.0 (refl, refl, refl) v.1.1 in
-      let here : names_below (home s) (codes "index-v5" ∷ v.1.0) ≡ Ok told.0
-      = sym (joined_texts_name s.cache (codes "index-v5" ∷ v.1.0) some (omega arith)) ∙ ap names_of (sym v.1.3) ∙ told.1 in
-      let f = below_is (home s) (codes "index-v5" ∷ v.1.0) told.0 here in
+      let some : All IsProperName (index_area ∷ v.1.0) = All-cons IsProperName index_area v.1.0 (refl, refl, refl) v.1.1 in
+      let here : names_below (home s) (index_area ∷ v.1.0) ≡ Ok told.0
+      = sym (joined_texts_name s.cache (index_area ∷ v.1.0) some (omega arith)) ∙ ap names_of (sym v.1.3) ∙ told.1 in
+      let f = below_is (home s) (index_area ∷ v.1.0) told.0 here in
       let all = proper_names p turn.move.answer ns (subst (λ x. Fits x turn.move.answer) (sym step) holds.fits) e in (
         told.0,
         record {
@@ -147,7 +147,7 @@ module _ (s : Setup) where
         },
       )
     where
-      named_at : (n : List ℕ) (folder names : Names) → All IsProperName names → (q : Names) → home s ≡ Some folder → folder ++ codes "index-v5" ∷ names ≡ q → p ≡ joined s.cache (codes "index-v5" ∷ names) → IsProperName n
+      named_at : (n : List ℕ) (folder names : Names) → All IsProperName names → (q : Names) → home s ≡ Some folder → folder ++ index_area ∷ names ≡ q → p ≡ joined s.cache (index_area ∷ names) → IsProperName n
           → names_of (join p n) ≡ Ok (q ++ n ∷ [])
       named_at n folder names proper q is same path own = child_named s p folder names n proper is path own ∙ ap (λ x. Ok (x ++ n ∷ [])) same
 
@@ -266,19 +266,19 @@ module _ (s : Setup) where
     unread turn turns top w fault none holds is e (Err (refusals.Fault own)) got h = misses turns [] [] tt tt tt w e own h
     unread turn turns top w fault none holds is e (Err refusals.Memory) got h = ends [] turns h
 
-    unnamed : (n : ℕ) (fault : Fault) (turns : List Turn) → names_of (join s.cache (codes "index-v5")) ≡ Err fault → TurnsHold s turns → EachTurn (KeyedTurn s) turns
+    unnamed : (n : ℕ) (fault : Fault) (turns : List Turn) → names_of (join s.cache index_area) ≡ Err fault → TurnsHold s turns → EachTurn (KeyedTurn s) turns
         → Runs (opening (call_site s n) commands.Ls) (made_in turns) r → NoneTwice turns
     unnamed n fault [] none hold keyed run = tt
     unnamed n fault (turn ∷ turns) none hold keyed run =
         first_alone turn turns
-        (unread turn turns (join s.cache (codes "index-v5")) (record { clears = false; items = []; left = most }) fault none hold.0 (some_same (steps.ReadDir (join s.cache (codes "index-v5"))) turn.move.step run.0) refl
+        (unread turn turns (join s.cache index_area) (record { clears = false; items = []; left = most }) fault none hold.0 (some_same (steps.ReadDir (join s.cache index_area)) turn.move.step run.0) refl
         (names_in turn.move.answer) refl (runs_rest (after (opening (call_site s n) commands.Ls) turn.move.answer) turns hold.1 keyed.1 run.2))
 
     pub none_twice : (n : ℕ) (turns : List Turn) → TurnsHold s turns → EachTurn (KeyedTurn s) turns → Runs (opening (call_site s n) commands.Ls) (made_in turns) r → NoneTwice turns
-    none_twice n turns hold keyed run = by (names_of (join s.cache (codes "index-v5"))) refl
+    none_twice n turns hold keyed run = by (names_of (join s.cache index_area)) refl
       where
-        by : (x : Result Names Fault) → names_of (join s.cache (codes "index-v5")) ≡ x → NoneTwice turns
+        by : (x : Result Names Fault) → names_of (join s.cache index_area) ≡ x → NoneTwice turns
         by (Ok q) is =
-            let top : IsIndexFolder s (join s.cache (codes "index-v5")) = ([], All-nil IsProperName, omega arith, refl) in
+            let top : IsIndexFolder s (join s.cache index_area) = ([], All-nil IsProperName, omega arith, refl) in
             (runs_rest (opening (call_site s n) commands.Ls) turns hold keyed run refl (top, ([], All-nil IsProperName, omega arith, refl, refl)) tt q [] is tt (tt, tt)).1
         by (Err fault) is = unnamed n fault turns is hold keyed run

@@ -1,8 +1,8 @@
 -- Which buckets stand in a cache: those of keys.
-use Rattle.std.specs.Prelude.{◌≡◌, ◌≤◌, ℕ, All, List, ◌∷◌, ◌++◌, Option, Some, Ok, length, codes}
+use Rattle.std.specs.Prelude.{◌≡◌, ◌≤◌, ℕ, All, List, ◌∷◌, ◌++◌, Option, Some, Ok, length}
 use Rattle.sha1.specs.Sha1.{sha1}
 use Rattle.cacache_core.specs.PathNames.{Names, names_below}
-use Rattle.cacache_core.specs.Paths.{bucket_names}
+use Rattle.cacache_core.specs.Paths.{bucket_names, index_area}
 use Rattle.cacache_disk.specs.declared.node.Node.{Node}
 use Rattle.cacache_disk.specs.declared.node.Node.TheVariants.{Folder}
 use Rattle.cacache_disk.specs.Tree.{Tree, look}
@@ -35,7 +35,7 @@ abbrev pub IndexIsShallow : History → Type 0
 IndexIsShallow h =
     (before later : List Record) → h.records ≡ before ++ later
     → (folder names : Names) → home h.setup ≡ Some folder
-    → look (now_at h before).tree (folder ++ codes "index-v5" ∷ names) ≡ Some Folder
+    → look (now_at h before).tree (folder ++ index_area ∷ names) ≡ Some Folder
     → length names ≤ 2
 
 -- each entry in the bucket of a key has a key of this bucket

@@ -1,8 +1,8 @@
 -- What a listing reads, and what it answers, by what the cache holds at the places of its turns.
-use Rattle.std.specs.Prelude.{◌≡◌, ◌⊎◌, ◌≤◌, ◌+◌, ◌||◌, ℕ, Bool, false, All, List, [], ◌∷◌, ◌++◌, Option, None, Some, Result, Ok, Err, length, take, nat_lt, codes, if◌then◌else◌}
+use Rattle.std.specs.Prelude.{◌≡◌, ◌⊎◌, ◌≤◌, ◌+◌, ◌||◌, ℕ, Bool, false, All, List, [], ◌∷◌, ◌++◌, Option, None, Some, Result, Ok, Err, length, take, nat_lt, if◌then◌else◌}
 use Rattle.sha1.specs.Sha1.{sha1}
 use Rattle.cacache_core.specs.declared.errors.Error.TheVariants.{OutOfMemory}
-use Rattle.cacache_core.specs.Paths.{joined, bucket_names}
+use Rattle.cacache_core.specs.Paths.{joined, bucket_names, index_area}
 use Rattle.cacache_core.specs.PathNames.{Names, IsProperName}
 use Rattle.cacache_store.specs.declared.store.answer.Name.{Name}
 use Rattle.cacache_store.specs.declared.store.step.Step.TheVariants as steps
@@ -30,7 +30,7 @@ use Rattle.cacache_history.specs.Turns.{EachTurn}
 abbrev pub IsIndexFolder : Setup → List ℕ → Type 0
 IsIndexFolder s path =
     (names : Names) × All IsProperName names × (length names ≤ 2)
-    × (path ≡ joined s.cache (codes "index-v5" ∷ names))
+    × (path ≡ joined s.cache (index_area ∷ names))
 
 -- ---- what is listed
 

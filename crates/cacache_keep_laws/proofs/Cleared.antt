@@ -1,9 +1,9 @@
 -- A clearing of both trees, of which one lacks idle contents.
-use Rattle.std.proofs.Common.{◌≡◌, ◌⊎◌, inl, inr, ◌-◌, ℕ, suc, Bool, true, false, cond, nat_le, List, [], ◌∷◌, ◌++◌, None, Some, Result, Ok, Err, length, refl, sym, ap, subst, ◌∙◌, arith, append-nil, codes}
+use Rattle.std.proofs.Common.{◌≡◌, ◌⊎◌, inl, inr, ◌-◌, ℕ, suc, Bool, true, false, cond, nat_le, List, [], ◌∷◌, ◌++◌, None, Some, Result, Ok, Err, length, refl, sym, ap, subst, ◌∙◌, arith, append-nil}
 use Rattle.std.specs.Prelude.{bytes_eq}
 use Rattle.cacache_core.specs.declared.errors.Fault.{Fault}
 use Rattle.cacache_core.specs.declared.errors.Fault.TheVariants as faults
-use Rattle.cacache_core.specs.Paths.{join}
+use Rattle.cacache_core.specs.Paths.{join, content_area, index_area, temp_area}
 use Rattle.cacache_core.specs.PathNames.{Names, names_of, home_of}
 use Rattle.cacache_store.specs.declared.store.step.Step.TheVariants as steps
 use Rattle.cacache_store.specs.declared.store.answer.Answer.TheVariants as answers
@@ -142,7 +142,7 @@ module _ (cache : List ℕ) (home : Names) (full lean rest left : Tree) (is : ho
   -- in the top folder both have the same
   same_child : (name : List ℕ) → look lean (home ++ name ∷ []) ≡ look full (home ++ name ∷ [])
   same_child name = same_node cache home full lean is l (home ++ name ∷ []) (λ c.
-      not_content (bytes_eq name (codes "content-v2")) (bytes_eq name (codes "index-v5")) (bytes_eq name (codes "tmp")) (sym (kind-below home (name ∷ [])) ∙ c))
+      not_content (bytes_eq name content_area) (bytes_eq name index_area) (bytes_eq name temp_area) (sym (kind-below home (name ∷ [])) ∙ c))
 
   same_names : listing lean home ≡ listing full home
   same_names = same_listing lean full home (λ q child.

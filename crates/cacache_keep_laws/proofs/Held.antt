@@ -1,6 +1,6 @@
 -- The listed addresses are those that the value holds.
 use Rattle.std.specs.Prelude.{◌↔◌, Contains, map}
-use Rattle.std.proofs.Common.{◌≡◌, inl, inr, subst, ℕ, List, [], ◌∷◌, ◌++◌, Option, Some, None, true, Ok, refl, sym, ap, ◌∙◌, append_assoc, codes, arith}
+use Rattle.std.proofs.Common.{◌≡◌, inl, inr, subst, ℕ, List, [], ◌∷◌, ◌++◌, Option, Some, None, true, Ok, refl, sym, ap, ◌∙◌, append_assoc, arith}
 use Rattle.std.proofs.lemmas.List.Elements.{All-cons, All-nil}
 use Rattle.hex.specs.Hex.{encode_lower}
 use Rattle.cacache_core.specs.declared.integrity.digest.Hash.{Hash}
@@ -8,7 +8,7 @@ use Rattle.cacache_core.specs.Integrity.{IsHash}
 use Rattle.cacache_disk.specs.Rooted.{Rooted}
 use Rattle.cacache_table.specs.Runs.{Moves}
 use Rattle.cacache_core.specs.PathNames.{Names, names_of, home_of, IsProperName}
-use Rattle.cacache_core.specs.Paths.{join, joined, cut_digits, content_names}
+use Rattle.cacache_core.specs.Paths.{join, joined, cut_digits, content_names, content_area}
 use Rattle.cacache_core.specs.Texts.{name_of}
 use Rattle.cacache_core.proofs.JoinedNames.{joined_texts_name}
 use Rattle.cacache_core.proofs.ProperNames.{proper_content_folder, proper_content}
@@ -37,17 +37,17 @@ held_leaf (Some Folder) blob e = absurd cc
 held_leaf (Some (File bytes)) blob e = refl
 held_leaf (Some (Link target)) blob e = refl
 
-pub top_named : (cache : List ℕ) (home : Names) → home_of cache ≡ Some home → names_of (join cache (codes "content-v2")) ≡ Ok (home ++ codes "content-v2" ∷ [])
-top_named cache home is = joined_texts_name cache (codes "content-v2" ∷ []) (All-cons IsProperName (codes "content-v2") [] proper_content_folder (All-nil IsProperName)) (omega arith) ∙ rw is refl
+pub top_named : (cache : List ℕ) (home : Names) → home_of cache ≡ Some home → names_of (join cache content_area) ≡ Ok (home ++ content_area ∷ [])
+top_named cache home is = joined_texts_name cache (content_area ∷ []) (All-cons IsProperName content_area [] proper_content_folder (All-nil IsProperName)) (omega arith) ∙ rw is refl
 
 pub contents_shown : ContentsShown
 contents_shown cache home moves trees addresses is reads at sorts h hash =
-    let top = join cache (codes "content-v2") in
-    let base = home ++ codes "content-v2" ∷ [] in
+    let top = join cache content_area in
+    let base = home ++ content_area ∷ [] in
     let names = name_of h.algorithm ∷ cut_digits (encode_lower h.digest) in
     let named = top_named cache home is in
     let f = walks_find top base moves trees names named reads at (proper_content h hash) (omega arith) in
-    let same = ap (look f.0) (append_assoc home (codes "content-v2" ∷ []) names) in (
+    let same = ap (look f.0) (append_assoc home (content_area ∷ []) names) in (
       f.0,
       f.1,
       (
@@ -99,20 +99,20 @@ module _ (cache : List ℕ) (home : Names) (t : Tree) (moves : Moves) (is : home
   lies_below : (path : List ℕ) → Contains (files_shown moves) path → LiesBelow cache home t path
   lies_below path c =
       let top = contents_folder cache in
-      let base = home ++ codes "content-v2" ∷ [] in
+      let base = home ++ content_area ∷ [] in
       let s = walks_stay top base moves (copies t moves) path (top_named cache home is) reads (read_at t moves rooted answered) c in
       let f = walks_find top base moves (copies t moves) s.0 (top_named cache home is) reads (read_at t moves rooted answered) s.2 s.1 in
       let leaf = f.2.0 (subst (λ p. Contains (files_shown moves) p) s.3 c) in
-      let there : is_leaf (look t (home ++ codes "content-v2" ∷ s.0)) ≡ true
-      = ap (λ n. is_leaf (look t n)) (sym (append_assoc home (codes "content-v2" ∷ []) s.0)) ∙ ap (λ x. is_leaf (look x (base ++ s.0))) (sym (is_copy t f.0 moves f.1)) ∙ leaf in
+      let there : is_leaf (look t (home ++ content_area ∷ s.0)) ≡ true
+      = ap (λ n. is_leaf (look t n)) (sym (append_assoc home (content_area ∷ []) s.0)) ∙ ap (λ x. is_leaf (look x (base ++ s.0))) (sym (is_copy t f.0 moves f.1)) ∙ leaf in
       (s.0, s.1, s.2, s.3, there)
 
   shown_below : (path : List ℕ) → LiesBelow cache home t path → Contains (files_shown moves) path
   shown_below path l =
-      let base = home ++ codes "content-v2" ∷ [] in
+      let base = home ++ content_area ∷ [] in
       let f = walks_find (contents_folder cache) base moves (copies t moves) l.0 (top_named cache home is) reads (read_at t moves rooted answered) l.2 l.1 in
       let leaf : is_leaf (look f.0 (base ++ l.0)) ≡ true
-      = ap (λ x. is_leaf (look x (base ++ l.0))) (is_copy t f.0 moves f.1) ∙ ap (λ n. is_leaf (look t n)) (append_assoc home (codes "content-v2" ∷ []) l.0) ∙ l.4 in
+      = ap (λ x. is_leaf (look x (base ++ l.0))) (is_copy t f.0 moves f.1) ∙ ap (λ n. is_leaf (look t n)) (append_assoc home (content_area ∷ []) l.0) ∙ l.4 in
       subst (λ p. Contains (files_shown moves) p) (sym l.3) (f.2.1 leaf)
 
   module _ (addresses : List (List Hash)) (strange : List (List ℕ)) (sorts : Sorts cache (files_shown moves) addresses strange) (order : IsByHash addresses) where

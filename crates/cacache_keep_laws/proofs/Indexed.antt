@@ -1,5 +1,5 @@
 -- On a tree that nobody changes, a listing reads each bucket and lists the entry of each key.
-use Rattle.std.proofs.Common.{◌≡◌, ◌⊎◌, inl, inr, ℕ, ◌+◌, List, [], ◌∷◌, ◌++◌, Option, Some, None, Bool, true, false, cond, nat_lt, Result, Ok, Err, refl, sym, ap, ap₂, subst, ◌∙◌, append_assoc, arith, codes}
+use Rattle.std.proofs.Common.{◌≡◌, ◌⊎◌, inl, inr, ℕ, ◌+◌, List, [], ◌∷◌, ◌++◌, Option, Some, None, Bool, true, false, cond, nat_lt, Result, Ok, Err, refl, sym, ap, ap₂, subst, ◌∙◌, append_assoc, arith}
 use Rattle.std.specs.Prelude.{option_map, fold, bytes_eq}
 use Rattle.std.proofs.lemmas.Slice.Eq.{bytes_eq-Decides}
 use Rattle.std.proofs.lemmas.List.Elements.{All-cons, All-nil}
@@ -7,7 +7,7 @@ use Rattle.sha1.specs.Sha1.{sha1}
 use Rattle.cacache_core.specs.declared.errors.Fault.{Fault}
 use Rattle.cacache_core.specs.declared.errors.Fault.TheVariants.{NotFound, TooDeep, IsADirectory}
 use Rattle.cacache_core.specs.PathNames.{Names, names_of, home_of, IsProperName}
-use Rattle.cacache_core.specs.Paths.{join, joined, cut_digits, bucket_names}
+use Rattle.cacache_core.specs.Paths.{join, joined, cut_digits, bucket_names, index_area}
 use Rattle.hex.specs.Hex.{encode_lower}
 use Rattle.cacache_core.proofs.JoinedNames.{joined_texts_name}
 use Rattle.cacache_core.proofs.ProperNames.{names_are_proper, proper_bucket_folder}
@@ -206,21 +206,21 @@ module _ (site : Site) (home : Names) (t : Tree) (rooted : Rooted t) (is : home_
   bucket_named : (key : List ℕ) → names_of (joined site.cache (bucket_names key)) ≡ Ok (home ++ bucket_names key)
   bucket_named key = joined_texts_name site.cache (bucket_names key) (names_are_proper.buckets (sha1 key) (keys_have_digests key)) (omega arith) ∙ rw is refl
 
-  index_named : (key : List ℕ) → names_of (join site.cache (codes "index-v5")) ≡ Ok (home ++ codes "index-v5" ∷ [])
-  index_named key = joined_texts_name site.cache (codes "index-v5" ∷ []) (All-cons IsProperName (codes "index-v5") [] proper_bucket_folder (All-nil IsProperName)) (omega arith) ∙ rw is refl
+  index_named : (key : List ℕ) → names_of (join site.cache index_area) ≡ Ok (home ++ index_area ∷ [])
+  index_named key = joined_texts_name site.cache (index_area ∷ []) (All-cons IsProperName index_area [] proper_bucket_folder (All-nil IsProperName)) (omega arith) ∙ rw is refl
 
-  item_in : (key bytes : List ℕ) (found : Found) (moves : Moves) (items : List Item) → (apply t (ReadAll (bucket_path site.cache key)) Plain).0 ≡ Bytes bytes → latest key (entries_of bytes) ≡ Some found → AnsweredBy t moves → Good items moves (Make (Enter (join site.cache (codes "index-v5")) 0) ∷ []) [] → Member (Ok found) items
+  item_in : (key bytes : List ℕ) (found : Found) (moves : Moves) (items : List Item) → (apply t (ReadAll (bucket_path site.cache key)) Plain).0 ≡ Bytes bytes → latest key (entries_of bytes) ≡ Some found → AnsweredBy t moves → Good items moves (Make (Enter (join site.cache index_area) 0) ∷ []) [] → Member (Ok found) items
   unfolding items_in bucket_path
   item_in key bytes found moves items answer e answered g =
       let rest = cut_digits (encode_lower (sha1 key)) in
       let path = joined site.cache (bucket_names key) in
-      let leaf : is_leaf (look t ((home ++ codes "index-v5" ∷ []) ++ rest)) ≡ true = ap (λ n. is_leaf (look t n)) (append_assoc home (codes "index-v5" ∷ []) rest) ∙ read_leaf t rooted path (home ++ bucket_names key) bytes (bucket_named key) answer in
-      let read = reaches t rooted moves (Make (Enter (join site.cache (codes "index-v5")) 0) ∷ []) g.reads answered (join site.cache (codes "index-v5")) 0 (home ++ codes "index-v5" ∷ []) _ _ (inl refl) (index_named key) leaf in
+      let leaf : is_leaf (look t ((home ++ index_area ∷ []) ++ rest)) ≡ true = ap (λ n. is_leaf (look t n)) (append_assoc home (index_area ∷ []) rest) ∙ read_leaf t rooted path (home ++ bucket_names key) bytes (bucket_named key) answer in
+      let read = reaches t rooted moves (Make (Enter (join site.cache index_area) 0) ∷ []) g.reads answered (join site.cache index_area) 0 (home ++ index_area ∷ []) _ _ (inl refl) (index_named key) leaf in
       g.gives (Ok found) (given_member (reads t rooted path) moves (Ok found) read (rw answer (looked_up key (entries_of bytes) found e)))
 
 pub lists_each_key : ListsEachKey
 lists_each_key site home t moves items key bytes found is rooted run answered fine answer e =
-    elim (listing_runs items moves (join site.cache (codes "index-v5")) run) [
+    elim (listing_runs items moves (join site.cache index_area) run) [
       | inl bad ↦ absurd (let wrong : true ≡ false = sym bad.2 ∙ fine bad.0 (contains_member bad.0 items bad.1) in cc)
       | inr g ↦ contains_member (Ok found) items (item_in site home t rooted is key bytes found moves items answer e answered g)
     ]

@@ -1,10 +1,10 @@
 -- What a listing of the contents shows of a tree.
-use Rattle.std.specs.Prelude.{◌≡◌, ◌↔◌, ◌<◌, ◌++◌, ℕ, List, [], ◌∷◌, Option, Some, IsTrue, All, Contains, length, codes}
+use Rattle.std.specs.Prelude.{◌≡◌, ◌↔◌, ◌<◌, ◌++◌, ℕ, List, [], ◌∷◌, Option, Some, IsTrue, All, Contains, length}
 use Rattle.std.specs.List.Sorted.{IsStrictlySortedBy}
 use Rattle.cacache_core.specs.declared.integrity.digest.Hash.{Hash}
 use Rattle.cacache_core.specs.Integrity.{IsHash}
 use Rattle.cacache_core.specs.PathNames.{Names, IsProperName, home_of}
-use Rattle.cacache_core.specs.Paths.{join, joined, content_names}
+use Rattle.cacache_core.specs.Paths.{join, joined, content_names, content_area}
 use Rattle.cacache_disk.specs.Rooted.{Rooted}
 use Rattle.cacache_disk.specs.Tree.{Tree, look}
 use Rattle.cacache_table.specs.Runs.{Moves}
@@ -40,7 +40,7 @@ ContentsShown =
     (cache : List ℕ) (home : Names) (moves : Moves) (trees : List Tree)
     (addresses : List (List Hash))
     → home_of cache ≡ Some home
-    → Reads (first (join cache (codes "content-v2")) ∷ []) moves → ReadAt trees moves
+    → Reads (first (join cache content_area) ∷ []) moves → ReadAt trees moves
     → AreThoseOf cache (files_shown moves) addresses
     → (h : Hash) → IsHash h
     → (t : Tree) × Contains trees t × (Contains addresses (h ∷ []) ↔ IsHeld home t h)
@@ -52,7 +52,7 @@ abbrev pub LiesBelow : List ℕ → Names → Tree → List ℕ → Type 0
 LiesBelow cache home t path =
     (names : Names) × (0 < length names) × All IsProperName names
     × (path ≡ joined (contents_folder cache) names)
-    × IsTrue (is_leaf (look t (home ++ codes "content-v2" ∷ names)))
+    × IsTrue (is_leaf (look t (home ++ content_area ∷ names)))
 
 -- the cache holds contents at just these addresses, which come in order, none twice; and these are
 -- the paths of all other files and links below the folder of contents

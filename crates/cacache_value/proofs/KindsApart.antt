@@ -1,5 +1,6 @@
 -- Paths of two kinds are apart, and above a path of the cache there are ways alone.
-use Rattle.std.proofs.Common.{◌≡◌, ℕ, zero, suc, Bool, true, false, cond, List, [], ◌∷◌, ◌++◌, Option, None, Some, codes, bytes_eq, refl, sym, ap, ◌∙◌, eq-eqb, append_assoc}
+use Rattle.std.proofs.Common.{◌≡◌, ℕ, zero, suc, Bool, true, false, cond, List, [], ◌∷◌, ◌++◌, Option, None, Some, bytes_eq, refl, sym, ap, ◌∙◌, eq-eqb, append_assoc}
+use Rattle.cacache_core.specs.Paths.{content_area, index_area, temp_area}
 use Rattle.cacache_disk.specs.Tree.{Names, same_path}
 use Rattle.cacache_disk.proofs.Maps.{same_path-true}
 use Rattle.cacache_value.specs.Kinds.{PathKind, Content, Bucket, Temporary, Way, Stray, Elsewhere, kind_in_area, kind_below, kind_beside, path_kind, is_used, is_path_of}
@@ -43,7 +44,7 @@ area_above false false false path rest name used = absurd cc
 inner_above : (path rest : Names) (name : List ℕ) → is_used (kind_below (path ++ name ∷ rest)) ≡ true → kind_below path ≡ Way
 inner_above [] rest name used = refl
 inner_above (area ∷ path) rest name used =
-    area_above (bytes_eq area (codes "content-v2")) (bytes_eq area (codes "index-v5")) (bytes_eq area (codes "tmp")) path rest name used
+    area_above (bytes_eq area content_area) (bytes_eq area index_area) (bytes_eq area temp_area) path rest name used
 
 through : (b : Bool) (old new : PathKind) → (is_used old ≡ true → new ≡ Way) → is_used (cond b old Elsewhere) ≡ true → cond b new Elsewhere ≡ Way
 through true old new h used = h used
@@ -88,4 +89,4 @@ area_used false false false rest e = cc
 -- no path below the cache's folder is apart from it
 pub inner_used : (names : Names) → kind_below names ≡ Elsewhere → ⊥
 inner_used [] e = cc
-inner_used (area ∷ rest) e = area_used (bytes_eq area (codes "content-v2")) (bytes_eq area (codes "index-v5")) (bytes_eq area (codes "tmp")) rest e
+inner_used (area ∷ rest) e = area_used (bytes_eq area content_area) (bytes_eq area index_area) (bytes_eq area temp_area) rest e

@@ -1,5 +1,6 @@
 -- What each path of a tree is for, as a cache sees it.
-use Rattle.std.specs.Prelude.{◌≡◌, ℕ, zero, suc, Bool, true, false, List, [], ◌∷◌, ◌++◌, Option, None, Some, IfOk, codes, bytes_eq, if◌then◌else◌}
+use Rattle.std.specs.Prelude.{◌≡◌, ℕ, zero, suc, Bool, true, false, List, [], ◌∷◌, ◌++◌, Option, None, Some, IfOk, bytes_eq, if◌then◌else◌}
+use Rattle.cacache_core.specs.Paths.{content_area, index_area, temp_area}
 use Rattle.cacache_core.specs.PathNames.{Names, names_of, names_below}
 use Rattle.cacache_disk.specs.Tree.{Tree, look, same_path}
 use Rattle.cacache_disk.specs.declared.node.Node.{Node}
@@ -48,9 +49,9 @@ kind_in_area file (suc depth) (name ∷ rest) = kind_in_area file depth rest
 abbrev pub kind_below : Names → PathKind
 kind_below [] = Way
 kind_below (area ∷ rest) =
-    if bytes_eq area (codes "content-v2") then kind_in_area Content 4 rest
-    else if bytes_eq area (codes "index-v5") then kind_in_area Bucket 3 rest
-    else if bytes_eq area (codes "tmp") then kind_in_area Temporary 1 rest
+    if bytes_eq area content_area then kind_in_area Content 4 rest
+    else if bytes_eq area index_area then kind_in_area Bucket 3 rest
+    else if bytes_eq area temp_area then kind_in_area Temporary 1 rest
     else Stray
 
 -- the kind of a path, by the names of the cache's folder and its own
