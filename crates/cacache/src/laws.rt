@@ -3,9 +3,8 @@
 pub use cacache_contents::contents_laws;
 pub use cacache_core::laws::{integrity_laws, path_laws, text_laws};
 pub use cacache_entry::{bucket_laws, entry_laws, lookup_laws};
-pub use cacache_history::{
-    cache_laws, handle_laws, history_laws, look_laws, parts_laws, sequence_laws,
-};
+pub use cacache_history::history_laws;
+pub use cacache_sequence::{cache_laws, handle_laws, look_laws, parts_laws, sequence_laws};
 pub use cacache_table::{
     effect_laws, licence_laws, promise_laws, reply_laws, row_laws, run_laws, sound_laws,
 };

@@ -13,16 +13,3 @@ pub mod ReadingCalls
 pub mod LinkedContents
 pub mod Headline
 pub mod LegalCases
-pub mod Sequence
-pub mod ReadAnswers
-pub mod Stored
-pub mod CallErrors
-pub mod Caches
-pub mod Looks
-pub mod ListedKeys
-pub mod InParts
-pub mod Keeping
-pub mod Inserts
-pub mod OpenWriters
-pub mod OpenReaders
-pub mod ExportEffects

@@ -1,12 +1,17 @@
-//! Calls of many callers on one cache, step by step: which histories are legal, and what holds of
-//! each. Beside them calls that are made one after another on one store in memory, whole or in parts. No
-//! function here does anything.
+//! Calls of many callers on one cache, step by step: which histories are legal, and what holds of each. No function here
+//! does anything.
+//!
+//! | In `specs` | |
+//! |---|---|
+//! | `Setup`, `History`, `Turns` | the cache and its callers, their moves, and which moves are legal |
+//! | `Values`, `ShownTurns`, `Buckets`, `ListingTurns` | what the cache held at each place, and what a turn saw of it |
+//! | `Commits`, `AddedEntries`, `LinkedContents`, `TurnPlaces` | what a commit did, and what an entry in a bucket goes back to |
+//! | `TurnReplies`, `ReadingCalls` | what a turn's call answers, and which calls only look |
+//! | `Headline`, `LegalCases` | the claim as a whole, and a legal history of each kind |
 #![tactic(auto)]
 
 mod laws;
 mod record;
-mod sequences;
 
 pub use laws::{history_laws, legal_cases};
 pub use record::Record;
-pub use sequences::{cache_laws, handle_laws, look_laws, parts_laws, sequence_laws};

@@ -27,7 +27,7 @@ use Rattle.cacache_table.specs.State.{Site, Item}
 use Rattle.cacache_table.specs.StepPaths.{content_path}
 use Rattle.cacache_table.specs.Table.{piece}
 use Rattle.cacache_table.proofs.Replies.{exists_shown}
-use Rattle.cacache_history.specs.Sequence.{AreAnswered, tree_on}
+use Rattle.cacache_sequence.specs.Sequence.{AreAnswered, tree_on}
 use Rattle.cacache_keep_laws.specs.Contents.{IsHeld}
 use Rattle.cacache_keep_laws.specs.Answers.{AnsweredBy, AnswersOn}
 use Rattle.cacache_keep_laws.specs.Index.{IndexLists, entries_in, is_bad}

@@ -20,9 +20,9 @@ use Rattle.cacache_table.specs.declared.reply.Reply.{Reply}
 use Rattle.cacache_table.specs.declared.reply.Reply.TheVariants as replies
 use Rattle.cacache_table.specs.State.{Site}
 use Rattle.cacache_table.specs.Runs.{Moves, Gains}
-use Rattle.cacache_history.specs.Sequence.{tree_on, AreAnswered}
-use Rattle.cacache_history.proofs.InParts.{logs_lead}
-use Rattle.cacache_history.proofs.Looks.{tree_stays}
+use Rattle.cacache_sequence.specs.Sequence.{tree_on, AreAnswered}
+use Rattle.cacache_sequence.proofs.InParts.{logs_lead}
+use Rattle.cacache_sequence.proofs.Looks.{tree_stays}
 use Rattle.cacache_contents.specs.Listing.{contents_folder}
 use Rattle.cacache_contents.specs.Reading.{first}
 use Rattle.cacache_keep_laws.specs.Contents.{HoldsJust}

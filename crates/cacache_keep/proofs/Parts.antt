@@ -6,8 +6,8 @@ use Rattle.cacache_table.specs.declared.command.Command.{Command}
 use Rattle.cacache_table.specs.declared.reply.Reply.{Reply}
 use Rattle.cacache_table.specs.State.{Site}
 use Rattle.cacache_table.specs.Runs.{Moves, Gains}
-use Rattle.cacache_history.specs.Looks.{OnlyLooks}
-use Rattle.cacache_history.specs.Sequence.{tree_on, AreAnswered}
+use Rattle.cacache_sequence.specs.Looks.{OnlyLooks}
+use Rattle.cacache_sequence.specs.Sequence.{tree_on, AreAnswered}
 use Rattle.cacache_keep_laws.specs.Answers.{AnswersOn}
 use Rattle.cacache_keep_laws.proofs.Logged.{gains_join, tree_rest, answered_split, answered_rest, looked}
 use Rattle.cacache_keep.specs.Calls.{Made}

@@ -10,7 +10,7 @@ use Rattle.cacache_entry.specs.Latest.{Found}
 use Rattle.cacache_table.specs.declared.command.Command.TheVariants as commands
 use Rattle.cacache_table.specs.declared.reply.Reply.TheVariants as replies
 use Rattle.cacache_table.specs.State.{Site}
-use Rattle.cacache_history.proofs.InParts.{logs_lead}
+use Rattle.cacache_sequence.proofs.InParts.{logs_lead}
 use Rattle.cacache_contents.specs.Listing.{contents_folder}
 use Rattle.cacache_contents.specs.Reading.{first}
 use Rattle.cacache_keep_laws.specs.Contents.{HoldsJust}

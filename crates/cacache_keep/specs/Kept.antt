@@ -8,8 +8,8 @@ use Rattle.cacache_entry.specs.Latest.{Found}
 use Rattle.cacache_table.specs.declared.command.Command.{Command}
 use Rattle.cacache_table.specs.declared.reply.Reply.{Reply}
 use Rattle.cacache_table.specs.State.{Site}
-use Rattle.cacache_history.specs.Caches.{Called}
-use Rattle.cacache_history.specs.Looks.{OnlyLooks}
+use Rattle.cacache_sequence.specs.Caches.{Called}
+use Rattle.cacache_sequence.specs.Looks.{OnlyLooks}
 use Rattle.cacache_contents.specs.Listing.{IsByHash, ListsContents}
 use Rattle.cacache_keep_laws.specs.Contents.{HoldsJust}
 use Rattle.cacache_keep_laws.specs.Verifying.{Judges}

@@ -8,8 +8,8 @@ use Rattle.cacache_table.specs.declared.command.Command.TheVariants as commands
 use Rattle.cacache_table.specs.State.{Site}
 use Rattle.cacache_table.specs.StepPaths.{content_path}
 use Rattle.cacache_table.specs.Table.{opening}
-use Rattle.cacache_history.specs.Sequence.{tree_on}
-use Rattle.cacache_history.proofs.InParts.{logs_lead}
+use Rattle.cacache_sequence.specs.Sequence.{tree_on}
+use Rattle.cacache_sequence.proofs.InParts.{logs_lead}
 use Rattle.cacache_keep_laws.specs.Idle.{LacksIdle, Removed, StillLacksIdle}
 use Rattle.cacache_keep_laws.proofs.Cleared.{both_cleared, cleared}
 use Rattle.cacache_keep_laws.proofs.Fully.{Both, key_goes, lacks_at, last_removed}

@@ -28,7 +28,7 @@ use Rattle.cacache_table.specs.Walking.{most, failed, give, miss, walk_on, walk_
 use Rattle.cacache_table.specs.Runs.{Moves, Runs}
 use Rattle.cacache_value.specs.Kinds.{Content, Way, Stray, path_kind}
 use Rattle.cacache_value.proofs.KindsApart.{kind-below}
-use Rattle.cacache_history.specs.Sequence.{tree_on}
+use Rattle.cacache_sequence.specs.Sequence.{tree_on}
 use Rattle.cacache_history.proofs.ToldFolders.{Each, Told, AreDistinct, listing_told, listing_distinct}
 use Rattle.cacache_keep_laws.specs.Walks.{is_leaf}
 use Rattle.cacache_keep_laws.specs.Idle.{BreaksOff, LacksIdle}

@@ -21,8 +21,8 @@ use Rattle.cacache_table.specs.StepPaths.{bucket_path, content_path}
 use Rattle.cacache_table.specs.Looking.{found_in}
 use Rattle.cacache_table.specs.Removing.{remove_bucket, remove_content, remove_found}
 use Rattle.cacache_table.specs.Table.{wants, after}
-use Rattle.cacache_history.specs.Sequence.{tree_on}
-use Rattle.cacache_history.proofs.ReadsStay.{reading_keeps}
+use Rattle.cacache_sequence.specs.Sequence.{tree_on}
+use Rattle.cacache_sequence.proofs.ReadsStay.{reading_keeps}
 use Rattle.cacache_keep_laws.specs.Idle.{Finds, LacksIdle}
 use Rattle.cacache_keep_laws.proofs.Idle.{bucket_read}
 use Rattle.cacache_keep_laws.proofs.Stepping.{MadeOn, Whole, goes, stays, leaves}

@@ -19,13 +19,13 @@ use Rattle.cacache_table.specs.declared.reply.Reply.{Reply}
 use Rattle.cacache_table.specs.State.{Site}
 use Rattle.cacache_table.specs.Table.{opening}
 use Rattle.cacache_table.specs.Runs.{Moves, Runs, Gains}
-use Rattle.cacache_history.specs.Looks.{OnlyLooks}
-use Rattle.cacache_history.specs.Sequence.{tree_on, turns_on, AreAnswered}
+use Rattle.cacache_sequence.specs.Looks.{OnlyLooks}
+use Rattle.cacache_sequence.specs.Sequence.{tree_on, turns_on, AreAnswered}
 use Rattle.cacache_history.specs.Turns.{EachTurn}
 use Rattle.cacache_table.specs.Licence.{looking_on}
 use Rattle.cacache_table.proofs.Within.{calls_keep_to}
-use Rattle.cacache_history.proofs.Looks.{moves_keep, moves_place}
-use Rattle.cacache_history.proofs.ReadsStay.{listing_keeps}
+use Rattle.cacache_sequence.proofs.Looks.{moves_keep, moves_place}
+use Rattle.cacache_sequence.proofs.ReadsStay.{listing_keeps}
 use Rattle.cacache_contents.specs.Reading.{Folder, Reads, folders_in}
 use Rattle.cacache_keep_laws.specs.Answers.{AnsweredBy, AnswersOn}
 use Rattle.cacache_keep_laws.specs.Walks.{ReadAt}

@@ -9,7 +9,7 @@ use Rattle.cacache_table.specs.declared.reply.Reply.{Reply}
 use Rattle.cacache_table.specs.State.{State, Site, over}
 use Rattle.cacache_table.specs.Table.{after, opening, wants}
 use Rattle.cacache_table.specs.Runs.{Moves, Runs}
-use Rattle.cacache_history.proofs.InParts.{logs_lead}
+use Rattle.cacache_sequence.proofs.InParts.{logs_lead}
 use Rattle.cacache_keep_laws.specs.Answers.{AnsweredBy, AnswersAgree, IsMemory, LooksAnswer}
 use Rattle.cacache_keep_laws.proofs.Logged.{looked}
 

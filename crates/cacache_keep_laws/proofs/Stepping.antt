@@ -10,7 +10,7 @@ use Rattle.cacache_table.specs.declared.reply.Reply.TheVariants.{Refused}
 use Rattle.cacache_table.specs.State.{State, over}
 use Rattle.cacache_table.specs.Table.{wants, after}
 use Rattle.cacache_table.specs.Runs.{Moves, Runs}
-use Rattle.cacache_history.specs.Sequence.{tree_on, AreAnswered}
+use Rattle.cacache_sequence.specs.Sequence.{tree_on, AreAnswered}
 
 -- a run from this state on this tree
 pub record MadeOn (s : State) (t : Tree) (r : Reply) : Type 0 where

@@ -30,7 +30,7 @@ use Rattle.cacache_table.specs.declared.visit.Visit.TheVariants.{Enter, ReadBuck
 use Rattle.cacache_table.specs.declared.visit.Task.TheVariants.{Make, Stumble}
 use Rattle.cacache_table.specs.Walking.{failed, give, miss, walk_on, task_of, tasks_of, leaving, too_many, entered}
 use Rattle.cacache_table.specs.Runs.{Moves, Runs}
-use Rattle.cacache_history.specs.Sequence.{tree_on}
+use Rattle.cacache_sequence.specs.Sequence.{tree_on}
 use Rattle.cacache_history.proofs.ToldFolders.{Each, Told, AreDistinct, listing_told, listing_distinct, child_listed}
 use Rattle.cacache_keep_laws.specs.Walks.{is_leaf}
 use Rattle.cacache_keep_laws.specs.Idle.{BreaksOff}

@@ -13,8 +13,8 @@ use Rattle.cacache_table.specs.declared.reply.Reply.TheVariants.{Refused}
 use Rattle.cacache_table.specs.State.{Site}
 use Rattle.cacache_table.specs.Table.{opening}
 use Rattle.cacache_table.specs.Runs.{Moves, Runs}
-use Rattle.cacache_history.specs.Caches.{Called}
-use Rattle.cacache_history.specs.Looks.{OnlyLooks}
+use Rattle.cacache_sequence.specs.Caches.{Called}
+use Rattle.cacache_sequence.specs.Looks.{OnlyLooks}
 
 -- each move has the answer of this tree
 abbrev pub AnsweredBy : Tree → Moves → Type 0

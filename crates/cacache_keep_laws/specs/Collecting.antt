@@ -24,7 +24,7 @@ use Rattle.cacache_table.specs.State.{Site, Item}
 use Rattle.cacache_table.specs.Table.{opening}
 use Rattle.cacache_table.specs.Runs.{Moves, Runs}
 use Rattle.cacache_value.specs.Kinds.{Elsewhere, IsFor}
-use Rattle.cacache_history.specs.Caches.{IsCache}
+use Rattle.cacache_sequence.specs.Caches.{IsCache}
 use Rattle.cacache_keep_laws.specs.Contents.{HoldsJust, bucket_at, content_at}
 use Rattle.cacache_keep_laws.specs.Answers.{AnsweredBy, AnswersOn}
 use Rattle.cacache_keep_laws.specs.Index.{IndexLists, is_bad}

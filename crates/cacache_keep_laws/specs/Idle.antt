@@ -21,7 +21,7 @@ use Rattle.cacache_table.specs.Licence.{licence}
 use Rattle.cacache_table.specs.State.{Site}
 use Rattle.cacache_table.specs.StepPaths.{bucket_path, content_path}
 use Rattle.cacache_value.specs.Kinds.{Content, path_kind}
-use Rattle.cacache_history.specs.Caches.{Called}
+use Rattle.cacache_sequence.specs.Caches.{Called}
 use Rattle.cacache_keep_laws.specs.Walks.{is_leaf}
 use Rattle.cacache_keep_laws.specs.Collecting.{LinksLeadOut, ReadsAsBefore}
 

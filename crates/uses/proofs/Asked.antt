@@ -16,10 +16,10 @@ use Rattle.cacache_table.specs.declared.reply.Reply.TheVariants as replies
 use Rattle.cacache_table.specs.Causes.{Faulted}
 use Rattle.cacache_table.specs.Runs.{Moves, reply_of}
 use Rattle.cacache_table.specs.Replies.{looked_up}
-use Rattle.cacache_history.specs.Caches.{IsCache, HasKey, HasContent, LacksKey, AStepFailed, IsExcused, Called, Grows, ExcusesLast, lies_under, SaysThere, AsksWhetherHeld}
-use Rattle.cacache_history.specs.Keeping.{found_under}
-use Rattle.cacache_history.specs.Inserts.{leads_to}
-use Rattle.cacache_history.specs.Looks.{GivesFound, FindsFound, SaysAbsent, AsksAbsent}
+use Rattle.cacache_sequence.specs.Caches.{IsCache, HasKey, HasContent, LacksKey, AStepFailed, IsExcused, Called, Grows, ExcusesLast, lies_under, SaysThere, AsksWhetherHeld}
+use Rattle.cacache_sequence.specs.Keeping.{found_under}
+use Rattle.cacache_sequence.specs.Inserts.{leads_to}
+use Rattle.cacache_sequence.specs.Looks.{GivesFound, FindsFound, SaysAbsent, AsksAbsent}
 use Rattle.uses.specs.Asked.{IsEntryOf}
 use Rattle.uses.proofs.Told.{excused}
 

@@ -17,9 +17,9 @@ use Rattle.cacache_jobs.specs.Sites.{site_of}
 use Rattle.cacache_put.specs.Options.{Said, nothing_said}
 use Rattle.cacache_jobs.specs.Environment.{RunsTimed}
 use Rattle.cacache_put.specs.Puts.{insert_of}
-use Rattle.cacache_history.specs.Caches.{IsCache, IsExcused, Called}
-use Rattle.cacache_history.specs.Keeping.{KeepsOthers}
-use Rattle.cacache_history.specs.Inserts.{leads_to, InsertsKey, InsertsLast, plain_insert, PlainInsertsFit}
+use Rattle.cacache_sequence.specs.Caches.{IsCache, IsExcused, Called}
+use Rattle.cacache_sequence.specs.Keeping.{KeepsOthers}
+use Rattle.cacache_sequence.specs.Inserts.{leads_to, InsertsKey, InsertsLast, plain_insert, PlainInsertsFit}
 use Rattle.uses.proofs.Told.{excused}
 
 -- blank options with this integrity

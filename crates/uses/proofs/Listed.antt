@@ -18,9 +18,9 @@ use Rattle.cacache_table.specs.Runs.{Ran, plain_item, plain_reply, without_messa
 use Rattle.cacache_table.specs.State.{Item}
 use Rattle.cacache_table.specs.Table.{opening}
 use Rattle.cacache_jobs.specs.Sites.{site_of}
-use Rattle.cacache_history.specs.Caches.{HasKey, Grows, IsExcused, Called, ExcusesLast}
-use Rattle.cacache_history.specs.Keeping.{found_under}
-use Rattle.cacache_history.specs.ListedKeys.{IsShown, AreEntries, ListsKeys, GivesKeys}
+use Rattle.cacache_sequence.specs.Caches.{HasKey, Grows, IsExcused, Called, ExcusesLast}
+use Rattle.cacache_sequence.specs.Keeping.{found_under}
+use Rattle.cacache_sequence.specs.ListedKeys.{IsShown, AreEntries, ListsKeys, GivesKeys}
 use Rattle.uses.proofs.Told.{plain_error, memory_error}
 
 -- ---- a listing was made

@@ -16,7 +16,7 @@ use Rattle.cacache_table.specs.Table.{opening}
 use Rattle.cacache_table.specs.Verifying.{CountsAs}
 use Rattle.cacache_jobs.specs.Sites.{site_of}
 use Rattle.cacache_table.specs.Replies.{done}
-use Rattle.cacache_history.specs.Caches.{IsCache, IsEmptyCache, HasKey, HasContent, LacksKey, Grows, IsExcused, Called, plain_put, GivesBytes, FindsNone, WritesLast, ReadsKey, ReadsContent, ReadsNone, RemovalsLast, ClearingsEmpty, ExcusesLast}
+use Rattle.cacache_sequence.specs.Caches.{IsCache, IsEmptyCache, HasKey, HasContent, LacksKey, Grows, IsExcused, Called, plain_put, GivesBytes, FindsNone, WritesLast, ReadsKey, ReadsContent, ReadsNone, RemovalsLast, ClearingsEmpty, ExcusesLast}
 use Rattle.cacache.specs.Calls.{bytes_read}
 use Rattle.uses.specs.Missing.{FindsNothing}
 

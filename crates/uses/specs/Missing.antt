@@ -3,7 +3,7 @@ use Rattle.std.specs.Prelude.{◌≡◌, ◌⊎◌, ℕ, List, Vec, Result, Ok, 
 use Rattle.cacache_core.specs.declared.errors.Error.{Error}
 use Rattle.cacache_core.specs.declared.errors.Error.TheVariants.{EntryNotFound}
 use Rattle.cacache_store.specs.declared.store.log.LogItem.{LogItem}
-use Rattle.cacache_history.specs.Caches.{IsExcused}
+use Rattle.cacache_sequence.specs.Caches.{IsExcused}
 
 -- no bytes: `EntryNotFound`, unless memory was refused or a step failed
 abbrev pub FindsNothing :

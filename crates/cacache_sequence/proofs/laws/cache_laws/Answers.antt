@@ -1,0 +1,72 @@
+use Rattle.cacache_sequence.proofs.Logs.{calls_grow, growths_join, excuses_last}
+use Rattle.cacache_sequence.proofs.Known.{fresh_is_empty, caches_last}
+use Rattle.cacache_sequence.proofs.WritesLast.{writes_last}
+use Rattle.cacache_sequence.proofs.ReadsKeep.{reads_key, reads_content, reads_none}
+use Rattle.cacache_sequence.proofs.Looked.{finds_key}
+use Rattle.cacache_sequence.proofs.AskedContents.{asks_content}
+use Rattle.cacache_sequence.proofs.Removals.{removals_last, clearings_empty}
+use Rattle.cacache_sequence.proofs.PlantedFiles.{plants_last}
+use Rattle.cacache_sequence.proofs.Copying.{copies_count}
+use Rattle.cacache_sequence.proofs.ExportEffects.{exports_keep}
+use Rattle.cacache_sequence.proofs.Inserting.{inserts_last, plain_inserts_fit, keys_join, none_lacks}
+use Rattle.cacache_sequence.proofs.laws.cache_laws.Goals as goal
+
+pub returns-clause-fresh : goal.returns-clause-fresh
+returns-clause-fresh c = fresh_is_empty
+
+pub returns-clause-last : goal.returns-clause-last
+returns-clause-last c = caches_last
+
+pub returns-clause-writes : goal.returns-clause-writes
+returns-clause-writes c = writes_last
+
+pub returns-clause-reads : goal.returns-clause-reads
+returns-clause-reads c = reads_key
+
+pub returns-clause-reads_content : goal.returns-clause-reads_content
+returns-clause-reads_content c = reads_content
+
+pub returns-clause-finds : goal.returns-clause-finds
+returns-clause-finds c = finds_key
+
+pub returns-clause-asks : goal.returns-clause-asks
+returns-clause-asks c = asks_content
+
+pub returns-clause-removes : goal.returns-clause-removes
+returns-clause-removes c = removals_last
+
+pub returns-clause-reads_none : goal.returns-clause-reads_none
+returns-clause-reads_none c = reads_none
+
+pub returns-clause-clears : goal.returns-clause-clears
+returns-clause-clears c = clearings_empty
+
+pub returns-clause-plants : goal.returns-clause-plants
+returns-clause-plants c = plants_last
+
+pub returns-clause-grows : goal.returns-clause-grows
+returns-clause-grows c = calls_grow
+
+pub returns-clause-joins : goal.returns-clause-joins
+returns-clause-joins c = growths_join
+
+pub returns-clause-excuses : goal.returns-clause-excuses
+returns-clause-excuses c = excuses_last
+
+pub returns-clause-inserts : goal.returns-clause-inserts
+returns-clause-inserts c = inserts_last
+
+pub returns-clause-plain_inserts : goal.returns-clause-plain_inserts
+returns-clause-plain_inserts c = plain_inserts_fit
+
+pub returns-clause-joins_keys : goal.returns-clause-joins_keys
+returns-clause-joins_keys c = keys_join
+
+pub returns-clause-lacks : goal.returns-clause-lacks
+returns-clause-lacks c = none_lacks
+
+pub returns-clause-exports : goal.returns-clause-exports
+returns-clause-exports c = exports_keep
+
+pub returns-clause-copies_count : goal.returns-clause-copies_count
+returns-clause-copies_count c = copies_count

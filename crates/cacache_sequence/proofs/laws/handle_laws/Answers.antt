@@ -1,0 +1,19 @@
+use Rattle.cacache_sequence.proofs.OpenWriters.{writers_open}
+use Rattle.cacache_sequence.proofs.Committing.{commits_last, commits_store}
+use Rattle.cacache_sequence.proofs.OpenReaders.{readers_open, readers_open_key}
+use Rattle.cacache_sequence.proofs.laws.handle_laws.Goals as goal
+
+pub returns-clause-opens : goal.returns-clause-opens
+returns-clause-opens c = writers_open
+
+pub returns-clause-commits : goal.returns-clause-commits
+returns-clause-commits c = commits_last
+
+pub returns-clause-stores : goal.returns-clause-stores
+returns-clause-stores c = commits_store
+
+pub returns-clause-reads : goal.returns-clause-reads
+returns-clause-reads c = readers_open
+
+pub returns-clause-reads_key : goal.returns-clause-reads_key
+returns-clause-reads_key c = readers_open_key

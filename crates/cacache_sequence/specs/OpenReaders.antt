@@ -1,0 +1,84 @@
+-- What an open reader does on a store in memory, in words of its user.
+use Rattle.std.specs.Prelude.{◌≡◌, ◌⊎◌, ℕ, List, Option, None, Some, Result, Ok, Err, length}
+use Rattle.cacache_core.specs.declared.errors.Error.{Error}
+use Rattle.cacache_core.specs.declared.errors.Error.TheVariants.{EntryNotFound}
+use Rattle.cacache_core.specs.declared.integrity.digest.Hash.{Hash}
+use Rattle.cacache_store.specs.declared.store.answer.Answer.TheVariants as answers
+use Rattle.cacache_store.specs.declared.store.log.LogItem.{LogItem}
+use Rattle.cacache_store.specs.declared.store.plain.PlainFile.{PlainFile}
+use Rattle.cacache_store.specs.declared.store.step.Step.TheVariants as steps
+use Rattle.cacache_memory.specs.Replay.{IsLog}
+use Rattle.cacache_entry.specs.Latest.{Found}
+use Rattle.cacache_table.specs.declared.command.Command.TheVariants as commands
+use Rattle.cacache_table.specs.declared.reply.Reply.{Reply}
+use Rattle.cacache_table.specs.declared.reply.Reply.TheVariants.{LookedUp, Refused}
+use Rattle.cacache_table.specs.StepPaths.{content_path}
+use Rattle.cacache_table.specs.Runs.{Ran, without_message}
+use Rattle.cacache_table.specs.Table.{opening}
+use Rattle.cacache_sequence.specs.Caches.{IsCache, HasContent, HasKey, LacksKey, IsExcused}
+use Rattle.cacache_table.specs.SingleSteps.{Does, FailsAt}
+use Rattle.cacache_sequence.specs.OpenWriters.{LeavesCache}
+
+-- ---- an opening
+
+module _ (cache : List ℕ) where
+  -- the content of an integrity was opened, or why not
+  abbrev pub OpensContent :
+      List Hash → Result PlainFile Error → Option (List LogItem) → Option (List LogItem) → Type 0
+  OpensContent i (Ok file) old new =
+      Does (steps.Open (content_path cache i)) (answers.File file) old new
+  OpensContent i (Err e) old new = FailsAt (steps.Open (content_path cache i)) e old new
+
+  module _ (base key : List ℕ) where
+    -- a lookup of the key gave this reply
+    abbrev pub LookupRan : Reply → Option (List LogItem) → Option (List LogItem) → Type 0
+    LookupRan r old new =
+        Ran
+        (opening (record { cache = cache; base = base; number = 0 }) (commands.Find key)) r old new
+
+    -- it found an integrity, and then its content was to be opened
+    abbrev pub OpensWhatWasFound :
+        Result PlainFile Error → Option (List LogItem) → Option (List LogItem) → Type 0
+    OpensWhatWasFound r old new =
+        (found : Found) × (mid : Option (List LogItem)) × LookupRan (LookedUp (Some found)) old mid
+        × OpensContent found.integrity r mid new
+
+    -- the content that the key leads to was opened, or why not
+    abbrev pub OpensByKey :
+        Result PlainFile Error → Option (List LogItem) → Option (List LogItem) → Type 0
+    OpensByKey (Ok file) old new = OpensWhatWasFound (Ok file) old new
+    OpensByKey (Err (EntryNotFound c k)) old new =
+        (c ≡ cache) × (k ≡ key) × LookupRan (LookedUp None) old new
+    OpensByKey (Err e) old new =
+        LookupRan (Refused (without_message e)) old new ⊎ OpensWhatWasFound (Err e) old new
+
+-- ---- what it does
+
+-- the file has just these bytes to give; and why there is none is excused
+abbrev pub GivesFile : List ℕ → Result PlainFile Error → List LogItem → List LogItem → Type 0
+GivesFile bytes (Ok file) old new = (file.bytes ≡ Some bytes) × (file.left ≡ length bytes)
+GivesFile bytes (Err e) old new = IsExcused e old new
+
+-- a reader by integrity has the bytes to give that lie under it
+abbrev pub ReadersOpen : Type 0
+ReadersOpen =
+    (cache : List ℕ) (i : List Hash) (r : Result PlainFile Error) (old new : List LogItem)
+    → IsCache cache old → OpensContent cache i r (Some old) (Some new) → IsLog new
+    → LeavesCache cache old new
+    × ((bytes : List ℕ) → HasContent cache i bytes old → GivesFile bytes r old new)
+
+-- there is none of a key that leads to nothing
+abbrev pub GivesNone :
+    List ℕ → List ℕ → Result PlainFile Error → List LogItem → List LogItem → Type 0
+GivesNone cache key (Ok file) old new = ⊥
+GivesNone cache key (Err e) old new = (e ≡ EntryNotFound cache key) ⊎ IsExcused e old new
+
+-- a reader by key has the bytes to give that the key leads to
+abbrev pub ReadersOpenKey : Type 0
+ReadersOpenKey =
+    (cache base key : List ℕ) (r : Result PlainFile Error) (old new : List LogItem)
+    → IsCache cache old → OpensByKey cache base key r (Some old) (Some new) → IsLog new
+    → LeavesCache cache old new
+    × ((i : List Hash) (bytes : List ℕ)
+    → HasKey cache key i bytes old → GivesFile bytes r old new)
+    × (LacksKey cache key old → GivesNone cache key r old new)

@@ -1,0 +1,106 @@
+//! What holds of calls in sequence, on functions that do nothing.
+ghost use Rattle.cacache_memory.specs.Replay.{IsLog};
+ghost use Rattle.cacache_sequence.specs.Sequence.{OpeningsAreSound, RunsAreCalls, CallsAreAnswered, SequencesAnswer};
+ghost use Rattle.cacache_sequence.specs.ReadAnswers.{RepliesFollow, ReadsKeep};
+ghost use Rattle.cacache_sequence.specs.Stored.{PutsStore, InsertsAdd, DeletesAdd};
+ghost use Rattle.cacache_sequence.specs.CallErrors.{CallsFailOnly};
+ghost use Rattle.cacache_sequence.specs.Caches.{FreshIsEmpty, CachesLast, WritesLast, ReadsKey, ReadsContent, FindsKey, AsksWhetherHeld, RemovalsLast, ReadsNone, ClearingsEmpty, PlantsLast, CallsGrow, GrowthsJoin, ExcusesLast};
+ghost use Rattle.cacache_sequence.specs.ListedKeys.{ListingsGive};
+ghost use Rattle.cacache_sequence.specs.Looks.{LooksKeep, SameStaysKnown, FindsFound, AsksAbsent};
+ghost use Rattle.cacache_sequence.specs.ExportEffects.{CopiesCount, ExportsKeep};
+ghost use Rattle.cacache_sequence.specs.Inserts.{InsertsLast, PlainInsertsFit, KeysJoin, NoneLacks};
+ghost use Rattle.cacache_sequence.specs.InParts.{LogsLead, CallsBegin, PartsGoOn, LeftAreCases, PartsAnswer, ReadsAreParts, WritesAreParts};
+ghost use Rattle.cacache_sequence.specs.OpenWriters.{WritersOpen, CommitsLast, CommitsStore};
+ghost use Rattle.cacache_sequence.specs.OpenReaders.{ReadersOpen, ReadersOpenKey};
+
+use cacache_memory::MemStore;
+
+/// Calls on a store in memory, one after another. A call that is made on a sound tree answers by what
+/// the cache holds there, and leaves a sound tree; the store of a new cache has one. What the cache
+/// holds changes by the acts of the call's steps. The reply of a call that reads is what the cache held
+/// then; a listing reads the buckets of keys and answers what they held. A commit did nothing, put its
+/// content, or put its content and then its entry. A put finds no content there but puts its own. An `IoError` has
+/// a cause.
+///
+/// A call's moves are what the log gained by it: so says the clause `ran` of `call`, whose base folder
+/// is the setup's. The log is that of a disk: so says `replayable` of `MemStore::log`.
+pub fn sequence_laws()
+    ensures openings { OpeningsAreSound }
+    ensures calls { RunsAreCalls }
+    ensures one { CallsAreAnswered }
+    ensures replies { RepliesFollow }
+    ensures keeps { ReadsKeep }
+    ensures puts { PutsStore }
+    ensures inserts { InsertsAdd }
+    ensures deletes { DeletesAdd }
+    ensures fails { CallsFailOnly }
+    ensures sequences { SequencesAnswer }
+{}
+
+/// The same in words of somebody who uses a cache in a store in memory, call by call: what he wrote is
+/// there, what he removed isn't, and a call fails for a step of its own or for memory. Of the store that it is
+/// handed it says that its log is a disk's, which the laws ask of the log behind a call.
+pub fn cache_laws(store: &MemStore)
+    ensures logged { IsLog store.now }
+    ensures fresh { FreshIsEmpty }
+    ensures last { CachesLast }
+    ensures writes { WritesLast }
+    ensures reads { ReadsKey }
+    ensures reads_content { ReadsContent }
+    ensures finds { FindsKey }
+    ensures asks { AsksWhetherHeld }
+    ensures removes { RemovalsLast }
+    ensures reads_none { ReadsNone }
+    ensures clears { ClearingsEmpty }
+    ensures plants { PlantsLast }
+    ensures grows { CallsGrow }
+    ensures joins { GrowthsJoin }
+    ensures excuses { ExcusesLast }
+    ensures exports { ExportsKeep }
+    ensures copies_count { CopiesCount }
+    ensures inserts { InsertsLast }
+    ensures plain_inserts { PlainInsertsFit }
+    ensures joins_keys { KeysJoin }
+    ensures lacks { NoneLacks }
+{
+    let _log = store.log();
+}
+
+/// The same of calls that only look: they leave what the cache holds, so that all that was known of it
+/// stays; and they find nothing where nothing is. A listing answers entries that keys lead to, no key
+/// twice, and all of them unless one of its items is an error.
+pub fn look_laws()
+    ensures keeps { LooksKeep }
+    ensures known { SameStaysKnown }
+    ensures finds { FindsFound }
+    ensures asks_absent { AsksAbsent }
+    ensures lists { ListingsGive }
+{}
+
+/// What handles do to a cache in a store in memory, in words of their user. A writer opens and commits later, and in
+/// between any calls may be made that leave a cache: after a commit that stored, the key leads to the bytes that the writer
+/// took. A reader has the bytes to give that lay in the cache when it opened, whatever becomes of the content since.
+pub fn handle_laws()
+    ensures opens { WritersOpen }
+    ensures commits { CommitsLast }
+    ensures stores { CommitsStore }
+    ensures reads { ReadersOpen }
+    ensures reads_key { ReadersOpenKey }
+{}
+
+/// Calls that are made in parts, as an open writer, linker or reader makes one: it begins, and goes on later from where
+/// it stands. Each part of it is made on a sound tree and leaves one, and with its last part it answers as a whole call
+/// does, by all of its steps. Between its parts other calls may be made, of which nothing more is needed than that the
+/// tree is sound where the next part begins.
+///
+/// A part's steps are what the log gained by it, but for the bytes that a linker read of its target itself, and those
+/// that a writer handed to its file.
+pub fn parts_laws()
+    ensures logs { LogsLead }
+    ensures begins { CallsBegin }
+    ensures parts { PartsGoOn }
+    ensures left { LeftAreCases }
+    ensures answers { PartsAnswer }
+    ensures reads { ReadsAreParts }
+    ensures writes { WritesAreParts }
+{}

@@ -1,0 +1,14 @@
+//! Calls that are made one after another on one store in memory, whole or in parts, and what they mean to their caller. No
+//! function here does anything.
+//!
+//! | In `specs` | |
+//! |---|---|
+//! | `Sequence`, `ReadAnswers`, `Stored`, `CallErrors` | calls on a tree: what each leaves, answers, stores, and why it fails |
+//! | `Caches`, `Looks`, `ListedKeys`, `Inserts`, `ExportEffects` | the same in words of a cache's user: keys, contents, listings |
+//! | `InParts`, `Keeping` | a call in parts, with other calls in between |
+//! | `OpenWriters`, `OpenReaders` | open handles, by their parts |
+#![tactic(auto)]
+
+mod laws;
+
+pub use laws::{cache_laws, handle_laws, look_laws, parts_laws, sequence_laws};
