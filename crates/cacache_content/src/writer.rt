@@ -45,7 +45,7 @@ pub struct Writer<T> {
 /// Makes the folder of temporary files, which every writer does first.
 ///
 /// `IoError` says that it couldn't be made. Contents and index stay as they were.
-pub fn make_folder<S: Store>(alloc: Global, store: &mut S, cache: &str) -> Result<()>
+fn make_folder<S: Store>(alloc: Global, store: &mut S, cache: &str) -> Result<()>
     ensures made { IfOk result
         (λ _. Does (making_folder cache.now) Done (S.log store.old) (S.log store.new)) }
     ensures err { IfErr result

@@ -37,7 +37,8 @@ pub use temp::FolderTemp;
 /// The folders and files of a runtime's file system, by the system's own rules. It keeps no log. Each `Reflink` fails
 /// with `Unsupported`.
 ///
-/// A name that isn't UTF-8 is listed as an escaped name, so that it hides no other one. No step reaches what stands under it.
+/// A name that isn't UTF-8 is listed as an escaped name, so that it hides no other one. No step reaches what stands
+/// under it.
 #[derive(Drop)]
 pub struct FolderStore<R> {
     rt: R,
@@ -63,16 +64,20 @@ impl<R: Files + AllocGlobal + Clone + Drop> FolderStore<R> {
     /// The system's kind of error behind the last step that failed, which says more than a `Fault` does: a full disk, a
     /// missing right and another device have kinds of their own. None before any step failed.
     ///
-    /// It says why a call failed whose `IoError` has this kind's `Fault`. The program `uses_builds` asks it where a
-    /// hard link failed, and copies in its place only where no link can be made: the reason is another device
-    /// (`CrossesDevices`), or a system without hard links (`Unsupported`).
+    /// Ask it right behind the call that failed, whose `IoError` then has this kind's `Fault`. Each later step that
+    /// fails puts its own kind here, and steps fail in calls that go well too, as where a key has no bucket. A step
+    /// that goes well, or that is refused memory, leaves it. Reads and writes of open handles, and an error that a call
+    /// makes itself, as of a short append, tell nothing here.
+    ///
+    /// The program `uses_builds` asks it where a hard link failed, and copies in its place only where no link can be
+    /// made: the reason is another device (`CrossesDevices`), or a system without hard links (`Unsupported`).
     pub fn reason(&self) -> Option<ErrorKind>
         ensures { result ≡ self.now.reason }
     {
         self.reason
     }
 
-    /// Does a step that is answered by `Done`. A reflink is not supported.
+    /// Does a step that says nothing but that it is done. A reflink is not supported.
     fn change<F: FileHandle, T: TempHandle>(&mut self, step: &Step<F, T>) -> io::Result<()>
         ensures fits { IfOk result (λ _. Fits (plain_step F.seen T.seen step.now) Answer.Done) }
         ensures kept { self.new.reason ≡ self.old.reason }
@@ -89,28 +94,7 @@ impl<R: Files + AllocGlobal + Clone + Drop> FolderStore<R> {
         }
     }
 
-    /// Does a step that asks about files and folders, or one that is answered by `Done`.
-    fn asked<F: FileHandle, T: TempHandle>(&mut self, step: &Step<F, T>) -> io::Result<Answer<F, T>>
-        ensures fits { IfOk result (λ answer.
-            Fits (plain_step F.seen T.seen step.now) (plain_answer F.seen T.seen answer)) }
-        ensures done { IfOk result (λ answer.
-            is_no_memory (plain_answer F.seen T.seen answer) ≡ false) }
-        ensures explains { IfOk result (λ answer. Explains self.old.reason self.new.reason
-            (plain_answer F.seen T.seen answer)) }
-        ensures kept { self.new.reason ≡ self.old.reason }
-    {
-        Ok(match step {
-            Step::Exists(path) => Answer::There(self.exists(path.as_str())?),
-            Step::Size(path) => Answer::Length(self.size(path.as_str())?),
-            Step::ReadDir(path) => Answer::Names(self.read_dir(path.as_str())?),
-            step => {
-                self.change(step)?;
-                Answer::Done
-            }
-        })
-    }
-
-    /// Does a step that has no file of its own.
+    /// Does a step that takes no file and gives none.
     fn done<F: FileHandle, T: TempHandle>(&mut self, step: &Step<F, T>) -> io::Result<Answer<F, T>>
         ensures fits { IfOk result (λ answer.
             Fits (plain_step F.seen T.seen step.now) (plain_answer F.seen T.seen answer)) }
@@ -126,7 +110,13 @@ impl<R: Files + AllocGlobal + Clone + Drop> FolderStore<R> {
             }
             Step::Copy(from, to) => Answer::Took(self.copy(from.as_str(), to.as_str())?),
             Step::ReadAll(path) => Answer::Bytes(self.read_all(path.as_str())?),
-            step => return self.asked(step),
+            Step::Exists(path) => Answer::There(self.exists(path.as_str())?),
+            Step::Size(path) => Answer::Length(self.size(path.as_str())?),
+            Step::ReadDir(path) => Answer::Names(self.read_dir(path.as_str())?),
+            step => {
+                self.change(step)?;
+                Answer::Done
+            }
         })
     }
 }

@@ -13,8 +13,9 @@ const STRIDE: u64 = 65536;
 
 /// Numbers for temporary files. The first is 64 random bits of the system; each next one is 65536 more, modulo 2^64.
 ///
-/// So two environments give different numbers, whatever threads, processes, containers or machines they are of, but with a
-/// chance of less than one in 2^40 where each gives fewer than a million. Contracts see the number that comes next.
+/// So two environments give different numbers, whatever threads, processes, containers or machines they are of, but
+/// with a chance of less than one in 2^40 where each gives fewer than a million. Contracts see the number that comes
+/// next.
 #[derive(Debug, Drop)]
 pub struct ProcessNames {
     next: u64,
@@ -49,9 +50,9 @@ impl ProcessNames {
         }
     }
 
-    /// The numbers that start at a time in milliseconds since the start of 1970 (UTC) and a process's number: the time times
-    /// 65536, plus the number modulo 65536, all modulo 2^64. Two processes give different ones if their numbers differ modulo
-    /// 65536.
+    /// The numbers that start at a time in milliseconds since the start of 1970 (UTC) and a process's number: the time
+    /// times 65536, plus the number modulo 65536, all modulo 2^64. Two processes give different ones if their numbers
+    /// differ modulo 65536.
     pub fn starting(millis: u64, process: u32) -> ProcessNames
         ensures { result ≡ (millis * 65536 + process % 65536) % 2 ^ 64 }
     {

@@ -140,6 +140,13 @@ pub fn reflink_hash_unchecked_sync<S: Store, C: Clock, N: Names>(
 /// to its end first, and goes there only if it meets the integrity. On real folders both names are one file: whoever
 /// changes it through this one damages the cache.
 ///
+/// ```
+/// let sri = cacache::write_hash_sync(&mut env, "my-cache", b"my data")?;
+/// cacache::hard_link_hash_sync(&mut env, "my-cache", &sri, "/my-link")?; // /my-link has b"my data"
+/// ```
+///
+/// Its future, `hard_link_hash`, is run as in the example of `read`.
+///
 /// `IntegrityError` where the content doesn't meet the integrity, `IoError` says which step failed, with `NotFound`
 /// where the content isn't there. Then nothing changed. `OutOfMemory` may come after the last step.
 pub fn hard_link_hash_sync<S: Store, C: Clock, N: Names>(
@@ -161,6 +168,11 @@ pub fn hard_link_hash_sync<S: Store, C: Clock, N: Names>(
 /// Gives the content of the integrity one more name, which is this path. Nothing may stand there. Whether it meets the
 /// integrity isn't asked. On real folders both names are one file: whoever changes it through this one damages the
 /// cache.
+///
+/// ```
+/// let sri = cacache::write_hash_sync(&mut env, "my-cache", b"my data")?;
+/// cacache::hard_link_hash_unchecked_sync(&mut env, "my-cache", &sri, "/my-link")?; // it has b"my data"
+/// ```
 ///
 /// `IoError` says which step failed, with `NotFound` where the content isn't there. Then nothing changed. `OutOfMemory`
 /// may come after the last step.

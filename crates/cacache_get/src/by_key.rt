@@ -18,7 +18,7 @@ use cacache_table::{How, Source};
 
 /// Copies the content that a lookup of the key finds to this path, and answers how many bytes it has. A file there is
 /// overwritten. The content is read to its end first, and goes there only if it meets the integrity that the lookup
-/// gives.
+/// gives. Where the content is a link, its target's bytes are copied.
 ///
 /// ```
 /// cacache::write_sync(&mut env, "my-cache", "key", b"my data")?;
@@ -72,7 +72,8 @@ pub fn copy_unchecked_sync<S: Store, C: Clock, N: Names>(
 
 /// Makes a file at this path that shares its storage with the content that a lookup of the key finds. Nothing may stand
 /// there. The content is read to its end first, and goes there only if it meets the integrity that the lookup gives.
-/// Real folders make no reflinks: there its last step always fails with `Unsupported`.
+/// Where the content is a link, its target's storage is shared. Real folders make no reflinks: there its last step
+/// always fails with `Unsupported`.
 ///
 /// ```
 /// cacache::write_sync(&mut env, "my-cache", "key", b"my data")?;
@@ -127,7 +128,15 @@ pub fn reflink_unchecked_sync<S: Store, C: Clock, N: Names>(
 
 /// Gives the content that a lookup of the key finds one more name, which is this path. Nothing may stand there. The
 /// content is read to its end first, and goes there only if it meets the integrity that the lookup gives. On real
-/// folders both names are one file: whoever changes it through this one damages the cache.
+/// folders both names are one file: whoever changes it through this one damages the cache. Where the content is a link,
+/// this path becomes the same link, and no name of the target.
+///
+/// ```
+/// cacache::write_sync(&mut env, "my-cache", "key", b"my data")?;
+/// cacache::hard_link_sync(&mut env, "my-cache", "key", "/my-link")?; // /my-link has b"my data"
+/// ```
+///
+/// Its future, `hard_link`, is run as in the example of `read`.
 ///
 /// `EntryNotFound` where that lookup is none, `IntegrityError` where the content doesn't meet the integrity, `IoError`
 /// says which step failed, with `NotFound` where the content isn't there. Then nothing changed. `OutOfMemory` may come
@@ -150,6 +159,11 @@ pub fn hard_link_sync<S: Store, C: Clock, N: Names>(
 /// Gives the content that a lookup of the key finds one more name, which is this path. Nothing may stand there. Whether
 /// it meets its integrity isn't asked. On real folders both names are one file: whoever changes it through this one
 /// damages the cache.
+///
+/// ```
+/// cacache::write_sync(&mut env, "my-cache", "key", b"my data")?;
+/// cacache::hard_link_unchecked_sync(&mut env, "my-cache", "key", "/my-link")?; // it has b"my data"
+/// ```
 ///
 /// `EntryNotFound` where that lookup is none, `IoError` says which step failed, with `NotFound` where the content isn't
 /// there. Then nothing changed. `OutOfMemory` may come after the last step.

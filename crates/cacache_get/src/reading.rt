@@ -59,8 +59,7 @@ pub fn read_sync<S: Store, C: Clock, N: Names>(
     read(env, cache, command)
 }
 
-/// The bytes of an integrity. Whatever the store gives, what is answered meets it. In the name of a call `_hash` says
-/// that a content is stored or named by its integrity alone: the index isn't asked, so no key is needed and no entry.
+/// The bytes of an integrity. Whatever the store gives, what is answered meets it.
 ///
 /// ```
 /// let sri = cacache::write_hash_sync(&mut env, "my-cache", b"my data")?;

@@ -17,7 +17,7 @@ use cacache_store::store::Store;
 use cacache_table::Command;
 
 /// Removes the content of the integrity. Entries that name it stay: their keys are still found, but reads of them fail
-/// with `NotFound`.
+/// with `NotFound`. Of a content that is a link, the link is removed and its target stays.
 ///
 /// ```
 /// let sri = cacache::write_hash_sync(&mut env, "my-cache", b"my data")?;

@@ -22,8 +22,8 @@ pub struct Collected {
     pub dropped: Vec<Integrity>,
 }
 
-/// Removes each content of a cache that is the address of no entry. What lies among the contents and
-/// is none stays.
+/// Removes each content of a cache that is the address of no entry. Of one that is a link, the link is
+/// removed and its target stays. What lies among the contents and is none stays.
 ///
 /// A folder of the index that isn't there has no items, so every content is removed then; a link in
 /// its place that leads to nothing is an `IoError`. Collect a cache while nobody writes to it: a

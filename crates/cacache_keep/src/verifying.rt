@@ -28,10 +28,12 @@ pub struct Verdict {
 }
 
 /// Reads each content of a cache, and asks of each entry whether its content is there. Nothing
-/// changes. A content is read in pieces of 8 KiB, of which one is in memory at a time.
+/// changes. A content is read in pieces of 8 KiB, of which one is in memory at a time. Of a cache
+/// whose folder isn't there the verdict has nothing.
 ///
 /// A content whose bytes don't meet its address is damaged, and so is one that was gone when it was
-/// to be opened. Errors are those of `content::read::list`, of an opening or a read that failed
+/// to be opened. One that is a link is judged by its target's bytes, and is damaged where it leads to
+/// nothing. Errors are those of `content::read::list`, of an opening or a read that failed
 /// otherwise, and the first error among the items of the index. A folder of the index that isn't
 /// there has no items; a link in its place that leads to nothing is an `IoError`. `OutOfMemory` may
 /// come at any time.

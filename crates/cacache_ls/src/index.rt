@@ -24,8 +24,9 @@ use cacache_store::store::Store;
 ///
 /// `OutOfMemory` is the only error. Of the items, an `IoError` says which folder or bucket couldn't
 /// be read, or with `TooDeep` that folders lie more than sixteen levels below the index; the
-/// listing then goes on. Past 2^63 names or items an `IoError` with `TooDeep` is the last item, and
-/// so is `OutOfMemory`. Nothing changes. Clock and numbers aren't asked.
+/// listing then goes on. Where there is no folder of the index, or none of the cache, an `IoError` with
+/// `NotFound` is the only item. Past 2^63 names or items an `IoError` with `TooDeep` is the last item,
+/// and so is `OutOfMemory`. Nothing changes. Clock and numbers aren't asked.
 pub fn ls<'a, S: Store, C: Clock, N: Names>(
     env: &'a mut Env<S, C, N>,
     cache: &str,

@@ -79,6 +79,10 @@ fn stored<S: Store, C, N>(
 /// Stores the bytes under the key, and answers their SHA-256 integrity. The entry has the clock's moment,
 /// which is asked once, before the first step.
 ///
+/// The bytes are written anew each time, and moved over what is at their address: so a write mends a content that was
+/// damaged, and replaces one that is a link. As in each call that writes, links or adds an entry, missing folders are
+/// made, that of the cache and those above it too.
+///
 /// ```
 /// let sri = cacache::write_sync(&mut env, "my-cache", "key", b"my data")?;
 /// let bytes = cacache::read_hash_sync(&mut env, "my-cache", &sri)?; // b"my data"

@@ -24,8 +24,10 @@ use std::alloc::Global;
 use std::io;
 use std::io::Write;
 
-/// A content that is being written, and what was said of it; nothing is saved before the commit. A writer that is dropped
-/// leaves its file to the store: on real folders it is removed, and on a disk in memory it stays for `clear_sync`.
+/// A content that is being written, and what was said of it; nothing is saved before the commit. What is saved is a
+/// content at its address, or an entry in the index: before it there is a temporary file, which no other call reads. A
+/// writer that is dropped leaves its file to the store: on real folders it is removed, and on a disk in memory it stays
+/// for `clear_sync`.
 #[derive(Drop)]
 pub struct SyncWriter<T> {
     writer: Writer<T>,

@@ -5,14 +5,15 @@ use cacache_folder::FolderTemp;
 use cacache_store::store::{PlainTemp, TempFile};
 use std::rt::Files;
 
-/// A temporary file that a worker can remove with its runtime: a worker has no store.
-pub trait RemovableTemp<R>: TempFile {
+/// A temporary file that removes itself, since a worker has no store that could. One that asks the system for it keeps
+/// a runtime, as `FolderTemp` does.
+pub trait RemovableTemp: TempFile {
     /// Removes the file. The fault says why it wasn't removed.
-    fn remove(self, rt: &R) -> Result<(), Fault>;
+    fn remove(self) -> Result<(), Fault>;
 }
 
-impl<R: Files + Drop> RemovableTemp<R> for FolderTemp<R> {
-    fn remove(self, _rt: &R) -> Result<(), Fault> {
+impl<R: Files + Drop> RemovableTemp for FolderTemp<R> {
+    fn remove(self) -> Result<(), Fault> {
         match FolderTemp::remove(self) {
             Ok(()) => Ok(()),
             Err(error) => Err(Fault::from(error.kind())),
@@ -20,9 +21,9 @@ impl<R: Files + Drop> RemovableTemp<R> for FolderTemp<R> {
     }
 }
 
-impl<R> RemovableTemp<R> for PlainTemp {
+impl RemovableTemp for PlainTemp {
     /// Lets the bytes go: the disk in memory keeps an empty file, as after a writer that is dropped.
-    fn remove(self, _rt: &R) -> Result<(), Fault> {
+    fn remove(self) -> Result<(), Fault> {
         let_go(self);
         Ok(())
     }

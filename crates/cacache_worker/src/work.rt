@@ -20,7 +20,7 @@ fn written<T: TempFile>(file: &mut T, bytes: &Bytes) -> Completion
 }
 
 /// Does the work with the file, and says how it ended.
-pub(crate) fn done<R, T: RemovableTemp<R>>(rt: &R, work: Work, temp: T) -> (Option<T>, Completion)
+pub(crate) fn done<T: RemovableTemp>(work: Work, temp: T) -> (Option<T>, Completion)
     ensures fits { FitsWork work result.1 }
     ensures does { Does T.seen work temp result.0 result.1 }
 {
@@ -34,7 +34,7 @@ pub(crate) fn done<R, T: RemovableTemp<R>>(rt: &R, work: Work, temp: T) -> (Opti
             Ok(()) => (Some(file), Completion::Flushed),
             Err(error) => (Some(file), Completion::Failed(Fault::from(error.kind()))),
         },
-        Work::Remove => match file.remove(rt) {
+        Work::Remove => match file.remove() {
             Ok(()) => (None, Completion::Removed),
             Err(fault) => (None, Completion::Failed(fault)),
         },

@@ -35,14 +35,15 @@ impl<T: Drop> Worker<T> {
     pub(crate) fn new(shared: Arc<Shared<T>, Global>) -> Worker<T> {
         Worker { shared, asked: 0 }
     }
+}
 
-    /// Does the work that is out, if the gate lets it. The gate is asked once at most, and only where work is out; after
-    /// `Quit` that work ends undone, and the next commit is cancelled. It is over where the polled file was dropped,
-    /// committed or closed, and after `Quit`.
-    pub fn turn<R: Wait + Clock, G: Gate>(&mut self, rt: &R, gate: &G) -> Turned
-    where
-        T: RemovableTemp<R>,
-    {
+impl<T: RemovableTemp> Worker<T> {
+    /// Does the work that is out, if the gate lets it. The gate is asked once at most, and only where work is out;
+    /// after `Quit` that work ends undone, and the next commit is cancelled. It is over where the polled file was
+    /// dropped, committed or closed, and after `Quit`.
+    ///
+    /// `Wait` is for the lock that it shares with the polled file.
+    pub fn turn<R: Wait, G: Gate>(&mut self, rt: &R, gate: &G) -> Turned {
         let shared: &Shared<T> = &self.shared;
         if shared.is_over(rt) {
             return Turned::Over;
@@ -64,10 +65,10 @@ impl<T: Drop> Worker<T> {
 
     /// Takes turns until one is over, a millisecond apart where there was nothing to do. The example of
     /// `Writer::create` runs one in a thread of its own.
-    pub fn run<R: Wait + Clock, G: Gate>(mut self, rt: &R, gate: &G)
-    where
-        T: RemovableTemp<R>,
-    {
+    ///
+    /// `Wait` is for the lock and for sleeping, `Clock` for the millisecond. Unless its gate says `Quit`, it doesn't
+    /// return before the polled file was dropped, committed or closed.
+    pub fn run<R: Wait + Clock, G: Gate>(mut self, rt: &R, gate: &G) {
         for _ in rt.forever() {
             match self.turn(rt, gate) {
                 Turned::Did => {}
@@ -80,13 +81,13 @@ impl<T: Drop> Worker<T> {
 }
 
 /// Takes the work out under the lock, does it, and ends it under the lock.
-fn work_once<R: Wait, T: RemovableTemp<R>>(rt: &R, shared: &Shared<T>) -> Turned {
+fn work_once<R: Wait, T: RemovableTemp>(rt: &R, shared: &Shared<T>) -> Turned {
     let (work, temp) = shared.take(rt);
     let Some(work) = work else {
         return Turned::NoWork;
     };
     let (temp, completion) = match temp {
-        Some(file) => done(rt, work, file),
+        Some(file) => done(work, file),
         None => (None, Completion::Failed(Fault::Closed)),
     };
     shared.end(rt, temp, completion);

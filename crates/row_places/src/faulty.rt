@@ -149,8 +149,8 @@ impl TempFile for Short {
     }
 }
 
-impl<R> RemovableTemp<R> for Short {
-    fn remove(self, _rt: &R) -> Result<(), Fault> {
+impl RemovableTemp for Short {
+    fn remove(self) -> Result<(), Fault> {
         let stays = self.mishaps.stays;
         let_go(self);
         if stays { Err(Fault::NotFound) } else { Ok(()) }

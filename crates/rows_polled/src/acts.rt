@@ -17,7 +17,6 @@ use rows::words::cut;
 use std::alloc::{AllocError, AllocGlobal};
 use std::random::RandomSource;
 use std::sync::Wait;
-use std::time::Clock;
 
 /// What the act is made on, and its steps.
 pub(crate) fn parts_of(words: &str) -> (&str, &str) {
@@ -64,9 +63,9 @@ fn called<R: Wait + RandomSource + AllocGlobal, S: Store>(
 /// What an act gives.
 pub(crate) fn made<R, S, T>(rt: &R, env: &mut On<S>, act: &str) -> Result<String, Flaw>
 where
-    R: Wait + Clock + RandomSource + AllocGlobal,
+    R: Wait + RandomSource + AllocGlobal,
     S: Store<Temp = T>,
-    T: RemovableTemp<R>,
+    T: RemovableTemp,
 {
     let (name, words) = cut(act);
     let (on, steps) = parts_of(words);

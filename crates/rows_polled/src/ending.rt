@@ -15,7 +15,6 @@ use rows::Flaw;
 use rows::answers::stored;
 use std::alloc::{AllocError, AllocGlobal, Global};
 use std::sync::Wait;
-use std::time::Clock;
 
 /// The answer to a poll of a commit.
 fn ended(alloc: Global, polled: Poll<Answered<Integrity>>) -> Result<String, AllocError> {
@@ -34,9 +33,9 @@ fn stepped<R, S, T>(
     step: &str,
 ) -> Result<String, Flaw>
 where
-    R: Wait + Clock + AllocGlobal,
+    R: Wait + AllocGlobal,
     S: Store<Temp = T>,
-    T: RemovableTemp<R>,
+    T: RemovableTemp,
 {
     let alloc = rt.alloc();
     match step {
@@ -56,9 +55,9 @@ pub(crate) fn committed<R, S, T>(
     mut line: String,
 ) -> Result<String, Flaw>
 where
-    R: Wait + Clock + AllocGlobal,
+    R: Wait + AllocGlobal,
     S: Store<Temp = T>,
-    T: RemovableTemp<R>,
+    T: RemovableTemp,
 {
     let Desk {
         task,
@@ -78,7 +77,7 @@ where
 }
 
 /// What the worker's turns give once the writer is dropped.
-pub(crate) fn left<R: Wait + Clock + AllocGlobal, T: RemovableTemp<R>>(
+pub(crate) fn left<R: Wait + AllocGlobal, T: RemovableTemp>(
     rt: &R,
     desk: Desk<T>,
     after: &str,

@@ -4,7 +4,6 @@ use cacache_worker::{RemovableTemp, Turned, Worker};
 use rows::Flaw;
 use rows::words::{cut, number_of};
 use std::sync::Wait;
-use std::time::Clock;
 
 /// A gate that lets turns through from this one on, and says so of those before.
 #[derive(Clone, Copy)]
@@ -47,7 +46,7 @@ fn name_of(turned: Turned) -> &'static str {
 }
 
 /// What a turn gives.
-pub(crate) fn turned<R: Wait + Clock, T: RemovableTemp<R>>(
+pub(crate) fn turned<R: Wait, T: RemovableTemp>(
     rt: &R,
     worker: &mut Worker<T>,
     step: &str,

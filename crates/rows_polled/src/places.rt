@@ -12,7 +12,6 @@ use std::io;
 use std::random::RandomSource;
 use std::rt::Files;
 use std::sync::Wait;
-use std::time::Clock;
 
 /// A disk in memory and real folders, which go through the same rows.
 #[derive(Drop)]
@@ -58,7 +57,7 @@ fn mishaps_of(words: &str) -> Result<Mishaps, Flaw> {
 }
 
 /// What a writer's steps give whose temporary file has this luck, and then what the content holds.
-fn unlucky<R: Wait + Clock + RandomSource + AllocGlobal>(
+fn unlucky<R: Wait + RandomSource + AllocGlobal>(
     rt: &R,
     luck: &str,
     steps: &str,
@@ -74,7 +73,7 @@ fn unlucky<R: Wait + Clock + RandomSource + AllocGlobal>(
 /// What an act gives at both places.
 fn at_both<R>(places: &mut Places<R>, act: &str) -> Result<String, Flaw>
 where
-    R: Wait + Clock + RandomSource + Files + AllocGlobal + Clone + Drop,
+    R: Wait + RandomSource + Files + AllocGlobal + Clone + Drop,
 {
     let in_memory = made(&places.rt, &mut places.memory, act)?;
     let in_folders = made(&places.rt, &mut places.folders, act)?;
@@ -84,7 +83,7 @@ where
 /// What an act gives: `core` and `unlucky` at no place, after `memory` or `folders` there alone, else at both places.
 fn tried<R>(places: &mut Places<R>, act: &str) -> Result<String, Flaw>
 where
-    R: Wait + Clock + RandomSource + Files + AllocGlobal + Clone + Drop,
+    R: Wait + RandomSource + Files + AllocGlobal + Clone + Drop,
 {
     let (name, words) = cut(act);
     match name {
@@ -101,7 +100,7 @@ where
 
 impl<R> Trial for Places<R>
 where
-    R: Wait + Clock + RandomSource + Files + AllocGlobal + Clone + Drop,
+    R: Wait + RandomSource + Files + AllocGlobal + Clone + Drop,
 {
     fn outcome(&mut self, row: &str) -> Result<Outcome, Flaw> {
         let (act, wanted) = column(row)?;

@@ -15,7 +15,6 @@ use rows::words::cut;
 use std::alloc::AllocGlobal;
 use std::random::RandomSource;
 use std::sync::Wait;
-use std::time::Clock;
 
 /// A writer, a worker of it, and the task that polls it.
 #[derive(Drop)]
@@ -26,7 +25,7 @@ pub(crate) struct Desk<T> {
 }
 
 /// What a whole piece gives: a poll hands it out, the worker takes a turn, and a second poll is answered.
-fn piece<R: Wait + Clock + AllocGlobal, T: RemovableTemp<R>>(
+fn piece<R: Wait + AllocGlobal, T: RemovableTemp>(
     rt: &R,
     desk: &mut Desk<T>,
     data: &str,
@@ -39,7 +38,7 @@ fn piece<R: Wait + Clock + AllocGlobal, T: RemovableTemp<R>>(
 }
 
 /// What a turn of the worker gives, or whether the task was woken since its last poll.
-fn worked<R: Wait + Clock + AllocGlobal, T: RemovableTemp<R>>(
+fn worked<R: Wait + AllocGlobal, T: RemovableTemp>(
     rt: &R,
     desk: &mut Desk<T>,
     step: &str,
@@ -52,7 +51,7 @@ fn worked<R: Wait + Clock + AllocGlobal, T: RemovableTemp<R>>(
 }
 
 /// What a step gives.
-fn stepped<R: Wait + Clock + AllocGlobal, T: RemovableTemp<R>>(
+fn stepped<R: Wait + AllocGlobal, T: RemovableTemp>(
     rt: &R,
     desk: &mut Desk<T>,
     step: &str,
@@ -69,7 +68,7 @@ fn stepped<R: Wait + Clock + AllocGlobal, T: RemovableTemp<R>>(
 }
 
 /// What steps give, one after another.
-fn stepped_in_turn<R: Wait + Clock + AllocGlobal, T: RemovableTemp<R>>(
+fn stepped_in_turn<R: Wait + AllocGlobal, T: RemovableTemp>(
     rt: &R,
     desk: &mut Desk<T>,
     steps: &str,
@@ -89,9 +88,9 @@ fn made_with<R, S, T>(
     steps: &str,
 ) -> Result<String, Flaw>
 where
-    R: Wait + Clock + AllocGlobal,
+    R: Wait + AllocGlobal,
     S: Store<Temp = T>,
-    T: RemovableTemp<R>,
+    T: RemovableTemp,
 {
     if let Some((before, after)) = steps.split_once("; commit") {
         let line = stepped_in_turn(rt, &mut desk, before)?;
@@ -126,9 +125,9 @@ pub(crate) fn written<R, S, T>(
     steps: &str,
 ) -> Result<String, Flaw>
 where
-    R: Wait + Clock + RandomSource + AllocGlobal,
+    R: Wait + RandomSource + AllocGlobal,
     S: Store<Temp = T>,
-    T: RemovableTemp<R>,
+    T: RemovableTemp,
 {
     match opened(rt, env, words)? {
         Ok(writer) => {

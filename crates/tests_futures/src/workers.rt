@@ -44,8 +44,8 @@ impl TempFile for Counted<'_> {
     }
 }
 
-impl<R> RemovableTemp<R> for Counted<'_> {
-    fn remove(self, _rt: &R) -> std::result::Result<(), Fault> {
+impl RemovableTemp for Counted<'_> {
+    fn remove(self) -> std::result::Result<(), Fault> {
         Ok(())
     }
 }

@@ -7,6 +7,7 @@ mod awaited;
 mod copies;
 mod env;
 mod get;
+mod hard_links;
 mod index;
 mod integrity;
 mod links;
@@ -24,6 +25,14 @@ use std::alloc::Global;
 /// The bytes as a text.
 pub(crate) fn shown(alloc: Global, bytes: &[u8]) -> Result<String> {
     Ok(String::from_str(alloc, str::from_utf8(bytes)?)?)
+}
+
+/// The bytes of a file outside the cache.
+pub(crate) fn bytes_at(alloc: Global, env: &mut Memory, path: &str) -> Result<String> {
+    match env.store.bytes(path)? {
+        Some(bytes) => shown(alloc, &bytes),
+        None => shown(alloc, b""),
+    }
 }
 
 /// Prints what came of a call.
@@ -51,6 +60,7 @@ fn at_once(rt: HostRuntime) -> Result<()> {
     get::run(rt)?;
     copies::run(rt)?;
     reflinks::run(rt)?;
+    hard_links::run(rt)?;
     index::run(rt)?;
     rm::run(rt)?;
     writers::run(rt)?;

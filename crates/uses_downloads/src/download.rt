@@ -6,7 +6,6 @@ use cacache::{Result, Writer};
 use futures::Future;
 use futures::task::{Context, Poll};
 use std::sync::Wait;
-use std::time::Clock;
 
 /// How many bytes come at once.
 const PIECE: usize = 16;
@@ -42,7 +41,7 @@ impl<'a, R, T: Drop> Download<'a, R, T> {
     }
 }
 
-impl<'a, R: Wait + Clock + Print + AllocGlobal, T: RemovableTemp<R>> Download<'a, R, T> {
+impl<'a, R: Wait + Print + AllocGlobal, T: RemovableTemp> Download<'a, R, T> {
     /// So many bytes more are written.
     fn go_on(&mut self, count: usize) -> Result<()> {
         self.rest = self.rest.get(count..).unwrap_or(b"");
@@ -55,8 +54,8 @@ impl<'a, R: Wait + Clock + Print + AllocGlobal, T: RemovableTemp<R>> Download<'a
 
 impl<'a, R, T> Future for Download<'a, R, T>
 where
-    R: Wait + Clock + Print + AllocGlobal,
-    T: RemovableTemp<R>,
+    R: Wait + Print + AllocGlobal,
+    T: RemovableTemp,
 {
     type Output = Result<()>;
 

@@ -4,9 +4,10 @@
 
 mod download;
 
-use cacache::env::{Memory, memory};
+use cacache::env::{Clock, Env, Memory, Names, memory};
 use cacache::errors::IoErrorExt;
-use cacache::store::PlainTemp;
+use cacache::polled::RemovableTemp;
+use cacache::store::Store;
 use cacache::{Result, Writer, read};
 use download::Download;
 use futures::Future;
@@ -15,7 +16,6 @@ use futures::future::join;
 use std::alloc::{AllocGlobal, Global};
 use std::random::RandomSource;
 use std::sync::Wait;
-use std::time::Clock;
 
 /// The folder of the cache.
 const CACHE: &str = "downloads";
@@ -41,9 +41,18 @@ where
 }
 
 /// Commits what was written, reads it back, and prints it with its integrity.
-fn store<R>(rt: &R, place: &mut Memory, key: &str, writer: Writer<PlainTemp>) -> Result<()>
+fn store<R, S, C, N, T>(
+    rt: &R,
+    place: &mut Env<S, C, N>,
+    key: &str,
+    writer: Writer<T>,
+) -> Result<()>
 where
     R: Wait + RandomSource + Print + AllocGlobal,
+    S: Store<Temp = T>,
+    C: Clock,
+    N: Names,
+    T: Drop,
 {
     let integrity = answer(rt, writer.commit(rt, place))?;
     let body = answer(rt, read(place, CACHE, key))?;
@@ -52,9 +61,13 @@ where
 }
 
 /// Downloads both bodies at once.
-fn download_both<R>(rt: &R, place: &mut Memory) -> Result<()>
+fn download_both<R, S, C, N, T>(rt: &R, place: &mut Env<S, C, N>) -> Result<()>
 where
-    R: Wait + Clock + RandomSource + Print + AllocGlobal,
+    R: Wait + RandomSource + Print + AllocGlobal,
+    S: Store<Temp = T>,
+    C: Clock,
+    N: Names,
+    T: RemovableTemp,
 {
     let mut fox = answer(rt, Writer::create(place, CACHE, FOX.0))?;
     let mut vow = answer(rt, Writer::create(place, CACHE, VOW.0))?;

@@ -6,8 +6,8 @@ use crate::folder::folders::Folders;
 use crate::folder::node::Node;
 use std::alloc::{AllocError, Global};
 
-/// After so many steps of a walk, the folder that it removes a folder from is looked at before. A look each time would cost the
-/// clearing of a cache a tenth of its time, and an empty folder is all that is removed through a link.
+/// After so many steps of a walk, the folder that it removes a folder from is looked at before. A look each time would
+/// cost the clearing of a cache a tenth of its time, and an empty folder is all that is removed through a link.
 const STEPS: u32 = 16;
 
 /// The folders that a walk is in, and those that it may enter next.
@@ -43,8 +43,8 @@ impl Descent {
         }
     }
 
-    /// What the folder at the path was, if a listing named it and the walk may enter it now. Those that it passed over are
-    /// forgotten.
+    /// What the folder at the path was, if a listing named it and the walk may enter it now. Those that it passed over
+    /// are forgotten.
     pub(crate) fn next(&mut self, path: &str) -> Option<Node> {
         for _ in 0..self.named.len() {
             let next = match self.named.top() {
@@ -107,8 +107,8 @@ impl Descent {
         matches!(self.entered.top(), Some((last, _)) if is_in(path.as_bytes(), last))
     }
 
-    /// Before a file or a link is removed: whether its folder is to be looked at. It is in each folder that the walk is in,
-    /// unless that was listed by the step before.
+    /// Before a file or a link is removed: whether its folder is to be looked at. It is in each folder that the walk is
+    /// in, unless that was listed by the step before.
     pub(crate) fn is_due_for_file(&mut self, path: &str) -> bool {
         let is_fresh = self.is_fresh;
         self.is_fresh = false;

@@ -54,8 +54,8 @@ fn kind_of(found: FileType) -> Kind {
     }
 }
 
-/// What a look into a folder gives. Its error is a kind alone: the compiler and the prover pay for a wide one at each way
-/// out.
+/// What a look into a folder gives. Its error is a kind alone: the compiler and the prover pay for a wide one at each
+/// way out.
 type Looked<T> = Result<T, ErrorKind>;
 
 /// The same with the error's kind alone.
@@ -144,8 +144,8 @@ impl<R: Files + AllocGlobal + Clone + Drop> FolderStore<R> {
         Ok(Some(kind))
     }
 
-    /// The same under a name of a folder, whose path ends in a `/`. The runtime is asked by texts alone: what has a name
-    /// that is none counts as a file.
+    /// The same under a name of a folder, whose path ends in a `/`. The runtime is asked by texts alone: what has a
+    /// name that is none counts as a file.
     fn kind_below(
         &self,
         folders: &mut Folders,
@@ -223,8 +223,8 @@ impl<R: Files + AllocGlobal + Clone + Drop> FolderStore<R> {
         }
     }
 
-    /// Opens a folder. One that a listing named has to be a folder still, and no link; elsewhere a link is followed, and one
-    /// that leads to nothing is no folder. `folder` is the path with a `/` behind it.
+    /// Opens a folder. One that a listing named has to be a folder still, and no link; elsewhere a link is followed,
+    /// and one that leads to nothing is no folder. `folder` is the path with a `/` behind it.
     fn open_folder(&self, path: &str, folder: &str, was_named: bool) -> Looked<R::Dir> {
         match looked(self.rt.open_dir(path)) {
             Err(ErrorKind::NotADirectory | ErrorKind::FilesystemLoop) if was_named => {
@@ -254,8 +254,8 @@ impl<R: Files + AllocGlobal + Clone + Drop> FolderStore<R> {
         self.names_from(open, folder)
     }
 
-    /// What is in the folder, in the system's order. A name that isn't UTF-8 is listed as an escaped one. What was removed
-    /// meanwhile is left out; the kind of all else has to be had.
+    /// What is in the folder, in the system's order. A name that isn't UTF-8 is listed as an escaped one. What was
+    /// removed meanwhile is left out; the kind of all else has to be had.
     pub(crate) fn read_dir(&mut self, path: &str) -> io::Result<Listing>
         ensures proper { IfOk result (λ listing. AreProperNames listing) }
         ensures kept { self.new.reason ≡ self.old.reason }

@@ -7,8 +7,8 @@ use std::io::ErrorKind;
 use std::rt::Files;
 
 impl<R: Files + AllocGlobal + Clone + Drop> FolderStore<R> {
-    /// Makes every missing folder of the path. A folder that stands costs one question to the system, and one that alone is
-    /// missing costs one call that makes it. A wrong guess which of them it is costs one more.
+    /// Makes every missing folder of the path. A folder that stands costs one question to the system, and one that
+    /// alone is missing costs one call that makes it. A wrong guess which of them it is costs one more.
     pub(crate) fn make_dirs(&mut self, path: &str) -> io::Result<()>
         ensures kept { self.new.reason ≡ self.old.reason }
     {
@@ -45,8 +45,8 @@ impl<R: Files + AllocGlobal + Clone + Drop> FolderStore<R> {
         }
     }
 
-    /// Makes one folder. Returns whether it was missing. It may stand already, after a wrong guess or where somebody else just
-    /// made it, and not each file system says then that it exists.
+    /// Makes one folder. Returns whether it was missing. It may stand already, after a wrong guess or where somebody
+    /// else just made it, and not each file system says then that it exists.
     fn make_dir(&self, path: &str) -> io::Result<bool> {
         match self.rt.create_dir(path) {
             Ok(()) => Ok(true),

@@ -17,8 +17,8 @@ impl<R: Files + AllocGlobal + Clone + Drop> FolderStore<R> {
         Ok(found.is_dir().then(|| Node::of(&found)))
     }
 
-    /// Whether the folders that a walk is in are folders still, and no links. The last of them tells it of all, where it is
-    /// the one that was listed.
+    /// Whether the folders that a walk is in are folders still, and no links. The last of them tells it of all, where
+    /// it is the one that was listed.
     fn stays(&self) -> io::Result<bool> {
         let entered = self.descent.entered();
         let Some((last, node)) = entered.top() else {

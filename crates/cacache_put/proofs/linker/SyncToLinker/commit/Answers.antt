@@ -1,10 +1,11 @@
-use Rattle.std.proofs.Common.{◌≡◌, ◌∙◌, sym, ap, arith, length}
+use Rattle.std.proofs.Common.{◌≡◌, ◌∙◌, ℕ, sym, ap, arith, length}
 use Rattle.cacache_put.proofs.Wholes.{stores_whole_of}
+use Rattle.cacache_table.specs.declared.target.Target.{Target}
 use Rattle.cacache_put.proofs.linker.SyncToLinker.commit.Goals as goal
 
 pub returns-clause-whole : goal.returns-clause-whole
 returns-clause-whole g c =
     λ bytes had.
     let count : c.args.self.count ≡ length bytes = omega (arith, had.2, c.if-count.false) in
-    let under = had.1 ∙ sym (ap (λ o. o.algorithm) c.at.ensures.options) in
-    stores_whole_of g.F.FileHandle.seen c.args.self bytes c.moment-moment.result _ c.link_rest.result _ _ c.at.ensures.target (c.link_rest.ensures.ran bytes had.0 under count)
+    let under = had.1 ∙ sym (ap (λ (t : Target ℕ). t.options.algorithm) c.at.ensures) in
+    stores_whole_of g.F.FileHandle.seen c.args.self bytes c.moment-moment.result _ c.link_rest.result _ _ c.at.ensures (c.link_rest.ensures.ran bytes had.0 under count)

@@ -1,1 +1,0 @@
--- No answers are needed: each step's answer is of the kind that its contract names.
