@@ -1,11 +1,9 @@
 //! Calls that read and export.
-pub use cacache_async::export_hash::{
-    CopyHashFuture, CopyHashUncheckedFuture, HardLinkHashFuture, ReflinkHashFuture, copy_hash,
-    copy_hash_unchecked, hard_link_hash, reflink_hash,
-};
-pub use cacache_async::export_key::{
-    CopyFuture, CopyUncheckedFuture, HardLinkFuture, ReflinkFuture, ReflinkUncheckedFuture, copy,
-    copy_unchecked, hard_link, reflink, reflink_unchecked,
+pub use cacache_async::exports::{
+    CopyFuture, CopyHashFuture, CopyHashUncheckedFuture, CopyUncheckedFuture, HardLinkFuture,
+    HardLinkHashFuture, ReflinkFuture, ReflinkHashFuture, ReflinkUncheckedFuture, copy, copy_hash,
+    copy_hash_unchecked, copy_unchecked, hard_link, hard_link_hash, reflink, reflink_hash,
+    reflink_unchecked,
 };
 pub use cacache_async::index::{FindAsyncFuture as MetadataFuture, find_async as metadata};
 pub use cacache_async::read::{ExistsFuture, ReadFuture, ReadHashFuture, exists, read, read_hash};

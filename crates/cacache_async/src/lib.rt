@@ -2,8 +2,7 @@
 //! links that are read by polls.
 #![tactic(auto)]
 
-pub mod export_hash;
-pub mod export_key;
+pub mod exports;
 pub mod index;
 pub mod linker;
 pub mod linking;

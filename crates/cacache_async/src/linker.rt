@@ -1,5 +1,5 @@
 //! Links whose target is read by polls before they are made.
-ghost use Rattle.std.specs.Prelude.{◌≡◌, ◌++◌, ℕ, List, IfOk, length};
+ghost use Rattle.std.specs.Prelude.{◌≡◌, ◌++◌, ℕ, List, None, Some, IfOk, length};
 ghost use Rattle.std.specs.Io.{ReadsAtMost};
 ghost use Rattle.std.specs.Io.KnownBytes.{ReadConsumes};
 ghost use Rattle.futures.specs.Poll.{IfReady, OnPending};
@@ -9,17 +9,18 @@ ghost use Rattle.cacache_table.specs.declared.reply.Reply.TheVariants.{Stored};
 ghost use Rattle.cacache_table.specs.Runs.{reply_of};
 ghost use Rattle.cacache_content.specs.Passed.{passed};
 ghost use Rattle.cacache_put.specs.OpenLinkers.{CommitsLink, HasHashed, StoresWhole};
+ghost use Rattle.cacache_put.specs.Options.{nothing_said};
 ghost use Rattle.cacache_futures.specs.Waiting.{Waits};
 ghost use Rattle.cacache_async.specs.Polling.{TellsRead};
 
 use crate::linking::{
-    AsyncToLinkerNewCall, AsyncToLinkerNewFuture, ToLinkerOpenCall, ToLinkerOpenFuture,
-    ToLinkerOpenHashCall, ToLinkerOpenHashFuture,
+    AsyncToLinkerNewFuture, SizedTargetCall, TargetCall, ToLinkerOpenFuture, ToLinkerOpenHashFuture,
 };
 use cacache_core::errors::{Fault, Result};
 use cacache_core::integrity::{Algorithm, Integrity};
 use cacache_futures::{Call, CallFuture, polling};
 use cacache_put::linker::SyncToLinker;
+use cacache_put::opts::WriteOpts;
 use cacache_store::env::{Clock, Env, Names};
 use cacache_store::store::{OpenedFile, Store};
 use futures::task::{Context, Poll};
@@ -69,12 +70,18 @@ impl<F: OpenedFile> ToLinker<F> {
         target: &'a str,
     ) -> AsyncToLinkerNewFuture<'a, S, C, N>
         ensures waits { Waits result env.entry
-            (record { cache = cache.entry; algo = algo; target = target.entry }) }
+            (record {
+              cache = cache.entry;
+              key = None;
+              target = target.entry;
+              opts = record nothing_said { algorithm = algo };
+            }) }
     {
-        let call = AsyncToLinkerNewCall {
+        let call = TargetCall {
             cache,
-            algo,
+            key: None,
             target,
+            opts: WriteOpts::new().algorithm(algo),
         };
         CallFuture::new(env, call)
     }
@@ -95,9 +102,10 @@ impl<F: OpenedFile> ToLinker<F> {
         target: &'a str,
     ) -> ToLinkerOpenFuture<'a, S, C, N>
         ensures waits { Waits result env.entry
-            (record { cache = cache.entry; key = key.entry; target = target.entry }) }
+            (record { cache = cache.entry; key = Some key.entry; target = target.entry }) }
     {
-        CallFuture::new(env, ToLinkerOpenCall { cache, key, target })
+        let key = Some(key);
+        CallFuture::new(env, SizedTargetCall { cache, key, target })
     }
 
     /// `SyncToLinker::open_hash` as a future. Nothing is saved before its `commit`. It is run and committed as in the
@@ -108,9 +116,10 @@ impl<F: OpenedFile> ToLinker<F> {
         target: &'a str,
     ) -> ToLinkerOpenHashFuture<'a, S, C, N>
         ensures waits { Waits result env.entry
-            (record { cache = cache.entry; target = target.entry }) }
+            (record { cache = cache.entry; key = None; target = target.entry }) }
     {
-        CallFuture::new(env, ToLinkerOpenHashCall { cache, target })
+        let key = None;
+        CallFuture::new(env, SizedTargetCall { cache, key, target })
     }
 
     /// Reads some bytes into the front of `buf`, and answers how many: none only at the end of the target, or if `buf` is

@@ -1,16 +1,12 @@
 //! Futures that open the target of a link.
 ghost use Rattle.std.specs.Prelude.{◌≡◌, None, Some};
-ghost use Rattle.cacache_core.specs.declared.integrity.algorithm.Algorithm.TheVariants.{Sha256};
-ghost use Rattle.cacache_table.specs.Blank.{blank};
-ghost use Rattle.cacache_table.specs.Linking.{linked_to};
-ghost use Rattle.cacache_put.specs.OpenLinkers.{BeginsLink, OpensLink, OpensWithSize, asks_file, asks_size, linked_by};
-ghost use Rattle.cacache_put.specs.Options.{nothing_said, options_of};
+ghost use Rattle.cacache_put.specs.OpenLinkers.{BeginsLink, OpensLink, OpensWithSize, asks_file, asks_size};
 ghost use Rattle.cacache_futures.specs.Waiting.{Waits};
 ghost use Rattle.cacache_async.specs.Polling.{linker_in};
+ghost use Rattle.cacache_async.specs.Targets.{target_asked, target_said};
 
 use crate::linker::ToLinker;
 use cacache_core::errors::Result;
-use cacache_core::integrity::Algorithm;
 use cacache_futures::{Call, CallFuture};
 use cacache_put::linker::SyncToLinker;
 use cacache_put::opts::WriteOpts;
@@ -22,161 +18,82 @@ use std::alloc::Global;
 fn polled<F: OpenedFile>(alloc: Global, opened: Result<SyncToLinker<F>>) -> Result<ToLinker<F>>
     ensures { linker_in result ≡ opened }
 {
-    match opened {
-        Ok(linker) => Ok(ToLinker { linker, alloc }),
-        Err(error) => Err(error),
-    }
+    let linker = opened?;
+    Ok(ToLinker { linker, alloc })
 }
 
-/// What `ToLinker::new` is called with.
+/// What a target is opened with, whose size is asked first: a cache, the key that the link is to have, if any, and the
+/// target.
 #[derive(Clone, Copy)]
-pub struct AsyncToLinkerNewCall<'a> {
+pub struct SizedTargetCall<'a> {
     pub(crate) cache: &'a str,
-    pub(crate) algo: Algorithm,
+    pub(crate) key: Option<&'a str>,
     pub(crate) target: &'a str,
 }
 
-impl<'a, S: Store, C: Clock, N: Names> Call<S, C, N> for AsyncToLinkerNewCall<'a> {
+impl<'a, S: Store, C: Clock, N: Names> Call<S, C, N> for SizedTargetCall<'a> {
     type Output = ToLinker<S::File>;
 
-    ghost makes = { λ c old r new. OpensLink S.File.seen S.log old new (linked_by old.base c.cache.now
-        None c.target.now (record nothing_said { algorithm = c.algo })) (linker_in r)
-        × BeginsLink S.File.seen S.log old new asks_file
-        (linked_to old.base c.cache.now None c.target.now (Some 0) (blank c.algo)) (linker_in r) };
-
-    fn make(self, env: &mut Env<S, C, N>) -> Result<ToLinker<S::File>> {
-        let alloc = env.alloc;
-        polled(
-            alloc,
-            SyncToLinker::new(env, self.cache, self.algo, self.target),
-        )
-    }
-}
-
-/// The future of `ToLinker::new`.
-pub type AsyncToLinkerNewFuture<'a, S, C, N> = CallFuture<'a, S, C, N, AsyncToLinkerNewCall<'a>>;
-
-/// What `ToLinker::open` is called with.
-#[derive(Clone, Copy)]
-pub struct ToLinkerOpenCall<'a> {
-    pub(crate) cache: &'a str,
-    pub(crate) key: &'a str,
-    pub(crate) target: &'a str,
-}
-
-impl<'a, S: Store, C: Clock, N: Names> Call<S, C, N> for ToLinkerOpenCall<'a> {
-    type Output = ToLinker<S::File>;
-
-    ghost makes = { λ c old r new. OpensWithSize S.File.seen S.log old new (linked_by old.base c.cache.now
-        (Some c.key.now) c.target.now nothing_said) (linker_in r)
-        × BeginsLink S.File.seen S.log old new asks_size
-        (linked_to old.base c.cache.now (Some c.key.now) c.target.now None (blank Sha256))
+    ghost makes = { λ c old r new.
+        OpensWithSize S.File.seen S.log old new (target_asked c old.base) (linker_in r)
+        × BeginsLink S.File.seen S.log old new asks_size (target_asked c old.base)
         (linker_in r) };
 
     fn make(self, env: &mut Env<S, C, N>) -> Result<ToLinker<S::File>> {
+        let SizedTargetCall { cache, key, target } = self;
         let alloc = env.alloc;
-        polled(
-            alloc,
-            SyncToLinker::open(env, self.cache, self.key, self.target),
-        )
+        match key {
+            Some(key) => polled(alloc, SyncToLinker::open(env, cache, key, target)),
+            None => polled(alloc, SyncToLinker::open_hash(env, cache, target)),
+        }
     }
 }
 
 /// The future of `ToLinker::open`.
-pub type ToLinkerOpenFuture<'a, S, C, N> = CallFuture<'a, S, C, N, ToLinkerOpenCall<'a>>;
-
-/// What `ToLinker::open_hash` is called with.
-#[derive(Clone, Copy)]
-pub struct ToLinkerOpenHashCall<'a> {
-    pub(crate) cache: &'a str,
-    pub(crate) target: &'a str,
-}
-
-impl<'a, S: Store, C: Clock, N: Names> Call<S, C, N> for ToLinkerOpenHashCall<'a> {
-    type Output = ToLinker<S::File>;
-
-    ghost makes = { λ c old r new. OpensWithSize S.File.seen S.log old new (linked_by old.base c.cache.now
-        None c.target.now nothing_said) (linker_in r)
-        × BeginsLink S.File.seen S.log old new asks_size
-        (linked_to old.base c.cache.now None c.target.now (Some 0) (blank Sha256)) (linker_in r) };
-
-    fn make(self, env: &mut Env<S, C, N>) -> Result<ToLinker<S::File>> {
-        let alloc = env.alloc;
-        polled(alloc, SyncToLinker::open_hash(env, self.cache, self.target))
-    }
-}
+pub type ToLinkerOpenFuture<'a, S, C, N> = CallFuture<'a, S, C, N, SizedTargetCall<'a>>;
 
 /// The future of `ToLinker::open_hash`.
-pub type ToLinkerOpenHashFuture<'a, S, C, N> = CallFuture<'a, S, C, N, ToLinkerOpenHashCall<'a>>;
+pub type ToLinkerOpenHashFuture<'a, S, C, N> = CallFuture<'a, S, C, N, SizedTargetCall<'a>>;
 
-/// What `WriteOpts::link_to` is called with.
+/// What a target is opened with: a cache, the key that the link is to have, if any, the target, and options.
 #[derive(Drop)]
-pub struct WriteOptsLinkToCall<'a> {
-    pub(crate) opts: WriteOpts,
+pub struct TargetCall<'a> {
     pub(crate) cache: &'a str,
-    pub(crate) key: &'a str,
+    pub(crate) key: Option<&'a str>,
     pub(crate) target: &'a str,
+    pub(crate) opts: WriteOpts,
 }
 
-impl<'a, S: Store, C: Clock, N: Names> Call<S, C, N> for WriteOptsLinkToCall<'a> {
+impl<'a, S: Store, C: Clock, N: Names> Call<S, C, N> for TargetCall<'a> {
     type Output = ToLinker<S::File>;
 
-    ghost makes = { λ c old r new. OpensLink S.File.seen S.log old new (linked_by old.base c.cache.now
-        (Some c.key.now) c.target.now c.opts) (linker_in r)
-        × BeginsLink S.File.seen S.log old new asks_file (linked_to old.base c.cache.now
-        (Some c.key.now) c.target.now c.opts.time (options_of c.opts)) (linker_in r) };
+    ghost makes = { λ c old r new.
+        OpensLink S.File.seen S.log old new (target_said c old.base) (linker_in r)
+        × BeginsLink S.File.seen S.log old new asks_file (target_said c old.base) (linker_in r) };
 
     fn make(self, env: &mut Env<S, C, N>) -> Result<ToLinker<S::File>> {
-        let WriteOptsLinkToCall {
-            opts,
+        let TargetCall {
             cache,
             key,
             target,
+            opts,
         } = self;
         let alloc = env.alloc;
-        polled(alloc, opts.link_to_sync(env, cache, key, target))
+        match key {
+            Some(key) => polled(alloc, opts.link_to_sync(env, cache, key, target)),
+            None => polled(alloc, opts.link_to_hash_sync(env, cache, target)),
+        }
     }
 }
+
+/// The future of `ToLinker::new`.
+pub type AsyncToLinkerNewFuture<'a, S, C, N> = CallFuture<'a, S, C, N, TargetCall<'a>>;
 
 /// The future of `WriteOpts::link_to`.
-pub type WriteOptsLinkToFuture<'a, S, C, N> = CallFuture<'a, S, C, N, WriteOptsLinkToCall<'a>>;
-
-/// What `WriteOpts::link_to_hash` is called with.
-#[derive(Drop)]
-pub struct WriteOptsLinkToHashCall<'a> {
-    pub(crate) opts: WriteOpts,
-    pub(crate) cache: &'a str,
-    pub(crate) target: &'a str,
-}
-
-impl<'a, S: Store, C: Clock, N: Names> Call<S, C, N> for WriteOptsLinkToHashCall<'a> {
-    type Output = ToLinker<S::File>;
-
-    ghost makes = { λ c old r new. OpensLink S.File.seen S.log old new (linked_by old.base c.cache.now
-        None c.target.now c.opts) (linker_in r)
-        × BeginsLink S.File.seen S.log old new asks_file
-        (linked_to old.base c.cache.now None c.target.now (Some 0) (options_of c.opts))
-        (linker_in r) };
-
-    fn make(self, env: &mut Env<S, C, N>) -> Result<ToLinker<S::File>> {
-        let WriteOptsLinkToHashCall {
-            opts,
-            cache,
-            target,
-        } = self;
-        let alloc = env.alloc;
-        polled(alloc, opts.link_to_hash_sync(env, cache, target))
-    }
-}
+pub type WriteOptsLinkToFuture<'a, S, C, N> = CallFuture<'a, S, C, N, TargetCall<'a>>;
 
 /// The future of `WriteOpts::link_to_hash`.
-pub type WriteOptsLinkToHashFuture<'a, S, C, N> = CallFuture<
-    'a,
-    S,
-    C,
-    N,
-    WriteOptsLinkToHashCall<'a>,
->;
+pub type WriteOptsLinkToHashFuture<'a, S, C, N> = CallFuture<'a, S, C, N, TargetCall<'a>>;
 
 /// Links that are opened with options, as futures.
 pub trait LinkAsync {
@@ -207,13 +124,13 @@ impl LinkAsync for WriteOpts {
         target: &'a str,
     ) -> WriteOptsLinkToFuture<'a, S, C, N>
         ensures waits { Waits result env.entry
-            (record { opts = self; cache = cache.entry; key = key.entry; target = target.entry }) }
+            (record { cache = cache.entry; key = Some key.entry; target = target.entry; opts = self }) }
     {
-        let call = WriteOptsLinkToCall {
-            opts: self,
+        let call = TargetCall {
             cache,
-            key,
+            key: Some(key),
             target,
+            opts: self,
         };
         CallFuture::new(env, call)
     }
@@ -225,12 +142,13 @@ impl LinkAsync for WriteOpts {
         target: &'a str,
     ) -> WriteOptsLinkToHashFuture<'a, S, C, N>
         ensures waits { Waits result env.entry
-            (record { opts = self; cache = cache.entry; target = target.entry }) }
+            (record { cache = cache.entry; key = None; target = target.entry; opts = self }) }
     {
-        let call = WriteOptsLinkToHashCall {
-            opts: self,
+        let call = TargetCall {
             cache,
+            key: None,
             target,
+            opts: self,
         };
         CallFuture::new(env, call)
     }

@@ -12,15 +12,14 @@ ghost use Rattle.cacache_futures.specs.Waiting.{Waits};
 use cacache_core::errors::Result;
 use cacache_core::integrity::{Algorithm, Integrity};
 use cacache_futures::{Call, CallFuture};
-use cacache_put::put::{
-    write_hash_sync, write_hash_sync_with_algo, write_sync, write_sync_with_algo,
-};
+use cacache_put::put::{write_hash_sync_with_algo, write_sync_with_algo};
 use cacache_store::env::{Clock, Env, Names};
 use cacache_store::store::Store;
 
-/// What `write_sync` is called with.
+/// What `write_sync_with_algo` is called with.
 #[derive(Clone, Copy)]
 pub struct WriteCall<'a> {
+    algo: Algorithm,
     cache: &'a str,
     key: &'a str,
     data: &'a [u8],
@@ -29,12 +28,32 @@ pub struct WriteCall<'a> {
 impl<'a, S: Store, C: Clock, N: Names> Call<S, C, N> for WriteCall<'a> {
     type Output = Integrity;
 
-    ghost makes = { λ c old r new. IfOk r (λ i. i ≡ integrity_under Sha256 c.«data».now)
+    ghost makes = { λ c old r new. IfOk r (λ i. i ≡ integrity_under c.algo c.«data».now)
         × RunsPut S.log C.given N.given old new c.cache.now
-        (keyed_put Sha256 c.key.now c.«data».now) (reply_of Stored r) };
+        (keyed_put c.algo c.key.now c.«data».now) (reply_of Stored r) };
 
     fn make(self, env: &mut Env<S, C, N>) -> Result<Integrity> {
-        write_sync(env, self.cache, self.key, self.data)
+        write_sync_with_algo(env, self.algo, self.cache, self.key, self.data)
+    }
+}
+
+/// What `write_hash_sync_with_algo` is called with.
+#[derive(Clone, Copy)]
+pub struct WriteHashCall<'a> {
+    algo: Algorithm,
+    cache: &'a str,
+    data: &'a [u8],
+}
+
+impl<'a, S: Store, C: Clock, N: Names> Call<S, C, N> for WriteHashCall<'a> {
+    type Output = Integrity;
+
+    ghost makes = { λ c old r new. IfOk r (λ i. i ≡ integrity_under c.algo c.«data».now)
+        × RunsNumbered S.log N.given old new c.cache.now
+        (commands.Put (unkeyed_put c.algo c.«data».now)) (reply_of Stored r) };
+
+    fn make(self, env: &mut Env<S, C, N>) -> Result<Integrity> {
+        write_hash_sync_with_algo(env, self.algo, self.cache, self.data)
     }
 }
 
@@ -54,34 +73,13 @@ pub fn write<'a, S: Store, C: Clock, N: Names>(
     data: &'a [u8],
 ) -> WriteFuture<'a, S, C, N>
     ensures waits { Waits result env.entry
-        (record { cache = cache.entry; key = key.entry; «data» = «data».entry }) }
+        (record { algo = Sha256; cache = cache.entry; key = key.entry; «data» = «data».entry }) }
 {
-    CallFuture::new(env, WriteCall { cache, key, data })
-}
-
-/// What `write_sync_with_algo` is called with.
-#[derive(Clone, Copy)]
-pub struct WriteWithAlgoCall<'a> {
-    algo: Algorithm,
-    cache: &'a str,
-    key: &'a str,
-    data: &'a [u8],
-}
-
-impl<'a, S: Store, C: Clock, N: Names> Call<S, C, N> for WriteWithAlgoCall<'a> {
-    type Output = Integrity;
-
-    ghost makes = { λ c old r new. IfOk r (λ i. i ≡ integrity_under c.algo c.«data».now)
-        × RunsPut S.log C.given N.given old new c.cache.now
-        (keyed_put c.algo c.key.now c.«data».now) (reply_of Stored r) };
-
-    fn make(self, env: &mut Env<S, C, N>) -> Result<Integrity> {
-        write_sync_with_algo(env, self.algo, self.cache, self.key, self.data)
-    }
+    write_with_algo(env, Algorithm::Sha256, cache, key, data)
 }
 
 /// The future of `write_with_algo`.
-pub type WriteWithAlgoFuture<'a, S, C, N> = CallFuture<'a, S, C, N, WriteWithAlgoCall<'a>>;
+pub type WriteWithAlgoFuture<'a, S, C, N> = CallFuture<'a, S, C, N, WriteCall<'a>>;
 
 /// `write_sync_with_algo` as a future, run as in the example of `read`.
 pub fn write_with_algo<'a, S: Store, C: Clock, N: Names>(
@@ -94,34 +92,13 @@ pub fn write_with_algo<'a, S: Store, C: Clock, N: Names>(
     ensures waits { Waits result env.entry
         (record { algo = algo; cache = cache.entry; key = key.entry; «data» = «data».entry }) }
 {
-    CallFuture::new(
-        env,
-        WriteWithAlgoCall {
-            algo,
-            cache,
-            key,
-            data,
-        },
-    )
-}
-
-/// What `write_hash_sync` is called with.
-#[derive(Clone, Copy)]
-pub struct WriteHashCall<'a> {
-    cache: &'a str,
-    data: &'a [u8],
-}
-
-impl<'a, S: Store, C: Clock, N: Names> Call<S, C, N> for WriteHashCall<'a> {
-    type Output = Integrity;
-
-    ghost makes = { λ c old r new. IfOk r (λ i. i ≡ integrity_under Sha256 c.«data».now)
-        × RunsNumbered S.log N.given old new c.cache.now
-        (commands.Put (unkeyed_put Sha256 c.«data».now)) (reply_of Stored r) };
-
-    fn make(self, env: &mut Env<S, C, N>) -> Result<Integrity> {
-        write_hash_sync(env, self.cache, self.data)
-    }
+    let call = WriteCall {
+        algo,
+        cache,
+        key,
+        data,
+    };
+    CallFuture::new(env, call)
 }
 
 /// The future of `write_hash`.
@@ -134,33 +111,13 @@ pub fn write_hash<'a, S: Store, C: Clock, N: Names>(
     data: &'a [u8],
 ) -> WriteHashFuture<'a, S, C, N>
     ensures waits { Waits result env.entry
-        (record { cache = cache.entry; «data» = «data».entry }) }
+        (record { algo = Sha256; cache = cache.entry; «data» = «data».entry }) }
 {
-    CallFuture::new(env, WriteHashCall { cache, data })
-}
-
-/// What `write_hash_sync_with_algo` is called with.
-#[derive(Clone, Copy)]
-pub struct WriteHashWithAlgoCall<'a> {
-    algo: Algorithm,
-    cache: &'a str,
-    data: &'a [u8],
-}
-
-impl<'a, S: Store, C: Clock, N: Names> Call<S, C, N> for WriteHashWithAlgoCall<'a> {
-    type Output = Integrity;
-
-    ghost makes = { λ c old r new. IfOk r (λ i. i ≡ integrity_under c.algo c.«data».now)
-        × RunsNumbered S.log N.given old new c.cache.now
-        (commands.Put (unkeyed_put c.algo c.«data».now)) (reply_of Stored r) };
-
-    fn make(self, env: &mut Env<S, C, N>) -> Result<Integrity> {
-        write_hash_sync_with_algo(env, self.algo, self.cache, self.data)
-    }
+    write_hash_with_algo(env, Algorithm::Sha256, cache, data)
 }
 
 /// The future of `write_hash_with_algo`.
-pub type WriteHashWithAlgoFuture<'a, S, C, N> = CallFuture<'a, S, C, N, WriteHashWithAlgoCall<'a>>;
+pub type WriteHashWithAlgoFuture<'a, S, C, N> = CallFuture<'a, S, C, N, WriteHashCall<'a>>;
 
 /// `write_hash_sync_with_algo` as a future, run as in the example of `read`.
 pub fn write_hash_with_algo<'a, S: Store, C: Clock, N: Names>(
@@ -172,5 +129,5 @@ pub fn write_hash_with_algo<'a, S: Store, C: Clock, N: Names>(
     ensures waits { Waits result env.entry
         (record { algo = algo; cache = cache.entry; «data» = «data».entry }) }
 {
-    CallFuture::new(env, WriteHashWithAlgoCall { algo, cache, data })
+    CallFuture::new(env, WriteHashCall { algo, cache, data })
 }

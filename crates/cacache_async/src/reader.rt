@@ -48,10 +48,8 @@ impl<'a, S: Store, C: Clock, N: Names> Call<S, C, N> for ReaderOpenCall<'a> {
 
     fn make(self, env: &mut Env<S, C, N>) -> Result<Reader<S::File>> {
         let alloc = env.alloc;
-        match SyncReader::open(env, self.cache, self.key) {
-            Ok(reader) => Ok(Reader { reader, alloc }),
-            Err(error) => Err(error),
-        }
+        let reader = SyncReader::open(env, self.cache, self.key)?;
+        Ok(Reader { reader, alloc })
     }
 }
 
@@ -75,10 +73,8 @@ impl<'a, S: Store, C: Clock, N: Names> Call<S, C, N> for OpenAsyncCall<'a> {
     fn make(self, env: &mut Env<S, C, N>) -> Result<Reader<S::File>> {
         let OpenAsyncCall { cache, sri } = self;
         let alloc = env.alloc;
-        match open_sync(env, cache, sri) {
-            Ok(reader) => Ok(Reader { reader, alloc }),
-            Err(error) => Err(error),
-        }
+        let reader = open_sync(env, cache, sri)?;
+        Ok(Reader { reader, alloc })
     }
 }
 

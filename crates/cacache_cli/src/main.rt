@@ -2,7 +2,7 @@
 #![tactic(auto)]
 
 use cacache::env::folders;
-use cacache_program::{Errors, USAGE, asks_why, run, tell_about, without_words, words_of};
+use cacache_program::{Errors, asks_why, run, said, tell, without_words, words_of};
 use std::io::Write;
 use std::process::ExitCode;
 
@@ -10,11 +10,11 @@ fn main(rt: HostRuntime) -> ExitCode {
     let mut errors = Errors::new(rt.stderr());
     let words = match words_of(&rt) {
         Ok(words) => words,
-        Err(error) => return ExitCode::from(without_words(&error, USAGE, &mut errors)),
+        Err(error) => return ExitCode::from(without_words(&error, said().usage, &mut errors)),
     };
     let (says_why, words) = asks_why(&words);
     errors.says_why = says_why;
-    if let Some(status) = tell_about(words, &mut rt.stdout(), &mut errors) {
+    if let Some(status) = tell(words, said(), &mut rt.stdout(), &mut errors) {
         return ExitCode::from(status);
     }
     let Ok(mut env) = folders(rt, ".") else {

@@ -1,5 +1,5 @@
 //! Exports of the content of an integrity.
-ghost use Rattle.std.specs.Prelude.{◌≡◌, IfOk};
+ghost use Rattle.std.specs.Prelude.{IfOk};
 ghost use Rattle.cacache_table.specs.declared.command.How.TheVariants.{Copy, Reflink, HardLink};
 ghost use Rattle.cacache_table.specs.declared.command.Source.TheVariants.{Hash};
 ghost use Rattle.cacache_table.specs.declared.reply.Reply.TheVariants.{Copied, Done};
@@ -10,22 +10,12 @@ ghost use Rattle.cacache_jobs.specs.ReadFirst.{Verified};
 ghost use Rattle.cacache_table.specs.Replies.{done};
 ghost use Rattle.cacache_jobs.specs.Environment.{Calls};
 
-use crate::exporting::{copied, linked};
+use crate::exporting::{Named, copied, linked};
 use cacache_core::errors::Result;
 use cacache_core::integrity::Integrity;
 use cacache_store::env::{Clock, Env, Names};
 use cacache_store::store::Store;
-use cacache_table::{How, Source};
-use std::alloc::AllocError;
-
-/// The integrity as what is exported.
-fn of_hash(sri: &Integrity) -> std::result::Result<Source, AllocError>
-    ensures source { IfOk result (λ source. source ≡ Hash sri.now) }
-    ensures formed { IsIntegrity sri.now }
-{
-    let _address = sri.address();
-    Ok(Source::Hash(sri.clone()?))
-}
+use cacache_table::How;
 
 /// Copies the content of the integrity to this path, and answers how many bytes it has. A file there is overwritten.
 /// The content is read to its end first, and goes there only if it meets the integrity.
@@ -52,8 +42,7 @@ pub fn copy_hash_sync<S: Store, C: Clock, N: Names>(
     ensures ran { Calls S.log env.old env.new cache.now
         (checked Copy (Hash sri.now) to.now) (reply_of Copied result) }
 {
-    let source = of_hash(sri)?;
-    copied(env, cache, source, true, to)
+    copied(env, cache, Named::Hash(sri), true, to)
 }
 
 /// Copies the content of the integrity to this path, and answers how many bytes it has. A file there is overwritten.
@@ -78,8 +67,7 @@ pub fn copy_hash_unchecked_sync<S: Store, C: Clock, N: Names>(
     ensures ran { Calls S.log env.old env.new cache.now
         (unchecked Copy (Hash sri.now) to.now) (reply_of Copied result) }
 {
-    let source = of_hash(sri)?;
-    copied(env, cache, source, false, to)
+    copied(env, cache, Named::Hash(sri), false, to)
 }
 
 /// Makes a file at this path that shares its storage with the content of the integrity. Nothing may stand there. The
@@ -107,8 +95,7 @@ pub fn reflink_hash_sync<S: Store, C: Clock, N: Names>(
     ensures ran { Calls S.log env.old env.new cache.now
         (checked Reflink (Hash sri.now) to.now) (reply_of done result) }
 {
-    let source = of_hash(sri)?;
-    linked(env, cache, source, How::Reflink, true, to)
+    linked(env, cache, Named::Hash(sri), How::Reflink, true, to)
 }
 
 /// Makes a file at this path that shares its storage with the content of the integrity. Nothing may stand there.
@@ -132,8 +119,7 @@ pub fn reflink_hash_unchecked_sync<S: Store, C: Clock, N: Names>(
     ensures ran { Calls S.log env.old env.new cache.now
         (unchecked Reflink (Hash sri.now) to.now) (reply_of done result) }
 {
-    let source = of_hash(sri)?;
-    linked(env, cache, source, How::Reflink, false, to)
+    linked(env, cache, Named::Hash(sri), How::Reflink, false, to)
 }
 
 /// Gives the content of the integrity one more name, which is this path. Nothing may stand there. The content is read
@@ -161,8 +147,7 @@ pub fn hard_link_hash_sync<S: Store, C: Clock, N: Names>(
     ensures ran { Calls S.log env.old env.new cache.now
         (checked HardLink (Hash sri.now) to.now) (reply_of done result) }
 {
-    let source = of_hash(sri)?;
-    linked(env, cache, source, How::HardLink, true, to)
+    linked(env, cache, Named::Hash(sri), How::HardLink, true, to)
 }
 
 /// Gives the content of the integrity one more name, which is this path. Nothing may stand there. Whether it meets the
@@ -186,6 +171,5 @@ pub fn hard_link_hash_unchecked_sync<S: Store, C: Clock, N: Names>(
     ensures ran { Calls S.log env.old env.new cache.now
         (unchecked HardLink (Hash sri.now) to.now) (reply_of done result) }
 {
-    let source = of_hash(sri)?;
-    linked(env, cache, source, How::HardLink, false, to)
+    linked(env, cache, Named::Hash(sri), How::HardLink, false, to)
 }

@@ -9,12 +9,11 @@ ghost use Rattle.cacache_jobs.specs.ReadFirst.{Verified};
 ghost use Rattle.cacache_table.specs.Replies.{done};
 ghost use Rattle.cacache_jobs.specs.Environment.{Calls};
 
-use crate::exporting::{copied, linked};
+use crate::exporting::{Named, copied, linked};
 use cacache_core::errors::Result;
-use cacache_core::text::Text;
 use cacache_store::env::{Clock, Env, Names};
 use cacache_store::store::Store;
-use cacache_table::{How, Source};
+use cacache_table::How;
 
 /// Copies the content that a lookup of the key finds to this path, and answers how many bytes it has. A file there is
 /// overwritten. The content is read to its end first, and goes there only if it meets the integrity that the lookup
@@ -41,8 +40,7 @@ pub fn copy_sync<S: Store, C: Clock, N: Names>(
     ensures ran { Calls S.log env.old env.new cache.now
         (checked Copy (Key key.now) to.now) (reply_of Copied result) }
 {
-    let source = Source::Key(Text::from_str(env.alloc, key)?);
-    copied(env, cache, source, true, to)
+    copied(env, cache, Named::Key(key), true, to)
 }
 
 /// Copies the content that a lookup of the key finds to this path, and answers how many bytes it has. A file there is
@@ -66,8 +64,7 @@ pub fn copy_unchecked_sync<S: Store, C: Clock, N: Names>(
     ensures ran { Calls S.log env.old env.new cache.now
         (unchecked Copy (Key key.now) to.now) (reply_of Copied result) }
 {
-    let source = Source::Key(Text::from_str(env.alloc, key)?);
-    copied(env, cache, source, false, to)
+    copied(env, cache, Named::Key(key), false, to)
 }
 
 /// Makes a file at this path that shares its storage with the content that a lookup of the key finds. Nothing may stand
@@ -96,8 +93,7 @@ pub fn reflink_sync<S: Store, C: Clock, N: Names>(
     ensures ran { Calls S.log env.old env.new cache.now
         (checked Reflink (Key key.now) to.now) (reply_of done result) }
 {
-    let source = Source::Key(Text::from_str(env.alloc, key)?);
-    linked(env, cache, source, How::Reflink, true, to)
+    linked(env, cache, Named::Key(key), How::Reflink, true, to)
 }
 
 /// Makes a file at this path that shares its storage with the content that a lookup of the key finds. Nothing may stand
@@ -122,8 +118,7 @@ pub fn reflink_unchecked_sync<S: Store, C: Clock, N: Names>(
     ensures ran { Calls S.log env.old env.new cache.now
         (unchecked Reflink (Key key.now) to.now) (reply_of done result) }
 {
-    let source = Source::Key(Text::from_str(env.alloc, key)?);
-    linked(env, cache, source, How::Reflink, false, to)
+    linked(env, cache, Named::Key(key), How::Reflink, false, to)
 }
 
 /// Gives the content that a lookup of the key finds one more name, which is this path. Nothing may stand there. The
@@ -152,8 +147,7 @@ pub fn hard_link_sync<S: Store, C: Clock, N: Names>(
     ensures ran { Calls S.log env.old env.new cache.now
         (checked HardLink (Key key.now) to.now) (reply_of done result) }
 {
-    let source = Source::Key(Text::from_str(env.alloc, key)?);
-    linked(env, cache, source, How::HardLink, true, to)
+    linked(env, cache, Named::Key(key), How::HardLink, true, to)
 }
 
 /// Gives the content that a lookup of the key finds one more name, which is this path. Nothing may stand there. Whether
@@ -176,6 +170,5 @@ pub fn hard_link_unchecked_sync<S: Store, C: Clock, N: Names>(
     ensures ran { Calls S.log env.old env.new cache.now
         (unchecked HardLink (Key key.now) to.now) (reply_of done result) }
 {
-    let source = Source::Key(Text::from_str(env.alloc, key)?);
-    linked(env, cache, source, How::HardLink, false, to)
+    linked(env, cache, Named::Key(key), How::HardLink, false, to)
 }

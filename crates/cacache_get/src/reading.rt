@@ -29,10 +29,8 @@ fn read<S: Store, C, N>(env: &mut Env<S, C, N>, cache: &str, command: Command) -
     ensures promised { IfOk result (λ bytes.
         Answers (site_of cache.now env.old.base 0) command (Read bytes.items)) }
 {
-    match call(env, cache, command, 0).read() {
-        Ok(bytes) => Ok(bytes.into_vec(env.alloc)?),
-        Err(error) => Err(error),
-    }
+    let bytes = call(env, cache, command, 0).read()?;
+    Ok(bytes.into_vec(env.alloc)?)
 }
 
 /// The bytes that the key was last stored with. They meet the integrity that the lookup of the key gives from the

@@ -5,5 +5,5 @@ mod about;
 mod output;
 mod program;
 
-pub use about::{HELP, USAGE, VERSION, tell_about};
+pub use about::{HELP, USAGE, VERSION, said};
 pub use program::run;

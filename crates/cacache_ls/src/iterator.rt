@@ -38,10 +38,7 @@ pub struct Ls<'a, S, C, N> {
 fn taken(item: Result<Found, Error>) -> errors::Result<Metadata>
     ensures { item_of result ≡ plain_item item }
 {
-    match item {
-        Ok(found) => Ok(found.into_metadata()),
-        Err(error) => Err(error),
-    }
+    Ok(item?.into_metadata())
 }
 
 impl<'a, S: Store, C, N> Ls<'a, S, C, N> {
@@ -96,10 +93,7 @@ impl<'a, S: Store, C, N> Ls<'a, S, C, N> {
             return Err(Error::OutOfMemory);
         };
         let answer = self.env.store.step(step);
-        match self.walk.resume(self.env.alloc, visit, answer) {
-            Ok(next) => self.visit = next,
-            Err(error) => return Err(error),
-        }
+        self.visit = self.walk.resume(self.env.alloc, visit, answer)?;
         swap(&mut self.ready, &mut self.walk.items);
         self.ready.reverse();
         Ok(())
@@ -117,10 +111,7 @@ impl<'a, S: Store, C, N> Ls<'a, S, C, N> {
     {
         'visits: while self.ready.is_empty() {
             match self.visit.take() {
-                Some(visit) => match self.go_on(visit) {
-                    Ok(()) => {}
-                    Err(error) => return Err(error),
-                },
+                Some(visit) => self.go_on(visit)?,
                 None => return Ok(()),
             }
         }

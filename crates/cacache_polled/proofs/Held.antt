@@ -14,7 +14,7 @@ use Rattle.cacache_polled.specs.declared.kinds.Polled.{Polled}
 use Rattle.cacache_polled.specs.declared.kinds.Polled.TheVariants as polls
 use Rattle.cacache_polled.specs.declared.kinds.Completion.{Completion}
 use Rattle.cacache_polled.specs.declared.kinds.Completion.TheVariants as done
-use Rattle.cacache_polled.specs.Table.{fresh, Ask, ask_write, ask_flush, ask_close, write_idle, write_flushing, write_in, flush_idle, flush_in, close_closed, close_in, polled, ended, wrote}
+use Rattle.cacache_polled.specs.Table.{fresh, Ask, ask_write, ask_flush, ask_close, write_idle, write_again, write_flushing, write_in, flush_idle, flush_in, close_closed, close_in, polled, ended, wrote}
 use Rattle.cacache_polled.specs.Events.{Seen, Event, asks, ends, taken_by, after_ending, happens, follow, seen, unanswered, bytes_taken}
 
 abbrev pub WritesAlone : State → Option Finished → Type 0
@@ -40,24 +40,24 @@ resting d held answered b (Some f) p e k =
 resting d held answered [] None p e k = grind (arith, common_steps)
 resting d held answered (x ∷ b) None p e k = grind (arith, common_steps)
 
-abbrev waits_or : Desk → Fault → Bool → Desk × Polled
-waits_or d f t = if t then (d, polls.Pending) else (d, polls.Failed f)
-
 -- the answer tells a fault or waits, whichever the test says
-either_way : (d : Desk) (held answered b : List ℕ) (f : Fault) (t : Bool) → IsKept d held answered
-    → IsKept (waits_or d f t).0 held (answered ++ taken_by (ask_write b) (waits_or d f t).1)
-either_way d held answered b f true k = same d held answered k
-either_way d held answered b f false k = same d held answered k
+either_way : (d : Desk) (held answered b : List ℕ) (t : Bool) → IsKept d held answered
+    → IsKept d held (answered ++ taken_by (ask_write b) (if t then polls.Pending else polls.Failed OtherBytes))
+either_way d held answered b true k = same d held answered k
+either_way d held answered b false k = same d held answered k
+
+again : (d : Desk) (held answered out b : List ℕ) → IsKept d held answered → IsKept d held (answered ++ taken_by (ask_write b) (write_again out b))
+again d held answered out b k = either_way d held answered b (bytes_eq out b) k
 
 flushing : (d : Desk) (held answered b : List ℕ) (f : Option Finished) → IsKept d held answered
-    → IsKept (write_flushing d b f).0 held (answered ++ taken_by (ask_write b) (write_flushing d b f).1)
-flushing d held answered b (Some f) k = either_way d held answered b OtherBytes (bytes_eq f.bytes b) k
+    → IsKept d held (answered ++ taken_by (ask_write b) (write_flushing b f))
+flushing d held answered b (Some f) k = again d held answered f.bytes b k
 flushing d held answered b None k = same d held answered k
 
 write_kept : (d : Desk) (held answered b : List ℕ) (p : State) → d.state ≡ p → IsKept d held answered
     → IsKept (write_in d b p).0 held (answered ++ taken_by (ask_write b) (write_in d b p).1)
 write_kept d held answered b Idle p k = resting d held answered b d.finished p refl k
-write_kept d held answered b (Busy (Write w)) p k = either_way d held answered b OtherBytes (bytes_eq w b) k
+write_kept d held answered b (Busy (Write w)) p k = again d held answered w b k
 write_kept d held answered b (Busy Flush) p k = flushing d held answered b d.finished k
 write_kept d held answered b (Busy Remove) p k = same d held answered k
 write_kept d held answered b Closed p k = same d held answered k

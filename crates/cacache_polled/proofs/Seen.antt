@@ -7,7 +7,7 @@ use Rattle.cacache_polled.specs.declared.kinds.Polled.{Polled}
 use Rattle.cacache_polled.specs.declared.kinds.Completion.{Completion}
 use Rattle.cacache_polled.specs.declared.writer_core.WriterCore.{WriterCore}
 use Rattle.cacache_polled.specs.Table.{Ask, fresh, polled, completed}
-use Rattle.cacache_polled.specs.Events.{Seen, Event, asks, ends, happens, after_ending, follow, seen, HasHeld, HasSeen}
+use Rattle.cacache_polled.specs.Events.{Seen, Event, asks, ends, happens, after_ending, follow, seen, Answered, Ended, HasHeld, HasSeen}
 
 follow-snoc : (s : Seen) (es : List Event) (e : Event) → follow s (es ++ e ∷ []) ≡ happens (follow s es) e
 follow-snoc s [] e = refl
@@ -41,19 +41,16 @@ ended_at : (old new : WriterCore) (c : Completion) (r : Result ⊤ Completion) (
 ended_at old new c r s None k same desk held = subst (λ c. StandsAt c s) (sym same.1) k
 ended_at old new c r s (Some d) k same desk held = record { desk = desk.1; held = held s.held k.held }
 
-pub ended_seen : (old new : WriterCore) (c : Completion) (r : Result ⊤ Completion) (es : List Event)
-    → IfNone (completed old.desk c) ((r ≡ Err c) × (new ≡ old)) → IfSome (completed old.desk c) (λ d. IsOk r × (new.desk ≡ d.0))
-    → IfSome (completed old.desk c) (λ d. (m : List ℕ) → HasHeld old m → HasHeld new (m ++ d.1))
+pub ended_seen : (old new : WriterCore) (c : Completion) (r : Result ⊤ Completion) (es : List Event) → Ended old new c r
     → HasSeen old es → HasSeen new (es ++ ends c ∷ [])
-ended_seen old new c r es same desk held k =
+ended_seen old new c r es e k =
     let at : StandsAt old (seen es) = record { desk = k.desk; held = k.held } in
     let there : StandsAt new (after_ending (seen es) (completed old.desk c)) =
-    ended_at old new c r (seen es) (completed old.desk c) at same desk held in
+    ended_at old new c r (seen es) (completed old.desk c) at e.refused e.desk e.held in
     stands new es (ends c) (subst (λ x. StandsAt new (after_ending (seen es) (completed x c))) k.desk there)
 
 -- the same of a poll that may be refused for want of memory
-pub answered_seen : (old new : WriterCore) (a : Ask) (r : Result Polled Error)
-    → IfOk r (λ _. new.desk ≡ (polled old.desk a).0) → new ≡ record old { desk = new.desk }
+pub answered_seen : (old new : WriterCore) (a : Ask) (r : Result Polled Error) → Answered old new a r
     → IfOk r (λ _. (es : List Event) → HasSeen old es → HasSeen new (es ++ asks a ∷ []))
-answered_seen old new a (Ok p) d r = λ es k. polled_seen old new a es d r k
-answered_seen old new a (Err e) d r = tt
+answered_seen old new a (Ok p) x = λ es k. polled_seen old new a es x.after x.held k
+answered_seen old new a (Err e) x = tt

@@ -1,5 +1,7 @@
 -- Lists of polls and completions: what was answered and what is held after them.
-use Rattle.std.specs.Prelude.{◌≡◌, ◌-◌, ◌^◌, ℕ, List, [], ◌∷◌, ◌++◌, length, min, take, Option, Some, None, Result, Ok, Err, ⊤, if◌then◌else◌}
+use Rattle.std.specs.Prelude.{◌≡◌, ◌-◌, ◌^◌, ℕ, List, [], ◌∷◌, ◌++◌, length, min, take, Option, Some, None, Result, Ok, Err, IsOk, IfOk, IfErr, IfSome, IfNone, ⊤, if◌then◌else◌}
+use Rattle.cacache_core.specs.declared.errors.Error.{Error}
+use Rattle.cacache_core.specs.declared.errors.Error.TheVariants.{OutOfMemory}
 use Rattle.cacache_core.specs.declared.errors.Fault.{Fault}
 use Rattle.cacache_core.specs.Hashers.{Holds, algorithm_of}
 use Rattle.cacache_core.specs.Integrity.{integrity_under}
@@ -90,6 +92,22 @@ HasHeld c m = Holds c.hasher m × (c.count ≡ counted m)
 pub record HasSeen (c : WriterCore) (es : List Event) : Type 0 where
   pub desk : c.desk ≡ (seen es).desk
   pub held : HasHeld c (seen es).held
+
+-- ---- what a poll and an ending do to it
+
+-- The poll is answered by the table, and changes the desk alone. Without memory it changes nothing.
+pub record Answered (old new : WriterCore) (a : Ask) (r : Result Polled Error) : Type 0 where
+  pub told : IfOk r (λ p. p ≡ (polled old.desk a).1)
+  pub after : IfOk r (λ p. new.desk ≡ (polled old.desk a).0)
+  pub held : new ≡ record old { desk = new.desk }
+  pub err : IfErr r (λ e. (e ≡ OutOfMemory) × (new ≡ old))
+
+-- The work ended by the table, which says what is held from then on. An ending that doesn't fit changes nothing.
+pub record Ended (old new : WriterCore) (c : Completion) (r : Result ⊤ Completion) : Type 0 where
+  pub refused : IfNone (completed old.desk c) ((r ≡ Err c) × (new ≡ old))
+  pub desk : IfSome (completed old.desk c) (λ d. IsOk r × (new.desk ≡ d.0))
+  pub held : IfSome (completed old.desk c)
+      (λ d. (m : List ℕ) → HasHeld old m → HasHeld new (m ++ d.1))
 
 -- ---- the end
 

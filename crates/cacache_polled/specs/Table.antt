@@ -49,17 +49,19 @@ write_idle d [] None = (d, polls.Wrote 0)
 write_idle d (x ∷ b) None =
     (record d { state = Busy (Write (x ∷ b)); flushed = None }, polls.Start (Write (x ∷ b)))
 
+-- a write of these bytes while one of those is out, or isn't answered
+abbrev pub write_again : List ℕ → List ℕ → Polled
+write_again out b = if bytes_eq out b then polls.Pending else polls.Failed fault.OtherBytes
+
 -- a write of these bytes while a flush is out
-abbrev pub write_flushing : Desk → List ℕ → Option Finished → Desk × Polled
-write_flushing d b (Some f) =
-    if bytes_eq f.bytes b then (d, polls.Pending) else (d, polls.Failed fault.OtherBytes)
-write_flushing d b None = (d, polls.Pending)
+abbrev pub write_flushing : List ℕ → Option Finished → Polled
+write_flushing b (Some f) = write_again f.bytes b
+write_flushing b None = polls.Pending
 
 abbrev pub write_in : Desk → List ℕ → State → Desk × Polled
 write_in d b Idle = write_idle d b d.finished
-write_in d b (Busy (Write out)) =
-    if bytes_eq out b then (d, polls.Pending) else (d, polls.Failed fault.OtherBytes)
-write_in d b (Busy Flush) = write_flushing d b d.finished
+write_in d b (Busy (Write out)) = (d, write_again out b)
+write_in d b (Busy Flush) = (d, write_flushing b d.finished)
 write_in d b (Busy Remove) = (d, polls.Failed fault.Closed)
 write_in d b Closed = (d, polls.Failed fault.Closed)
 

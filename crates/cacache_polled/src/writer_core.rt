@@ -2,8 +2,8 @@
 ghost use Rattle.std.specs.Prelude.{◌≡◌, ◌++◌, ◌∷◌, ◌↔◌, ℕ, List, [], IfOk, IfErr, IsOk, IfSome, IfNone, IsTrue};
 ghost use Rattle.cacache_core.specs.declared.errors.Error.TheVariants.{OutOfMemory};
 ghost use Rattle.cacache_core.specs.Hashers.{algorithm_of};
-ghost use Rattle.cacache_polled.specs.Table.{ask_write, fresh, polled, completed, ended_write, closed, ask_of, ask_flush, ask_close};
-ghost use Rattle.cacache_polled.specs.Events.{Event, asks, ends, HasHeld, HasSeen, Finds, busy};
+ghost use Rattle.cacache_polled.specs.Table.{ask_write, write_again as again, fresh, polled, completed, ended_write, closed, ask_of, ask_flush, ask_close};
+ghost use Rattle.cacache_polled.specs.Events.{Event, asks, ends, Answered, Ended, HasHeld, HasSeen, Finds, busy};
 
 use crate::kinds::{Completion, Desk, Finish, Finished, Poll, Polled, State, Work};
 use cacache_core::bytes::Bytes;
@@ -19,6 +19,17 @@ pub struct WriterCore {
     pub(crate) hasher: Hasher,
     /// How many bytes are held; 2^64 - 1 stays as it is.
     pub(crate) count: u64,
+}
+
+/// A poll that writes while these bytes are out, or aren't answered.
+fn write_again(out: &Bytes, bytes: &[u8]) -> Polled
+    ensures { result ≡ again out.now bytes.now }
+{
+    if out.as_slice() == bytes {
+        Polled::Pending
+    } else {
+        Polled::Failed(Fault::OtherBytes)
+    }
 }
 
 impl WriterCore {
@@ -68,11 +79,7 @@ impl WriterCore {
 
     /// What `poll` does, by the table.
     fn answer(&mut self, alloc: Global, poll: Poll<'_>) -> Result<Polled>
-        ensures told { IfOk result (λ r. r ≡ (polled self.old.desk (ask_of poll.entry)).1) }
-        ensures after { IfOk result
-            (λ _. self.new.desk ≡ (polled self.old.desk (ask_of poll.entry)).0) }
-        ensures held { self.new ≡ record self.old { desk = self.new.desk } }
-        ensures err { IfErr result (λ e. (e ≡ OutOfMemory) × (self.new ≡ self.old)) }
+        ensures answered { Answered self.old self.new (ask_of poll.entry) result }
         ensures flush { ask_of poll.entry ≡ ask_flush → IsOk result }
         ensures close { ask_of poll.entry ≡ ask_close → IsOk result }
     {
@@ -85,57 +92,47 @@ impl WriterCore {
 
     /// A poll that writes, by the table.
     fn poll_write(&mut self, alloc: Global, bytes: &[u8]) -> Result<Polled>
-        ensures told { IfOk result (λ r. r ≡ (polled self.old.desk (ask_write bytes.now)).1) }
-        ensures after { IfOk result
-            (λ _. self.new.desk ≡ (polled self.old.desk (ask_write bytes.now)).0) }
-        ensures held { self.new ≡ record self.old { desk = self.new.desk } }
-        ensures err { IfErr result (λ e. (e ≡ OutOfMemory) × (self.new ≡ self.old)) }
+        ensures { Answered self.old self.new (ask_write bytes.now) result }
     {
-        let desk = &mut self.desk;
-        match &desk.state {
+        match &self.desk.state {
             State::Closed | State::Busy(Work::Remove) => Ok(Polled::Failed(Fault::Closed)),
-            State::Busy(Work::Write(out)) => {
-                if out.as_slice() == bytes {
-                    Ok(Polled::Pending)
-                } else {
-                    Ok(Polled::Failed(Fault::OtherBytes))
-                }
+            State::Busy(Work::Write(out)) => Ok(write_again(out, bytes)),
+            State::Busy(Work::Flush) => match &self.desk.finished {
+                Some(f) => Ok(write_again(&f.bytes, bytes)),
+                None => Ok(Polled::Pending),
+            },
+            State::Idle => self.write_idle(alloc, bytes),
+        }
+    }
+
+    /// A poll that writes where no work is out, by the table.
+    fn write_idle(&mut self, alloc: Global, bytes: &[u8]) -> Result<Polled>
+        requires { self.now.desk.state ≡ State.Idle }
+        ensures { Answered self.old self.new (ask_write bytes.now) result }
+    {
+        match self.desk.finished.take() {
+            Some(f) if f.bytes.as_slice() == bytes => match f.outcome {
+                Ok(count) => Ok(Polled::Wrote(count)),
+                Err(fault) => Ok(Polled::Failed(fault)),
+            },
+            Some(f) => {
+                self.desk.finished = Some(f);
+                Ok(Polled::Failed(Fault::OtherBytes))
             }
-            State::Busy(Work::Flush) => match &desk.finished {
-                Some(f) if f.bytes.as_slice() != bytes => Ok(Polled::Failed(Fault::OtherBytes)),
-                _ => Ok(Polled::Pending),
-            },
-            State::Idle => match desk.finished.take() {
-                Some(f) => {
-                    if f.bytes.as_slice() == bytes {
-                        match f.outcome {
-                            Ok(count) => Ok(Polled::Wrote(count)),
-                            Err(fault) => Ok(Polled::Failed(fault)),
-                        }
-                    } else {
-                        desk.finished = Some(f);
-                        Ok(Polled::Failed(Fault::OtherBytes))
-                    }
-                }
-                None => {
-                    if bytes.is_empty() {
-                        return Ok(Polled::Wrote(0));
-                    }
-                    let kept = Bytes::new(alloc, Vec::from_slice(alloc, bytes)?)?;
-                    let out = kept.share()?;
-                    desk.state = State::Busy(Work::Write(kept));
-                    desk.flushed = None;
-                    Ok(Polled::Start(Work::Write(out)))
-                }
-            },
+            None if bytes.is_empty() => Ok(Polled::Wrote(0)),
+            None => {
+                let kept = Bytes::new(alloc, Vec::from_slice(alloc, bytes)?)?;
+                let out = kept.share()?;
+                self.desk.state = State::Busy(Work::Write(kept));
+                self.desk.flushed = None;
+                Ok(Polled::Start(Work::Write(out)))
+            }
         }
     }
 
     /// A poll that flushes, by the table.
     fn poll_flush(&mut self) -> Polled
-        ensures told { result ≡ (polled self.old.desk ask_flush).1 }
-        ensures after { self.new.desk ≡ (polled self.old.desk ask_flush).0 }
-        ensures held { self.new ≡ record self.old { desk = self.new.desk } }
+        ensures { Answered self.old self.new ask_flush (Ok result) }
     {
         match &self.desk.state {
             State::Closed => Polled::Done,
@@ -153,9 +150,7 @@ impl WriterCore {
 
     /// A poll that closes, by the table.
     fn poll_close(&mut self) -> Polled
-        ensures told { result ≡ (polled self.old.desk ask_close).1 }
-        ensures after { self.new.desk ≡ (polled self.old.desk ask_close).0 }
-        ensures held { self.new ≡ record self.old { desk = self.new.desk } }
+        ensures { Answered self.old self.new ask_close (Ok result) }
     {
         match &self.desk.state {
             State::Closed => match self.desk.kept.take() {
@@ -202,12 +197,7 @@ impl WriterCore {
 
     /// What `complete` does, by the table.
     fn end(&mut self, completion: Completion) -> std::result::Result<(), Completion>
-        ensures refused { IfNone (completed self.old.desk completion)
-            ((result ≡ Err completion) × (self.new ≡ self.old)) }
-        ensures desk { IfSome (completed self.old.desk completion)
-            (λ d. IsOk result × (self.new.desk ≡ d.0)) }
-        ensures held { IfSome (completed self.old.desk completion)
-            (λ d. (m : List ℕ) → HasHeld self.old m → HasHeld self.new (m ++ d.1)) }
+        ensures ended { Ended self.old self.new completion result }
         ensures algorithm { algorithm_of self.new.hasher ≡ algorithm_of self.old.hasher }
     {
         let count = self.count;

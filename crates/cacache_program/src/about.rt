@@ -1,6 +1,6 @@
 //! What a program says of itself.
 ghost use Rattle.std.specs.Prelude.{◌≡◌, ◌⊎◌, IfNone, IfSome, IsSomeAnd, codes};
-ghost use Rattle.cacache_program.specs.About.{IsWord, help_text, version_text};
+ghost use Rattle.cacache_program.specs.About.{IsWord, help_text, usage_text, version_text};
 ghost use Rattle.cacache_program.specs.Output.{PutsOut};
 
 use crate::errors::Errors;
@@ -29,61 +29,68 @@ pub const HELP: &str =
 /// The program's name and version, and that of the crate that it is a port of.
 pub const VERSION: &str = "cacache 0.1.0 (a port of 13.1.0)\n";
 
-/// Which of these texts the only word asks for.
-fn text_of<'a>(words: &[String], help: &'a str, version: &'a str) -> Option<&'a str>
+/// What a program says of itself.
+#[derive(Clone, Copy)]
+pub struct About {
+    /// What it says to wrong words.
+    pub usage: &'static str,
+    /// What it says to `--help`.
+    pub help: &'static str,
+    /// What it says to `--version`.
+    pub version: &'static str,
+}
+
+/// What the program `cacache` says of itself.
+pub fn said() -> About
+    ensures usage { result.usage.now ≡ usage_text }
+    ensures help { result.help.now ≡ help_text }
+    ensures version { result.version.now ≡ version_text }
+{
+    About {
+        usage: USAGE,
+        help: HELP,
+        version: VERSION,
+    }
+}
+
+/// Which of its texts the only word asks for.
+fn text_of(words: &[String], about: About) -> Option<&'static str>
     ensures help { IsWord words.now (codes "--help")
-        → IsSomeAnd result (λ text. text.now ≡ help.now) }
+        → IsSomeAnd result (λ text. text.now ≡ about.help.now) }
     ensures version { IsWord words.now (codes "--version")
-        → IsSomeAnd result (λ text. text.now ≡ version.now) }
+        → IsSomeAnd result (λ text. text.now ≡ about.version.now) }
     ensures known { IfSome result (λ text. IsWord words.now (codes "--help")
         ⊎ IsWord words.now (codes "--version")) }
 {
     match words {
         [word] => match word.as_str() {
-            "--help" => Some(help),
-            "--version" => Some(version),
+            "--help" => Some(about.help),
+            "--version" => Some(about.version),
             _ => None,
         },
         _ => None,
     }
 }
 
-/// Prints this help where the only word is `--help`, and this version where it is `--version`, and returns the status: 0,
-/// or 1 if the output failed, which is printed on `errors`. Other words get no status here, and nothing is printed.
+/// Prints the program's help where the only word is `--help`, and its version where it is `--version`, and returns the
+/// status: 0, or 1 if the output failed, which is printed on `errors`. Other words get no status here, and nothing is
+/// printed.
 pub fn tell<W: Write, E: Write>(
     words: &[String],
-    help: &str,
-    version: &str,
+    about: About,
     output: &mut W,
     errors: &mut Errors<E>,
 ) -> Option<u8>
     ensures help { IsWord words.now (codes "--help") → IsSomeAnd result
-        (PutsOut help.now (W.contents output.old) (W.contents output.new)) }
+        (PutsOut about.help.now (W.contents output.old) (W.contents output.new)) }
     ensures version { IsWord words.now (codes "--version") → IsSomeAnd result
-        (PutsOut version.now (W.contents output.old) (W.contents output.new)) }
+        (PutsOut about.version.now (W.contents output.old) (W.contents output.new)) }
     ensures known { IfSome result (λ status. IsWord words.now (codes "--help")
         ⊎ IsWord words.now (codes "--version")) }
     ensures other { IfNone result ((output.new ≡ output.old) × (errors.new ≡ errors.old)) }
 {
-    match text_of(words, help, version) {
+    match text_of(words, about) {
         Some(text) => Some(put_out(output, text.as_bytes(), errors)),
         None => None,
     }
-}
-
-/// Does what `tell` does, with the help and the version of the program `cacache`.
-pub fn tell_about<W: Write, E: Write>(
-    words: &[String],
-    output: &mut W,
-    errors: &mut Errors<E>,
-) -> Option<u8>
-    ensures help { IsWord words.now (codes "--help") → IsSomeAnd result
-        (PutsOut help_text (W.contents output.old) (W.contents output.new)) }
-    ensures version { IsWord words.now (codes "--version") → IsSomeAnd result
-        (PutsOut version_text (W.contents output.old) (W.contents output.new)) }
-    ensures known { IfSome result (λ status. IsWord words.now (codes "--help")
-        ⊎ IsWord words.now (codes "--version")) }
-    ensures other { IfNone result ((output.new ≡ output.old) × (errors.new ≡ errors.old)) }
-{
-    tell(words, HELP, VERSION, output, errors)
 }

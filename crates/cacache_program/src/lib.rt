@@ -17,7 +17,7 @@ mod why;
 mod words;
 mod writing;
 
-pub use about::{HELP, USAGE, VERSION, tell, tell_about};
+pub use about::{About, HELP, USAGE, VERSION, said, tell};
 pub use errors::{Errors, call_failed, misused};
 pub use program::run;
 pub use why::{Reasons, Why, asks_why, why_of};

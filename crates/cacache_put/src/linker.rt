@@ -16,6 +16,7 @@ ghost use Rattle.cacache_table.specs.Blank.{blank};
 ghost use Rattle.cacache_put.specs.Options.{nothing_said};
 ghost use Rattle.cacache_put.specs.Rest.{links};
 
+use crate::opts::WriteOpts;
 use crate::rest::read_rest;
 use cacache_core::errors::{Error, Result};
 use cacache_core::hasher::Hasher;
@@ -114,6 +115,26 @@ fn open_sized<S: Store>(
     }
 }
 
+/// Asks the size of a target of which nothing else is said, and opens it.
+fn open_blank<S: Store, C, N>(
+    env: &mut Env<S, C, N>,
+    cache: &str,
+    key: Option<Text>,
+    target: &str,
+    time: Option<u128>,
+) -> Result<SyncToLinker<S::File>>
+    ensures opens { OpensWithSize S.File.seen S.log env.old env.new
+        (linked_to env.old.base cache.now key target.now time (blank Sha256)) result }
+    ensures begins { BeginsLink S.File.seen S.log env.old env.new asks_size
+        (linked_to env.old.base cache.now key target.now time (blank Sha256)) result }
+{
+    let alloc = env.alloc;
+    let base = env.base.as_str();
+    let options = Options::blank(Algorithm::Sha256);
+    let linked = linked(alloc, base, cache, key, target, time, options)?;
+    open_sized(alloc, &mut env.store, linked)
+}
+
 /// Makes the link of a target that was read to its end and has this integrity and size.
 fn finish<S: Store, C, N>(
     env: &mut Env<S, C, N>,
@@ -176,18 +197,9 @@ impl<F: OpenedFile> SyncToLinker<F> {
         ensures begins { BeginsLink F.seen S.log env.old env.new asks_file
             (linked_to env.old.base cache.now None target.now (Some 0) (blank algo)) result }
     {
-        let alloc = env.alloc;
-        let base = env.base.as_str();
-        let linked = linked(
-            alloc,
-            base,
-            cache,
-            None,
-            target,
-            Some(0),
-            Options::blank(algo),
-        )?;
-        open_target(alloc, &mut env.store, linked)
+        WriteOpts::new()
+            .algorithm(algo)
+            .link_to_hash_sync(env, cache, target)
     }
 
     /// Opens the target of a link under the key. Its size is asked first, and is the one that the link is to have. A
@@ -212,12 +224,8 @@ impl<F: OpenedFile> SyncToLinker<F> {
         ensures begins { BeginsLink F.seen S.log env.old env.new asks_size
             (linked_to env.old.base cache.now (Some key.now) target.now None (blank Sha256)) result }
     {
-        let alloc = env.alloc;
-        let base = env.base.as_str();
-        let key = Some(Text::from_str(alloc, key)?);
-        let options = Options::blank(Algorithm::Sha256);
-        let linked = linked(alloc, base, cache, key, target, None, options)?;
-        open_sized(alloc, &mut env.store, linked)
+        let key = Some(Text::from_str(env.alloc, key)?);
+        open_blank(env, cache, key, target, None)
     }
 
     /// What `open` does, without a key.
@@ -236,11 +244,7 @@ impl<F: OpenedFile> SyncToLinker<F> {
         ensures begins { BeginsLink F.seen S.log env.old env.new asks_size
             (linked_to env.old.base cache.now None target.now (Some 0) (blank Sha256)) result }
     {
-        let alloc = env.alloc;
-        let base = env.base.as_str();
-        let options = Options::blank(Algorithm::Sha256);
-        let linked = linked(alloc, base, cache, None, target, Some(0), options)?;
-        open_sized(alloc, &mut env.store, linked)
+        open_blank(env, cache, None, target, Some(0))
     }
 
     /// Reads the rest of the target, makes a link to it the content of its bytes, and with a key adds an entry. Answers

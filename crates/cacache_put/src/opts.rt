@@ -78,69 +78,62 @@ impl WriteOpts {
     }
 
     /// With the algorithm of the content's digest.
-    pub fn algorithm(self, algo: Algorithm) -> WriteOpts
-        ensures { result ≡ record self { algorithm = algo } }
+    pub fn algorithm(mut self, algo: Algorithm) -> WriteOpts
+        ensures { result ≡ record self.entry { algorithm = algo } }
     {
-        let mut opts = self;
-        opts.algorithm = algo;
-        opts
+        self.algorithm = algo;
+        self
     }
 
     /// With the size that the content is to have. An inserted entry has it as its own, and 0 without it; the entry of a
     /// content that was written has the count of its bytes.
-    pub fn size(self, size: usize) -> WriteOpts
-        ensures { result ≡ record self { size = Some size } }
+    pub fn size(mut self, size: usize) -> WriteOpts
+        ensures { result ≡ record self.entry { size = Some size } }
     {
-        let mut opts = self;
-        opts.size = Some(size);
-        opts
+        self.size = Some(size);
+        self
     }
 
     /// With any data for the entry.
-    pub fn metadata(self, metadata: Value) -> WriteOpts
-        ensures { result ≡ record self { metadata = view metadata } }
+    pub fn metadata(mut self, metadata: Value) -> WriteOpts
+        ensures { result ≡ record self.entry { metadata = view metadata } }
     {
-        let mut opts = self;
-        opts.metadata = Json::new(metadata);
-        opts
+        self.metadata = Json::new(metadata);
+        self
     }
 
     /// With any bytes for the entry.
-    pub fn raw_metadata(self, metadata: Vec<u8>) -> WriteOpts
-        ensures { result ≡ record self { raw_metadata = Some metadata.items } }
+    pub fn raw_metadata(mut self, metadata: Vec<u8>) -> WriteOpts
+        ensures { result ≡ record self.entry { raw_metadata = Some metadata.items } }
     {
-        let mut opts = self;
-        opts.raw_metadata = Some(metadata);
-        opts
+        self.raw_metadata = Some(metadata);
+        self
     }
 
     /// Whether the commit, or the insertion, waits until a loss of power would leave it whole: it syncs the content, the
     /// bucket and the folders that lead to them, and answers only then. Linkers ignore it. Blank options say no.
-    pub fn durable(self, yes: bool) -> WriteOpts
-        ensures { result ≡ record self { durable = yes } }
+    pub fn durable(mut self, yes: bool) -> WriteOpts
+        ensures { result ≡ record self.entry { durable = yes } }
     {
-        let mut opts = self;
-        opts.durable = yes;
-        opts
+        self.durable = yes;
+        self
     }
 
     /// With the entry's time, in milliseconds since 1970, in place of the clock's.
-    pub fn time(self, time: u128) -> WriteOpts
-        ensures { result ≡ record self { time = Some time } }
+    pub fn time(mut self, time: u128) -> WriteOpts
+        ensures { result ≡ record self.entry { time = Some time } }
     {
-        let mut opts = self;
-        opts.time = Some(time);
-        opts
+        self.time = Some(time);
+        self
     }
 
     /// With the integrity that the content is to meet. An inserted entry has it as its own, and is a tombstone without
     /// it.
-    pub fn integrity(self, sri: Integrity) -> WriteOpts
-        ensures { result ≡ record self { integrity = Some sri } }
+    pub fn integrity(mut self, sri: Integrity) -> WriteOpts
+        ensures { result ≡ record self.entry { integrity = Some sri } }
     {
-        let mut opts = self;
-        opts.integrity = Some(sri);
-        opts
+        self.integrity = Some(sri);
+        self
     }
 
     /// The time that was set, in milliseconds since 1970.

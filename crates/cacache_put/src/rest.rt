@@ -26,21 +26,20 @@ pub(crate) fn read_rest<S: Store>(
     let mut file = file;
     let mut count = before;
     'pieces: loop {
-        match got_of(store.step(Step::Read(file, PIECE))) {
-            Ok(got) => {
-                let Got { file: next, bytes } = got;
-                if bytes.is_empty() {
-                    return Ok(count);
-                }
-                // a longer file has no size that could be told
-                let Some(more) = count.checked_add(bytes.len()) else {
-                    return Err(Error::OutOfMemory);
-                };
-                hasher.update(bytes.as_slice());
-                count = more;
-                file = next;
-            }
+        let got = match got_of(store.step(Step::Read(file, PIECE))) {
+            Ok(got) => got,
             Err(refusal) => return Err(refused(refusal, messages::reading_target(alloc))),
+        };
+        let Got { file: next, bytes } = got;
+        if bytes.is_empty() {
+            return Ok(count);
         }
+        // a longer file has no size that could be told
+        let Some(more) = count.checked_add(bytes.len()) else {
+            return Err(Error::OutOfMemory);
+        };
+        hasher.update(bytes.as_slice());
+        count = more;
+        file = next;
     }
 }

@@ -40,10 +40,7 @@ fn began_these<L: Ledger>(alloc: Global, later: &[Record], seat: &Seat<L>) -> bo
     ensures { IsTrue result → map said_command seat.now.commands
         ≡ map said_command (commands_of seat.now.caller later.now) }
 {
-    match commands_agree(alloc, later, seat.caller(), seat.commands()) {
-        Ok(agree) => agree,
-        Err(_) => false,
-    }
+    commands_agree(alloc, later, seat.caller(), seat.commands()).unwrap_or(false)
 }
 
 /// Whether the seat's replies are those that its caller was given in these records.
@@ -51,10 +48,7 @@ fn got_these<L: Ledger>(alloc: Global, later: &[Record], seat: &Seat<L>) -> bool
     ensures { IsTrue result → map said_reply seat.now.replies
         ≡ map said_reply (replies_of seat.now.caller later.now) }
 {
-    match replies_agree(alloc, later, seat.caller(), seat.replies()) {
-        Ok(agree) => agree,
-        Err(_) => false,
-    }
+    replies_agree(alloc, later, seat.caller(), seat.replies()).unwrap_or(false)
 }
 
 /// All parts of the seats in one share, which counts all their moves. None of no seats.

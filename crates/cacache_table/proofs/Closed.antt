@@ -99,7 +99,7 @@ module _ (Good : PlainStep → PlainAnswer → Type 0) (P : State → Type 0) wh
 
   -- files that are read to their end, and copies
   pub record ClosedFiles : Type 0 where
-    pub sized : (t : Target) (n : ℕ) → P (sizing t) → P (opening_file (to_link (with_size t n)))
+    pub sized : (t : Target ℕ) (n : ℕ) → P (sizing t) → P (opening_file (to_link (with_size t n)))
     pub opened : (x : Hashing) (file : PlainFile) → Brings Good (steps.Open (hashed_path x)) file_in file → P (opening_file x) → P (hashing x file [])
     pub got : (x : Hashing) (file : PlainFile) (bytes : List ℕ) (g : PlainFile × List ℕ) → Brings Good (steps.Read file piece) got_in g → P (hashing x file bytes) → P (after_read x bytes g)
     pub copied : (from to : List ℕ) (count : Option ℕ) (n : ℕ) → P (copying from to count) → P (over (Copied (counted count n)))

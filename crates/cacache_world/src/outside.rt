@@ -57,10 +57,7 @@ pub(crate) fn planted(
     };
     let mut disk = disk;
     for i in 0..outside.len() {
-        match plant(alloc, &mut disk, cache, &outside[..i], &outside[i]) {
-            Ok(()) => {}
-            Err(fault) => return Err(fault),
-        }
+        plant(alloc, &mut disk, cache, &outside[..i], &outside[i])?;
     }
     Ok(disk)
 }

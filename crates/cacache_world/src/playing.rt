@@ -53,10 +53,7 @@ impl World {
         ensures until { IfErr result (λ fault. StopAt events.now self.old self.new fault) }
     {
         for event in events {
-            match self.happen(event) {
-                Ok(()) => {}
-                Err(fault) => return Err(fault),
-            }
+            self.happen(event)?;
         }
         Ok(())
     }

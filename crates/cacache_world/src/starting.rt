@@ -52,14 +52,8 @@ pub(crate) fn prepared(
     ensures why { IfErr result (λ fault. (callers : ℕ) → IsUnready (vec_len calls.now)
         calls.now.items caller (setup_of cache.now outside.now callers) command.now fault) }
 {
-    match free(calls, caller) {
-        Ok(()) => {}
-        Err(fault) => return Err(fault),
-    }
-    match admit(alloc, cache.as_str(), outside, command) {
-        Ok(()) => {}
-        Err(fault) => return Err(fault),
-    }
+    free(calls, caller)?;
+    admit(alloc, cache.as_str(), outside, command)?;
     if number == u64::MAX {
         return Err(WorldFault::OutOfMemory);
     }

@@ -73,10 +73,7 @@ impl World {
         ensures apart { OnOk result (FilesAreApart cache outside.items) }
         ensures why { IfErr result (λ fault. CantOpen cache outside.items fault) }
     {
-        let disk = match planted(alloc, cache.as_str(), outside.as_slice()) {
-            Ok(disk) => disk,
-            Err(fault) => return Err(fault),
-        };
+        let disk = planted(alloc, cache.as_str(), outside.as_slice())?;
         let Ok(calls) = idle(alloc, callers) else {
             return Err(WorldFault::OutOfMemory);
         };

@@ -1,165 +1,66 @@
 //! Futures that open polled writers.
-ghost use Rattle.std.specs.Prelude.{None, Some};
-ghost use Rattle.cacache_put.specs.Options.{nothing_said};
+ghost use Rattle.std.specs.Prelude.{◌≡◌, None, Some, IfOk, option_map};
 ghost use Rattle.cacache_futures.specs.Waiting.{Waits};
 ghost use Rattle.cacache_writers.specs.Opening.{OpensWriter};
 
 use crate::opening::open_writer;
 use crate::writer::Writer;
 use cacache_core::errors::Result;
-use cacache_core::integrity::Algorithm;
 use cacache_core::keeping::beside;
 use cacache_core::text::Text;
 use cacache_futures::{Call, CallFuture};
 use cacache_put::opts::WriteOpts;
 use cacache_store::env::{Clock, Env, Names};
 use cacache_store::store::Store;
+use std::alloc::{AllocError, Global};
 
-/// Opens a writer that commits under the key, with these options. A number is asked once, before the first step.
-fn open_keyed<S: Store, C: Clock, N: Names>(
-    env: &mut Env<S, C, N>,
-    cache: &str,
-    key: &str,
-    opts: WriteOpts,
-) -> Result<Writer<S::Temp>>
-    ensures { OpensWriter S.log N.given env.old env.new cache.now (Some key.now) opts result }
+/// The key as a text of its own, if there is one.
+fn owned(alloc: Global, key: Option<&str>) -> std::result::Result<Option<Text>, AllocError>
+    ensures { IfOk result (λ owned. owned ≡ option_map (λ key. key.now) key) }
 {
-    let number = env.names.fresh();
-    let (key, opts) = beside(Text::from_str(env.alloc, key), opts)?;
-    open_writer(env.alloc, &mut env.store, cache, number, Some(key), opts)
+    match key {
+        Some(key) => Ok(Some(Text::from_str(alloc, key)?)),
+        None => Ok(None),
+    }
 }
 
-/// Opens a writer that commits without a key, with these options. A number is asked once, before the first step.
-fn open_unkeyed<S: Store, C: Clock, N: Names>(
-    env: &mut Env<S, C, N>,
-    cache: &str,
-    opts: WriteOpts,
-) -> Result<Writer<S::Temp>>
-    ensures { OpensWriter S.log N.given env.old env.new cache.now None opts result }
-{
-    let number = env.names.fresh();
-    open_writer(env.alloc, &mut env.store, cache, number, None, opts)
-}
-
-/// What `AsyncWriter::new` is called with.
-#[derive(Clone, Copy)]
-pub struct AsyncWriterNewCall<'a> {
+/// What a writer is opened with: a cache, the key under which it is to commit, if any, and options.
+#[derive(Drop)]
+pub struct WriterOpenCall<'a> {
     pub(crate) cache: &'a str,
-    pub(crate) algo: Algorithm,
+    pub(crate) key: Option<&'a str>,
+    pub(crate) opts: WriteOpts,
 }
 
-impl<'a, S: Store, C: Clock, N: Names> Call<S, C, N> for AsyncWriterNewCall<'a> {
+impl<'a, S: Store, C: Clock, N: Names> Call<S, C, N> for WriterOpenCall<'a> {
     type Output = Writer<S::Temp>;
 
     ghost makes = { λ c old r new. OpensWriter S.log N.given old new c.cache.now
-        None (record nothing_said { algorithm = c.algo }) r };
+        (option_map (λ key. key.now) c.key) c.opts r };
 
+    // A number is asked once, before the first step.
     fn make(self, env: &mut Env<S, C, N>) -> Result<Writer<S::Temp>> {
-        open_unkeyed(env, self.cache, WriteOpts::new().algorithm(self.algo))
+        let WriterOpenCall { cache, key, opts } = self;
+        let number = env.names.fresh();
+        let (key, opts) = beside(owned(env.alloc, key), opts)?;
+        open_writer(env.alloc, &mut env.store, cache, number, key, opts)
     }
 }
 
 /// The future of `AsyncWriter::new`.
-pub type AsyncWriterNewFuture<'a, S, C, N> = CallFuture<'a, S, C, N, AsyncWriterNewCall<'a>>;
-
-/// What `Writer::create` is called with.
-#[derive(Clone, Copy)]
-pub struct WriterCreateCall<'a> {
-    pub(crate) cache: &'a str,
-    pub(crate) key: &'a str,
-}
-
-impl<'a, S: Store, C: Clock, N: Names> Call<S, C, N> for WriterCreateCall<'a> {
-    type Output = Writer<S::Temp>;
-
-    ghost makes = { λ c old r new. OpensWriter S.log N.given old new c.cache.now
-        (Some c.key.now) nothing_said r };
-
-    fn make(self, env: &mut Env<S, C, N>) -> Result<Writer<S::Temp>> {
-        open_keyed(env, self.cache, self.key, WriteOpts::new())
-    }
-}
+pub type AsyncWriterNewFuture<'a, S, C, N> = CallFuture<'a, S, C, N, WriterOpenCall<'a>>;
 
 /// The future of `Writer::create`.
-pub type WriterCreateFuture<'a, S, C, N> = CallFuture<'a, S, C, N, WriterCreateCall<'a>>;
-
-/// What `Writer::create_with_algo` is called with.
-#[derive(Clone, Copy)]
-pub struct WriterCreateWithAlgoCall<'a> {
-    pub(crate) algo: Algorithm,
-    pub(crate) cache: &'a str,
-    pub(crate) key: &'a str,
-}
-
-impl<'a, S: Store, C: Clock, N: Names> Call<S, C, N> for WriterCreateWithAlgoCall<'a> {
-    type Output = Writer<S::Temp>;
-
-    ghost makes = { λ c old r new. OpensWriter S.log N.given old new c.cache.now
-        (Some c.key.now) (record nothing_said { algorithm = c.algo }) r };
-
-    fn make(self, env: &mut Env<S, C, N>) -> Result<Writer<S::Temp>> {
-        open_keyed(
-            env,
-            self.cache,
-            self.key,
-            WriteOpts::new().algorithm(self.algo),
-        )
-    }
-}
+pub type WriterCreateFuture<'a, S, C, N> = CallFuture<'a, S, C, N, WriterOpenCall<'a>>;
 
 /// The future of `Writer::create_with_algo`.
-pub type WriterCreateWithAlgoFuture<'a, S, C, N> = CallFuture<
-    'a,
-    S,
-    C,
-    N,
-    WriterCreateWithAlgoCall<'a>,
->;
-
-/// What `WriteOpts::open` is called with.
-#[derive(Drop)]
-pub struct WriteOptsOpenCall<'a> {
-    pub(crate) opts: WriteOpts,
-    pub(crate) cache: &'a str,
-    pub(crate) key: &'a str,
-}
-
-impl<'a, S: Store, C: Clock, N: Names> Call<S, C, N> for WriteOptsOpenCall<'a> {
-    type Output = Writer<S::Temp>;
-
-    ghost makes = { λ c old r new. OpensWriter S.log N.given old new c.cache.now
-        (Some c.key.now) c.opts r };
-
-    fn make(self, env: &mut Env<S, C, N>) -> Result<Writer<S::Temp>> {
-        let WriteOptsOpenCall { opts, cache, key } = self;
-        open_keyed(env, cache, key, opts)
-    }
-}
+pub type WriterCreateWithAlgoFuture<'a, S, C, N> = CallFuture<'a, S, C, N, WriterOpenCall<'a>>;
 
 /// The future of `WriteOpts::open`.
-pub type WriteOptsOpenFuture<'a, S, C, N> = CallFuture<'a, S, C, N, WriteOptsOpenCall<'a>>;
-
-/// What `WriteOpts::open_hash` is called with.
-#[derive(Drop)]
-pub struct WriteOptsOpenHashCall<'a> {
-    pub(crate) opts: WriteOpts,
-    pub(crate) cache: &'a str,
-}
-
-impl<'a, S: Store, C: Clock, N: Names> Call<S, C, N> for WriteOptsOpenHashCall<'a> {
-    type Output = Writer<S::Temp>;
-
-    ghost makes = { λ c old r new. OpensWriter S.log N.given old new c.cache.now
-        None c.opts r };
-
-    fn make(self, env: &mut Env<S, C, N>) -> Result<Writer<S::Temp>> {
-        let WriteOptsOpenHashCall { opts, cache } = self;
-        open_unkeyed(env, cache, opts)
-    }
-}
+pub type WriteOptsOpenFuture<'a, S, C, N> = CallFuture<'a, S, C, N, WriterOpenCall<'a>>;
 
 /// The future of `WriteOpts::open_hash`.
-pub type WriteOptsOpenHashFuture<'a, S, C, N> = CallFuture<'a, S, C, N, WriteOptsOpenHashCall<'a>>;
+pub type WriteOptsOpenHashFuture<'a, S, C, N> = CallFuture<'a, S, C, N, WriterOpenCall<'a>>;
 
 /// Polled writers that are opened with options, as futures.
 pub trait OpenAsync {
@@ -187,14 +88,11 @@ impl OpenAsync for WriteOpts {
         key: &'a str,
     ) -> WriteOptsOpenFuture<'a, S, C, N>
         ensures waits { Waits result env.entry
-            (record { opts = self; cache = cache.entry; key = key.entry }) }
+            (record { cache = cache.entry; key = Some key.entry; opts = self }) }
     {
-        let call = WriteOptsOpenCall {
-            opts: self,
-            cache,
-            key,
-        };
-        CallFuture::new(env, call)
+        let key = Some(key);
+        let opts = self;
+        CallFuture::new(env, WriterOpenCall { cache, key, opts })
     }
 
     fn open_hash<'a, S: Store, C: Clock, N: Names>(
@@ -203,9 +101,10 @@ impl OpenAsync for WriteOpts {
         cache: &'a str,
     ) -> WriteOptsOpenHashFuture<'a, S, C, N>
         ensures waits { Waits result env.entry
-            (record { opts = self; cache = cache.entry }) }
+            (record { cache = cache.entry; key = None; opts = self }) }
     {
-        let call = WriteOptsOpenHashCall { opts: self, cache };
-        CallFuture::new(env, call)
+        let key = None;
+        let opts = self;
+        CallFuture::new(env, WriterOpenCall { cache, key, opts })
     }
 }

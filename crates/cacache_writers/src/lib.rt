@@ -12,8 +12,7 @@ pub use about::About;
 pub use commit::commit_held;
 pub use committing::{AsyncWriterCloseFuture, WriterCommitFuture};
 pub use creating::{
-    AsyncWriterNewCall, AsyncWriterNewFuture, OpenAsync, WriteOptsOpenCall, WriteOptsOpenFuture,
-    WriteOptsOpenHashCall, WriteOptsOpenHashFuture, WriterCreateCall, WriterCreateFuture,
-    WriterCreateWithAlgoCall, WriterCreateWithAlgoFuture,
+    AsyncWriterNewFuture, OpenAsync, WriteOptsOpenFuture, WriteOptsOpenHashFuture,
+    WriterCreateFuture, WriterCreateWithAlgoFuture, WriterOpenCall,
 };
 pub use writer::Writer;

@@ -1,18 +1,19 @@
 //! Contents that are written by polls.
-ghost use Rattle.std.specs.Prelude.{◌≡◌, Some};
+ghost use Rattle.std.specs.Prelude.{◌≡◌, None, Some};
 ghost use Rattle.futures.specs.Poll.{OnPending};
 ghost use Rattle.futures.specs.Task.{IsArmed, Keeps};
+ghost use Rattle.cacache_put.specs.Options.{nothing_said};
 ghost use Rattle.cacache_futures.specs.Waiting.{Waits};
 
 use crate::about::About;
 use crate::committing::{AsyncWriterCloseFuture, WriterCommitFuture};
 use crate::creating::{
-    AsyncWriterNewCall, AsyncWriterNewFuture, WriterCreateCall, WriterCreateFuture,
-    WriterCreateWithAlgoCall, WriterCreateWithAlgoFuture,
+    AsyncWriterNewFuture, WriterCreateFuture, WriterCreateWithAlgoFuture, WriterOpenCall,
 };
 use cacache_core::errors::Result;
 use cacache_core::integrity::Algorithm;
 use cacache_futures::CallFuture;
+use cacache_put::opts::WriteOpts;
 use cacache_store::env::{Clock, Env, Names};
 use cacache_store::store::Store;
 use cacache_worker::{PolledFile, Worker};
@@ -37,10 +38,16 @@ impl<T: Drop> Writer<T> {
         algo: Algorithm,
         size: Option<usize>,
     ) -> AsyncWriterNewFuture<'a, S, C, N>
-        ensures waits { Waits result env.entry (record { cache = cache.entry; algo = algo }) }
+        ensures waits { Waits result env.entry (record {
+          cache = cache.entry;
+          key = None;
+          opts = record nothing_said { algorithm = algo };
+        }) }
     {
         let _size = size;
-        CallFuture::new(env, AsyncWriterNewCall { cache, algo })
+        let key = None;
+        let opts = WriteOpts::new().algorithm(algo);
+        CallFuture::new(env, WriterOpenCall { cache, key, opts })
     }
 
     /// Opens a writer that commits under the key, with the SHA-256 integrity, as a future. Nothing is saved before its
@@ -57,9 +64,11 @@ impl<T: Drop> Writer<T> {
         key: &'a str,
     ) -> WriterCreateFuture<'a, S, C, N>
         ensures waits { Waits result env.entry
-            (record { cache = cache.entry; key = key.entry }) }
+            (record { cache = cache.entry; key = Some key.entry; opts = nothing_said }) }
     {
-        CallFuture::new(env, WriterCreateCall { cache, key })
+        let key = Some(key);
+        let opts = WriteOpts::new();
+        CallFuture::new(env, WriterOpenCall { cache, key, opts })
     }
 
     /// What `create` does, with an algorithm of the caller's for the integrity. Nothing is saved before its `commit`.
@@ -70,10 +79,15 @@ impl<T: Drop> Writer<T> {
         cache: &'a str,
         key: &'a str,
     ) -> WriterCreateWithAlgoFuture<'a, S, C, N>
-        ensures waits { Waits result env.entry
-            (record { algo = algo; cache = cache.entry; key = key.entry }) }
+        ensures waits { Waits result env.entry (record {
+          cache = cache.entry;
+          key = Some key.entry;
+          opts = record nothing_said { algorithm = algo };
+        }) }
     {
-        CallFuture::new(env, WriterCreateWithAlgoCall { algo, cache, key })
+        let key = Some(key);
+        let opts = WriteOpts::new().algorithm(algo);
+        CallFuture::new(env, WriterOpenCall { cache, key, opts })
     }
 
     /// A worker for this writer, which the example of `create` runs in a thread of its own. `OutOfMemory` is the only

@@ -3,8 +3,8 @@ use crate::stuck::Stuck;
 use cacache::env::{Clock, Env, Names};
 use cacache::store::Store;
 use cacache::{Integrity, Result as Answered};
-use cacache_keep_program::{run, tell_about};
-use cacache_program::{Errors, Reasons, asks_why};
+use cacache_keep_program::{run, said};
+use cacache_program::{Errors, Reasons, asks_why, tell};
 use row_places::planting::{plant, plant_link};
 use row_places::{On, on};
 use rows::Flaw;
@@ -47,7 +47,7 @@ fn ran<S: Reasons, C: Clock, N: Names>(
         output: Vec::new(alloc),
         says_why,
     };
-    let status = match tell_about(words, &mut output, &mut errors) {
+    let status = match tell(words, said(), &mut output, &mut errors) {
         Some(status) => status,
         None => run(env, words, &mut output, &mut errors),
     };

@@ -3,7 +3,7 @@ use crate::acts::made;
 use crate::row::Row;
 use crate::streams::{End, Input, Output};
 use crate::words::{bytes_of, shown, words_of};
-use cacache_program::{Errors, Reasons, USAGE, asks_why, run, tell_about, without_words};
+use cacache_program::{Errors, Reasons, USAGE, asks_why, run, said, tell, without_words};
 use row_places::On;
 use rows::Flaw;
 use rows::words::{cut, number_of};
@@ -64,7 +64,7 @@ fn ran_with<T: Threads + Wait + Clock + AllocGlobal + Sync, S: Reasons>(
         output: Vec::new(alloc),
         says_why,
     };
-    let status = match tell_about(words, &mut output, &mut errors) {
+    let status = match tell(words, said(), &mut output, &mut errors) {
         Some(status) => status,
         None => run(rt, env, words, &mut input, &mut output, &mut errors),
     };

@@ -85,217 +85,121 @@ const READ: &str =
 const CREATE: &str =
     "OpenOptions { read: false, write: true, append: false, truncate: false, create: false, create_new: true, mode: 384 };";
 
-/// A step with its answer, how it opens a file, and what else it asks for.
-type Row = (Ways, &'static str, &'static str, &'static str);
+/// The ways of this name.
+fn ways_of(name: &str) -> Option<Ways> {
+    match name {
+        "plain" => Some(PLAIN),
+        "broken" => Some(BROKEN),
+        "full" => Some(FULL),
+        "unmoved" => Some(UNMOVED),
+        "crowded" => Some(CROWDED),
+        "short" => Some(SHORT),
+        "once" => Some(ONCE),
+        "often" => Some(OFTEN),
+        _ => None,
+    }
+}
 
-const ASKED: [Row; 22] = [
-    (PLAIN, "Append /file one: Took 3", APPEND, "write;"),
-    (PLAIN, "Append /file two: Took 3", APPEND, "write;"),
-    (PLAIN, "ReadAll /file: Bytes onetwo", READ, "read;read;"),
-    (PLAIN, "SyncFile /file: Done", READ, "sync_all;"),
-    (PLAIN, "SyncDir /: Done", READ, "sync_all;"),
-    (
-        PLAIN,
-        "SyncTemp /synced: Synced",
-        CREATE,
-        "write;sync_all;remove_file;",
-    ),
-    (PLAIN, "Exists /file: There true", "", "metadata;"),
-    (PLAIN, "CreateTemp /temp: Temp", CREATE, "remove_file;"),
-    (PLAIN, "CreateTemp /file: Failed AlreadyExists", CREATE, ""),
-    (
-        PLAIN,
-        "RemoveFile /temp: Failed NotFound",
-        "",
-        "remove_file;",
-    ),
-    (
-        PLAIN,
-        "ReadDir /: Names 0 0 0",
-        "",
-        "open_dir/;symlink_metadata;",
-    ),
-    (
-        PLAIN,
-        "ReadDir /odd: Names 1 0 0",
-        "",
-        "open_dir;symlink_metadata;",
-    ),
-    (
-        PLAIN,
-        "ReadDir /slow: Names 0 0 0",
-        "",
-        "open_dir;symlink_metadata;symlink_metadata;",
-    ),
-    (
-        PLAIN,
-        "ReadDir /torn: Failed Device",
-        "",
-        "open_dir;symlink_metadata;",
-    ),
-    (
-        PLAIN,
-        "ReadDir /late: Names 0 0 0",
-        "",
-        "open_dir;symlink_metadata;",
-    ),
-    (PLAIN, "Append /bare1 hello: Took 5", APPEND, "write;"),
-    (PLAIN, "Append /bare2 world: Took 5", APPEND, "write;"),
-    (
-        PLAIN,
-        "Copy /bare1 /bare1: Took 5",
-        "",
-        "metadata;metadata;",
-    ),
-    (
-        PLAIN,
-        "Copy /bare1 /bare2: Took 5",
-        "",
-        "metadata;metadata;copy;",
-    ),
-    (PLAIN, "ReadAll /bare2: Bytes hello", READ, "read;read;"),
-    (PLAIN, "Persist /temp /moved: Done", CREATE, "write;rename;"),
-    (PLAIN, "RemoveFile /moved: Done", "", "remove_file;"),
+/// The opening of a file by this name.
+fn opening_of(name: &str) -> Option<&'static str> {
+    match name {
+        "none" => Some(""),
+        "append" => Some(APPEND),
+        "read" => Some(READ),
+        "create" => Some(CREATE),
+        _ => None,
+    }
+}
+
+/// The ways of the files, a step with its answer, how it opens a file, and what else it asks for.
+type Row<'a> = (Ways, &'a str, &'static str, &'a str);
+
+/// The row of a text, if it is one.
+fn row_of(text: &str) -> Option<Row<'_>> {
+    let (ways, rest) = text.split_once(" | ")?;
+    let (line, rest) = rest.split_once(" | ")?;
+    let (opened, calls) = rest.split_once(" | ")?;
+    Some((ways_of(ways)?, line, opening_of(opened)?, calls))
+}
+
+const ASKED: [&str; 22] = [
+    "plain | Append /file one: Took 3 | append | write;",
+    "plain | Append /file two: Took 3 | append | write;",
+    "plain | ReadAll /file: Bytes onetwo | read | read;read;",
+    "plain | SyncFile /file: Done | read | sync_all;",
+    "plain | SyncDir /: Done | read | sync_all;",
+    "plain | SyncTemp /synced: Synced | create | write;sync_all;remove_file;",
+    "plain | Exists /file: There true | none | metadata;",
+    "plain | CreateTemp /temp: Temp | create | remove_file;",
+    "plain | CreateTemp /file: Failed AlreadyExists | create | ",
+    "plain | RemoveFile /temp: Failed NotFound | none | remove_file;",
+    "plain | ReadDir /: Names 0 0 0 | none | open_dir/;symlink_metadata;",
+    "plain | ReadDir /odd: Names 1 0 0 | none | open_dir;symlink_metadata;",
+    "plain | ReadDir /slow: Names 0 0 0 | none | open_dir;symlink_metadata;symlink_metadata;",
+    "plain | ReadDir /torn: Failed Device | none | open_dir;symlink_metadata;",
+    "plain | ReadDir /late: Names 0 0 0 | none | open_dir;symlink_metadata;",
+    "plain | Append /bare1 hello: Took 5 | append | write;",
+    "plain | Append /bare2 world: Took 5 | append | write;",
+    "plain | Copy /bare1 /bare1: Took 5 | none | metadata;metadata;",
+    "plain | Copy /bare1 /bare2: Took 5 | none | metadata;metadata;copy;",
+    "plain | ReadAll /bare2: Bytes hello | read | read;read;",
+    "plain | Persist /temp /moved: Done | create | write;rename;",
+    "plain | RemoveFile /moved: Done | none | remove_file;",
 ];
 
-const INTERRUPTED: [Row; 11] = [
-    (PLAIN, "Append /file hello: Took 5", APPEND, "write;"),
-    (SHORT, "Append /none hello: Took 1", APPEND, "write;"),
-    (SHORT, "Write /short: Wrote 1", CREATE, "write;remove_file;"),
-    (
-        ONCE,
-        "Write /once: Wrote 1",
-        CREATE,
-        "interrupted;write;remove_file;",
-    ),
-    (
-        ONCE,
-        "Append /one hello: Took 1",
-        APPEND,
-        "interrupted;write;",
-    ),
-    (
-        OFTEN,
-        "Append /five hello: Took 1",
-        APPEND,
-        "interrupted;interrupted;interrupted;interrupted;interrupted;write;",
-    ),
-    (
-        ONCE,
-        "Persist /temp /moved: Done",
-        CREATE,
-        "interrupted;write;rename;",
-    ),
-    (SHORT, "Gives /file: (h)(e)(l)", READ, "read;read;read;"),
-    (
-        ONCE,
-        "Gives /file: (h)(e)(l)",
-        READ,
-        "interrupted;read;read;read;",
-    ),
-    (
-        OFTEN,
-        "Gives /file: (h)(e)(l)",
-        READ,
-        "interrupted;interrupted;interrupted;interrupted;interrupted;read;read;read;",
-    ),
-    (
-        ONCE,
-        "ReadAll /file: Bytes hello",
-        READ,
-        "interrupted;read;read;read;read;read;read;",
-    ),
+const INTERRUPTED: [&str; 11] = [
+    "plain | Append /file hello: Took 5 | append | write;",
+    "short | Append /none hello: Took 1 | append | write;",
+    "short | Write /short: Wrote 1 | create | write;remove_file;",
+    "once | Write /once: Wrote 1 | create | interrupted;write;remove_file;",
+    "once | Append /one hello: Took 1 | append | interrupted;write;",
+    "often | Append /five hello: Took 1 | append | interrupted;interrupted;interrupted;interrupted;interrupted;write;",
+    "once | Persist /temp /moved: Done | create | interrupted;write;rename;",
+    "short | Gives /file: (h)(e)(l) | read | read;read;read;",
+    "once | Gives /file: (h)(e)(l) | read | interrupted;read;read;read;",
+    "often | Gives /file: (h)(e)(l) | read | interrupted;interrupted;interrupted;interrupted;interrupted;read;read;read;",
+    "once | ReadAll /file: Bytes hello | read | interrupted;read;read;read;read;read;read;",
 ];
 
-const FAILED: [Row; 8] = [
-    (PLAIN, "Append /file hello: Took 5", APPEND, "write;"),
-    (
-        BROKEN,
-        "Append /file more: Failed NotADirectory",
-        APPEND,
-        "",
-    ),
-    (BROKEN, "ReadAll /file: Failed NotADirectory", READ, ""),
-    (BROKEN, "Pieces /file 4: ", READ, ""),
-    (BROKEN, "Gives /file: ", READ, ""),
-    (
-        BROKEN,
-        "ReadDir /: Failed NotADirectory",
-        "",
-        "open_dir/;symlink_metadata;",
-    ),
-    (
-        BROKEN,
-        "SyncFile /file: Failed NotADirectory",
-        READ,
-        "sync_all;",
-    ),
-    (BROKEN, "SyncDir /: Failed NotADirectory", READ, "sync_all;"),
+const FAILED: [&str; 8] = [
+    "plain | Append /file hello: Took 5 | append | write;",
+    "broken | Append /file more: Failed NotADirectory | append | ",
+    "broken | ReadAll /file: Failed NotADirectory | read | ",
+    "broken | Pieces /file 4:  | read | ",
+    "broken | Gives /file:  | read | ",
+    "broken | ReadDir /: Failed NotADirectory | none | open_dir/;symlink_metadata;",
+    "broken | SyncFile /file: Failed NotADirectory | read | sync_all;",
+    "broken | SyncDir /: Failed NotADirectory | read | sync_all;",
 ];
 
 /// Each step with a temporary file that fails or is refused for memory, and what is left of the file.
-const GIVEN_UP: [Row; 14] = [
-    (
-        BROKEN,
-        "Write /new: Failed NotADirectory",
-        CREATE,
-        "remove_file;",
-    ),
-    (PLAIN, "Exists /new: There false", "", "metadata;"),
-    (FULL, "Write /new: NoMemory", CREATE, "remove_file;"),
-    (PLAIN, "Exists /new: There false", "", "metadata;"),
-    (
-        BROKEN,
-        "SyncEmpty /new: Failed NotADirectory",
-        CREATE,
-        "sync_all;remove_file;",
-    ),
-    (PLAIN, "Exists /new: There false", "", "metadata;"),
-    (
-        FULL,
-        "SyncEmpty /new: Failed Device",
-        CREATE,
-        "sync_all;remove_file;",
-    ),
-    (PLAIN, "Exists /new: There false", "", "metadata;"),
-    (
-        UNMOVED,
-        "Persist /new /file: Failed Device",
-        CREATE,
-        "write;rename;remove_file;",
-    ),
-    (PLAIN, "Exists /new: There false", "", "metadata;"),
-    (
-        CROWDED,
-        "Persist /new /file: NoMemory",
-        CREATE,
-        "write;rename;remove_file;",
-    ),
-    (PLAIN, "Exists /new: There false", "", "metadata;"),
-    (
-        BROKEN,
-        "Write /kept: Failed NotADirectory",
-        CREATE,
-        "remove_file;",
-    ),
-    (PLAIN, "Exists /kept: There true", "", "metadata;"),
+const GIVEN_UP: [&str; 14] = [
+    "broken | Write /new: Failed NotADirectory | create | remove_file;",
+    "plain | Exists /new: There false | none | metadata;",
+    "full | Write /new: NoMemory | create | remove_file;",
+    "plain | Exists /new: There false | none | metadata;",
+    "broken | SyncEmpty /new: Failed NotADirectory | create | sync_all;remove_file;",
+    "plain | Exists /new: There false | none | metadata;",
+    "full | SyncEmpty /new: Failed Device | create | sync_all;remove_file;",
+    "plain | Exists /new: There false | none | metadata;",
+    "unmoved | Persist /new /file: Failed Device | create | write;rename;remove_file;",
+    "plain | Exists /new: There false | none | metadata;",
+    "crowded | Persist /new /file: NoMemory | create | write;rename;remove_file;",
+    "plain | Exists /new: There false | none | metadata;",
+    "broken | Write /kept: Failed NotADirectory | create | remove_file;",
+    "plain | Exists /kept: There true | none | metadata;",
 ];
 
-const REFUSED: [Row; 9] = [
-    (PLAIN, "Append /file hello: Took 5", APPEND, "write;"),
-    (PLAIN, "CreateTemp /full: Failed Device", CREATE, ""),
-    (PLAIN, "Append /full one: Failed Device", APPEND, ""),
-    (PLAIN, "ReadAll /full: NoMemory", READ, ""),
-    (FULL, "Append /file more: Failed Device", APPEND, ""),
-    (FULL, "ReadAll /file: NoMemory", READ, ""),
-    (FULL, "SyncFile /file: Failed Device", READ, "sync_all;"),
-    (FULL, "SyncDir /: Failed Device", READ, "sync_all;"),
-    (
-        FULL,
-        "ReadDir /: NoMemory",
-        "",
-        "open_dir/;symlink_metadata;",
-    ),
+const REFUSED: [&str; 9] = [
+    "plain | Append /file hello: Took 5 | append | write;",
+    "plain | CreateTemp /full: Failed Device | create | ",
+    "plain | Append /full one: Failed Device | append | ",
+    "plain | ReadAll /full: NoMemory | read | ",
+    "full | Append /file more: Failed Device | append | ",
+    "full | ReadAll /file: NoMemory | read | ",
+    "full | SyncFile /file: Failed Device | read | sync_all;",
+    "full | SyncDir /: Failed Device | read | sync_all;",
+    "full | ReadDir /: NoMemory | none | open_dir/;symlink_metadata;",
 ];
 
 /// Does the step of a line on this store, and returns how the line ends and what was asked for.
@@ -324,8 +228,10 @@ pub fn asked(rt: HostRuntime, root: &str, ways: Ways, words: &str) -> Result<Str
 }
 
 /// How the row came, if it came otherwise.
-fn other_of(rt: HostRuntime, root: &str, row: &Row) -> Result<Option<String>, AllocError> {
-    let (ways, line, opened, calls) = *row;
+fn other_of(rt: HostRuntime, root: &str, text: &str) -> Result<Option<String>, AllocError> {
+    let Some((ways, line, opened, calls)) = row_of(text) else {
+        return Ok(Some(format!(in rt.alloc(); "not a row: {text}")?));
+    };
     let (words, end) = line.split_once(": ").unwrap_or((line, ""));
     let wanted = format!(in rt.alloc(); "{end} after {opened}{calls}")?;
     let came = asked(rt, root, ways, words)?;
@@ -336,7 +242,7 @@ fn other_of(rt: HostRuntime, root: &str, row: &Row) -> Result<Option<String>, Al
 }
 
 /// The first row that comes otherwise below the folder.
-fn first_other(rt: HostRuntime, root: &str, rows: &[Row]) -> Result<Option<String>, AllocError> {
+fn first_other(rt: HostRuntime, root: &str, rows: &[&str]) -> Result<Option<String>, AllocError> {
     for row in rows {
         let other = other_of(rt, root, row)?;
         if other.is_some() {
@@ -347,7 +253,7 @@ fn first_other(rt: HostRuntime, root: &str, rows: &[Row]) -> Result<Option<Strin
 }
 
 /// The first row that comes otherwise below a fresh folder.
-fn other_below(rt: HostRuntime, name: &str, rows: &[Row]) -> io::Result<Option<String>> {
+fn other_below(rt: HostRuntime, name: &str, rows: &[&str]) -> io::Result<Option<String>> {
     let root = fresh(rt, name)?;
     let other = first_other(rt, root.as_str(), rows);
     fs::remove_dir_all(&rt, root.as_str())?;
@@ -355,7 +261,7 @@ fn other_below(rt: HostRuntime, name: &str, rows: &[Row]) -> io::Result<Option<S
 }
 
 /// Fails if a row comes otherwise below a fresh folder.
-fn all_come(rt: HostRuntime, name: &str, rows: &[Row]) -> Result<(), Fail> {
+fn all_come(rt: HostRuntime, name: &str, rows: &[&str]) -> Result<(), Fail> {
     told(other_below(rt, name, rows)?)
 }
 

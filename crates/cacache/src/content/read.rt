@@ -1,5 +1,5 @@
 //! What contents there are, what is there of one, its bytes at once or in pieces, and its exports.
-pub use cacache_async::export_hash::{
+pub use cacache_async::exports::{
     CopyHashFuture as CopyAsyncFuture, CopyHashUncheckedFuture as CopyUncheckedAsyncFuture,
     HardLinkHashFuture as HardLinkAsyncFuture, ReflinkHashFuture as ReflinkAsyncFuture,
     copy_hash as copy_async, copy_hash_unchecked as copy_unchecked_async,

@@ -2,4 +2,4 @@ use Rattle.cacache_polled.proofs.Seen.{ended_seen}
 use Rattle.cacache_polled.proofs.writer_core.WriterCore.complete.Goals as goal
 
 pub returns-clause-seen : goal.returns-clause-seen
-returns-clause-seen c events k = ended_seen _ _ _ _ _ c.end.ensures.refused c.end.ensures.desk c.end.ensures.held k
+returns-clause-seen c events k = ended_seen _ _ _ _ events c.end.ensures.ended k

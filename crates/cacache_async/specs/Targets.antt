@@ -1,0 +1,15 @@
+-- What is to be linked by what an opening is called with.
+use Rattle.std.specs.Prelude.{ℕ, List, option_map}
+use Rattle.cacache_put.specs.OpenLinkers.{LinkTarget, linked_by}
+use Rattle.cacache_put.specs.Options.{nothing_said}
+use Rattle.cacache_async.specs.declared.linking.SizedTargetCall.{SizedTargetCall}
+use Rattle.cacache_async.specs.declared.linking.TargetCall.{TargetCall}
+
+-- by its options
+abbrev pub target_said : TargetCall → List ℕ → LinkTarget
+target_said c base = linked_by base c.cache.now (option_map (λ key. key.now) c.key) c.target.now c.opts
+
+-- without any
+abbrev pub target_asked : SizedTargetCall → List ℕ → LinkTarget
+target_asked c base =
+    linked_by base c.cache.now (option_map (λ key. key.now) c.key) c.target.now nothing_said
