@@ -54,9 +54,9 @@ def crate_tables():
             *compared("README.md", "crates of the kit", re.findall(r"`(\w+)`(?! also)", trusted), kit)]
 
 
-def usage(crate):
+def usage(file):
     """The words of a program, as its usage text has them."""
-    text = told(f"crates/{crate}/src/about.rt", r'USAGE: &str =\s*"usage: [\w-]+ (.*?)\\n"')
+    text = told(f"crates/cacache_program/src/{file}", r'USAGE: &str =\s*"usage: [\w-]+ (.*?)\\n"')
     for part in text.split(" | "):
         names, *arguments = part.split()
         yield from (" ".join([name, *arguments]) for name in names.split("|"))
@@ -67,9 +67,9 @@ def words():
     cells = table_below("README.md", "The program `cacache` has these words:")
     stated = [it for cell in cells for it in re.findall("`([^`]+)`", cell)]
     options = re.findall(r'"(--\w+)" =>', source(TOP / "crates/cacache_program/src/about.rt"))
-    wrong = compared("README.md", "words of cacache", stated, [*usage("cacache_program"), *options])
+    wrong = compared("README.md", "words of cacache", stated, [*usage("about.rt"), *options])
     shown = told("README.md", r"(?s)In `crates/cacache_keep_cli`.*?\n\n(.*?)\n\n")
-    names = [it.split()[0] for it in usage("cacache_keep_program")]
+    names = [it.split()[0] for it in usage("keep/about.rt")]
     return wrong + compared("README.md", "words of cacache-keep", re.findall(r"rt try -- (\w+)", shown), names)
 
 

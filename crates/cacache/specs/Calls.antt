@@ -13,8 +13,8 @@ pub use Rattle.cacache_table.specs.Blank.{blank}
 pub use Rattle.cacache_table.specs.Replies.{done, looked_up}
 pub use Rattle.cacache_put.specs.Options.{Said, nothing_said, options_of}
 pub use Rattle.cacache_put.specs.LinkCalls.{link_to, HoldsTarget}
-pub use Rattle.cacache_index.specs.Lookups.{ReadsBucket, Finds, LooksUp, delete_of}
+pub use Rattle.cacache_reads.specs.Lookups.{ReadsBucket, Finds, LooksUp, delete_of}
 pub use Rattle.cacache_jobs.specs.Environment.{KeepsRest, Steps, Calls, MomentOf, RunsNumbered, RunsTimed, RunsPut}
 pub use Rattle.cacache_put.specs.Puts.{keyed_put, unkeyed_put, insert_of}
-pub use Rattle.cacache_get.specs.Reads.{AsksContent, bytes_read, has}
-pub use Rattle.cacache_get.specs.Exports.{exporting, checked, unchecked}
+pub use Rattle.cacache_reads.specs.Reads.{AsksContent, bytes_read, has}
+pub use Rattle.cacache_reads.specs.Exports.{exporting, checked, unchecked}

@@ -1,7 +1,10 @@
 //! What a call works with: a store, a clock and a source of numbers for temporary files.
-pub use cacache_env::{
-    FolderLinker, FolderReader, FolderWriter, Folders, Memory, MemoryLinker, MemoryReader,
-    MemoryWriter, folders, memory,
-};
+mod in_memory;
+mod on_folders;
+mod reasons;
+
 pub use cacache_folder::{ProcessNames, SystemClock};
 pub use cacache_store::env::{Clock, CountNames, Env, Names};
+pub use in_memory::{Memory, MemoryLinker, MemoryReader, MemoryWriter, memory};
+pub use on_folders::{FolderLinker, FolderReader, FolderWriter, Folders, folders};
+pub use reasons::Reasons;

@@ -1,2 +1,2 @@
 //! Listings of the index.
-pub use cacache_ls::{Ls, ls as list_sync};
+pub use cacache_walks::{Ls, ls as list_sync};

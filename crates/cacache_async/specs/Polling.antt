@@ -6,7 +6,7 @@ use Rattle.cacache_core.specs.Contexts.{fault_of}
 use Rattle.cacache_store.specs.Failures.{Error as IoError}
 use Rattle.cacache_content.specs.declared.reader.SyncReader.{SyncReader}
 use Rattle.cacache_put.specs.declared.linker.SyncToLinker.{SyncToLinker}
-use Rattle.cacache_futures.specs.Waiting.{TellsFault}
+use Rattle.cacache_async.specs.Waiting.{TellsFault}
 use Rattle.cacache_async.specs.declared.reader.Reader.{Reader}
 use Rattle.cacache_async.specs.declared.linker.ToLinker.{ToLinker}
 

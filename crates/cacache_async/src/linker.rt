@@ -10,15 +10,16 @@ ghost use Rattle.cacache_table.specs.Runs.{reply_of};
 ghost use Rattle.cacache_content.specs.Passed.{passed};
 ghost use Rattle.cacache_put.specs.OpenLinkers.{CommitsLink, HasHashed, StoresWhole};
 ghost use Rattle.cacache_put.specs.Options.{nothing_said};
-ghost use Rattle.cacache_futures.specs.Waiting.{Waits};
+ghost use Rattle.cacache_async.specs.Waiting.{Waits};
 ghost use Rattle.cacache_async.specs.Polling.{TellsRead};
 
+use crate::call::Call;
+use crate::future::{CallFuture, polling};
 use crate::linking::{
     AsyncToLinkerNewFuture, SizedTargetCall, TargetCall, ToLinkerOpenFuture, ToLinkerOpenHashFuture,
 };
 use cacache_core::errors::{Fault, Result};
 use cacache_core::integrity::{Algorithm, Integrity};
-use cacache_futures::{Call, CallFuture, polling};
 use cacache_put::linker::SyncToLinker;
 use cacache_put::opts::WriteOpts;
 use cacache_store::env::{Clock, Env, Names};

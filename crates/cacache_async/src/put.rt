@@ -7,11 +7,12 @@ ghost use Rattle.cacache_table.specs.declared.reply.Reply.TheVariants.{Stored};
 ghost use Rattle.cacache_table.specs.Runs.{reply_of};
 ghost use Rattle.cacache_jobs.specs.Environment.{RunsNumbered, RunsPut};
 ghost use Rattle.cacache_put.specs.Puts.{keyed_put, unkeyed_put};
-ghost use Rattle.cacache_futures.specs.Waiting.{Waits};
+ghost use Rattle.cacache_async.specs.Waiting.{Waits};
 
+use crate::call::Call;
+use crate::future::CallFuture;
 use cacache_core::errors::Result;
 use cacache_core::integrity::{Algorithm, Integrity};
-use cacache_futures::{Call, CallFuture};
 use cacache_put::put::{write_hash_sync_with_algo, write_sync_with_algo};
 use cacache_store::env::{Clock, Env, Names};
 use cacache_store::store::Store;

@@ -10,13 +10,14 @@ ghost use Rattle.cacache_core.specs.Refusals.{IsCheckFailure};
 ghost use Rattle.cacache_store.specs.Handles.{LeftFalls};
 ghost use Rattle.cacache_content.specs.OpenReads.{HasRead, OpensHash, OpensKey};
 ghost use Rattle.cacache_content.specs.Passed.{passed};
-ghost use Rattle.cacache_futures.specs.Waiting.{Waits};
+ghost use Rattle.cacache_async.specs.Waiting.{Waits};
 ghost use Rattle.cacache_async.specs.Polling.{TellsRead, reader_in};
 
+use crate::call::Call;
+use crate::future::{CallFuture, polling};
 use cacache_content::reader::{SyncReader, open as open_sync};
 use cacache_core::errors::{Fault, Result};
 use cacache_core::integrity::{Algorithm, Integrity};
-use cacache_futures::{Call, CallFuture, polling};
 use cacache_store::env::{Clock, Env, Names};
 use cacache_store::store::{OpenedFile, Store};
 use futures::task::{Context, Poll};

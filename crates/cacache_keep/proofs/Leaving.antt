@@ -23,8 +23,8 @@ use Rattle.cacache_table.specs.Runs.{Moves, Gains}
 use Rattle.cacache_sequence.specs.Sequence.{tree_on, AreAnswered}
 use Rattle.cacache_sequence.proofs.InParts.{logs_lead}
 use Rattle.cacache_sequence.proofs.Looks.{tree_stays}
-use Rattle.cacache_contents.specs.Listing.{contents_folder}
-use Rattle.cacache_contents.specs.Reading.{first}
+use Rattle.cacache_walks.specs.Listing.{contents_folder}
+use Rattle.cacache_walks.specs.Reading.{first}
 use Rattle.cacache_keep_laws.specs.Contents.{HoldsJust}
 use Rattle.cacache_keep_laws.specs.Index.{IndexLists}
 use Rattle.cacache_keep_laws.specs.Collecting.{LeavesLive, Removes, is_live}

@@ -15,7 +15,7 @@ use Rattle.cacache_core.specs.Integrity.{IsIntegrity, address, rank}
 use Rattle.cacache_core.specs.Meeting.{lists}
 use Rattle.cacache_core.specs.Same.{same_hash, same_hash-Decides}
 use Rattle.cacache_entry.specs.Latest.{Found}
-use Rattle.cacache_contents.specs.Listing.{hash_cmp}
+use Rattle.cacache_walks.specs.Listing.{hash_cmp}
 use Rattle.cacache_core.proofs.Meeting.{lists_finds}
 use Rattle.cacache_keep_laws.specs.Collecting.{is_at, is_live}
 use Rattle.cacache_keep.specs.Calls.{AreOthers, AreUnused, is_among, is_used}

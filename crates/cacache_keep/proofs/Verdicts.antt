@@ -11,8 +11,8 @@ use Rattle.cacache_table.specs.declared.command.Command.TheVariants as commands
 use Rattle.cacache_table.specs.declared.reply.Reply.TheVariants as replies
 use Rattle.cacache_table.specs.State.{Site}
 use Rattle.cacache_sequence.proofs.InParts.{logs_lead}
-use Rattle.cacache_contents.specs.Listing.{contents_folder}
-use Rattle.cacache_contents.specs.Reading.{first}
+use Rattle.cacache_walks.specs.Listing.{contents_folder}
+use Rattle.cacache_walks.specs.Reading.{first}
 use Rattle.cacache_keep_laws.specs.Contents.{HoldsJust}
 use Rattle.cacache_keep_laws.specs.Verifying.{Judges, has_content}
 use Rattle.cacache_keep_laws.proofs.Members.{contains_member}

@@ -5,7 +5,7 @@ use Rattle.cacache_core.specs.declared.integrity.digest.Hash.{Hash}
 use Rattle.cacache_store.specs.declared.store.log.LogItem.{LogItem}
 use Rattle.cacache_entry.specs.Latest.{Found}
 use Rattle.cacache_table.specs.State.{Site}
-use Rattle.cacache_contents.specs.Listing.{IsByHash, ListsContents, StopsListing}
+use Rattle.cacache_walks.specs.Listing.{IsByHash, ListsContents, StopsListing}
 use Rattle.cacache_keep.specs.Calls.{AreUnused, AsksEach, ListsEntries, Made, StopsReading, StopsRemoving, removal}
 use Rattle.cacache_keep.specs.Reading.{ReadsEach, StopsEach}
 

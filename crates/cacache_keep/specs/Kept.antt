@@ -10,7 +10,7 @@ use Rattle.cacache_table.specs.declared.reply.Reply.{Reply}
 use Rattle.cacache_table.specs.State.{Site}
 use Rattle.cacache_sequence.specs.Caches.{Called}
 use Rattle.cacache_sequence.specs.Looks.{OnlyLooks}
-use Rattle.cacache_contents.specs.Listing.{IsByHash, ListsContents}
+use Rattle.cacache_walks.specs.Listing.{IsByHash, ListsContents}
 use Rattle.cacache_keep_laws.specs.Contents.{HoldsJust}
 use Rattle.cacache_keep_laws.specs.Verifying.{Judges}
 use Rattle.cacache_keep_laws.specs.Collecting.{LeavesLive, LinksLeadOut, ReadsAsBefore}

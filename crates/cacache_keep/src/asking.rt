@@ -7,7 +7,7 @@ ghost use Rattle.cacache_keep.specs.Calls.{AsksEach, StopsReading};
 
 use cacache_core::errors::Result;
 use cacache_entry::Metadata;
-use cacache_get::exists_sync;
+use cacache_reads::exists_sync;
 use cacache_store::env::{Clock, Env, Names};
 use cacache_store::store::Store;
 use cacache_table::Found;

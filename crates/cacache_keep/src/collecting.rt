@@ -6,12 +6,12 @@ ghost use Rattle.cacache_keep.specs.Keeping.{Collects, StopsCollecting};
 use crate::index::entries;
 use crate::live::unused;
 use crate::removing::remove_each;
-use cacache_contents::{Contents, list};
 use cacache_core::errors::Result;
 use cacache_core::integrity::Integrity;
 use cacache_core::keeping::let_go;
 use cacache_store::env::{Clock, Env, Names};
 use cacache_store::store::Store;
+use cacache_walks::{Contents, list};
 
 /// What a collection did.
 #[derive(Debug, Drop)]

@@ -4,7 +4,7 @@ ghost use Rattle.std.specs.List.Sorted.{IsSorted};
 ghost use Rattle.cacache_core.specs.declared.integrity.digest.Hash.{Hash};
 ghost use Rattle.cacache_core.specs.Integrity.{IsIntegrity, address as address_of};
 ghost use Rattle.cacache_core.specs.Meeting.{lists};
-ghost use Rattle.cacache_contents.specs.Listing.{hash_cmp};
+ghost use Rattle.cacache_walks.specs.Listing.{hash_cmp};
 ghost use Rattle.cacache_keep.specs.Calls.{AreOthers, AreUnused};
 
 use cacache_core::digest::Hash;

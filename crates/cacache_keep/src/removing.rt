@@ -6,7 +6,7 @@ ghost use Rattle.cacache_keep.specs.Calls.{Made, StopsRemoving, removal};
 
 use cacache_core::errors::Result;
 use cacache_core::integrity::Integrity;
-use cacache_index::rm::remove_hash_sync;
+use cacache_reads::rm::remove_hash_sync;
 use cacache_store::env::{Clock, Env, Names};
 use cacache_store::store::Store;
 

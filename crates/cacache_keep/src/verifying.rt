@@ -7,12 +7,12 @@ ghost use Rattle.cacache_keep.specs.Keeping.{StopsVerifying, Verifies};
 use crate::asking::dangling_of;
 use crate::index::entries;
 use crate::reading::{Read, read_each};
-use cacache_contents::{Contents, list};
 use cacache_core::errors::Result;
 use cacache_core::integrity::Integrity;
 use cacache_entry::Metadata;
 use cacache_store::env::{Clock, Env, Names};
 use cacache_store::store::Store;
+use cacache_walks::{Contents, list};
 
 /// What a verification found.
 #[derive(Debug, Drop)]

@@ -2,7 +2,7 @@
 #![tactic(auto)]
 
 use cacache::env::folders;
-use cacache_keep_program::{run, said};
+use cacache_program::keep::{run, said};
 use cacache_program::{Errors, asks_why, tell, without_words, words_of};
 use std::io::Write;
 use std::process::ExitCode;

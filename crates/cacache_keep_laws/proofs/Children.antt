@@ -33,7 +33,7 @@ use Rattle.cacache_disk.proofs.Roots.{same_self}
 use Rattle.cacache_disk.proofs.Standing.{way_clear}
 use Rattle.cacache_disk.proofs.FoundNodes.{and_then_ok, place_ok}
 use Rattle.cacache_value.proofs.Shows.{apply_answer}
-use Rattle.cacache_contents.specs.Reading.{names_shown}
+use Rattle.cacache_walks.specs.Reading.{names_shown}
 use Rattle.cacache_keep_laws.proofs.Members.{Member, mapped, source}
 
 -- ---- a node that stands is listed

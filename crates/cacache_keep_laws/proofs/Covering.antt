@@ -19,7 +19,7 @@ use Rattle.cacache_disk.specs.Tree.{Tree, look, listing, kind_of}
 use Rattle.cacache_disk.specs.Rooted.{Rooted}
 use Rattle.cacache_disk.specs.Apply.{apply}
 use Rattle.cacache_table.specs.Runs.{Moves}
-use Rattle.cacache_contents.specs.Reading.{Folder as Spot, Reads, first, folder_as, file_as, folders_in, files_in, files_shown, names_shown, shown_by}
+use Rattle.cacache_walks.specs.Reading.{Folder as Spot, Reads, first, folder_as, file_as, folders_in, files_in, files_shown, names_shown, shown_by}
 use Rattle.cacache_keep_laws.specs.Walks.{ReadAt, is_leaf, WalksFind, WalksStayBelow}
 use Rattle.cacache_keep_laws.proofs.Members.{Member, contains_member, member_contains, in_left, in_right, in_either, mapped, source}
 use Rattle.cacache_keep_laws.proofs.Children.{child_listed, Stands, listed_child, none_below, proper_child, FolderShows, listed, missing, folder_shown}

@@ -19,8 +19,8 @@ use Rattle.cacache_value.specs.Value.{Blob, InFile, AtLink, blob_in}
 use Rattle.cacache_keep_laws.specs.Walks.{is_leaf}
 use Rattle.cacache_keep_laws.proofs.Covering.{walks_find, walks_stay}
 use Rattle.cacache_keep_laws.proofs.Logged.{copies, read_at, is_copy}
-use Rattle.cacache_contents.specs.Listing.{Sorts, IsByHash, contents_folder}
-use Rattle.cacache_contents.specs.Reading.{Reads, first, files_shown}
+use Rattle.cacache_walks.specs.Listing.{Sorts, IsByHash, contents_folder}
+use Rattle.cacache_walks.specs.Reading.{Reads, first, files_shown}
 use Rattle.cacache_keep_laws.specs.Answers.{AnsweredBy}
 use Rattle.cacache_keep_laws.specs.Contents.{ContentsShown, AreThoseOf, IsHeld, LiesBelow, HoldsJust, ListingsHold}
 use Rattle.cacache_keep_laws.proofs.Members.{Member, contains_member, member_contains}

@@ -37,7 +37,7 @@ use Rattle.cacache_table.specs.Runs.{Moves}
 use Rattle.cacache_table.specs.ListReplies.{given, given_by, In, keys_of}
 use Rattle.cacache_table.proofs.Keys.{each_key_once}
 use Rattle.cacache_table.specs.StepPaths.{bucket_path}
-use Rattle.cacache_contents.specs.Reading.{names_shown}
+use Rattle.cacache_walks.specs.Reading.{names_shown}
 use Rattle.cacache_keep_laws.specs.Walks.{is_leaf}
 use Rattle.cacache_keep_laws.proofs.Members.{Member, contains_member, in_left, in_right, mapped}
 use Rattle.cacache_keep_laws.proofs.Children.{child_listed, none_below, proper_child, FolderShows, listed, missing, folder_shown}

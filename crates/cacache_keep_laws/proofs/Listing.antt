@@ -24,7 +24,7 @@ use Rattle.cacache_table.specs.Common.{go_on}
 use Rattle.cacache_table.specs.Walking.{most, failed, miss, walk_on, task_of, tasks_of, too_many, entered, unread_bucket, listed, items_in}
 use Rattle.cacache_table.specs.Runs.{Moves, Runs}
 use Rattle.cacache_table.specs.ListReplies.{by_bucket, by_folder, given_by, given}
-use Rattle.cacache_contents.specs.Reading.{names_shown}
+use Rattle.cacache_walks.specs.Reading.{names_shown}
 use Rattle.cacache_keep_laws.proofs.Members.{Member, in_left, in_right, in_either}
 use Rattle.cacache_keep_laws.specs.Index.{is_bad}
 

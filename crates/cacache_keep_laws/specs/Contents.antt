@@ -10,9 +10,9 @@ use Rattle.cacache_disk.specs.Tree.{Tree, look}
 use Rattle.cacache_table.specs.Runs.{Moves}
 use Rattle.cacache_entry.specs.Entry.{Entry}
 use Rattle.cacache_value.specs.Value.{Blob, value_of_tree}
-use Rattle.cacache_contents.specs.Addresses.{IsStrange}
-use Rattle.cacache_contents.specs.Listing.{IsByHash, Sorts, contents_folder, hash_cmp}
-use Rattle.cacache_contents.specs.Reading.{Reads, first, files_shown}
+use Rattle.cacache_walks.specs.Addresses.{IsStrange}
+use Rattle.cacache_walks.specs.Listing.{IsByHash, Sorts, contents_folder, hash_cmp}
+use Rattle.cacache_walks.specs.Reading.{Reads, first, files_shown}
 use Rattle.cacache_keep_laws.specs.Answers.{AnsweredBy}
 use Rattle.cacache_keep_laws.specs.Walks.{ReadAt, is_leaf}
 

@@ -9,7 +9,7 @@ use Rattle.cacache_disk.specs.Tree.{Tree, look}
 use Rattle.cacache_disk.specs.Rooted.{Rooted}
 use Rattle.cacache_disk.specs.Apply.{apply}
 use Rattle.cacache_table.specs.Runs.{Moves}
-use Rattle.cacache_contents.specs.Reading.{Reads, first, files_shown}
+use Rattle.cacache_walks.specs.Reading.{Reads, first, files_shown}
 
 -- each move was answered by the tree at its place, under any luck
 abbrev pub ReadAt : List Tree → Moves → Type 0

@@ -10,3 +10,5 @@ pub mod WordClear
 pub mod WordLs
 pub mod WordStorm
 pub mod Lines
+pub mod KeepWords
+pub mod KeepAbout

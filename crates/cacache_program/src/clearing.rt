@@ -3,8 +3,7 @@ ghost use Rattle.std.specs.Prelude.{◌≡◌};
 ghost use Rattle.cacache_program.specs.WordClear.{Clears};
 
 use crate::errors::{Errors, call_failed};
-use crate::why::Reasons;
-use cacache::env::{Clock, Env, Names};
+use cacache::env::{Clock, Env, Names, Reasons};
 use std::io::Write;
 
 /// Removes all that lies in the cache folder, and prints nothing.

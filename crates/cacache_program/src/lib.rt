@@ -1,4 +1,22 @@
-//! What the program `cacache` does with its words and its streams, over any store. Each word has a file of its own.
+//! What the programs do with their words and their streams, over any store: here `cacache`, each of whose words has a
+//! file of its own, and in `keep` the program `cacache-keep`.
+//!
+//! - `about`: what a program says of itself
+//! - `clearing`: the word `clear`
+//! - `entries`: entries as they are printed
+//! - `errors`: what goes to the errors
+//! - `finding`: the word `find`
+//! - `keep`: what the program `cacache-keep` does with its words and its streams
+//! - `lines`: the lines of a listing
+//! - `listing`: the word `ls`
+//! - `output`: what goes to the output
+//! - `program`: what the program does with its words
+//! - `reading`: the word `read`
+//! - `removing`: the word `remove`
+//! - `storming`: the word `storm`
+//! - `why`: why a call failed, where the words ask for it
+//! - `words`: the words of a command line
+//! - `writing`: the word `write`
 #![tactic(auto)]
 
 mod about;
@@ -6,6 +24,7 @@ mod clearing;
 mod entries;
 mod errors;
 mod finding;
+pub mod keep;
 mod lines;
 mod listing;
 mod output;
@@ -20,5 +39,5 @@ mod writing;
 pub use about::{About, HELP, USAGE, VERSION, said, tell};
 pub use errors::{Errors, call_failed, misused};
 pub use program::run;
-pub use why::{Reasons, Why, asks_why, why_of};
+pub use why::{Why, asks_why, why_of};
 pub use words::{without_words, words_of};

@@ -6,9 +6,8 @@ ghost use Rattle.cacache_program.specs.WordLs.{PrintsListing, PutsListing, liste
 use crate::errors::{Errors, call_failed};
 use crate::lines::{Listing, listing_of};
 use crate::output::{put_out, write_whole};
-use crate::why::Reasons;
 use cacache::Result;
-use cacache::env::{Clock, Env, Names};
+use cacache::env::{Clock, Env, Names, Reasons};
 use cacache::errors::Error;
 use cacache::jobs::{Command, Found, Reply, call};
 use cacache::store::Store;

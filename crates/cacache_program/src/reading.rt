@@ -4,8 +4,7 @@ ghost use Rattle.cacache_program.specs.WordRead.{Reads};
 
 use crate::errors::{Errors, call_failed};
 use crate::output::put_out;
-use crate::why::Reasons;
-use cacache::env::{Clock, Env, Names};
+use cacache::env::{Clock, Env, Names, Reasons};
 use std::io::Write;
 
 /// Prints the bytes of the key, and nothing else.

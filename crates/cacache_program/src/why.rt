@@ -6,36 +6,8 @@ ghost use Rattle.cacache_program.specs.declared.why.Why.TheVariants.{System, Pla
 ghost use Rattle.cacache_program.specs.Words.{AsksWhy};
 
 use cacache::errors::{Error, Fault};
-use cacache::store::{FolderStore, MemStore, Store};
 use std::fmt;
 use std::io::ErrorKind;
-use std::rt::Files;
-
-/// A store that may know more of a failed step than its fault.
-pub trait Reasons: Store {
-    /// What it knows.
-    ghost known: { Self → Option ErrorKind };
-
-    /// The system's kind of error behind the last step that failed. None where the store knows none.
-    fn reason(&self) -> Option<ErrorKind>
-        ensures { result ≡ known self.now };
-}
-
-impl<R: Files + AllocGlobal + Clone + Drop> Reasons for FolderStore<R> {
-    ghost known = { λ store. store.reason };
-
-    fn reason(&self) -> Option<ErrorKind> {
-        FolderStore::reason(self)
-    }
-}
-
-impl Reasons for MemStore {
-    ghost known = { λ _. None };
-
-    fn reason(&self) -> Option<ErrorKind> {
-        None
-    }
-}
 
 /// Why a step failed.
 #[derive(Clone, Copy, Debug, PartialEq, Eq)]

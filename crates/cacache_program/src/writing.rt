@@ -6,9 +6,8 @@ ghost use Rattle.cacache_program.specs.WordWrite.{Writes};
 
 use crate::errors::{Errors, call_failed, stream_failed};
 use crate::output::put_out;
-use crate::why::Reasons;
 use cacache::Integrity;
-use cacache::env::{Clock, Env, Names};
+use cacache::env::{Clock, Env, Names, Reasons};
 use cacache::errors::Error;
 use std::alloc::Global;
 use std::io::{ErrorKind, Read, Write};

@@ -1,3 +1,13 @@
 pub mod BucketItems
 pub mod Walks
 pub mod Giving
+mod FolderFiles
+mod Orders
+mod Sorting
+mod Stopping
+mod Stumbling
+mod TakenApart
+mod VisitSteps
+mod WholeWalk
+mod VisitAnswers
+mod Filling

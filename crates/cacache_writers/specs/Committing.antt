@@ -18,7 +18,7 @@ use Rattle.cacache_polled.specs.declared.writer_core.WriterCore.{WriterCore}
 use Rattle.cacache_polled.specs.declared.kinds.Finish.{Finish}
 use Rattle.cacache_polled.specs.declared.kinds.Finish.TheVariants.{Busy, Closed, Cancelled, Failed, Held}
 use Rattle.cacache_polled.specs.Events.{Finds}
-use Rattle.cacache_futures.specs.Waiting.{TellsFault}
+use Rattle.cacache_async.specs.Waiting.{TellsFault}
 use Rattle.cacache_writers.specs.declared.about.About.{About}
 
 -- the answer is this fault, or that there was no memory to tell it

@@ -1,2 +1,4 @@
 pub mod Committing
 pub mod Opening
+pub mod Sharing
+pub mod Working

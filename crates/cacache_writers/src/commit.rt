@@ -4,7 +4,7 @@ ghost use Rattle.cacache_table.specs.declared.reply.Reply.TheVariants.{Stored};
 ghost use Rattle.cacache_table.specs.Runs.{reply_of};
 ghost use Rattle.cacache_polled.specs.Table.{closed};
 ghost use Rattle.cacache_polled.specs.Events.{HasHeld, busy};
-ghost use Rattle.cacache_futures.specs.Waiting.{TellsFault};
+ghost use Rattle.cacache_async.specs.Waiting.{TellsFault};
 ghost use Rattle.cacache_writers.specs.Committing.{EndsHeld, Gives};
 
 use crate::about::About;

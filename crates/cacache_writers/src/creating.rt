@@ -1,14 +1,14 @@
 //! Futures that open polled writers.
 ghost use Rattle.std.specs.Prelude.{◌≡◌, None, Some, IfOk, option_map};
-ghost use Rattle.cacache_futures.specs.Waiting.{Waits};
+ghost use Rattle.cacache_async.specs.Waiting.{Waits};
 ghost use Rattle.cacache_writers.specs.Opening.{OpensWriter};
 
 use crate::opening::open_writer;
 use crate::writer::Writer;
+use cacache_async::{Call, CallFuture};
 use cacache_core::errors::Result;
 use cacache_core::keeping::beside;
 use cacache_core::text::Text;
-use cacache_futures::{Call, CallFuture};
 use cacache_put::opts::WriteOpts;
 use cacache_store::env::{Clock, Env, Names};
 use cacache_store::store::Store;

@@ -1,11 +1,29 @@
-//! Contents that are written by polls: a worker writes the temporary file, and a commit makes it the content.
+//! Contents that are written by polls: a temporary file, the worker that does its work, and a commit that makes it the
+//! content.
+//!
+//! - `about`: what is said of a content that is written by polls
+//! - `commit`: what the commit of a polled writer does with the core and the temporary file, which are lent to it
+//! - `committing`: the commit of a polled writer as a future
+//! - `creating`: futures that open polled writers
+//! - `file`: a temporary file whose writes are polled
+//! - `opening`: polled writers are opened
+//! - `removal`: temporary files that are removed without a store
+//! - `shared`: what a polled file and its workers share: the core, the temporary file and the work that is out
+//! - `work`: work that is done with a temporary file
+//! - `worker`: the worker of a polled file
+//! - `writer`: contents that are written by polls
 #![tactic(auto)]
 
 mod about;
 mod commit;
 mod committing;
 mod creating;
+mod file;
 mod opening;
+mod removal;
+mod shared;
+mod work;
+mod worker;
 mod writer;
 
 pub use about::About;
@@ -15,4 +33,8 @@ pub use creating::{
     AsyncWriterNewFuture, OpenAsync, WriteOptsOpenFuture, WriteOptsOpenHashFuture,
     WriterCreateFuture, WriterCreateWithAlgoFuture, WriterOpenCall,
 };
+pub use file::PolledFile;
+pub use removal::RemovableTemp;
+pub use shared::{Kept, Shared};
+pub use worker::{Turned, Worker};
 pub use writer::Writer;

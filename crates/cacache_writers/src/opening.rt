@@ -3,6 +3,7 @@ ghost use Rattle.cacache_content.specs.OpenWrites.{MakesTemp};
 ghost use Rattle.cacache_writers.specs.Opening.{OpensAt};
 
 use crate::about::About;
+use crate::file::PolledFile;
 use crate::writer::Writer;
 use cacache_content::writer;
 use cacache_core::errors::Result;
@@ -12,7 +13,6 @@ use cacache_core::text::Text;
 use cacache_jobs::temp_path;
 use cacache_put::opts::WriteOpts;
 use cacache_store::store::Store;
-use cacache_worker::PolledFile;
 use std::alloc::Global;
 
 /// Makes the temporary file of this number.

@@ -3,20 +3,21 @@ ghost use Rattle.std.specs.Prelude.{◌≡◌, None, Some};
 ghost use Rattle.futures.specs.Poll.{OnPending};
 ghost use Rattle.futures.specs.Task.{IsArmed, Keeps};
 ghost use Rattle.cacache_put.specs.Options.{nothing_said};
-ghost use Rattle.cacache_futures.specs.Waiting.{Waits};
+ghost use Rattle.cacache_async.specs.Waiting.{Waits};
 
 use crate::about::About;
 use crate::committing::{AsyncWriterCloseFuture, WriterCommitFuture};
 use crate::creating::{
     AsyncWriterNewFuture, WriterCreateFuture, WriterCreateWithAlgoFuture, WriterOpenCall,
 };
+use crate::file::PolledFile;
+use crate::worker::Worker;
+use cacache_async::CallFuture;
 use cacache_core::errors::Result;
 use cacache_core::integrity::Algorithm;
-use cacache_futures::CallFuture;
 use cacache_put::opts::WriteOpts;
 use cacache_store::env::{Clock, Env, Names};
 use cacache_store::store::Store;
-use cacache_worker::{PolledFile, Worker};
 use futures::task::{Context, Poll};
 use std::sync::Wait;
 

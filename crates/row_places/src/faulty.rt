@@ -11,7 +11,7 @@ use cacache_core::text::Text;
 use cacache_store::store::{
     Answer, FileHandle, OpenedFile, PlainFile, Step, Store, TempFile, TempHandle,
 };
-use cacache_worker::RemovableTemp;
+use cacache_writers::RemovableTemp;
 use std::alloc::{AllocError, Global};
 use std::io;
 use std::io::{ErrorKind, Read, Write};

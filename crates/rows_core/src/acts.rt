@@ -1,6 +1,6 @@
 //! The acts of rows.
 use crate::words::text_of;
-use crate::{entries, errors, integrities, lines, lookups, parts, paths};
+use crate::{entries, errors, integrities, keys, lines, lookups, parts, paths, shared};
 use rows::words::{cut, string_of, written_out};
 use rows::{Flaw, Outcome, Trial};
 use std::alloc::Global;
@@ -26,6 +26,21 @@ fn of_entries(alloc: Global, act: &str, given: &str) -> Result<String, Flaw> {
     }
 }
 
+/// What an act on shared bytes, on keys of maps or on a text that is quoted gives.
+fn of_bytes(alloc: Global, act: &str, given: &str) -> Result<String, Flaw> {
+    match act {
+        "window" => shared::window(alloc, given),
+        "share" => shared::shared(alloc, given),
+        "grow" => shared::grown(alloc, given),
+        "grow-alone" => shared::grown_alone(alloc, given),
+        "less" => keys::less(alloc, given),
+        "ordered" => keys::ordered(alloc, given),
+        "hashed" => keys::hashed(alloc, given),
+        "quoted" => errors::quoted(alloc, given),
+        _ => of_entries(alloc, act, given),
+    }
+}
+
 /// What an act on a path, an error, a small part or entries gives.
 fn of_others(alloc: Global, act: &str, given: &str) -> Result<String, Flaw> {
     match act {
@@ -42,7 +57,7 @@ fn of_others(alloc: Global, act: &str, given: &str) -> Result<String, Flaw> {
         "fault" => errors::fault(alloc, given),
         "context" => errors::context(alloc, given),
         "plain-context" => errors::plain_context(alloc, given),
-        _ => of_entries(alloc, act, given),
+        _ => of_bytes(alloc, act, given),
     }
 }
 

@@ -1,5 +1,5 @@
 //! What errors say, and errors with a context.
-use crate::words::{Debugged, column, printed, two};
+use crate::words::{Debugged, column, printed, text_of, two};
 use cacache_core::errors::{Error, Fault, IntegrityFault, IoErrorExt, SerdeCause, io_error};
 use cacache_core::integrity::Integrity;
 use cacache_core::text::Text;
@@ -102,5 +102,14 @@ pub(crate) fn plain_context(alloc: Global, columns: &str) -> Result<String, Flaw
             let fault = error.fault();
             two(alloc, Debugged(fault), error)
         }
+    }
+}
+
+/// What is said of a text that is no integrity, with the text.
+pub(crate) fn quoted(alloc: Global, word: &str) -> Result<String, Flaw> {
+    let text = text_of(alloc, word)?;
+    match Integrity::parse(alloc, text.as_str()) {
+        Ok(_) => Err(Flaw::NotRead),
+        Err(error) => given(format!(in alloc; "{}", error.quoting(text.as_str()))),
     }
 }

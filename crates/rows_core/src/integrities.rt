@@ -12,7 +12,7 @@ fn named(name: &str) -> Result<Algorithm, Flaw> {
 }
 
 /// The integrity of a text.
-fn read(alloc: Global, text: &str) -> Result<Integrity, Flaw> {
+pub(crate) fn read(alloc: Global, text: &str) -> Result<Integrity, Flaw> {
     given(Integrity::parse(alloc, text))
 }
 

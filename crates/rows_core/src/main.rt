@@ -10,10 +10,12 @@ mod acts;
 mod entries;
 mod errors;
 mod integrities;
+mod keys;
 mod lines;
 mod lookups;
 mod parts;
 mod paths;
+mod shared;
 mod words;
 
 use acts::Acts;

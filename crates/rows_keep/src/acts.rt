@@ -1,10 +1,10 @@
 //! What the rows do.
 use crate::stuck::Stuck;
-use cacache::env::{Clock, Env, Names};
+use cacache::env::{Clock, Env, Names, Reasons};
 use cacache::store::Store;
 use cacache::{Integrity, Result as Answered};
-use cacache_keep_program::{run, said};
-use cacache_program::{Errors, Reasons, asks_why, tell};
+use cacache_program::keep::{run, said};
+use cacache_program::{Errors, asks_why, tell};
 use row_places::planting::{plant, plant_link};
 use row_places::{On, on};
 use rows::Flaw;

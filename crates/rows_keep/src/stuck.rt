@@ -2,10 +2,10 @@
 ghost use Rattle.std.specs.Prelude.{None};
 ghost use Rattle.cacache.specs.Stores.{Fits, Logs, plain_step, plain_answer};
 
+use cacache::env::Reasons;
 use cacache::errors::Fault;
 use cacache::store::{Answer, Step, Store};
 use cacache_core::keeping::let_go;
-use cacache_program::Reasons;
 use std::io::ErrorKind;
 
 /// Another store, whose files can't be removed.

@@ -6,7 +6,7 @@ use crate::writers::written;
 use cacache_async::read::{read as read_key, read_hash};
 use cacache_async::rm::clear;
 use cacache_store::store::Store;
-use cacache_worker::RemovableTemp;
+use cacache_writers::RemovableTemp;
 use futures::executor::block_on;
 use row_places::On;
 use row_places::planting::{names_in, plant};

@@ -1,6 +1,6 @@
 //! Gates, and the turns of workers that ask them.
 use cacache_jobs::{Gate, Pass};
-use cacache_worker::{RemovableTemp, Turned, Worker};
+use cacache_writers::{RemovableTemp, Turned, Worker};
 use rows::Flaw;
 use rows::words::{cut, number_of};
 use std::sync::Wait;

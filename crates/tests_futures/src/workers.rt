@@ -5,7 +5,7 @@ use cacache_core::errors::{Fault, Result};
 use cacache_core::integrity::Algorithm;
 use cacache_jobs::{Gate, Open, Pass};
 use cacache_store::store::{TempFile, TempHandle};
-use cacache_worker::{PolledFile, RemovableTemp, Worker};
+use cacache_writers::{PolledFile, RemovableTemp, Worker};
 use futures::Future;
 use futures::executor::block_on;
 use futures::task::{Context, Poll};

@@ -1,7 +1,7 @@
 //! Builds in a cache.
 use crate::pieces::{SIZE, read_pieces, write_pieces};
-use crate::reasons::{Reasons, wants_copy};
-use cacache::env::{Clock, Env, Names};
+use crate::reasons::wants_copy;
+use cacache::env::{Clock, Env, Names, Reasons};
 use cacache::errors::IoErrorExt;
 use cacache::{
     Algorithm, Error, Integrity, Metadata, Result, SyncReader, WriteOpts, copy_sync,

@@ -8,10 +8,9 @@ mod reasons;
 
 use builds::Builds;
 use cacache::Result;
-use cacache::env::{Clock, Names, memory};
+use cacache::env::{Clock, Names, Reasons, memory};
 use cacache::errors::IoErrorExt;
 use pieces::PIECES;
-use reasons::Reasons;
 
 /// A file outside the cache.
 const TOOLCHAIN: &str = "/toolchain";

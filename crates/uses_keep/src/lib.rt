@@ -17,11 +17,11 @@ ghost use Rattle.cacache_keep_laws.specs.Verifying.{Judges};
 
 use cacache_core::errors::Result;
 use cacache_core::keeping::let_go;
-use cacache_get::read_sync;
-use cacache_index::rm::RemoveOpts;
 use cacache_keep::{Collected, Verdict, collect, keep_laws, verify};
 use cacache_keep_laws::answer_laws;
 use cacache_memory::MemStore;
+use cacache_reads::read_sync;
+use cacache_reads::rm::RemoveOpts;
 use cacache_store::env::{Clock, Env, Names};
 
 /// Verifies a cache in memory: the good contents are those whose bytes meet their address, and all

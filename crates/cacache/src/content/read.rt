@@ -11,10 +11,10 @@ pub use cacache_async::read::{
 };
 pub use cacache_async::reader::{OpenAsyncFuture, Reader as AsyncReader, open_async};
 pub use cacache_content::reader::{SyncReader as Reader, open};
-pub use cacache_contents::{Contents, list};
-pub use cacache_get::{
+pub use cacache_reads::{
     copy_hash_sync as copy, copy_hash_unchecked_sync as copy_unchecked,
     hard_link_hash_sync as hard_link, hard_link_hash_unchecked_sync as hard_link_unchecked,
     has_content, read_hash_sync as read, reflink_hash_sync as reflink,
     reflink_hash_unchecked_sync as reflink_unchecked,
 };
+pub use cacache_walks::{Contents, list};

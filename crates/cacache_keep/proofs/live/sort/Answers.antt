@@ -2,7 +2,7 @@ use Rattle.std.proofs.Common.{ap}
 use Rattle.std.specs.Ordering.{is_lt}
 use Rattle.std.proofs.lemmas.List.Sorted.{Contains-permutation, IsPermutation-sym, answers_always, ranks_by}
 use Rattle.cacache_core.specs.declared.integrity.digest.Hash.{Hash}
-use Rattle.cacache_contents.specs.Listing.{hash_cmp}
+use Rattle.cacache_walks.specs.Listing.{hash_cmp}
 use Rattle.cacache_keep.proofs.Searching.{hash_total}
 use Rattle.cacache_keep.proofs.live.sort.Goals as goal
 

@@ -1,0 +1,32 @@
+-- Futures of calls: what one waits with, and what it says after its answer.
+use Rattle.std.specs.Prelude.{◌≡◌, Option, Some, None, Result, Ok, Err, ⊤}
+use Rattle.std.specs.Borrow.{MutBor}
+use Rattle.cacache_core.specs.declared.errors.Error.{Error}
+use Rattle.cacache_core.specs.declared.errors.Error.TheVariants.{IoError, OutOfMemory}
+use Rattle.cacache_core.specs.declared.errors.Fault.{Fault}
+use Rattle.cacache_core.specs.declared.errors.Fault.TheVariants.{Closed}
+use Rattle.cacache_store.specs.declared.env.Env.{Env}
+use Rattle.cacache_async.specs.declared.future.CallFuture.{CallFuture}
+
+-- this error tells the fault, or that there was no memory to tell it
+abbrev pub TellsFault : Fault → Error → Type 0
+TellsFault fault (IoError f message) = f ≡ fault
+TellsFault fault OutOfMemory = ⊤
+TellsFault fault e = ⊥
+
+-- this answer says that the call was made before, or that there was no memory to say so
+abbrev pub SaysOver : {A : Type 0} → Result A Error → Type 0
+SaysOver (Ok x) = ⊥
+SaysOver (Err e) = TellsFault Closed e
+
+-- what a poll may answer: the call's own answer in this environment, or that it was made before
+abbrev pub MayAnswer :
+    {S C N K A : Type 0} → (K → Env S C N → Result A Error → Env S C N → Type 0)
+    → Option K → Env S C N → Result A Error → Type 0
+MayAnswer makes (Some call) env r = (after : _) × makes call env r after
+MayAnswer makes None env r = SaysOver r
+
+-- the future waits to make this call in this environment, which is lent to it
+abbrev pub Waits : {S C N K : Type 0} → CallFuture S C N K → MutBor (Env S C N) → K → Type 0
+Waits f env call =
+    (f.env.ghost_name ≡ env.ghost_name) × (f.env.now ≡ env.now) × (f.call ≡ Some call)

@@ -1,4 +1,0 @@
-pub mod Reading
-pub mod Addresses
-pub mod Listing
-pub mod WalkSteps

@@ -1,2 +1,0 @@
-mod VisitAnswers
-mod Filling

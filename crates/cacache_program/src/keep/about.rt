@@ -1,0 +1,34 @@
+//! What the program says of itself.
+ghost use Rattle.std.specs.Prelude.{◌≡◌};
+ghost use Rattle.cacache_program.specs.KeepAbout.{help_text, usage_text, version_text};
+
+use crate::about::About;
+
+/// What the program says to wrong words.
+pub const USAGE: &str = "usage: cacache-keep verify|collect CACHE\n";
+
+/// What the program says to `--help`: the usage, and a line for each word.
+pub const HELP: &str = "usage: cacache-keep verify|collect CACHE
+  verify CACHE   counts good and damaged contents, entries without one, and other files;
+                 the status is 3 if there are any but good contents
+  collect CACHE  removes the contents that no entry has, and counts the kept and the dropped
+  --why          before these words: says in brackets why a call failed
+  --help         prints this
+  --version      prints the version
+";
+
+/// The program's name and version, and that of the crate that the calls are a port of.
+pub const VERSION: &str = "cacache-keep 0.1.0 (a port of 13.1.0)\n";
+
+/// What the program says of itself.
+pub fn said() -> About
+    ensures usage { result.usage.now ≡ usage_text }
+    ensures help { result.help.now ≡ help_text }
+    ensures version { result.version.now ≡ version_text }
+{
+    About {
+        usage: USAGE,
+        help: HELP,
+        version: VERSION,
+    }
+}

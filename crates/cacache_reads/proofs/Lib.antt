@@ -1,0 +1,4 @@
+pub mod Lookups
+pub mod Texts
+mod Asking
+mod ExportReplies

@@ -1,0 +1,45 @@
+-- What exports are asked to do, and what the checked ones read first.
+use Rattle.std.specs.Prelude.{ℕ, List, Bool, true, false, ⊤}
+use Rattle.cacache_core.specs.Integrity.{IsIntegrity}
+use Rattle.cacache_table.specs.declared.command.Command.{Command}
+use Rattle.cacache_table.specs.declared.command.Command.TheVariants as commands
+use Rattle.cacache_table.specs.declared.command.Source.{Source}
+use Rattle.cacache_table.specs.declared.command.Source.TheVariants.{Key, Hash}
+use Rattle.cacache_table.specs.declared.command.How.{How}
+use Rattle.cacache_table.specs.declared.reply.Reply.{Reply}
+use Rattle.cacache_table.specs.declared.reply.Reply.TheVariants.{Done}
+use Rattle.cacache_table.specs.Promises.{Answers, Only, OnlyCopies}
+use Rattle.cacache_table.specs.State.{Site}
+use Rattle.cacache_reads.specs.declared.exporting.Named.{Named}
+use Rattle.cacache_reads.specs.declared.exporting.Named.TheVariants as named
+
+-- what is named, as the source of a command
+abbrev pub named_source : Named → Source
+named_source (named.Key key) = Key key.now
+named_source (named.Hash sri) = Hash sri.now
+
+-- an integrity that is named is one
+abbrev pub IsFormed : Named → Type 0
+IsFormed (named.Key key) = ⊤
+IsFormed (named.Hash sri) = IsIntegrity sri.now
+
+-- the content of the source goes to a place that is outside the cache, verified first or not
+abbrev pub exporting : How → Bool → Source → List ℕ → Command
+exporting how checked source to =
+    commands.Export source (record { how = how; checked = checked; to = to })
+
+-- an export that verifies the content first
+abbrev pub checked : How → Source → List ℕ → Command
+checked how = exporting how true
+
+-- an export that doesn't verify the content
+abbrev pub unchecked : How → Source → List ℕ → Command
+unchecked how = exporting how false
+
+-- wherever the command is called, it answers a count
+abbrev pub SaysCount : Command → Type 0
+SaysCount command = (site : Site) (r : Reply) → Answers site command r → OnlyCopies r
+
+-- wherever the command is called, it says nothing but that it is done
+abbrev pub SaysNothing : Command → Type 0
+SaysNothing command = (site : Site) (r : Reply) → Answers site command r → Only Done r

@@ -1,0 +1,4 @@
+pub mod Lookups
+pub mod Printing
+pub mod Reads
+pub mod Exports

@@ -1,0 +1,30 @@
+//! Calls that find, read and remove: keys are found, deleted and removed, contents are read at once and exported, and
+//! contents and caches removed.
+//!
+//! - `by_hash`: exports of the content of an integrity
+//! - `by_key`: exports of the content that a key names
+//! - `entries`: entries that were found, as entries again and as texts
+//! - `exporting`: exports: a content is copied, shares its storage, or has one more name
+//! - `index`: keys are found and deleted
+//! - `reading`: contents that are read at once, and the question whether one is there
+//! - `rm`: calls that remove
+#![tactic(auto)]
+
+mod by_hash;
+mod by_key;
+pub mod entries;
+mod exporting;
+pub mod index;
+mod reading;
+pub mod rm;
+
+pub use by_hash::{
+    copy_hash_sync, copy_hash_unchecked_sync, hard_link_hash_sync, hard_link_hash_unchecked_sync,
+    reflink_hash_sync, reflink_hash_unchecked_sync,
+};
+pub use by_key::{
+    copy_sync, copy_unchecked_sync, hard_link_sync, hard_link_unchecked_sync, reflink_sync,
+    reflink_unchecked_sync,
+};
+pub use exporting::{Named, copied, linked};
+pub use reading::{exists_sync, has_content, read_hash_sync, read_sync};

@@ -1,0 +1,80 @@
+-- What a listing of the contents holds.
+use Rattle.std.specs.Prelude.{◌≡◌, ◌↔◌, ℕ, List, [], ◌∷◌, Option, Contains, map}
+use Rattle.std.specs.declared.cmp.Ordering.{Ordering}
+use Rattle.std.specs.Ordering.{nat_cmp, on, then_cmp}
+use Rattle.std.specs.Cmp.Lexicographic.{slice_cmp}
+use Rattle.std.specs.List.Sorted.{IsStrictlySortedBy}
+use Rattle.cacache_core.specs.declared.errors.Error.{Error}
+use Rattle.cacache_core.specs.declared.integrity.digest.Hash.{Hash}
+use Rattle.cacache_core.specs.Integrity.{IsHash, rank}
+use Rattle.cacache_core.specs.Paths.{join, joined, content_area, content_names}
+use Rattle.cacache_store.specs.declared.store.log.LogItem.{LogItem}
+use Rattle.cacache_table.specs.Runs.{Moves, Gains}
+use Rattle.cacache_table.specs.Walking.{most}
+use Rattle.cacache_walks.specs.Addresses.{IsContent, IsStrange}
+use Rattle.cacache_walks.specs.Reading.{Folder, Reads, Stops, first, files_shown}
+
+-- ---- what it holds
+
+-- of these files, the contents' integrities and the strange paths
+pub record Sorts
+    (cache : List ℕ) (files : List (List ℕ))
+    (addresses : List (List Hash)) (strange : List (List ℕ)) : Type 0 where
+  pub contents : (i : List Hash)
+      → Contains addresses i ↔ ((path : List ℕ) × Contains files path × IsContent cache path i)
+  pub others : (path : List ℕ)
+      → Contains strange path ↔ (Contains files path × IsStrange cache path)
+
+-- the folder of contents
+abbrev pub contents_folder : List ℕ → List ℕ
+contents_folder cache = join cache content_area
+
+-- the log gained a walk through the folder of contents, and the files that it shows are sorted so
+abbrev pub ListsContents : List ℕ → List (List Hash) → List (List ℕ)
+    → Option (List LogItem) → Option (List LogItem) → Type 0
+ListsContents cache addresses strange old new =
+    (moves : Moves) × Gains old new moves × Reads (first (contents_folder cache) ∷ []) moves
+    × Sorts cache (files_shown moves) addresses strange
+
+-- ---- its order
+
+-- the stronger algorithm comes first, then the digests' bytes decide
+abbrev pub hash_cmp : Hash → Hash → Ordering
+hash_cmp =
+    then_cmp (on (λ h. rank h.algorithm) nat_cmp) (on (λ h. h.digest) (slice_cmp nat_cmp))
+
+-- the integrities have one hash each, and come by that order, none twice
+pub record IsByHash (addresses : List (List Hash)) : Type 0 where
+  pub hashes : List Hash
+  pub single : addresses ≡ map (λ h. h ∷ []) hashes
+  pub ascend : IsStrictlySortedBy hash_cmp hashes
+
+-- the paths come by their bytes, none twice
+abbrev pub IsByBytes : List (List ℕ) → Type 0
+IsByBytes paths = IsStrictlySortedBy (slice_cmp nat_cmp) paths
+
+-- ---- its errors
+
+-- the log gained moves through these folders, with at most so many names, which this error ended
+abbrev pub StopsAt : ℕ → List Folder → Error
+    → Option (List LogItem) → Option (List LogItem) → Type 0
+StopsAt left todo e old new = (moves : Moves) × Gains old new moves × Stops left todo moves e
+
+-- the error ended the walk through this folder, which takes at most 2^63 names
+abbrev pub StopsBelow : List ℕ → Error
+    → Option (List LogItem) → Option (List LogItem) → Type 0
+StopsBelow path = StopsAt most (first path ∷ [])
+
+-- the error ended the walk through the folder of contents
+abbrev pub StopsListing : List ℕ → Error
+    → Option (List LogItem) → Option (List LogItem) → Type 0
+StopsListing cache = StopsBelow (contents_folder cache)
+
+-- ---- a law
+
+-- so an address is listed exactly if its content's path is among the files
+abbrev pub ListedAreShown : Type 0
+ListedAreShown =
+    (cache : List ℕ) (files : List (List ℕ)) (addresses : List (List Hash))
+    (strange : List (List ℕ)) → Sorts cache files addresses strange → (h : Hash) → IsHash h
+    → Contains addresses (h ∷ []) ↔ Contains files (joined cache (content_names h))

@@ -1,0 +1,90 @@
+-- Where the walk stands between two visits, and what one visit adds.
+use Rattle.std.specs.Prelude.{◌≡◌, ◌≤◌, ◌<◌, ◌+◌, ◌*◌, ℕ, List, [], ◌∷◌, ◌++◌, Option, None, Some, false}
+use Rattle.cacache_core.specs.declared.errors.Error.{Error}
+use Rattle.cacache_core.specs.declared.errors.Fault.TheVariants.{NotFound}
+use Rattle.cacache_store.specs.declared.store.log.LogItem.{LogItem}
+use Rattle.cacache_store.specs.declared.store.answer.Name.{Name}
+use Rattle.cacache_store.specs.declared.store.answer.Answer.TheVariants.{Names, Failed}
+use Rattle.cacache_store.specs.declared.store.step.Step.TheVariants.{ReadDir}
+use Rattle.cacache_store.specs.Plain.{PlainAnswer}
+use Rattle.cacache_store.specs.Fits.{Fits}
+use Rattle.cacache_table.specs.declared.visit.Task.{Task}
+use Rattle.cacache_table.specs.declared.visit.Task.TheVariants.{Make, Stumble}
+use Rattle.cacache_table.specs.Runs.{Moves, Gains, weight, weights}
+use Rattle.cacache_table.specs.declared.visit.Visit.{Visit}
+use Rattle.cacache_table.specs.declared.visit.Visit.TheVariants.{Enter, ReadBucket, RemoveFile, RemoveFolder}
+use Rattle.cacache_walks.specs.declared.walk.Walk.{Walk}
+use Rattle.cacache_walks.specs.WalkStates.{Counts, pending}
+use Rattle.cacache_walks.specs.Reading.{Folder, Reads, Stops, names_shown, files_in, files_shown}
+use Rattle.cacache_walks.specs.Listing.{StopsAt}
+
+-- ---- one visit
+
+-- the log gained the step that reads this folder, with an answer that shows these names
+pub record AnswerShows
+    (t : PlainAnswer) (names : List Name) (path : List ℕ)
+    (old new : Option (List LogItem)) : Type 0 where
+  pub fits : Fits (ReadDir path) t
+  pub shown : names_shown t ≡ Some names
+  pub gained : Gains old new ((ReadDir path, t) ∷ [])
+
+-- a visit is answered so: a folder is read, its files are found, and a file takes no step
+abbrev pub Answered : Visit → PlainAnswer → Option (List LogItem) → Option (List LogItem)
+    → List (List ℕ) → List (List ℕ) → Type 0
+Answered (Enter path level) t old new before after =
+    (names : List Name) × (t ≡ Names names)
+    × ((shown : PlainAnswer) × AnswerShows shown names path old new)
+    × (after ≡ before ++ files_in path names)
+Answered v t old new before after = (t ≡ Failed NotFound) × (new ≡ old) × (after ≡ before)
+
+-- this error ended the reading of the folder, wherever the walk was
+abbrev pub StopsIn : List ℕ → Error
+    → Option (List LogItem) → Option (List LogItem) → Type 0
+StopsIn path e old new = (left level : ℕ) (todo : List Folder)
+    → level ≤ 16 → StopsAt left (record { path = path; level = level } ∷ todo) e old new
+
+-- this error ended a visit to a folder
+abbrev pub StopsVisit : Visit → Error
+    → Option (List LogItem) → Option (List LogItem) → Type 0
+StopsVisit (Enter path level) e old new = StopsIn path e old new
+StopsVisit v e old new = ⊥
+
+-- ---- the whole walk
+
+-- the tasks of a walk are these folders, and files; it stumbles over a folder that lies too deep
+abbrev pub Matches : List Task → List Folder → Type 0
+Matches [] [] = Unit {0}
+Matches [] (f ∷ fs) = ⊥
+Matches (Make (Enter path level) ∷ todo) [] = ⊥
+Matches (Make (Enter path level) ∷ todo) (f ∷ fs) =
+    (f ≡ record { path = path; level = level }) × (level ≤ 16) × Matches todo fs
+Matches (Make (ReadBucket path) ∷ todo) fs = Matches todo fs
+Matches (Make (RemoveFile path) ∷ todo) fs = ⊥
+Matches (Make (RemoveFolder path) ∷ todo) fs = ⊥
+Matches (Stumble fault path ∷ todo) [] = ⊥
+Matches (Stumble fault path ∷ todo) (f ∷ fs) = (16 < f.level) × Matches todo fs
+
+-- it wants the step of this visit, before these folders; or it is over
+abbrev pub Stands : Option Visit → Walk → List Folder → Type 0
+Stands (Some v) w fs =
+    (w.clears ≡ false) × (w.items.items ≡ []) × Counts [] w
+    × Matches (Make v ∷ pending w.todo.items) fs
+Stands None w fs = fs ≡ []
+
+-- from these folders, with so many names, it went on so: by moves, to the files that they show
+pub record GoesFrom
+    (left : ℕ) (fs : List Folder) (next : Option Visit) (w : Walk) (old new : Option (List LogItem))
+    (before after : List (List ℕ)) : Type 0 where
+  pub moves : Moves
+  pub gained : Gains old new moves
+  pub found : after ≡ before ++ files_shown moves
+  pub rest : List Folder
+  pub stands : Stands next w rest
+  pub reads : (more : Moves) → Reads rest more → Reads fs (moves ++ more)
+  pub stops : (more : Moves) (e : Error)
+      → Stops w.left rest more e → Stops left fs (moves ++ more) e
+
+-- how many steps may still come
+abbrev pub steps_left : Option Visit → Walk → ℕ
+steps_left (Some v) w = 2 * w.left + weight v + weights (pending w.todo.items)
+steps_left None w = 0

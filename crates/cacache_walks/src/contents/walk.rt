@@ -1,0 +1,145 @@
+//! A walk that keeps the files and links below a folder.
+ghost use Rattle.std.specs.Prelude.{◌≡◌, ◌≢◌, ◌++◌, ◌∷◌, ◌<◌, [], List, IfOk, OnOk, IfErr, Some};
+ghost use Rattle.cacache_core.specs.declared.errors.Fault.TheVariants.{NotFound};
+ghost use Rattle.cacache_store.specs.declared.store.answer.Answer.TheVariants.{Failed};
+ghost use Rattle.cacache_store.specs.Plain.{PlainAnswer, plain_answer};
+ghost use Rattle.cacache_table.specs.Runs.{Moves, Gains};
+ghost use Rattle.cacache_walks.specs.Reading.{Folder, IsErrorOf, Reads, first, files_in, files_shown};
+ghost use Rattle.cacache_walks.specs.Listing.{StopsAt, StopsBelow};
+ghost use Rattle.cacache_walks.specs.WalkSteps.{AnswerShows, Answered, GoesFrom, Stands, StopsIn, StopsVisit, steps_left};
+
+use crate::walk::Walk;
+use cacache_core::errors::{Error, Fault, Result};
+use cacache_core::paths::join;
+use cacache_core::text::Text;
+use cacache_store::store::{
+    Answer, Kind, Listing, Name, PlainFile, PlainTemp, Step, Store, failed,
+};
+use cacache_table::answers::names_of;
+use cacache_table::{Refusal, Visit};
+use std::alloc::{AllocError, Global};
+
+/// What the walk says of a fault.
+fn failure(alloc: Global, fault: Fault, top: &str) -> Error
+    ensures { IsErrorOf (Failed fault) result }
+{
+    failed(fault, message(alloc, top))
+}
+
+fn message(alloc: Global, top: &str) -> std::result::Result<Text, AllocError> {
+    Ok(Text::new(format!(in alloc; "Error while walking cache contents at {top}")?))
+}
+
+/// The names in a folder that couldn't be read: there are none in one that isn't there.
+fn unread(alloc: Global, fault: Fault, top: &str) -> Result<Listing>
+    ensures missing { IfOk result (λ names. (fault ≡ NotFound) × (names ≡ [])) }
+    ensures fails { IfErr result (λ e. (fault ≢ NotFound) × IsErrorOf (Failed fault) e) }
+{
+    match fault {
+        Fault::NotFound => Ok(Listing::new(Vec::new(alloc))),
+        _ => Err(failure(alloc, fault, top)),
+    }
+}
+
+/// The names in a folder; one that isn't there has none.
+fn names_in<S: Store>(store: &mut S, alloc: Global, top: &str, folder: &Text) -> Result<Listing>
+    ensures shows { IfOk result (λ names. (t : PlainAnswer)
+        × AnswerShows t names folder.now (S.log store.old) (S.log store.new)) }
+    ensures stops { IfErr result
+        (λ e. StopsIn folder.now e (S.log store.old) (S.log store.new)) }
+{
+    let path = folder.clone()?;
+    match names_of(store.step(Step::ReadDir(path))) {
+        Ok(names) => Ok(names),
+        Err(Refusal::Fault(fault)) => unread(alloc, fault, top),
+        Err(Refusal::Memory) => Err(Error::OutOfMemory),
+    }
+}
+
+/// Adds the paths of a folder's files and links.
+fn push_files(
+    alloc: Global,
+    files: &mut Vec<Text>,
+    folder: &str,
+    names: &[Name],
+) -> std::result::Result<(), AllocError>
+    ensures { OnOk result (files.new.items ≡ files.old.items ++ files_in folder.now names.now) }
+{
+    for name in names {
+        match name.kind {
+            Kind::Folder => {}
+            Kind::File | Kind::Link => files.push(join(alloc, folder, name.name.as_str())?)?,
+        }
+    }
+    Ok(())
+}
+
+/// What a visit is answered; the files that it shows are added. A visit to a file takes no step: it
+/// counts as a bucket that isn't there, which lists nothing.
+fn visited<S: Store>(
+    store: &mut S,
+    alloc: Global,
+    top: &str,
+    files: &mut Vec<Text>,
+    visit: &Visit,
+) -> Result<Answer<PlainFile, PlainTemp>>
+    ensures answers { IfOk result
+        (λ answer. Answered visit.now (plain_answer (λ f. f) (λ t. t) answer)
+        (S.log store.old) (S.log store.new) files.old.items files.new.items) }
+    ensures stops { IfErr result
+        (λ e. StopsVisit visit.now e (S.log store.old) (S.log store.new)) }
+{
+    match visit {
+        Visit::Enter(folder, _) => {
+            let names = names_in(store, alloc, top, folder)?;
+            push_files(alloc, files, folder.as_str(), names.as_slice())?;
+            Ok(Answer::Names(names))
+        }
+        _ => Ok(Answer::Failed(Fault::NotFound)),
+    }
+}
+
+/// Makes a visit of the walk and goes on to the next one.
+fn make<S: Store>(
+    store: &mut S,
+    alloc: Global,
+    top: &str,
+    walk: &mut Walk,
+    files: &mut Vec<Text>,
+    visit: Visit,
+) -> Result<Option<Visit>>
+    ensures goes { IfOk result (λ next. (fs : List Folder) → Stands (Some visit) walk.old fs
+        → GoesFrom walk.old.left fs next walk.new (S.log store.old) (S.log store.new)
+        files.old.items files.new.items) }
+    ensures smaller { IfOk result (λ next. (fs : List Folder) → Stands (Some visit) walk.old fs
+        → steps_left next walk.new < steps_left (Some visit) walk.old) }
+    ensures stops { IfErr result (λ e. (fs : List Folder) → Stands (Some visit) walk.old fs
+        → StopsAt walk.old.left fs e (S.log store.old) (S.log store.new)) }
+{
+    let answer = visited(store, alloc, top, files, &visit)?;
+    // It reads no bucket, so its items are `TooDeep` alone, and its only error is out of memory.
+    let Ok(next) = walk.resume(alloc, visit, answer) else {
+        return Err(Error::OutOfMemory);
+    };
+    if !walk.items.is_empty() {
+        return Err(failure(alloc, Fault::TooDeep, top));
+    }
+    Ok(next)
+}
+
+/// The paths of all files and links below a folder, as far as a store shows them.
+pub(crate) fn files_below<S: Store>(store: &mut S, alloc: Global, top: &str) -> Result<Vec<Text>>
+    ensures reads { IfOk result
+        (λ files. (moves : Moves) × Gains (S.log store.old) (S.log store.new) moves
+        × Reads (first top.now ∷ []) moves × (files.items ≡ files_shown moves)) }
+    ensures stops { IfErr result
+        (λ e. StopsBelow top.now e (S.log store.old) (S.log store.new)) }
+{
+    let (mut walk, visit) = Walk::new(alloc, false, Text::from_str(alloc, top)?)?;
+    let mut files = Vec::new(alloc);
+    let mut next = Some(visit);
+    'visits: while let Some(visit) = next {
+        next = make(store, alloc, top, &mut walk, &mut files, visit)?;
+    }
+    Ok(files)
+}

@@ -1,0 +1,141 @@
+//! A listing that walks as it is asked.
+ghost use Rattle.std.specs.Prelude.{◌≡◌, ◌<◌, ◌≤◌, ℕ, List, [], Option, Some, None, IfOk, OnOk, IfErr};
+ghost use Rattle.std.specs.Borrow.{sem};
+ghost use Rattle.std.specs.Iterator.{at_most};
+ghost use Rattle.cacache_core.specs.declared.errors.Error.TheVariants.{OutOfMemory};
+ghost use Rattle.cacache_store.specs.declared.store.log.LogItem.{LogItem};
+ghost use Rattle.cacache_table.specs.Runs.{plain_item};
+ghost use Rattle.cacache_table.specs.State.{Item};
+ghost use Rattle.cacache_walks.specs.Lending.{EnvRests};
+ghost use Rattle.cacache_walks.specs.Iterating.{Filled, Gave, IsListing, KeepsEnv, NextGives, Shortens, StandsBy, WentOn, item_of, left};
+
+use crate::walk::Walk;
+use cacache_core::errors::{self, Error};
+use cacache_core::paths::{INDEX_AREA, join};
+use cacache_entry::Metadata;
+use cacache_store::env::Env;
+use cacache_store::store::Store;
+use cacache_table::{Found, Visit};
+use std::mem::swap;
+
+/// The entries of a cache, one after another: each key once, where its lookup finds an entry. It
+/// borrows the environment, and makes its steps as its items are asked for. It keeps no item that
+/// was given.
+///
+/// A folder or a bucket that can't be read is one item `IoError`, and the listing goes on.
+/// `OutOfMemory` is the last item.
+#[derive(Drop)]
+pub struct Ls<'a, S, C, N> {
+    env: &'a mut Env<S, C, N>,
+    walk: Walk,
+    /// The visit that comes next; none once the walk is over.
+    visit: Option<Visit>,
+    /// The items of the last visit that weren't given yet; the last comes first.
+    ready: Vec<Result<Found, Error>>,
+}
+
+/// An item as callers take it.
+fn taken(item: Result<Found, Error>) -> errors::Result<Metadata>
+    ensures { item_of result ≡ plain_item item }
+{
+    Ok(item?.into_metadata())
+}
+
+impl<'a, S: Store, C, N> Ls<'a, S, C, N> {
+    /// A listing of this cache, which has made no step.
+    ///
+    /// # Errors
+    ///
+    /// `OutOfMemory` alone.
+    pub(crate) fn new(env: &'a mut Env<S, C, N>, cache: &str) -> errors::Result<Ls<'a, S, C, N>>
+        ensures* rests { sem 𝓛 (EnvRests S.row C.row N.row env.entry result) }
+        ensures lends { IfOk result (λ ls. ls.env.ghost_name ≡ env.entry.ghost_name) }
+        ensures before { IfOk result (λ ls. ls.env.now ≡ env.old) }
+        ensures gave { IfOk result (λ ls. Gave S.log cache.now (S.log env.old.store) ls []) }
+        ensures memory { IfErr result (λ e. e ≡ OutOfMemory) }
+    {
+        let alloc = env.alloc;
+        let (walk, visit) = Walk::new(alloc, false, join(alloc, cache, INDEX_AREA)?)?;
+        Ok(Ls {
+            env,
+            walk,
+            visit: Some(visit),
+            ready: Vec::new(alloc),
+        })
+    }
+
+    /// Ends the listing, and hands its environment back as the listing left it.
+    pub fn close(self) -> &'a mut Env<S, C, N>
+        ensures same { result.ghost_name ≡ self.entry.env.ghost_name }
+        ensures left { result.now ≡ self.entry.env.now }
+    {
+        let Ls {
+            env,
+            walk: _walk,
+            visit: _visit,
+            ready: _ready,
+        } = self;
+        env
+    }
+
+    /// Makes a visit, after which items may be ready.
+    fn go_on(&mut self, visit: Visit) -> errors::Result<()>
+        requires { self.old.ready.items ≡ [] }
+        ensures keeps { KeepsEnv self.old self.new }
+        ensures went { (cache : List ℕ) (old : Option (List LogItem)) (items : List Item)
+            → StandsBy S.log (Some visit) cache old self.old items
+            → WentOn S.log result cache old self.new items }
+        ensures shrinks { OnOk result (Shortens S.log visit self.old self.new) }
+        ensures rests { IfErr result (λ e.
+            (self.new.visit ≡ self.old.visit) × (self.new.ready.items ≡ [])) }
+    {
+        let Ok(step) = visit.step() else {
+            return Err(Error::OutOfMemory);
+        };
+        let answer = self.env.store.step(step);
+        self.visit = self.walk.resume(self.env.alloc, visit, answer)?;
+        swap(&mut self.ready, &mut self.walk.items);
+        self.ready.reverse();
+        Ok(())
+    }
+
+    /// Makes visits until an item is ready, or the walk is over.
+    fn fill(&mut self) -> errors::Result<()>
+        requires { IsListing S.log self.old }
+        ensures keeps { KeepsEnv self.old self.new }
+        ensures filled { (cache : List ℕ) (old : Option (List LogItem)) (given : List Item)
+            → Gave S.log cache old self.old given → Filled S.log result cache old self.new given }
+        ensures listing { OnOk result (IsListing S.log self.new) }
+        ensures fewer { OnOk result (left self.new ≤ left self.old) }
+        ensures rests { IfErr result (λ e. (left self.new ≡ 0) × (0 < left self.old)) }
+    {
+        'visits: while self.ready.is_empty() {
+            match self.visit.take() {
+                Some(visit) => self.go_on(visit)?,
+                None => return Ok(()),
+            }
+        }
+        Ok(())
+    }
+}
+
+impl<'a, S: Store, C, N> Iterator for Ls<'a, S, C, N> {
+    type Item = errors::Result<Metadata>;
+
+    ghost can_next = { IsListing S.log };
+
+    ghost next_gives = { NextGives S.log };
+
+    ghost remaining = { λ ls. at_most (left ls) };
+
+    /// The next item: makes steps until there is one.
+    fn next(&mut self) -> Option<errors::Result<Metadata>> {
+        if let Err(error) = self.fill() {
+            return Some(Err(error));
+        }
+        match self.ready.pop() {
+            Some(item) => Some(taken(item)),
+            None => None,
+        }
+    }
+}

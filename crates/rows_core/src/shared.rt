@@ -1,0 +1,81 @@
+//! Bytes that are shared, cut and grown.
+ghost use Rattle.std.specs.Prelude.{◌≤◌, IfOk};
+
+use crate::words::{column, three, two};
+use cacache_core::bytes::Bytes;
+use rows::Flaw;
+use rows::answers::given;
+use rows::words::number_of;
+use std::alloc::Global;
+
+/// The bytes of a text.
+fn bytes(alloc: Global, text: &str) -> Result<Bytes, Flaw> {
+    Ok(Bytes::new(alloc, Vec::from_slice(alloc, text.as_bytes())?)?)
+}
+
+/// The text of bytes that are made a vector.
+fn text(alloc: Global, bytes: Bytes) -> Result<String, Flaw> {
+    given(String::from_utf8(bytes.into_vec(alloc)?))
+}
+
+/// The number that a word spells, if it is no more than this.
+fn at_most(word: &str, limit: usize) -> Result<usize, Flaw>
+    ensures { IfOk result (λ number. number ≤ limit) }
+{
+    match number_of(word)? {
+        number if number <= limit => Ok(number),
+        _ => Err(Flaw::NotRead),
+    }
+}
+
+/// The bytes of a text from one on, so many. Nobody else owns them.
+fn part(alloc: Global, text: &str, from: &str, count: &str) -> Result<Bytes, Flaw> {
+    let whole = bytes(alloc, text)?;
+    let from = at_most(from, whole.len())?;
+    let rest = whole.rest(from);
+    let count = at_most(count, rest.len())?;
+    Ok(rest.front(count))
+}
+
+/// How many bytes a part of a text has, and they themselves.
+pub(crate) fn window(alloc: Global, columns: &str) -> Result<String, Flaw> {
+    let (data, columns) = column(columns);
+    let (from, count) = column(columns);
+    let part = part(alloc, data, from, count)?;
+    let length = part.len();
+    two(alloc, length, text(alloc, part)?)
+}
+
+/// Whether a copy of shared bytes is equal, whether nothing follows its last byte, and the bytes that were copied.
+pub(crate) fn shared(alloc: Global, data: &str) -> Result<String, Flaw> {
+    let whole = bytes(alloc, data)?;
+    let copy = whole.share()?;
+    let is_equal = whole == copy;
+    let count = copy.len();
+    let end = copy.rest(count);
+    let whole = text(alloc, whole)?;
+    three(alloc, is_equal, end.is_empty(), whole)
+}
+
+/// The first bytes of a copy, so many, with more behind them; and the bytes that were copied.
+pub(crate) fn grown(alloc: Global, columns: &str) -> Result<String, Flaw> {
+    let (data, columns) = column(columns);
+    let (count, more) = column(columns);
+    let whole = bytes(alloc, data)?;
+    let count = at_most(count, whole.len())?;
+    let mut front = whole.share()?.front(count);
+    front.extend(more.as_bytes())?;
+    let front = text(alloc, front)?;
+    two(alloc, front, text(alloc, whole)?)
+}
+
+/// A part of a text, with more behind it, twice.
+pub(crate) fn grown_alone(alloc: Global, columns: &str) -> Result<String, Flaw> {
+    let (data, columns) = column(columns);
+    let (from, columns) = column(columns);
+    let (count, more) = column(columns);
+    let mut part = part(alloc, data, from, count)?;
+    part.extend(more.as_bytes())?;
+    part.extend(more.as_bytes())?;
+    text(alloc, part)
+}
