@@ -17,4 +17,4 @@ pub use Rattle.cacache_reads.specs.Lookups.{ReadsBucket, Finds, LooksUp, delete_
 pub use Rattle.cacache_jobs.specs.Environment.{KeepsRest, Steps, Calls, MomentOf, RunsNumbered, RunsTimed, RunsPut}
 pub use Rattle.cacache_put.specs.Puts.{keyed_put, unkeyed_put, insert_of}
 pub use Rattle.cacache_reads.specs.Reads.{AsksContent, bytes_read, has}
-pub use Rattle.cacache_reads.specs.Exports.{exporting, checked, unchecked}
+pub use Rattle.cacache_reads.specs.Exports.{exporting, checked_export, unchecked_export}

@@ -14,7 +14,7 @@ use crate::call::Call;
 use crate::future::CallFuture;
 use cacache_core::errors::Result;
 use cacache_core::integrity::Integrity;
-use cacache_reads::{Named, copied, linked};
+use cacache_reads::{Named, copy_content, link_content};
 use cacache_store::env::{Clock, Env, Names};
 use cacache_store::store::Store;
 use cacache_table::How;
@@ -38,7 +38,7 @@ impl<'a, S: Store, C: Clock, N: Names> Call<S, C, N> for CopyCall<'a> {
         (exporting Copy c.checked (named_source c.named) c.to.now) (reply_of Copied r) };
 
     fn make(self, env: &mut Env<S, C, N>) -> Result<u64> {
-        copied(env, self.cache, self.named, self.checked, self.to)
+        copy_content(env, self.cache, self.named, self.checked, self.to)
     }
 }
 
@@ -62,7 +62,7 @@ impl<'a, S: Store, C: Clock, N: Names> Call<S, C, N> for ReflinkCall<'a> {
 
     fn make(self, env: &mut Env<S, C, N>) -> Result<()> {
         let how = How::Reflink;
-        linked(env, self.cache, self.named, how, self.checked, self.to)
+        link_content(env, self.cache, self.named, how, self.checked, self.to)
     }
 }
 
@@ -84,7 +84,7 @@ impl<'a, S: Store, C: Clock, N: Names> Call<S, C, N> for HardLinkCall<'a> {
         (exporting HardLink true (named_source c.named) c.to.now) (reply_of done r) };
 
     fn make(self, env: &mut Env<S, C, N>) -> Result<()> {
-        linked(env, self.cache, self.named, How::HardLink, true, self.to)
+        link_content(env, self.cache, self.named, How::HardLink, true, self.to)
     }
 }
 

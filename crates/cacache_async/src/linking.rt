@@ -16,7 +16,10 @@ use cacache_store::store::{OpenedFile, Store};
 use std::alloc::Global;
 
 /// The linker, or why there is none.
-fn polled<F: OpenedFile>(alloc: Global, opened: Result<SyncToLinker<F>>) -> Result<ToLinker<F>>
+fn polled_linker<F: OpenedFile>(
+    alloc: Global,
+    opened: Result<SyncToLinker<F>>,
+) -> Result<ToLinker<F>>
     ensures { linker_in result ≡ opened }
 {
     let linker = opened?;
@@ -44,8 +47,8 @@ impl<'a, S: Store, C: Clock, N: Names> Call<S, C, N> for SizedTargetCall<'a> {
         let SizedTargetCall { cache, key, target } = self;
         let alloc = env.alloc;
         match key {
-            Some(key) => polled(alloc, SyncToLinker::open(env, cache, key, target)),
-            None => polled(alloc, SyncToLinker::open_hash(env, cache, target)),
+            Some(key) => polled_linker(alloc, SyncToLinker::open(env, cache, key, target)),
+            None => polled_linker(alloc, SyncToLinker::open_hash(env, cache, target)),
         }
     }
 }
@@ -81,8 +84,8 @@ impl<'a, S: Store, C: Clock, N: Names> Call<S, C, N> for TargetCall<'a> {
         } = self;
         let alloc = env.alloc;
         match key {
-            Some(key) => polled(alloc, opts.link_to_sync(env, cache, key, target)),
-            None => polled(alloc, opts.link_to_hash_sync(env, cache, target)),
+            Some(key) => polled_linker(alloc, opts.link_to_sync(env, cache, key, target)),
+            None => polled_linker(alloc, opts.link_to_hash_sync(env, cache, target)),
         }
     }
 }

@@ -7,20 +7,20 @@ use Rattle.std.proofs.KnownBytes.{Appends-nil, Appends-trans, Appends-kept}
 use Rattle.std.specs.Io.KnownBytes.{Appends, Keeps}
 use Rattle.cacache_store.specs.declared.store.plain.PlainTemp.{PlainTemp}
 use Rattle.cacache_content.specs.declared.writer.Writer.{Writer}
-use Rattle.cacache_content.specs.OpenWrites.{HasTaken, Takes, TakesPart, GoesOn}
+use Rattle.cacache_content.specs.OpenWrites.{HasTaken, Takes, TakesPart, IsSameWriter}
 
 module _ {T : Type 0} (temp : T → PlainTemp) where
   -- the file and the writer took these bytes more, and the writer goes on
   abbrev pub Went : Writer T → Writer T → List ℕ → Type 0
   Went old new more =
       Appends (temp old.file).bytes (temp new.file).bytes more
-      × Takes old new more × GoesOn temp old new
+      × Takes old new more × IsSameWriter temp old new
 
   pub went_nowhere : (w : Writer T) → Went w w []
   went_nowhere w =
       (Appends-nil (temp w.file).bytes, λ bytes had. rw append-nil had, (refl, refl, refl, refl))
 
-  goes_through : (u v w : Writer T) → GoesOn temp u v → GoesOn temp v w → GoesOn temp u w
+  goes_through : (u v w : Writer T) → IsSameWriter temp u v → IsSameWriter temp v w → IsSameWriter temp u w
   goes_through u v w x y = (y.0 ∙ x.0, y.1 ∙ x.1, y.2 ∙ x.2, y.3 ∙ x.3)
 
   takes_through : (u v w : Writer T) (one two : List ℕ) → Takes u v one → Takes v w two → Takes u w (one ++ two)
@@ -38,7 +38,7 @@ module _ {T : Type 0} (temp : T → PlainTemp) where
       rw (take-add n m bytes) (went_through u v w (take n bytes) (take m (drop n bytes)) x more)
 
   -- some bytes, and then none
-  pub went_no_further : (u v w : Writer T) (bytes : List ℕ) → Went u v bytes → Keeps (temp v.file).bytes (temp w.file).bytes → Takes v w [] → GoesOn temp v w → Went u w bytes
+  pub went_no_further : (u v w : Writer T) (bytes : List ℕ) → Went u v bytes → Keeps (temp v.file).bytes (temp w.file).bytes → Takes v w [] → IsSameWriter temp v w → Went u w bytes
   went_no_further u v w bytes x kept takes goes =
       let none : Went v w [] = (Appends-kept _ _ _ [] (Appends-nil _) kept, takes, goes) in
       subst (Went u w) (append-nil bytes) (went_through u v w bytes [] x none)

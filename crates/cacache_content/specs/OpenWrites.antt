@@ -45,8 +45,8 @@ TakesPart temp old new bytes =
     × Appends (temp old.file).bytes (temp new.file).bytes front
 
 -- the writer is still one of the same cache, temporary file and algorithm
-abbrev pub GoesOn : {T : Type 0} → (T → PlainTemp) → Writer T → Writer T → Type 0
-GoesOn temp old new =
+abbrev pub IsSameWriter : {T : Type 0} → (T → PlainTemp) → Writer T → Writer T → Type 0
+IsSameWriter temp old new =
     (new.cache ≡ old.cache) × (new.path ≡ old.path)
     × (algorithm_of new.hasher ≡ algorithm_of old.hasher)
     × ((temp new.file).path ≡ (temp old.file).path)

@@ -33,7 +33,11 @@ pub struct SyncReader<F> {
 }
 
 /// Why the content wasn't opened. The path is made again, so that an opening that succeeds makes it once.
-fn unopened(alloc: Global, cache: &str, sri: &Integrity) -> std::result::Result<Text, AllocError> {
+fn opening_message(
+    alloc: Global,
+    cache: &str,
+    sri: &Integrity,
+) -> std::result::Result<Text, AllocError> {
     let path = content_path(alloc, cache, sri)?;
     messages::opening(alloc, &path)
 }
@@ -64,7 +68,7 @@ pub fn open<S: Store, C: Clock, N: Names>(
                 checker,
             })
         }
-        Err(refusal) => Err(refused(refusal, unopened(alloc, cache, &sri))),
+        Err(refusal) => Err(refused(refusal, opening_message(alloc, cache, &sri))),
     }
 }
 

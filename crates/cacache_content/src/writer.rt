@@ -12,7 +12,7 @@ ghost use Rattle.cacache_table.specs.Runs.{reply_of};
 ghost use Rattle.cacache_table.specs.SingleSteps.{Does, FailsAt};
 ghost use Rattle.cacache_table.specs.StepPaths.{temp_path as temp_path_of};
 ghost use Rattle.cacache_content.specs.Passed.{passed};
-ghost use Rattle.cacache_content.specs.OpenWrites.{HasTaken, GoesOn, MakesTemp, OpensTemp, EndsWriter, RemovesTemp, TriesToRemove, given_up, Takes, TakesPart, WholeFails, IsWriteError, IsRetried, make_folder as making_folder, content_commit, unkeyed};
+ghost use Rattle.cacache_content.specs.OpenWrites.{HasTaken, IsSameWriter, MakesTemp, OpensTemp, EndsWriter, RemovesTemp, TriesToRemove, given_up, Takes, TakesPart, WholeFails, IsWriteError, IsRetried, make_folder as making_folder, content_commit, unkeyed};
 
 use cacache_core::errors::{Error, Fault, Result};
 use cacache_core::hasher::Hasher;
@@ -173,7 +173,7 @@ pub fn write_or_abandon<S: Store>(
     ensures bytes { IfOk result (λ w. Appends (S.Temp.seen writer.file).bytes
         (S.Temp.seen w.file).bytes «data».now) }
     ensures takes { IfOk result (λ w. Takes writer w «data».now) }
-    ensures goes_on { IfOk result (λ w. GoesOn S.Temp.seen writer w) }
+    ensures goes_on { IfOk result (λ w. IsSameWriter S.Temp.seen writer w) }
     ensures quiet { OnOk result (store.new ≡ store.old) }
     ensures removed { IfErr result
         (λ e. TriesToRemove writer.path e (S.log store.old) (S.log store.new)) }
@@ -261,7 +261,7 @@ impl<T: TempFile> Write for Writer<T> {
         ensures bytes { WriteAppends (T.seen self.old.file).bytes (T.seen self.new.file).bytes
             result buf.now }
         ensures takes { Takes self.old self.new (passed result buf.now) }
-        ensures goes_on { GoesOn T.seen self.old self.new }
+        ensures goes_on { IsSameWriter T.seen self.old self.new }
         ensures earned { T.writes self.old.file (length buf.now) result self.new.file }
     {
         let count = self.file.write_some(buf)?;
@@ -279,7 +279,7 @@ impl<T: TempFile> Write for Writer<T> {
             (T.seen self.new.file).bytes buf.now) }
         ensures takes { OnOk result (Takes self.old self.new buf.now) }
         ensures part { OnErr result (TakesPart T.seen self.old self.new buf.now) }
-        ensures goes_on { GoesOn T.seen self.old self.new }
+        ensures goes_on { IsSameWriter T.seen self.old self.new }
         ensures earned { IfErr result (WholeFails T.writes self.new.file) }
         ensures retried { IfErr result IsRetried }
     {

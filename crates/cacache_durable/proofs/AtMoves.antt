@@ -9,7 +9,7 @@ use Rattle.cacache_value.specs.Traces.{Move}
 use Rattle.cacache_history.specs.declared.record.Record.{Record}
 use Rattle.cacache_history.specs.declared.record.Record.TheVariants.{Moved}
 use Rattle.cacache_history.specs.Setup.{Setup, home}
-use Rattle.cacache_history.specs.History.{Call, History, IsLegal, Made, Now, first, next, now_at, replayed}
+use Rattle.cacache_history.specs.History.{Call, History, IsLegal, Made, Now, initial, now_after, now_at, replayed}
 use Rattle.cacache_history.specs.Values.{steps_of}
 use Rattle.cacache_history.proofs.Holding.{replay_more}
 use Rattle.cacache_loss.specs.CalmMoves.{AreCalm, CalmSteps, IsCalm}
@@ -27,7 +27,7 @@ use Rattle.cacache_durable.proofs.Traces.{moment_more, of_cache_at}
 
 quiet_later : (s : Setup) (path : Names) (w : Now) (more later : List Record) → AreQuiet s path w (more ++ later) → AreQuiet s path (replayed s w more) later
 quiet_later s path w [] later quiet = quiet
-quiet_later s path w (r ∷ more) later quiet = quiet_later s path (next s w r) more later quiet.1
+quiet_later s path w (r ∷ more) later quiet = quiet_later s path (now_after s w r) more later quiet.1
 
 -- where a commit makes a move, in a legal history whose moves are quiet from a place before it on
 pub record QuietPlace (h : History) (folder path : Names) (before rest : List Record) (caller : ℕ) (made : Made) (more : Moves) : Type 0 where
@@ -56,7 +56,7 @@ module _ {h : History} {folder path : Names} {before rest : List Record} {caller
   -- from there on all moves are quiet
   pub quiet_here : AreQuiet h.setup path (now_at h here) (own_record ∷ q.place.later)
   quiet_here =
-      subst (λ w. AreQuiet h.setup path w (own_record ∷ q.place.later)) (sym (replay_more h.setup (first h.setup) before q.place.between))
+      subst (λ w. AreQuiet h.setup path w (own_record ∷ q.place.later)) (sym (replay_more h.setup (initial h.setup) before q.place.between))
       (quiet_later h.setup path (now_at h before) q.place.between (own_record ∷ q.place.later) (subst (AreQuiet h.setup path (now_at h before)) q.place.is q.quiet))
 
   calm_here : AreCalm (Some folder) (moment_at h here) (own_move ∷ steps_of q.place.later)

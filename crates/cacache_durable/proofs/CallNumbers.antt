@@ -15,7 +15,7 @@ use Rattle.cacache_value.proofs.KindsApart.{not_true}
 use Rattle.cacache_history.specs.declared.record.Record.{Record}
 use Rattle.cacache_history.specs.declared.record.Record.TheVariants.{Began, Moved, Stopped}
 use Rattle.cacache_history.specs.Setup.{Setup}
-use Rattle.cacache_history.specs.History.{Call, Made, Now, begins, first, moved, next, replayed, unless_over}
+use Rattle.cacache_history.specs.History.{Call, Made, Now, new_call, initial, call_after, now_after, replayed, unless_over}
 use Rattle.cacache_loss.specs.Fixing.{is_at}
 
 -- ---- paths of temporary files
@@ -91,7 +91,7 @@ set_keeps : (calls : ℕ → Option Call) (caller k : ℕ) (b : Bool) (call : Op
 set_keeps calls caller k true call is keeps = subst (λ j. Keeps (number_of call) (number_of (calls j))) (sym (eqb-true k caller is)) keeps
 set_keeps calls caller k false call is keeps = keeps_self (number_of (calls k))
 
-moved_number : (t : Tree) (luck : Luck) (made : Option Made) (reply : Option Reply) (o : Option Call) → Keeps (number_of (unless_over reply (option_map (moved t luck made) o))) (number_of o)
+moved_number : (t : Tree) (luck : Luck) (made : Option Made) (reply : Option Reply) (o : Option Call) → Keeps (number_of (unless_over reply (option_map (call_after t luck made) o))) (number_of o)
 moved_number t luck made (Some reply) o = tt
 moved_number t luck made None None = tt
 moved_number t luck None None (Some call) = refl
@@ -125,27 +125,27 @@ module _ (w : Now) (caller : ℕ) (call : Call) (is : call.number ≡ w.begun) (
 
 -- ---- places of a history
 
-pub next_numbered : (s : Setup) (w : Now) (r : Record) → Numbered w → Numbered (next s w r)
+pub next_numbered : (s : Setup) (w : Now) (r : Record) → Numbered w → Numbered (now_after s w r)
 next_numbered s w (Began caller command) h = record {
-  below = λ k. began_below w caller (begins s w.begun command) refl h k (k == caller);
-  apart = λ j k differ. began_apart w caller (begins s w.begun command) refl h j k (j == caller) (k == caller) differ refl refl;
+  below = λ k. began_below w caller (new_call s w.begun command) refl h k (k == caller);
+  apart = λ j k differ. began_apart w caller (new_call s w.begun command) refl h j k (j == caller) (k == caller) differ refl refl;
 }
 next_numbered s w (Moved caller luck made reply) h =
-    kept_numbered w (next s w (Moved caller luck made reply)) refl
+    kept_numbered w (now_after s w (Moved caller luck made reply)) refl
     (λ k. set_keeps w.calls caller k (k == caller) _ refl (moved_number w.tree luck made reply (w.calls caller))) h
 next_numbered s w (Stopped caller) h =
-    kept_numbered w (next s w (Stopped caller)) refl (λ k. set_keeps w.calls caller k (k == caller) None refl tt) h
+    kept_numbered w (now_after s w (Stopped caller)) refl (λ k. set_keeps w.calls caller k (k == caller) None refl tt) h
 
 -- no fewer calls began after more records
 pub more_begun : (s : Setup) (w : Now) (records : List Record) → w.begun ≤ (replayed s w records).begun
 more_begun s w [] = omega arith
-more_begun s w (Began caller command ∷ records) = omega (arith, more_begun s (next s w (Began caller command)) records)
-more_begun s w (Moved caller luck made reply ∷ records) = more_begun s (next s w (Moved caller luck made reply)) records
-more_begun s w (Stopped caller ∷ records) = more_begun s (next s w (Stopped caller)) records
+more_begun s w (Began caller command ∷ records) = omega (arith, more_begun s (now_after s w (Began caller command)) records)
+more_begun s w (Moved caller luck made reply ∷ records) = more_begun s (now_after s w (Moved caller luck made reply)) records
+more_begun s w (Stopped caller ∷ records) = more_begun s (now_after s w (Stopped caller)) records
 
 -- ---- calls by their callers
 
-pub first_numbered : (s : Setup) → Numbered (first s)
+pub first_numbered : (s : Setup) → Numbered (initial s)
 first_numbered s = record { below = λ k. tt; apart = λ j k differ. tt }
 
 module _ (w : Now) (h : Numbered w) where

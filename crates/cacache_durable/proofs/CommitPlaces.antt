@@ -22,7 +22,7 @@ use Rattle.cacache_table.specs.declared.carried.Commit.{Commit}
 use Rattle.cacache_table.specs.Inserting.{bucket_line, insertion, refused_cause}
 use Rattle.cacache_table.specs.Runs.{Moves, Runs, Goes}
 use Rattle.cacache_table.specs.Sound.{FormedIfWritten, MayBegin}
-use Rattle.cacache_table.specs.Storing.{insertion_of, put_commit, settled}
+use Rattle.cacache_table.specs.Storing.{insertion_of, put_commit, secured}
 use Rattle.cacache_table.specs.Table.{after, opening}
 use Rattle.cacache_value.specs.Acts.{PutBytes, AddEntries}
 use Rattle.cacache_value.specs.Traces.{Move}
@@ -37,7 +37,7 @@ use Rattle.cacache_history.proofs.Holding.{CallHolds, held_at, legal_after, of_c
 use Rattle.cacache_durable.specs.Ending.{EndsFrom}
 use Rattle.cacache_durable.proofs.Ending.{Has, PlaceOf, own_moves, own_runs, place_of}
 use Rattle.cacache_durable.proofs.CommitMoves.{Appends, Stores, inserted}
-use Rattle.cacache_durable.proofs.PutMoves.{Places, put_places, resettles}
+use Rattle.cacache_durable.proofs.PutMoves.{Places, put_places, secures_found}
 
 -- ---- the whole run of a call
 
@@ -120,13 +120,13 @@ abbrev pub IsSynced : Commit → Made → Type 0
 IsSynced c made = made ≡ (steps.SyncFile (content_path c.cache c.computed), answers.Done)
 
 -- one of these moves does so, and then the commit goes on
-pub record Settles (i : List Hash) (c : Commit) (moves : Moves) : Type 0 where
+pub record Secures (i : List Hash) (c : Commit) (moves : Moves) : Type 0 where
   pub front : Moves
   pub made : Made
   pub more : Moves
   pub is : moves ≡ front ++ made ∷ more
   pub puts : IsPut c made ⊎ IsSynced c made
-  pub runs : Stores i (settled c) more
+  pub runs : Stores i (secured c) more
 
 module _ (h : History) (legal : IsLegal h) (before rest : List Record) (is : h.records ≡ before ++ rest) (i : List Hash) where
   module _ (command : Command) (ends : EndsFrom h before rest command (Stored i)) where
@@ -167,8 +167,8 @@ module _ (h : History) (legal : IsLegal h) (before rest : List Record) (is : h.r
           subst (λ command. EachTurn (λ turn. Makes (own_of (call_site h.setup ends.call.number) command) turn.move.step) ends.call.turns) ends.command_is
           (holds (commands.Put p) ends).makes
 
-      settles_in : Places i commit (made_in ends.call.turns ++ own (commands.Put p) ends) → Settles i commit (own (commands.Put p) ends)
-      settles_in places =
+      secures_in : Places i commit (made_in ends.call.turns ++ own (commands.Put p) ends) → Secures i commit (own (commands.Put p) ends)
+      secures_in places =
           elim places.puts [
             | inl put ↦
                 let later = later_made (commands.Put p) ends (λ turn. Makes (own_bytes p.data (content_path commit.cache commit.computed)) turn.move.step) places.front places.move places.more
@@ -178,7 +178,7 @@ module _ (h : History) (legal : IsLegal h) (before rest : List Record) (is : h.r
             | inr found ↦
                 let later = later_made (commands.Put p) ends (λ turn. Makes (own_bytes p.data (content_path commit.cache commit.computed)) turn.move.step) places.front places.move places.more
                 (λ turn makes e. finds_it turn (content_path commit.cache commit.computed) (e ∙ found.0)) put_makes places.is in
-                let sync = resettles i commit durable places.more found.1 in
+                let sync = secures_found i commit durable places.more found.1 in
                 record {
                   front = later.0 ++ places.move ∷ [];
                   made = (steps.SyncFile (content_path commit.cache commit.computed), answers.Done);
@@ -194,8 +194,8 @@ module _ (h : History) (legal : IsLegal h) (before rest : List Record) (is : h.r
       put_formed =
           subst (λ command. MayBegin (call_site h.setup ends.call.number) (may_export h.setup) (is_outside h.setup) command) ends.command_is (holds (commands.Put p) ends).may
 
-      pub put_settles : Settles i commit (own (commands.Put p) ends)
-      put_settles = settles_in (put_places i (call_site h.setup ends.call.number) p (made_in ends.call.turns ++ own (commands.Put p) ends) (whole (commands.Put p) ends))
+      pub put_secures : Secures i commit (own (commands.Put p) ends)
+      put_secures = secures_in (put_places i (call_site h.setup ends.call.number) p (made_in ends.call.turns ++ own (commands.Put p) ends) (whole (commands.Put p) ends))
 
   -- ---- an insertion
 

@@ -10,10 +10,10 @@ use Rattle.cacache_table.specs.Inserting.{bucket_line, recorded, after_append}
 use Rattle.cacache_table.specs.State.{State, doing, creating, writing, syncing, persisting, confirming, appending, over, make_folder, sync_file, sync_dir}
 use Rattle.cacache_table.specs.declared.carried.Commit.{Commit}
 use Rattle.cacache_table.specs.StepPaths.{content_path, temp_path, bucket_path}
-use Rattle.cacache_table.specs.Storing.{placed, settled, resettled, moved, write_rest, after_write, after_confirm}
+use Rattle.cacache_table.specs.Storing.{placed, secured, secured_found, move_in, write_rest, after_write, after_confirm}
 use Rattle.cacache_table.specs.Table.{wants, after}
 use Rattle.cacache_table.proofs.Branches.{cond_leads, go_on_leads}
-use Rattle.cacache_table.proofs.Leading.{settles, resettles, records, places}
+use Rattle.cacache_table.proofs.Leading.{secures, secures_found, records, places}
 use Rattle.cacache_table.proofs.Sound.{some_is}
 
 -- the temporary file isn't moved before it is synced
@@ -37,7 +37,7 @@ Moves Ready s = ⊥
 abbrev pub IsDurable : (PlainTemp → Type 0) → State → Type 0
 IsDurable Ready s = Waits s ⊎ Moves Ready s
 
-moved_waits : (c : Commit) (file : PlainTemp) → c.options.durable ≡ true → Waits (moved c file)
+moved_waits : (c : Commit) (file : PlainTemp) → c.options.durable ≡ true → Waits (move_in c file)
 moved_waits c file durable =
     cond_leads Waits c.options.durable (syncing c file) (persisting c file) (λ _. tt) (λ no. let differ : true ≡ false = sym durable ∙ no in absurd cc)
 
@@ -48,8 +48,8 @@ rests c file (b ∷ bs) durable = durable
 places_wait : (c : Commit) → Waits (placed c)
 places_wait c = places Waits (λ reply. tt) (λ folder i. tt) c
 
-settled_waits : (c : Commit) → Waits (settled c)
-settled_waits c = settles Waits (λ p s h. (h, h)) c (places_wait c)
+secured_waits : (c : Commit) → Waits (secured c)
+secured_waits c = secures Waits (λ p s h. (h, h)) c (places_wait c)
 
 module _ (Ready Later : PlainTemp → Type 0) (step : PlainStep) (a : PlainAnswer)
     (synced : (f new : PlainTemp) → Some (steps.SyncTemp f) ≡ Some step → synced_in a ≡ Ok new → Later new) where
@@ -65,7 +65,7 @@ module _ (Ready Later : PlainTemp → Type 0) (step : PlainStep) (a : PlainAnswe
       go_on_leads (IsDurable Later) (synced_in a) fails (persisting c) (inl tt) (λ fault. inl tt) (λ new e. inr (synced file new w e))
   waits_on (confirming c fault) h w =
       inl (go_on_leads Waits (there_in a) (λ _. fails fault) (after_confirm c fault) tt (λ other. tt)
-      (λ there e. cond_leads Waits there (resettled c) (fails fault) (λ _. resettles Waits (λ p s h. (h, h)) c (places_wait c)) (λ _. tt)))
+      (λ there e. cond_leads Waits there (secured_found c) (fails fault) (λ _. secures_found Waits (λ p s h. (h, h)) c (places_wait c)) (λ _. tt)))
   waits_on (appending i) h w =
       inl (go_on_leads Waits (taken_in a) fails (after_append i) tt (λ fault. tt)
       (λ n e. cond_leads Waits (nat_le (length (bucket_line i)) n) (recorded i) (fails faults.ShortAppend) (λ _. records Waits (λ p s h. (h, h)) i tt) (λ _. tt)))
@@ -73,7 +73,7 @@ module _ (Ready Later : PlainTemp → Type 0) (step : PlainStep) (a : PlainAnswe
   waits_on s h w = absurd h
 
   moves_on : (s : State) → Moves Ready s → IsDurable Later (after s a)
-  moves_on (persisting c file) h = inl (go_on_leads Waits (done_in a) (confirming c) (λ _. settled c) tt (λ fault. tt) (λ x e. settled_waits c))
+  moves_on (persisting c file) h = inl (go_on_leads Waits (done_in a) (confirming c) (λ _. secured c) tt (λ fault. tt) (λ x e. secured_waits c))
   moves_on s h = absurd h
 
   -- a step leads to such a state again

@@ -9,9 +9,9 @@ use Rattle.cacache_value.specs.Traces.{Move}
 use Rattle.cacache_history.specs.declared.record.Record.{Record}
 use Rattle.cacache_history.specs.declared.record.Record.TheVariants.{Began, Moved, Stopped}
 use Rattle.cacache_history.specs.Setup.{Setup}
-use Rattle.cacache_history.specs.History.{Call, Now, Made, moved, set_call, next, replayed, Ends, MayMove, MayCome, Legal}
+use Rattle.cacache_history.specs.History.{Call, Now, Made, call_after, set_call, now_after, replayed, Ends, MayMove, MayCome, Legal}
 use Rattle.cacache_history.specs.Values.{steps_of}
-use Rattle.cacache_durable.specs.Ending.{EndsHere, EndsWith}
+use Rattle.cacache_durable.specs.Ending.{EndsHere, CallEndsWith}
 
 -- ---- the caller's own moves
 
@@ -92,20 +92,20 @@ module _ (caller other : ℕ) where
 
   -- and where the call isn't over it is then the moved one
   now_moved : (w : Now) (luck : Luck) (made : Option Made) (call : Call) → (other == caller) ≡ true → w.calls caller ≡ Some call
-      → set_call other (option_map (moved w.tree luck made) (w.calls other)) w.calls caller ≡ Some (moved w.tree luck made call)
+      → set_call other (option_map (call_after w.tree luck made) (w.calls other)) w.calls caller ≡ Some (call_after w.tree luck made call)
   now_moved w luck made call e is =
-      own_set (option_map (moved w.tree luck made) (w.calls other)) w.calls e
-      ∙ ap (option_map (moved w.tree luck made)) (ap w.calls (eqb-true other caller e) ∙ is)
+      own_set (option_map (call_after w.tree luck made) (w.calls other)) w.calls e
+      ∙ ap (option_map (call_after w.tree luck made)) (ap w.calls (eqb-true other caller e) ∙ is)
 
 -- ---- its moves are a run
 
 module _ (s : Setup) (caller : ℕ) (reply : Reply) where
   made_runs : (t : Tree) (luck : Luck) (made : Option Made) (told : Option Reply) (call : Call) (moves : Moves) → MayMove t call.state luck made told
-      → Runs (moved t luck made call).state moves (plain_reply reply) → Runs call.state (with_made made moves) (plain_reply reply)
+      → Runs (call_after t luck made call).state moves (plain_reply reply) → Runs call.state (with_made made moves) (plain_reply reply)
   made_runs t luck None told call moves may run = run
   made_runs t luck (Some made) told call moves may run = (may.0, may.2, run)
 
-  move_ends : (t : Tree) (luck : Luck) (made : Option Made) (told : Option Reply) (call : Call) → MayMove t call.state luck made told → Ends (moved t luck made call).state told
+  move_ends : (t : Tree) (luck : Luck) (made : Option Made) (told : Option Reply) (call : Call) → MayMove t call.state luck made told → Ends (call_after t luck made call).state told
   move_ends t luck None told call may = may.1
   move_ends t luck (Some made) told call may = may.3
 
@@ -114,26 +114,26 @@ module _ (s : Setup) (caller : ℕ) (reply : Reply) where
   ended_runs state told (inr e) same = inr (ap plain_reply (sym same ∙ e))
 
   moved_runs : (w : Now) (other : ℕ) (luck : Luck) (made : Option Made) (told : Option Reply) (records : List Record) (call : Call) (b : Bool) → (other == caller) ≡ b
-      → MayCome s w (Moved other luck made told) → w.calls caller ≡ Some call → EndsHere b told reply (EndsWith caller reply records)
-      → ((later : Call) → (next s w (Moved other luck made told)).calls caller ≡ Some later → EndsWith caller reply records → Runs later.state (own_moves caller records) (plain_reply reply))
+      → MayCome s w (Moved other luck made told) → w.calls caller ≡ Some call → EndsHere b told reply (CallEndsWith caller reply records)
+      → ((later : Call) → (now_after s w (Moved other luck made told)).calls caller ≡ Some later → CallEndsWith caller reply records → Runs later.state (own_moves caller records) (plain_reply reply))
       → Runs call.state (cond b (with_made made (until_over told (own_moves caller records))) (own_moves caller records)) (plain_reply reply)
   moved_runs w other luck made told records call false e may is ends more = more call (other_stays caller other _ w.calls e ∙ is) ends
   moved_runs w other luck made None records call true e may is ends more =
       let mine = subst (λ (c : Call). MayMove w.tree c.state luck made None) (is_own caller other w.calls call may.0 may.1 is e) may.2 in
-      made_runs w.tree luck made None call (own_moves caller records) mine (more (moved w.tree luck made call) (now_moved caller other w luck made call e is) ends)
+      made_runs w.tree luck made None call (own_moves caller records) mine (more (call_after w.tree luck made call) (now_moved caller other w luck made call e is) ends)
   moved_runs w other luck made (Some told) records call true e may is ends more =
       let mine = subst (λ (c : Call). MayMove w.tree c.state luck made (Some told)) (is_own caller other w.calls call may.0 may.1 is e) may.2 in
-      made_runs w.tree luck made (Some told) call [] mine (ended_runs (moved w.tree luck made call).state told (move_ends w.tree luck made (Some told) call mine) ends)
+      made_runs w.tree luck made (Some told) call [] mine (ended_runs (call_after w.tree luck made call).state told (move_ends w.tree luck made (Some told) call mine) ends)
 
-  pub own_runs : (w : Now) (records : List Record) (call : Call) → Legal s w records → w.calls caller ≡ Some call → EndsWith caller reply records
+  pub own_runs : (w : Now) (records : List Record) (call : Call) → Legal s w records → w.calls caller ≡ Some call → CallEndsWith caller reply records
       → Runs call.state (own_moves caller records) (plain_reply reply)
   own_runs w [] call legal is ends = absurd ends
   own_runs w (Began other command ∷ records) call legal is ends =
-      own_runs (next s w (Began other command)) records call legal.1 (other_stays caller other _ w.calls (is_other caller other w.calls call legal.0.1 is) ∙ is) ends
+      own_runs (now_after s w (Began other command)) records call legal.1 (other_stays caller other _ w.calls (is_other caller other w.calls call legal.0.1 is) ∙ is) ends
   own_runs w (Moved other luck made told ∷ records) call legal is ends =
-      moved_runs w other luck made told records call (other == caller) refl legal.0 is ends (λ later there. own_runs (next s w (Moved other luck made told)) records later legal.1 there)
+      moved_runs w other luck made told records call (other == caller) refl legal.0 is ends (λ later there. own_runs (now_after s w (Moved other luck made told)) records later legal.1 there)
   own_runs w (Stopped other ∷ records) call legal is ends =
-      own_runs (next s w (Stopped other)) records call legal.1 (other_stays caller other None w.calls ends.0 ∙ is) ends.1
+      own_runs (now_after s w (Stopped other)) records call legal.1 (other_stays caller other None w.calls ends.0 ∙ is) ends.1
 
   -- ---- and each has its place
 
@@ -151,7 +151,7 @@ module _ (s : Setup) (caller : ℕ) (reply : Reply) where
 
   -- one record before
   place_after : (w : Now) (r : Record) (records : List Record) (old call : Call) (made : Made) (more : Moves) → call.command ≡ old.command
-      → PlaceOf (next s w r) records call made more → PlaceOf w (r ∷ records) old made more
+      → PlaceOf (now_after s w r) records call made more → PlaceOf w (r ∷ records) old made more
   place_after w r records old call made more same p = record {
     between = r ∷ p.between;
     luck = p.luck;
@@ -165,9 +165,9 @@ module _ (s : Setup) (caller : ℕ) (reply : Reply) where
   }
 
   place_moved : (w : Now) (luck : Luck) (made : Option Made) (told : Option Reply) (records : List Record) (call : Call) (front : Moves) (move : Made) (more : Moves)
-      → w.calls caller ≡ Some call → EndsHere true told reply (EndsWith caller reply records)
-      → ((later : Call) (front : Moves) → (next s w (Moved caller luck made told)).calls caller ≡ Some later → EndsWith caller reply records → own_moves caller records ≡ front ++ move ∷ more
-      → PlaceOf (next s w (Moved caller luck made told)) records later move more)
+      → w.calls caller ≡ Some call → EndsHere true told reply (CallEndsWith caller reply records)
+      → ((later : Call) (front : Moves) → (now_after s w (Moved caller luck made told)).calls caller ≡ Some later → CallEndsWith caller reply records → own_moves caller records ≡ front ++ move ∷ more
+      → PlaceOf (now_after s w (Moved caller luck made told)) records later move more)
       → with_made made (until_over told (own_moves caller records)) ≡ front ++ move ∷ more → PlaceOf w (Moved caller luck made told ∷ records) call move more
   place_moved w luck None None records call front move more is ends later e =
       place_after w (Moved caller luck None None) records call call move more refl (later call front (now_moved caller caller w luck None call (eq-eqb caller caller refl) is) ends e)
@@ -189,34 +189,34 @@ module _ (s : Setup) (caller : ℕ) (reply : Reply) where
       }
   place_moved w luck (Some made) None records call (m ∷ front) move more is ends later e =
       let rest : own_moves caller records ≡ front ++ move ∷ more = cc in
-      place_after w (Moved caller luck (Some made) None) records call (moved w.tree luck (Some made) call) move more refl
-      (later (moved w.tree luck (Some made) call) front (now_moved caller caller w luck (Some made) call (eq-eqb caller caller refl) is) ends rest)
+      place_after w (Moved caller luck (Some made) None) records call (call_after w.tree luck (Some made) call) move more refl
+      (later (call_after w.tree luck (Some made) call) front (now_moved caller caller w luck (Some made) call (eq-eqb caller caller refl) is) ends rest)
   place_moved w luck (Some made) (Some told) records call (m ∷ []) move more is ends later e = absurd cc
   place_moved w luck (Some made) (Some told) records call (m ∷ n ∷ front) move more is ends later e = absurd cc
 
   place_by : (w : Now) (other : ℕ) (luck : Luck) (made : Option Made) (told : Option Reply) (records : List Record) (call : Call) (front : Moves) (move : Made) (more : Moves) (b : Bool)
-      → (other == caller) ≡ b → w.calls caller ≡ Some call → EndsHere b told reply (EndsWith caller reply records)
-      → ((later : Call) (front : Moves) → (next s w (Moved other luck made told)).calls caller ≡ Some later → EndsWith caller reply records → own_moves caller records ≡ front ++ move ∷ more
-      → PlaceOf (next s w (Moved other luck made told)) records later move more)
+      → (other == caller) ≡ b → w.calls caller ≡ Some call → EndsHere b told reply (CallEndsWith caller reply records)
+      → ((later : Call) (front : Moves) → (now_after s w (Moved other luck made told)).calls caller ≡ Some later → CallEndsWith caller reply records → own_moves caller records ≡ front ++ move ∷ more
+      → PlaceOf (now_after s w (Moved other luck made told)) records later move more)
       → cond b (with_made made (until_over told (own_moves caller records))) (own_moves caller records) ≡ front ++ move ∷ more → PlaceOf w (Moved other luck made told ∷ records) call move more
   place_by w other luck made told records call front move more true same is ends later e =
       subst
-      (λ k. ((later : Call) (front : Moves) → (next s w (Moved k luck made told)).calls caller ≡ Some later → EndsWith caller reply records → own_moves caller records ≡ front ++ move ∷ more
-      → PlaceOf (next s w (Moved k luck made told)) records later move more)
+      (λ k. ((later : Call) (front : Moves) → (now_after s w (Moved k luck made told)).calls caller ≡ Some later → CallEndsWith caller reply records → own_moves caller records ≡ front ++ move ∷ more
+      → PlaceOf (now_after s w (Moved k luck made told)) records later move more)
       → with_made made (until_over told (own_moves caller records)) ≡ front ++ move ∷ more → PlaceOf w (Moved k luck made told ∷ records) call move more)
       (sym (eqb-true other caller same)) (place_moved w luck made told records call front move more is ends) later e
   place_by w other luck made told records call front move more false same is ends later e =
       place_after w (Moved other luck made told) records call call move more refl (later call front (other_stays caller other _ w.calls same ∙ is) ends e)
 
-  pub place_of : (w : Now) (records : List Record) (call : Call) (front : Moves) (move : Made) (more : Moves) → Legal s w records → w.calls caller ≡ Some call → EndsWith caller reply records
+  pub place_of : (w : Now) (records : List Record) (call : Call) (front : Moves) (move : Made) (more : Moves) → Legal s w records → w.calls caller ≡ Some call → CallEndsWith caller reply records
       → own_moves caller records ≡ front ++ move ∷ more → PlaceOf w records call move more
   place_of w [] call front move more legal is ends e = absurd ends
   place_of w (Began other command ∷ records) call front move more legal is ends e =
       place_after w (Began other command) records call call move more refl
-      (place_of (next s w (Began other command)) records call front move more legal.1 (other_stays caller other _ w.calls (is_other caller other w.calls call legal.0.1 is) ∙ is) ends e)
+      (place_of (now_after s w (Began other command)) records call front move more legal.1 (other_stays caller other _ w.calls (is_other caller other w.calls call legal.0.1 is) ∙ is) ends e)
   place_of w (Moved other luck made told ∷ records) call front move more legal is ends e =
       place_by w other luck made told records call front move more (other == caller) refl is ends
-      (λ later front there ends e. place_of (next s w (Moved other luck made told)) records later front move more legal.1 there ends e) e
+      (λ later front there ends e. place_of (now_after s w (Moved other luck made told)) records later front move more legal.1 there ends e) e
   place_of w (Stopped other ∷ records) call front move more legal is ends e =
       place_after w (Stopped other) records call call move more refl
-      (place_of (next s w (Stopped other)) records call front move more legal.1 (other_stays caller other None w.calls ends.0 ∙ is) ends.1 e)
+      (place_of (now_after s w (Stopped other)) records call front move more legal.1 (other_stays caller other None w.calls ends.0 ∙ is) ends.1 e)

@@ -27,7 +27,7 @@ use Rattle.cacache_value.proofs.FoundPaths.{of_names}
 use Rattle.cacache_history.specs.declared.record.Record.{Record}
 use Rattle.cacache_history.specs.declared.record.Record.TheVariants.{Began, Moved, Stopped}
 use Rattle.cacache_history.specs.Setup.{Setup, call_site, home, is_outside, may_export}
-use Rattle.cacache_history.specs.History.{Call, History, IsLegal, Legal, Made, MayMove, Now, begins, first, moved, next, now_at, replayed, unless_over}
+use Rattle.cacache_history.specs.History.{Call, History, IsLegal, Legal, Made, MayMove, Now, new_call, initial, call_after, now_after, now_at, replayed, unless_over}
 use Rattle.cacache_history.specs.Values.{steps_of}
 use Rattle.cacache_history.proofs.Holding.{AllHold, CallHolds, ended_at, first_holds, legal_before, made_proper, next_holds, of_caller, replay_more, set_at}
 use Rattle.cacache_history.proofs.Syncing.{temp_synced}
@@ -125,17 +125,17 @@ module _ (s : Setup) (apart : LieApart (home s) s.outside) (m : Moment) (w : Now
       inr (sync_leaves m.fixed m.tree later.tree f q made.0 made.1 sync (synced_so made.1 new e) (ap (λ (f : PlainTemp). names_of f.path) same ∙ named))
 
   -- the call itself
-  own_temp : TempAt m (Some call) → TempAt later (Some (moved w.tree luck (Some made) call))
+  own_temp : TempAt m (Some call) → TempAt later (Some (call_after w.tree luck (Some made) call))
   own_temp old = λ p put durable. stays_durable (IsSynced m) (IsSynced later) made.0 made.1 synced_later call.state (old p put durable) may.0
 
-  moved_temp : (o : Option Call) → o ≡ Some call → TempAt later (option_map (moved w.tree luck (Some made)) o)
-  moved_temp o e = subst (λ o. TempAt later (option_map (moved w.tree luck (Some made)) o)) (sym e) (own_temp (subst (TempAt m) is (h.temps caller)))
+  moved_temp : (o : Option Call) → o ≡ Some call → TempAt later (option_map (call_after w.tree luck (Some made)) o)
+  moved_temp o e = subst (λ o. TempAt later (option_map (call_after w.tree luck (Some made)) o)) (sym e) (own_temp (subst (TempAt m) is (h.temps caller)))
 
-  temp_after : (k : ℕ) (b : Bool) → (k == caller) ≡ b → TempAt later (cond b (unless_over reply (option_map (moved w.tree luck (Some made)) (w.calls caller))) (w.calls k))
+  temp_after : (k : ℕ) (b : Bool) → (k == caller) ≡ b → TempAt later (cond b (unless_over reply (option_map (call_after w.tree luck (Some made)) (w.calls caller))) (w.calls k))
   temp_after k true e = ended_at (TempAt later) tt reply _ (moved_temp (w.calls caller) is)
   temp_after k false e = other_temp k (w.calls k) refl (λ same. let yes : true ≡ false = sym (eq-eqb k caller same) ∙ e in absurd cc) (h.temps k)
 
-  pub move_temps : TempsHold later (next s w (Moved caller luck (Some made) reply))
+  pub move_temps : TempsHold later (now_after s w (Moved caller luck (Some made) reply))
   move_temps = record {
     tree = ap (λ t. (apply t made.0 luck).1) h.tree;
     temps = λ k. temp_after k (k == caller) refl;
@@ -143,11 +143,11 @@ module _ (s : Setup) (apart : LieApart (home s) s.outside) (m : Moment) (w : Now
 
 -- ---- any record
 
-kept_call : (m : Moment) (t : Tree) (luck : Luck) (o : Option Call) → TempAt m o → TempAt m (option_map (moved t luck None) o)
+kept_call : (m : Moment) (t : Tree) (luck : Luck) (o : Option Call) → TempAt m o → TempAt m (option_map (call_after t luck None) o)
 kept_call m t luck None h = h
 kept_call m t luck (Some call) h = h
 
-began_temp : (m : Moment) (s : Setup) (n : ℕ) (command : Command) → TempAt m (Some (begins s n command))
+began_temp : (m : Moment) (s : Setup) (n : ℕ) (command : Command) → TempAt m (Some (new_call s n command))
 began_temp m s n command = λ p put durable. subst (λ c. IsDurable (IsSynced m) (opening (call_site s n) c)) (sym put) (inl durable)
 
 module _ (s : Setup) (apart : LieApart (home s) s.outside) where
@@ -155,23 +155,23 @@ module _ (s : Setup) (apart : LieApart (home s) s.outside) where
       → TempsHold (after m (steps_of records)) (replayed s w records)
   temps_hold m w [] legal all numbered few h = h
   temps_hold m w (Began caller command ∷ records) legal all numbered few h =
-      temps_hold m (next s w (Began caller command)) records legal.1 (next_holds s apart w (Began caller command) legal.0 all) (next_numbered s w (Began caller command) numbered) few
-      (record { tree = h.tree; temps = λ k. set_at (TempAt m) (k == caller) (Some (begins s w.begun command)) (w.calls k) (began_temp m s w.begun command) (h.temps k) })
+      temps_hold m (now_after s w (Began caller command)) records legal.1 (next_holds s apart w (Began caller command) legal.0 all) (next_numbered s w (Began caller command) numbered) few
+      (record { tree = h.tree; temps = λ k. set_at (TempAt m) (k == caller) (Some (new_call s w.begun command)) (w.calls k) (began_temp m s w.begun command) (h.temps k) })
   temps_hold m w (Moved caller luck None reply ∷ records) legal all numbered few h =
-      temps_hold m (next s w (Moved caller luck None reply)) records legal.1 (next_holds s apart w (Moved caller luck None reply) legal.0 all)
+      temps_hold m (now_after s w (Moved caller luck None reply)) records legal.1 (next_holds s apart w (Moved caller luck None reply) legal.0 all)
       (next_numbered s w (Moved caller luck None reply) numbered) few
       (record { tree = h.tree; temps = λ k. set_at (TempAt m) (k == caller) _ (w.calls k) (ended_at (TempAt m) tt reply _ (kept_call m w.tree luck (w.calls caller) (h.temps caller))) (h.temps k) })
   temps_hold m w (Moved caller luck (Some made) reply ∷ records) legal all numbered few h =
-      temps_hold (moments.next m (made_move luck made)) (next s w (Moved caller luck (Some made) reply)) records legal.1
+      temps_hold (moments.next m (made_move luck made)) (now_after s w (Moved caller luck (Some made) reply)) records legal.1
       (next_holds s apart w (Moved caller luck (Some made) reply) legal.0 all) (next_numbered s w (Moved caller luck (Some made) reply) numbered) few
-      (move_temps s apart m w all numbered (omega (arith, more_begun s (next s w (Moved caller luck (Some made) reply)) records, few)) h caller luck made legal.0.0 legal.0.1 reply legal.0.2)
+      (move_temps s apart m w all numbered (omega (arith, more_begun s (now_after s w (Moved caller luck (Some made) reply)) records, few)) h caller luck made legal.0.0 legal.0.1 reply legal.0.2)
   temps_hold m w (Stopped caller ∷ records) legal all numbered few h =
-      temps_hold m (next s w (Stopped caller)) records legal.1 (next_holds s apart w (Stopped caller) legal.0 all) (next_numbered s w (Stopped caller) numbered) few
+      temps_hold m (now_after s w (Stopped caller)) records legal.1 (next_holds s apart w (Stopped caller) legal.0 all) (next_numbered s w (Stopped caller) numbered) few
       (record { tree = h.tree; temps = λ k. set_at (TempAt m) (k == caller) None (w.calls k) tt (h.temps k) })
 
 -- at each place of a legal history of few calls
 pub temps_at : (h : History) → IsLegal h → FewCalls h → (before rest : List Record) → h.records ≡ before ++ rest → TempsHold (moment_at h before) (now_at h before)
 temps_at h legal few before rest is =
-    temps_hold h.setup legal.apart (loss.opening (first h.setup).tree) (first h.setup) before (legal_before h legal before rest is) (first_holds h legal) (first_numbered h.setup)
-    (omega (arith, more_begun h.setup (now_at h before) rest, subst (λ w. w.begun ≤ 2 ^ 64) (ap (now_at h) is ∙ replay_more h.setup (first h.setup) before rest) few))
+    temps_hold h.setup legal.apart (loss.opening (initial h.setup).tree) (initial h.setup) before (legal_before h legal before rest is) (first_holds h legal) (first_numbered h.setup)
+    (omega (arith, more_begun h.setup (now_at h before) rest, subst (λ w. w.begun ≤ 2 ^ 64) (ap (now_at h) is ∙ replay_more h.setup (initial h.setup) before rest) few))
     (record { tree = refl; temps = λ k. tt })

@@ -18,7 +18,7 @@ use Rattle.cacache_value.proofs.Traces.{traces_show}
 use Rattle.cacache_history.specs.declared.record.Record.{Record}
 use Rattle.cacache_history.specs.declared.record.Record.TheVariants.{Began, Moved, Stopped}
 use Rattle.cacache_history.specs.Setup.{home}
-use Rattle.cacache_history.specs.History.{History, IsLegal, first, now_at}
+use Rattle.cacache_history.specs.History.{History, IsLegal, initial, now_at}
 use Rattle.cacache_history.specs.Values.{steps_of, value_at}
 use Rattle.cacache_history.proofs.Holding.{held_at, legal_after, legal_front, replay_more}
 use Rattle.cacache_history.proofs.Values.{traced}
@@ -109,7 +109,7 @@ links_stay_none h legal before more later address is calm none =
     let m = traced h.setup legal.apart (now_at h before) more
     (legal_front h.setup (now_at h before) more later (legal_after h legal before (more ++ later) is)) k in
     let tree : tree_after (now_at h before).tree (steps_of more) ≡ (now_at h (before ++ more)).tree
-    = m.leads ∙ ap (λ w. w.tree) (sym (replay_more h.setup (first h.setup) before more)) in
+    = m.leads ∙ ap (λ w. w.tree) (sym (replay_more h.setup (initial h.setup) before more)) in
     let shown = (traces_show (home h.setup) (now_at h before).tree (steps_of more) k.placed k.rooted m.trace).value in
     let same : (wide_value (home h.setup) (now_at h (before ++ more)).tree).contents address ≡ (acts (home h.setup) (wide_value (home h.setup) (now_at h before).tree) (steps_of more)).contents address
     = ap (λ t. (wide_value (home h.setup) t).contents address) (sym tree) ∙ ap (λ v. v.contents address) shown in

@@ -30,14 +30,14 @@ use Rattle.cacache_loss.specs.LossLaws.{GoodNode, HasDigest}
 use Rattle.cacache_loss.specs.LostValues.{HoldsContent, LeftOf}
 use Rattle.cacache_loss.specs.Moments.{lost_then}
 use Rattle.cacache_loss.proofs.LostValues.{contents_are_held}
-use Rattle.cacache_durable.specs.Ending.{EndsFrom, EndsWith}
+use Rattle.cacache_durable.specs.Ending.{EndsFrom, CallEndsWith}
 use Rattle.cacache_durable.specs.FewCalls.{FewCalls}
 use Rattle.cacache_durable.specs.Outlasting.{DurablePut, EntryOutlasts, HistoriesOutlive, InsertsOutlast, KeyOutlasts, PutsOutlast, moment_at}
 use Rattle.cacache_durable.specs.QuietMoves.{AreQuiet}
 use Rattle.cacache_durable.proofs.AtMoves.{QuietPlace, here, own_record, quiet_here, split}
 use Rattle.cacache_durable.proofs.CommitMoves.{HasDirs}
-use Rattle.cacache_durable.proofs.PutMoves.{Adds, settles}
-use Rattle.cacache_durable.proofs.CommitPlaces.{Settles, insert_appends, insert_formed, line_is, own, place_in, put_formed, put_settles, written_fits}
+use Rattle.cacache_durable.proofs.PutMoves.{Adds, secures}
+use Rattle.cacache_durable.proofs.CommitPlaces.{Secures, insert_appends, insert_formed, line_is, own, place_in, put_formed, put_secures, written_fits}
 use Rattle.cacache_durable.proofs.DurableContents.{content_named, found_outlasts, put_outlasts}
 use Rattle.cacache_durable.proofs.DurableEntries.{bucket_named, entry_outlasts, whole_append}
 use Rattle.cacache_durable.proofs.SyncedTemps.{put_well_at}
@@ -87,11 +87,11 @@ module _ (h : History) (legal : IsLegal h) (folder : Names) (home_is : home h.se
     abbrev moves : Moves
     moves = own h legal put.before put.rest put.is put.reply (commands.Put p) put.call
 
-    found : Settles put.reply commit moves
-    found = put_settles h legal put.before put.rest put.is put.reply p put.durable path put.call text_named
+    found : Secures put.reply commit moves
+    found = put_secures h legal put.before put.rest put.is put.reply p put.durable path put.call text_named
 
     after_found : HasDirs (content_folders commit.cache commit.computed) found.more × Adds put.reply commit p.key found.more
-    after_found = settles put.reply commit put.durable found.more found.runs
+    after_found = secures put.reply commit put.durable found.more found.runs
 
     content_place : QuietPlace h folder path put.before put.rest put.call.caller found.made found.more
     content_place = quiet_place put.before put.rest put.is path put.quiet put.reply (commands.Put p) put.call found.front found.made found.more found.is
@@ -147,7 +147,7 @@ by_reply h before rest command reply other same ends = record {
   is = ends.is;
   command_is = ends.command_is;
   nothing = ends.nothing;
-  ends = subst (λ reply. EndsWith ends.caller reply rest) same ends.ends;
+  ends = subst (λ reply. CallEndsWith ends.caller reply rest) same ends.ends;
 }
 
 puts_outlast : (h : History) → IsLegal h → FewCalls h → PutsOutlast h

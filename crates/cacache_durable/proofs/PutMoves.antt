@@ -19,7 +19,7 @@ use Rattle.cacache_table.specs.StepPaths.{content_path, content_folders}
 use Rattle.cacache_table.specs.State.{State, doing, creating, writing, syncing, persisting, confirming, Site, make_folder, sync_file}
 use Rattle.cacache_table.specs.declared.carried.Commit.{Commit}
 use Rattle.cacache_table.specs.Common.{ends_with, fails, go_on, sync_up}
-use Rattle.cacache_table.specs.Storing.{insertion_of, indexed, sized, matches, compared, placed, settled, resettled, moved, write_rest, after_write, after_confirm, put_commit}
+use Rattle.cacache_table.specs.Storing.{insertion_of, indexed, sized, matches, compared, placed, secured, secured_found, move_in, write_rest, after_write, after_confirm, put_commit}
 use Rattle.cacache_table.specs.Table.{opening}
 use Rattle.cacache_table.specs.Runs.{Moves}
 use Rattle.cacache_history.specs.History.{Made}
@@ -57,8 +57,8 @@ module _ (i : List Hash) where
       by_key (Some key) moves run = inserted i (insertion_of c key) durable moves run
 
       -- the folders are synced, and then the entry is added
-      pub settles : (moves : Moves) → Stores i (settled c) moves → HasDirs (content_folders c.cache c.computed) moves × Adds c.key moves
-      settles moves run =
+      pub secures : (moves : Moves) → Stores i (secured c) moves → HasDirs (content_folders c.cache c.computed) moves × Adds c.key moves
+      secures moves run =
           let up : Stores i (sync_up (content_folders c.cache c.computed) (placed c)) moves
           = subst (λ b. Stores i (cond b (sync_up (content_folders c.cache c.computed) (placed c)) (placed c)) moves) durable run in
           let d = synced i (content_folders c.cache c.computed) (placed c) moves up in (
@@ -67,19 +67,19 @@ module _ (i : List Hash) where
           )
 
       -- before them the content, where it was found
-      pub resettles : (moves : Moves) → Stores i (resettled c) moves
-          → (more : Moves) × (moves ≡ (steps.SyncFile (content_path c.cache c.computed), answers.Done) ∷ more) × Stores i (settled c) more
-      resettles moves run =
-          does i (sync_file (content_path c.cache c.computed)) (settled c) moves
-          (subst (λ b. Stores i (cond b (doing (sync_file (content_path c.cache c.computed)) (settled c)) (settled c)) moves) durable run)
+      pub secures_found : (moves : Moves) → Stores i (secured_found c) moves
+          → (more : Moves) × (moves ≡ (steps.SyncFile (content_path c.cache c.computed), answers.Done) ∷ more) × Stores i (secured c) more
+      secures_found moves run =
+          does i (sync_file (content_path c.cache c.computed)) (secured c) moves
+          (subst (λ b. Stores i (cond b (doing (sync_file (content_path c.cache c.computed)) (secured c)) (secured c)) moves) durable run)
 
     -- ---- and before
 
     -- its content is put, or found
     abbrev pub PutsOrFinds : Made → Moves → Type 0
     PutsOrFinds m more =
-        (((f : PlainTemp) × (m ≡ (steps.Persist f (content_path c.cache c.computed), answers.Done))) × Stores i (settled c) more)
-        ⊎ ((m ≡ (steps.Exists (content_path c.cache c.computed), answers.There true)) × Stores i (resettled c) more)
+        (((f : PlainTemp) × (m ≡ (steps.Persist f (content_path c.cache c.computed), answers.Done))) × Stores i (secured c) more)
+        ⊎ ((m ≡ (steps.Exists (content_path c.cache c.computed), answers.There true)) × Stores i (secured_found c) more)
 
     -- so one of these moves does
     pub record Places (moves : Moves) : Type 0 where
@@ -93,7 +93,7 @@ module _ (i : List Hash) where
     later_places m moves all e p = record { front = m ∷ p.front; move = p.move; more = p.more; is = e ∙ ap (λ moves. m ∷ moves) p.is; puts = p.puts }
 
     confirms : (fault : Fault) (a : PlainAnswer) (r : Result Bool Refusal) (more : Moves) → there_in a ≡ r → Stores i (go_on r (λ _. fails fault) (after_confirm c fault)) more
-        → (a ≡ answers.There true) × Stores i (resettled c) more
+        → (a ≡ answers.There true) × Stores i (secured_found c) more
     confirms fault a (Ok true) more e run = (there_is a true e, run)
     confirms fault a (Ok false) more e run = refused i (IoError fault []) more run
     confirms fault a (Err (refusals.Fault other)) more e run = refused i (IoError fault []) more run
@@ -107,7 +107,7 @@ module _ (i : List Hash) where
         record { front = []; move = m; more = more; is = is; puts = inr (made_is m (steps.Exists (content_path c.cache c.computed)) (answers.There true) step d.0, d.1) }) run
 
     persists : (file : PlainTemp) (m : Made) (r : Result (Unit {0}) Refusal) (more all : Moves) → done_in m.1 ≡ r → all ≡ m ∷ more → Some (steps.Persist file (content_path c.cache c.computed)) ≡ Some m.0
-        → Stores i (go_on r (confirming c) (λ _. settled c)) more → Places all
+        → Stores i (go_on r (confirming c) (λ _. secured c)) more → Places all
     persists file m (Ok u) more all e is step run =
         record { front = []; move = m; more = more; is = is; puts = inl ((file, made_is m (steps.Persist file (content_path c.cache c.computed)) answers.Done step (done_is m.1 u e)), run) }
     persists file m (Err (refusals.Fault fault)) more all e is step run = later_places m more all is (confirmed fault more run)
@@ -126,7 +126,7 @@ module _ (i : List Hash) where
 
     rest_written : (file : PlainTemp) (rest : List ℕ) (moves : Moves) → ((file : PlainTemp) (rest : List ℕ) → Stores i (writing c file rest) moves → Places moves)
         → Stores i (write_rest c file rest) moves → Places moves
-    rest_written file [] moves k run = let d = does i (make_folder _) (moved c file) moves run in later_places _ d.0 moves d.1 (moved_on file c.options.durable d.0 d.2)
+    rest_written file [] moves k run = let d = does i (make_folder _) (move_in c file) moves run in later_places _ d.0 moves d.1 (moved_on file c.options.durable d.0 d.2)
     rest_written file (b ∷ rest) moves k run = k file (b ∷ rest) run
 
     written : (moves : Moves) (file : PlainTemp) (rest : List ℕ) → Stores i (writing c file rest) moves → Places moves

@@ -14,7 +14,7 @@ use Rattle.cacache_value.proofs.PathKinds.{paths_are_for}
 use Rattle.cacache_history.specs.declared.record.Record.{Record}
 use Rattle.cacache_history.specs.declared.record.Record.TheVariants.{Began, Moved, Stopped}
 use Rattle.cacache_history.specs.Setup.{Setup, call_site, home, is_outside, may_export}
-use Rattle.cacache_history.specs.History.{Call, History, IsLegal, Legal, Now, next, now_at}
+use Rattle.cacache_history.specs.History.{Call, History, IsLegal, Legal, Now, now_after, now_at}
 use Rattle.cacache_history.specs.Turns.{made_in}
 use Rattle.cacache_history.specs.Values.{steps_of}
 use Rattle.cacache_history.proofs.Holding.{AllHold, CallHolds, held_at, legal_after, next_holds, of_caller}
@@ -62,16 +62,16 @@ module _ (s : Setup) where
     quiet_steps : (w : Now) (records : List Record) → Legal s w records → AllHold s w → AreQuiet s path w records → CalmSteps (home s) (steps_of records)
     quiet_steps w [] legal h quiet = tt
     quiet_steps w (Began caller command ∷ records) legal h quiet =
-        quiet_steps (next s w (Began caller command)) records legal.1 (next_holds s apart w (Began caller command) legal.0 h) quiet.1
+        quiet_steps (now_after s w (Began caller command)) records legal.1 (next_holds s apart w (Began caller command) legal.0 h) quiet.1
     quiet_steps w (Moved caller luck None reply ∷ records) legal h quiet =
-        quiet_steps (next s w (Moved caller luck None reply)) records legal.1 (next_holds s apart w (Moved caller luck None reply) legal.0 h) quiet.1
+        quiet_steps (now_after s w (Moved caller luck None reply)) records legal.1 (next_holds s apart w (Moved caller luck None reply) legal.0 h) quiet.1
     quiet_steps w (Moved caller luck (Some made) reply ∷ records) legal h quiet = (
       quiet_wants legal.0.0 made.0 (of_caller s legal.0.0 _ legal.0.1 (h.calls caller))
           (subst (λ o. IsQuietMove path o (Some made)) legal.0.1 quiet.0).0 legal.0.2.0,
-      quiet_steps (next s w (Moved caller luck (Some made) reply)) records legal.1 (next_holds s apart w (Moved caller luck (Some made) reply) legal.0 h) quiet.1,
+      quiet_steps (now_after s w (Moved caller luck (Some made) reply)) records legal.1 (next_holds s apart w (Moved caller luck (Some made) reply) legal.0 h) quiet.1,
     )
     quiet_steps w (Stopped caller ∷ records) legal h quiet =
-        quiet_steps (next s w (Stopped caller)) records legal.1 (next_holds s apart w (Stopped caller) legal.0 h) quiet.1
+        quiet_steps (now_after s w (Stopped caller)) records legal.1 (next_holds s apart w (Stopped caller) legal.0 h) quiet.1
 
 -- from a place on where all moves are quiet, all steps are calm
 pub calm_at : (h : History) → IsLegal h → (before rest : List Record) → h.records ≡ before ++ rest → (path : Names) → AreQuiet h.setup path (now_at h before) rest

@@ -30,7 +30,7 @@ use Rattle.cacache_history.specs.declared.record.Record.{Record}
 use Rattle.cacache_history.specs.declared.record.Record.TheVariants.{Began, Moved, Stopped}
 use Rattle.cacache_history.specs.AddedEntries.{address_of_put}
 use Rattle.cacache_history.specs.Setup.{call_site, home}
-use Rattle.cacache_history.specs.History.{Call, History, IsLegal, Made, first, next, now_at}
+use Rattle.cacache_history.specs.History.{Call, History, IsLegal, Made, initial, now_after, now_at}
 use Rattle.cacache_history.specs.Values.{steps_of}
 use Rattle.cacache_history.proofs.Carrying.{Makes, carries_makes, own_of}
 use Rattle.cacache_history.proofs.Digests.{digest_hash}
@@ -183,8 +183,8 @@ module _ (h : History) (legal : IsLegal h) (few : FewCalls h) (folder : Names) (
       (subst (λ o. IsQuietMove path_of o (Some made)) may.1 quiet).1
 
   -- after one record more
-  on_from : (past todo : List Record) (r : Record) → AreQuiet h.setup path_of (next h.setup (now_at h past) r) todo → AreQuiet h.setup path_of (now_at h (past ++ r ∷ [])) todo
-  on_from past todo r quiet = subst (λ w. AreQuiet h.setup path_of w todo) (sym (replay_more h.setup (first h.setup) past (r ∷ []))) quiet
+  on_from : (past todo : List Record) (r : Record) → AreQuiet h.setup path_of (now_after h.setup (now_at h past) r) todo → AreQuiet h.setup path_of (now_at h (past ++ r ∷ [])) todo
+  on_from past todo r quiet = subst (λ w. AreQuiet h.setup path_of w todo) (sym (replay_more h.setup (initial h.setup) past (r ∷ []))) quiet
 
   puts_well : (past todo : List Record) → h.records ≡ past ++ todo → AreQuiet h.setup path_of (now_at h past) todo
       → EachMove (PutsMove (HasDigest a) path_of) (moment_at h past) (steps_of todo)

@@ -6,7 +6,7 @@ use Rattle.cacache_value.specs.Traces.{IsTrace, Move}
 use Rattle.cacache_history.specs.declared.record.Record.{Record}
 use Rattle.cacache_history.specs.declared.record.Record.TheVariants.{Began, Moved, Stopped}
 use Rattle.cacache_history.specs.Setup.{Setup, home}
-use Rattle.cacache_history.specs.History.{History, IsLegal, Made, Now, first, next, now_at, replayed}
+use Rattle.cacache_history.specs.History.{History, IsLegal, Made, Now, initial, now_after, now_at, replayed}
 use Rattle.cacache_history.specs.Values.{steps_of}
 use Rattle.cacache_history.proofs.Holding.{first_holds, held_at, legal_after, legal_before}
 use Rattle.cacache_history.proofs.Values.{traced}
@@ -24,14 +24,14 @@ made_move luck made = record { step = made.0; luck = luck; answer = made.1 }
 
 same_tree : (s : Setup) (m : Moment) (w : Now) (records : List Record) → m.tree ≡ w.tree → (after m (steps_of records)).tree ≡ (replayed s w records).tree
 same_tree s m w [] e = e
-same_tree s m w (Began caller command ∷ records) e = same_tree s m (next s w (Began caller command)) records e
-same_tree s m w (Moved caller luck None reply ∷ records) e = same_tree s m (next s w (Moved caller luck None reply)) records e
-same_tree s m w (Moved caller luck (Some made) reply ∷ records) e = same_tree s (moments.next m (made_move luck made)) (next s w (Moved caller luck (Some made) reply)) records (ap (λ t. (apply t made.0 luck).1) e)
-same_tree s m w (Stopped caller ∷ records) e = same_tree s m (next s w (Stopped caller)) records e
+same_tree s m w (Began caller command ∷ records) e = same_tree s m (now_after s w (Began caller command)) records e
+same_tree s m w (Moved caller luck None reply ∷ records) e = same_tree s m (now_after s w (Moved caller luck None reply)) records e
+same_tree s m w (Moved caller luck (Some made) reply ∷ records) e = same_tree s (moments.next m (made_move luck made)) (now_after s w (Moved caller luck (Some made) reply)) records (ap (λ t. (apply t made.0 luck).1) e)
+same_tree s m w (Stopped caller ∷ records) e = same_tree s m (now_after s w (Stopped caller)) records e
 
 -- the tree of a moment is the one that the history has there
 pub tree_at : (h : History) (before : List Record) → (moment_at h before).tree ≡ (now_at h before).tree
-tree_at h before = same_tree h.setup (opening (first h.setup).tree) (first h.setup) before refl
+tree_at h before = same_tree h.setup (opening (initial h.setup).tree) (initial h.setup) before refl
 
 after_more : (m : Moment) (before more : List Record) → after m (steps_of (before ++ more)) ≡ after (after m (steps_of before)) (steps_of more)
 after_more m [] more = refl
@@ -42,7 +42,7 @@ after_more m (Stopped caller ∷ before) more = after_more m before more
 
 -- further records lead on from a moment
 pub moment_more : (h : History) (before more : List Record) → moment_at h (before ++ more) ≡ after (moment_at h before) (steps_of more)
-moment_more h before more = after_more (opening (first h.setup).tree) before more
+moment_more h before more = after_more (opening (initial h.setup).tree) before more
 
 module _ (h : History) (legal : IsLegal h) where
   module _ (before rest : List Record) (is : h.records ≡ before ++ rest) where
@@ -56,12 +56,12 @@ module _ (h : History) (legal : IsLegal h) where
     pub of_cache_at : OfCache (home h.setup) (moment_at h before) × StoodWell (home h.setup) (moment_at h before).fixed
     of_cache_at =
         let o = first_holds h legal in
-        moves_keep_moments (home h.setup) (opening (first h.setup).tree) (steps_of before) (o.placed, o.rooted) (openings_stand_well (home h.setup) (first h.setup).tree)
-        (traced h.setup legal.apart (first h.setup) before (legal_before h legal before rest is) o).trace
+        moves_keep_moments (home h.setup) (opening (initial h.setup).tree) (steps_of before) (o.placed, o.rooted) (openings_stand_well (home h.setup) (initial h.setup).tree)
+        (traced h.setup legal.apart (initial h.setup) before (legal_before h legal before rest is) o).trace
 
   -- each loss at the end leaves a cache
   pub losses_leave_caches : LossesLeaveCaches h
   losses_leave_caches loss =
       let o = first_holds h legal in
-      histories_leave_caches (home h.setup) (first h.setup).tree (steps_of h.records) loss o.placed o.rooted
-      (traced h.setup legal.apart (first h.setup) h.records legal.legal o).trace
+      histories_leave_caches (home h.setup) (initial h.setup).tree (steps_of h.records) loss o.placed o.rooted
+      (traced h.setup legal.apart (initial h.setup) h.records legal.legal o).trace

@@ -14,13 +14,13 @@ EndsHere true (Some told) reply Later = told ≡ reply
 EndsHere false told reply Later = Later
 
 -- the caller's call goes on through these records until it ends with this reply; others may follow
-abbrev pub EndsWith : ℕ → Reply → List Record → Type 0
-EndsWith caller reply [] = ⊥
-EndsWith caller reply (Began other command ∷ records) = EndsWith caller reply records
-EndsWith caller reply (Moved other luck made told ∷ records) =
-    EndsHere (other == caller) told reply (EndsWith caller reply records)
-EndsWith caller reply (Stopped other ∷ records) =
-    ((other == caller) ≡ false) × EndsWith caller reply records
+abbrev pub CallEndsWith : ℕ → Reply → List Record → Type 0
+CallEndsWith caller reply [] = ⊥
+CallEndsWith caller reply (Began other command ∷ records) = CallEndsWith caller reply records
+CallEndsWith caller reply (Moved other luck made told ∷ records) =
+    EndsHere (other == caller) told reply (CallEndsWith caller reply records)
+CallEndsWith caller reply (Stopped other ∷ records) =
+    ((other == caller) ≡ false) × CallEndsWith caller reply records
 
 -- after the first records of a history, a call of this command is on its way that did nothing yet
 -- to contents and buckets; it ends with this reply
@@ -31,4 +31,4 @@ pub record EndsFrom (h : History) (before rest : List Record) (command : Command
   pub is : (now_at h before).calls caller ≡ Some call
   pub command_is : call.command ≡ command
   pub nothing : deeds call.turns ≡ []
-  pub ends : EndsWith caller reply rest
+  pub ends : CallEndsWith caller reply rest

@@ -21,7 +21,7 @@ use Rattle.cacache_value.specs.Value.{AtLink, Value, value_of_tree}
 use Rattle.cacache_history.specs.declared.record.Record.{Record}
 use Rattle.cacache_history.specs.declared.record.Record.TheVariants.{Moved}
 use Rattle.cacache_history.specs.AddedEntries.{address_of_put}
-use Rattle.cacache_history.specs.History.{History, IsLegal, first, now_at}
+use Rattle.cacache_history.specs.History.{History, IsLegal, initial, now_at}
 use Rattle.cacache_history.specs.Setup.{home}
 use Rattle.cacache_history.specs.Values.{bucket_at, steps_of, value_at}
 use Rattle.cacache_loss.specs.ChangedNames.{LeavesCache, opening}
@@ -34,7 +34,7 @@ use Rattle.cacache_durable.specs.QuietMoves.{AreQuiet}
 
 -- the tree after the first records of a history, and what of it is fixed
 abbrev pub moment_at : History → List Record → Moment
-moment_at h before = after (opening (first h.setup).tree) (steps_of before)
+moment_at h before = after (opening (initial h.setup).tree) (steps_of before)
 
 -- ---- what is left
 

@@ -9,7 +9,7 @@ use Rattle.cacache_table.specs.Licence.{taking_in, keeps_to}
 use Rattle.cacache_history.specs.declared.record.Record.{Record}
 use Rattle.cacache_history.specs.declared.record.Record.TheVariants.{Moved}
 use Rattle.cacache_history.specs.Setup.{Setup}
-use Rattle.cacache_history.specs.History.{Call, Made, Now, next}
+use Rattle.cacache_history.specs.History.{Call, Made, Now, now_after}
 
 -- a command that removes, links and exports nothing
 abbrev pub is_quiet : Command → Bool
@@ -40,4 +40,4 @@ IsQuiet path now r = Unit {0}
 -- each of these records is
 abbrev pub AreQuiet : Setup → Names → Now → List Record → Type 0
 AreQuiet s path now [] = Unit {0}
-AreQuiet s path now (r ∷ records) = IsQuiet path now r × AreQuiet s path (next s now r) records
+AreQuiet s path now (r ∷ records) = IsQuiet path now r × AreQuiet s path (now_after s now r) records

@@ -23,10 +23,10 @@ mod syncing;
 mod temp;
 mod whole;
 
-use answers::{created, given, moved, readable, synced, written};
+use answers::{created, moved, read_piece, readable, sync_temp, write_temp};
 use cacache_store::store::{Answer, FileHandle, Step, Store, TempHandle};
 use descent::Descent;
-use faults::refused;
+use faults::failed_answer;
 use guess::Guess;
 pub use opened::FolderFile;
 use std::io::ErrorKind;
@@ -95,7 +95,10 @@ impl<R: Files + AllocGlobal + Clone + Drop> FolderStore<R> {
     }
 
     /// Does a step that takes no file and gives none.
-    fn done<F: FileHandle, T: TempHandle>(&mut self, step: &Step<F, T>) -> io::Result<Answer<F, T>>
+    fn do_by_path<F: FileHandle, T: TempHandle>(
+        &mut self,
+        step: &Step<F, T>,
+    ) -> io::Result<Answer<F, T>>
         ensures fits { IfOk result (λ answer.
             Fits (plain_step F.seen T.seen step.now) (plain_answer F.seen T.seen answer)) }
         ensures done { IfOk result (λ answer.
@@ -141,8 +144,8 @@ impl<R: Files + AllocGlobal + Clone + Drop> Store for FolderStore<R> {
                 let file = self.create_temp(path.as_str());
                 created(file, path, &mut self.reason)
             }
-            Step::Write(temp, bytes) => written(temp, bytes, &mut self.reason),
-            Step::SyncTemp(temp) => synced(temp, &mut self.reason),
+            Step::Write(temp, bytes) => write_temp(temp, bytes, &mut self.reason),
+            Step::SyncTemp(temp) => sync_temp(temp, &mut self.reason),
             Step::Persist(temp, path) => {
                 let done = fs::rename(&self.rt, temp.path(), path.as_str());
                 moved(done, temp, path, &mut self.reason)
@@ -151,10 +154,10 @@ impl<R: Files + AllocGlobal + Clone + Drop> Store for FolderStore<R> {
                 let file = self.open(path.as_str());
                 readable(file, path, &mut self.reason)
             }
-            Step::Read(file, max) => given(self.rt.alloc(), file, max, &mut self.reason),
-            step => match self.done(&step) {
+            Step::Read(file, max) => read_piece(self.rt.alloc(), file, max, &mut self.reason),
+            step => match self.do_by_path(&step) {
                 Ok(answer) => answer,
-                Err(error) => refused(error, step, &mut self.reason),
+                Err(error) => failed_answer(error, step, &mut self.reason),
             },
         }
     }

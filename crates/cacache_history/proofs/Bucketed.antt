@@ -12,7 +12,7 @@ use Rattle.cacache_value.specs.OpeningTrees.{LieApart}
 use Rattle.cacache_history.specs.declared.record.Record.{Record}
 use Rattle.cacache_history.specs.declared.record.Record.TheVariants.{Began, Moved, Stopped}
 use Rattle.cacache_history.specs.Setup.{Setup, call_site, home, may_export, is_outside}
-use Rattle.cacache_history.specs.History.{Call, Now, History, Turn, Made, first, moved_tree, next, replayed, now_at, MayMove, MayCome, Legal, IsLegal, Reaches}
+use Rattle.cacache_history.specs.History.{Call, Now, History, Turn, Made, initial, moved_tree, now_after, replayed, now_at, MayMove, MayCome, Legal, IsLegal, Reaches}
 use Rattle.cacache_history.specs.Turns.{EachTurn}
 use Rattle.cacache_history.proofs.Holding.{AllHold, CallHolds, of_caller, made_proper, next_holds, first_opens, first_holds, legal_before}
 use Rattle.cacache_history.proofs.ShownTurns.{bucket_below}
@@ -57,21 +57,21 @@ module _ (s : Setup) (apart : LieApart (home s) s.outside) where
         own = step_own (home s) w.tree made.0 luck h.placed proper (appends_own s call.number made.0 allowed) k.own;
       }
 
-  next_keyed : (w : Now) (r : Record) → MayCome s w r → AllHold s w → Keeps s w.tree → Keeps s (next s w r).tree
+  next_keyed : (w : Now) (r : Record) → MayCome s w r → AllHold s w → Keeps s w.tree → Keeps s (now_after s w r).tree
   next_keyed w (Began caller command) may h k = k
   next_keyed w (Moved caller luck made reply) may h k = move_keyed w luck made reply may.0 h (of_caller s may.0 _ may.1 (h.calls caller)) may.2 k
   next_keyed w (Stopped caller) may h k = k
 
   all_keyed : (w : Now) (records : List Record) → Legal s w records → AllHold s w → Keeps s w.tree → Keeps s (replayed s w records).tree
   all_keyed w [] legal h k = k
-  all_keyed w (r ∷ records) legal h k = all_keyed (next s w r) records legal.1 (next_holds s apart w r legal.0 h) (next_keyed w r legal.0 h k)
+  all_keyed w (r ∷ records) legal h k = all_keyed (now_after s w r) records legal.1 (next_holds s apart w r legal.0 h) (next_keyed w r legal.0 h k)
 
 module _ (h : History) (legal : IsLegal h) where
   kept_at : (before later : List Record) → h.records ≡ before ++ later → Keeps h.setup (now_at h before).tree
   kept_at before later is =
       let opens = first_opens h legal in
-      all_keyed h.setup legal.apart (first h.setup) before (legal_before h legal before later is) (first_holds h legal)
-      (record { keyed = opening_keyed (home h.setup) (first h.setup).tree opens; own = opening_own (home h.setup) (first h.setup).tree opens })
+      all_keyed h.setup legal.apart (initial h.setup) before (legal_before h legal before later is) (first_holds h legal)
+      (record { keyed = opening_keyed (home h.setup) (initial h.setup).tree opens; own = opening_own (home h.setup) (initial h.setup).tree opens })
 
   pub buckets_are_of_keys : BucketsAreOfKeys h
   buckets_are_of_keys before later is = (kept_at before later is).keyed

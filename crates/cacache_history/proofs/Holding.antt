@@ -20,7 +20,7 @@ use Rattle.cacache_value.proofs.Traces.{steps_keep_placed}
 use Rattle.cacache_history.specs.declared.record.Record.{Record}
 use Rattle.cacache_history.specs.declared.record.Record.TheVariants.{Began, Moved, Stopped}
 use Rattle.cacache_history.specs.Setup.{Setup, call_site, home, may_export, is_outside}
-use Rattle.cacache_history.specs.History.{Turn, Call, Now, History, Made, first, begins, turn_of, moved, unless_over, moved_tree, next, replayed, now_at, NamesIntegrity, MayMove, MayCome, Legal, IsLegal}
+use Rattle.cacache_history.specs.History.{Turn, Call, Now, History, Made, initial, new_call, turn_of, call_after, unless_over, moved_tree, now_after, replayed, now_at, NamesIntegrity, MayMove, MayCome, Legal, IsLegal}
 use Rattle.cacache_history.specs.Turns.{made_in, EachTurn}
 use Rattle.cacache_history.proofs.Carrying.{own_of, Carries, Makes, opening_carries, carries_makes, carries_on}
 use Rattle.cacache_history.proofs.Proper.{sound_proper}
@@ -62,7 +62,7 @@ pub record AllHold (s : Setup) (w : Now) : Type 0 where
 
 -- ---- a call
 
-pub begins_hold : (s : Setup) (n : ℕ) (command : Command) → MayBegin (call_site s n) (may_export s) (is_outside s) command → NamesIntegrity command → CallHolds s (begins s n command)
+pub begins_hold : (s : Setup) (n : ℕ) (command : Command) → MayBegin (call_site s n) (may_export s) (is_outside s) command → NamesIntegrity command → CallHolds s (new_call s n command)
 begins_hold s n command may named = record {
   may = may;
   named = named;
@@ -88,7 +88,7 @@ each_more P (t ∷ turns) turn h one = (h.0, each_more P turns turn h.1 one)
 module _ (s : Setup) (w : Now) (h : AllHold s w) (luck : Luck) where
   -- a call that moved
   pub moved_holds : (made : Option Made) (reply : Option Reply) (call : Call) → CallHolds s call → MayMove w.tree call.state luck made reply
-      → CallHolds s (moved w.tree luck made call)
+      → CallHolds s (call_after w.tree luck made call)
   moved_holds None reply call mine may = mine
   moved_holds (Some made) reply call mine may = record {
     may = mine.may;
@@ -137,7 +137,7 @@ module _ (s : Setup) (apart : LieApart (home s) s.outside) where
       )
 
   move_holds : (w : Now) (caller : ℕ) (luck : Luck) (made : Option Made) (reply : Option Reply) (call : Call) → w.calls caller ≡ Some call
-      → MayMove w.tree call.state luck made reply → AllHold s w → AllHold s (next s w (Moved caller luck made reply))
+      → MayMove w.tree call.state luck made reply → AllHold s w → AllHold s (now_after s w (Moved caller luck made reply))
   move_holds w caller luck made reply call e may h =
       let mine = of_caller s call _ e (h.calls caller) in
       let tree = tree_holds w luck made reply call h mine may in
@@ -147,17 +147,17 @@ module _ (s : Setup) (apart : LieApart (home s) s.outside) where
         formed = tree.2;
         right = tree.3;
         calls = λ k. set_at (CallAt s) (k == caller) _ (w.calls k)
-            (ended_at (CallAt s) tt reply _ (subst (λ o. CallAt s (option_map (moved w.tree luck made) o)) (sym e) (moved_holds s w h luck made reply call mine may)))
+            (ended_at (CallAt s) tt reply _ (subst (λ o. CallAt s (option_map (call_after w.tree luck made) o)) (sym e) (moved_holds s w h luck made reply call mine may)))
             (h.calls k);
       }
 
-  pub next_holds : (w : Now) (r : Record) → MayCome s w r → AllHold s w → AllHold s (next s w r)
+  pub next_holds : (w : Now) (r : Record) → MayCome s w r → AllHold s w → AllHold s (now_after s w r)
   next_holds w (Began caller command) may h = record {
     placed = h.placed;
     rooted = h.rooted;
     formed = h.formed;
     right = h.right;
-    calls = λ k. set_at (CallAt s) (k == caller) (Some (begins s w.begun command)) (w.calls k) (begins_hold s w.begun command may.2 may.3) (h.calls k);
+    calls = λ k. set_at (CallAt s) (k == caller) (Some (new_call s w.begun command)) (w.calls k) (begins_hold s w.begun command may.2 may.3) (h.calls k);
   }
   next_holds w (Moved caller luck made reply) may h = move_holds w caller luck made reply may.0 may.1 may.2 h
   next_holds w (Stopped caller) may h = record {
@@ -170,42 +170,42 @@ module _ (s : Setup) (apart : LieApart (home s) s.outside) where
 
   pub all_hold : (w : Now) (records : List Record) → Legal s w records → AllHold s w → AllHold s (replayed s w records)
   all_hold w [] legal h = h
-  all_hold w (r ∷ records) legal h = all_hold (next s w r) records legal.1 (next_holds w r legal.0 h)
+  all_hold w (r ∷ records) legal h = all_hold (now_after s w r) records legal.1 (next_holds w r legal.0 h)
 
 -- ---- the opening
 
-pub first_opens : (h : History) → IsLegal h → IsOpening (home h.setup) (first h.setup).tree
-first_opens h legal = files_open (home h.setup) h.setup.outside (first h.setup).tree legal.apart legal.opens
+pub first_opens : (h : History) → IsLegal h → IsOpening (home h.setup) (initial h.setup).tree
+first_opens h legal = files_open (home h.setup) h.setup.outside (initial h.setup).tree legal.apart legal.opens
 
-pub first_holds : (h : History) → IsLegal h → AllHold h.setup (first h.setup)
+pub first_holds : (h : History) → IsLegal h → AllHold h.setup (initial h.setup)
 first_holds h legal =
     let o = first_opens h legal in
-    record { placed = o.placed; rooted = o.rooted; formed = opening_formed (home h.setup) (first h.setup).tree o; right = opening_right (home h.setup) (first h.setup).tree o; calls = λ caller. tt }
+    record { placed = o.placed; rooted = o.rooted; formed = opening_formed (home h.setup) (initial h.setup).tree o; right = opening_right (home h.setup) (initial h.setup).tree o; calls = λ caller. tt }
 
 -- ---- places of a history
 
 pub legal_front : (s : Setup) (w : Now) (before later : List Record) → Legal s w (before ++ later) → Legal s w before
 legal_front s w [] later legal = tt
-legal_front s w (r ∷ before) later legal = (legal.0, legal_front s (next s w r) before later legal.1)
+legal_front s w (r ∷ before) later legal = (legal.0, legal_front s (now_after s w r) before later legal.1)
 
 pub legal_rest : (s : Setup) (w : Now) (before later : List Record) → Legal s w (before ++ later) → Legal s (replayed s w before) later
 legal_rest s w [] later legal = legal
-legal_rest s w (r ∷ before) later legal = legal_rest s (next s w r) before later legal.1
+legal_rest s w (r ∷ before) later legal = legal_rest s (now_after s w r) before later legal.1
 
 pub replay_more : (s : Setup) (w : Now) (before more : List Record) → replayed s w (before ++ more) ≡ replayed s (replayed s w before) more
 replay_more s w [] more = refl
-replay_more s w (r ∷ before) more = replay_more s (next s w r) before more
+replay_more s w (r ∷ before) more = replay_more s (now_after s w r) before more
 
 module _ (h : History) (legal : IsLegal h) (before later : List Record) (is : h.records ≡ before ++ later) where
-  whole : Legal h.setup (first h.setup) (before ++ later)
-  whole = subst (Legal h.setup (first h.setup)) is legal.legal
+  whole : Legal h.setup (initial h.setup) (before ++ later)
+  whole = subst (Legal h.setup (initial h.setup)) is legal.legal
 
   -- the records before a place, and those after it
-  pub legal_before : Legal h.setup (first h.setup) before
-  legal_before = legal_front h.setup (first h.setup) before later whole
+  pub legal_before : Legal h.setup (initial h.setup) before
+  legal_before = legal_front h.setup (initial h.setup) before later whole
 
   pub legal_after : Legal h.setup (now_at h before) later
-  legal_after = legal_rest h.setup (first h.setup) before later whole
+  legal_after = legal_rest h.setup (initial h.setup) before later whole
 
   pub held_at : AllHold h.setup (now_at h before)
-  held_at = all_hold h.setup legal.apart (first h.setup) before legal_before (first_holds h legal)
+  held_at = all_hold h.setup legal.apart (initial h.setup) before legal_before (first_holds h legal)

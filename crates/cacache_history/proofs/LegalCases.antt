@@ -35,8 +35,8 @@ use Rattle.cacache_value.proofs.Shows.{apply_answer}
 use Rattle.cacache_history.specs.declared.record.Record.{Record}
 use Rattle.cacache_history.specs.declared.record.Record.TheVariants.{Began, Moved, Stopped}
 use Rattle.cacache_history.specs.Setup.{Setup}
-use Rattle.cacache_history.specs.History.{History, Turn, Call, Made, begins, turn_of, moved, now_at, Ends, MayMove, MayCome, IsLegal, Reaches}
-use Rattle.cacache_history.specs.ShownTurns.{entries_at, shown, bucket_read}
+use Rattle.cacache_history.specs.History.{History, Turn, Call, Made, new_call, turn_of, call_after, now_at, Ends, MayMove, MayCome, IsLegal, Reaches}
+use Rattle.cacache_history.specs.ShownTurns.{entries_at, shown_result, bucket_read}
 use Rattle.cacache_history.specs.TurnReplies.{FindsHeld, ReadsValue}
 use Rattle.cacache_history.specs.LegalCases.{Comes, call_at, StepCases, BusyCases, IdleCases, BeginCases, CasesHold, lookup_made, lookup_alone, LookupCases}
 use Rattle.cacache_history.proofs.Holding.{first_opens, legal_after}
@@ -82,7 +82,7 @@ module _ (h : History) (legal : IsLegal h) (before : List Record) (caller : ℕ)
       let may = may_come h legal before (Moved caller luck made reply) comes in
       subst (λ c. MayMove (now_at h before).tree c.state luck made reply) (same_call (call_at h before caller) may.0 call may.1 is) may.2
 
-  reaches : (luck : Luck) (made : Made) (r : Reply) → StepCases h before caller luck made (Some r) → Reaches h (moved (now_at h before).tree luck (Some made) call) (Some r)
+  reaches : (luck : Luck) (made : Made) (r : Reply) → StepCases h before caller luck made (Some r) → Reaches h (call_after (now_at h before).tree luck (Some made) call) (Some r)
   reaches luck made r comes = record {
     before = before;
     later = comes.0;
@@ -90,14 +90,14 @@ module _ (h : History) (legal : IsLegal h) (before : List Record) (caller : ℕ)
     luck = luck;
     made = Some made;
     is = comes.1;
-    stands = ap (option_map (moved (now_at h before).tree luck (Some made))) is;
+    stands = ap (option_map (call_after (now_at h before).tree luck (Some made))) is;
   }
 
   looks_up : (luck : Luck) (made : Made) (key : List ℕ) (r : Reply) → call.command ≡ commands.Find key → StepCases h before caller luck made (Some r)
       → (r ≡ Refused OutOfMemory) ⊎ (plain_reply r ≡ find_reply key (bucket_read h.setup (sha1 key) (turn_of (now_at h before).tree luck made)))
   looks_up luck made key r find comes =
       let turn = turn_of (now_at h before).tree luck made in
-      elim (replies_read_value h legal (moved (now_at h before).tree luck (Some made) call) r (reaches luck made r comes)) [
+      elim (replies_read_value h legal (call_after (now_at h before).tree luck (Some made) call) r (reaches luck made r comes)) [
         | inl e ↦ inl e
         | inr reads ↦ inr (found_at h.setup key call.turns turn (plain_reply r) (subst (λ c. ReadsValue h.setup c (call.turns ++ turn ∷ []) (plain_reply r)) find reads))
       ]
@@ -168,15 +168,15 @@ lookup_legal cache key luck =
       opens = refl;
       legal = (
         (omega arith, refl, tt, tt),
-        ((begins s 0 (commands.Find key), refl, (refl, refl, made_fits cache key luck, inl (looked cache key (bytes_in (lookup_made cache key luck).1)))), tt),
+        ((new_call s 0 (commands.Find key), refl, (refl, refl, made_fits cache key luck, inl (looked cache key (bytes_in (lookup_made cache key luck).1)))), tt),
       );
     }
 
 -- where nothing is held, no entry is found
-not_found : (key : List ℕ) (entries : List Entry) (found : Found) (a : PlainAnswer) → entries ≡ [] → LookedUp (Some found) ≡ find_reply key (shown a (Ok entries)) → ⊥
-not_found key entries found a none e = by a (e ∙ ap (λ es. find_reply key (shown a (Ok es))) none)
+not_found : (key : List ℕ) (entries : List Entry) (found : Found) (a : PlainAnswer) → entries ≡ [] → LookedUp (Some found) ≡ find_reply key (shown_result a (Ok entries)) → ⊥
+not_found key entries found a none e = by a (e ∙ ap (λ es. find_reply key (shown_result a (Ok es))) none)
   where
-    by : (a : PlainAnswer) → LookedUp (Some found) ≡ find_reply key (shown a (Ok [])) → ⊥
+    by : (a : PlainAnswer) → LookedUp (Some found) ≡ find_reply key (shown_result a (Ok [])) → ⊥
     by (answers.Failed faults.NotFound) e = absurd cc
     by (answers.Failed fault) e = absurd cc
     by (answers.NoMemory step) e = absurd cc
@@ -187,7 +187,7 @@ lookup_finds_none cache key luck found legal =
     let h = lookup_alone cache key luck (LookedUp (Some found)) in
     let made = lookup_made cache key luck in
     let nothing = (first_opens h legal).nothing in
-    elim (looks_up h legal (Began 0 (commands.Find key) ∷ []) 0 (begins h.setup 0 (commands.Find key)) refl luck made key (LookedUp (Some found)) refl ([], refl)) [
+    elim (looks_up h legal (Began 0 (commands.Find key) ∷ []) 0 (new_call h.setup 0 (commands.Find key)) refl luck made key (LookedUp (Some found)) refl ([], refl)) [
       | inl e ↦ absurd cc
       | inr e ↦ not_found key (entries_at h.setup (sha1 key) (turn_of bare luck made)) found made.1 (ap (λ (v : Value). list_of (v.buckets (sha1 key))) nothing) e
     ]

@@ -26,7 +26,7 @@ use Rattle.cacache_table.specs.Runs.{Moves, Runs}
 use Rattle.cacache_table.specs.State.{State, persisting, linking, confirming, sizing, opening_file, hashing, over, Site, to_link}
 use Rattle.cacache_table.specs.declared.carried.Commit.{Commit}
 use Rattle.cacache_table.specs.declared.target.Target.{Target}
-use Rattle.cacache_table.specs.Storing.{persist, link, write_rest, settled, moved}
+use Rattle.cacache_table.specs.Storing.{persist, link, write_rest, secured, move_in}
 use Rattle.cacache_table.specs.Table.{piece, opening}
 use Rattle.cacache_table.specs.Verifying.{Gives, ReadsWhole}
 use Rattle.cacache_table.proofs.Effects.{puts_commit}
@@ -49,7 +49,7 @@ module _ (r : Reply) (c : Commit) (target : List ℕ) (file : PlainTemp) where
       let same : a ≡ steps.Symlink target (content_path c.cache c.computed) = sym (same_Some _ _ run.0) in
       rw same (by_answer t (subst (λ x. Fits x t) same run.1) run.2)
     where
-      by_answer : (t : PlainAnswer) → Fits (steps.Symlink target (content_path c.cache c.computed)) t → Runs (go_on (done_in t) (confirming c) (λ _. settled c)) moves r
+      by_answer : (t : PlainAnswer) → Fits (steps.Symlink target (content_path c.cache c.computed)) t → Runs (go_on (done_in t) (confirming c) (λ _. secured c)) moves r
           → Twin (persisting c file) ((steps.Symlink target (content_path c.cache c.computed), t) ∷ moves) r
       by_answer answers.Done fits run =
           record { twin = (steps.Persist file (content_path c.cache c.computed), answers.Done) ∷ moves; runs = (refl, tt, run); same = refl }
@@ -60,11 +60,11 @@ module _ (r : Reply) (c : Commit) (target : List ℕ) (file : PlainTemp) where
       by_answer t fits run = absurd fits
 
   -- where the put is durable, its file is synced first
-  first_synced : (moves : Moves) → Twin (persisting c file) moves r → Twin (moved c file) moves r
+  first_synced : (moves : Moves) → Twin (persisting c file) moves r → Twin (move_in c file) moves r
   first_synced moves x =
       moves_on (λ s. Twin s moves r) c file (record { twin = (steps.SyncTemp file, answers.Synced file) ∷ x.twin; runs = (refl, refl, x.runs); same = x.same }) x
 
-  made : (a : Result (Unit {0}) Refusal) (moves : Moves) → Runs (go_on a fails (λ _. linking c target)) moves r → Twin (go_on a fails (λ _. moved c file)) moves r
+  made : (a : Result (Unit {0}) Refusal) (moves : Moves) → Runs (go_on a fails (λ _. linking c target)) moves r → Twin (go_on a fails (λ _. move_in c file)) moves r
   made (Ok done) moves run = first_synced moves (linked moves run)
   made (Err refusal) moves run = record { twin = moves; runs = run; same = refl }
 

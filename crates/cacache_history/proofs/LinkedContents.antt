@@ -30,7 +30,7 @@ use Rattle.cacache_value.proofs.Traces.{steps_act}
 use Rattle.cacache_history.specs.declared.record.Record.{Record}
 use Rattle.cacache_history.specs.declared.record.Record.TheVariants.{Began, Moved, Stopped}
 use Rattle.cacache_history.specs.Setup.{call_site, home}
-use Rattle.cacache_history.specs.History.{History, Turn, Call, Made, first, turn_of, moved, now_at, IsLegal, Reaches}
+use Rattle.cacache_history.specs.History.{History, Turn, Call, Made, initial, turn_of, call_after, now_at, IsLegal, Reaches}
 use Rattle.cacache_history.specs.Turns.{made_in, EachTurn}
 use Rattle.cacache_history.specs.TurnPlaces.{TurnAt}
 use Rattle.cacache_history.specs.Values.{value_at, HasDigest}
@@ -118,9 +118,9 @@ module _ (h : History) (legal : IsLegal h) (past : List Record) (caller : ℕ) (
       let step = link_step made.0 luck made.1 names target puts in
       let own = own_of (call_site h.setup may.0.number) may.0.command in
       let makes = subst (Makes own) step.1 (carries_makes own may.0.state made.0 mine.carries may.2.0) in
-      let call = moved (now_at h past).tree luck (Some made) may.0 in
-      let reaches : Reaches h (moved (now_at h past).tree luck (Some made) may.0) reply
-      = record { before = past; later = []; caller = caller; luck = luck; made = Some made; is = is; stands = ap (option_map (moved (now_at h past).tree luck (Some made))) may.1 } in
+      let call = call_after (now_at h past).tree luck (Some made) may.0 in
+      let reaches : Reaches h (call_after (now_at h past).tree luck (Some made) may.0) reply
+      = record { before = past; later = []; caller = caller; luck = luck; made = Some made; is = is; stands = ap (option_map (call_after (now_at h past).tree luck (Some made))) may.1 } in
       let among = among_last (does (PutLink names target)) may.0.turns (turn_of (now_at h past).tree luck made) (link_deed names target (turn_of (now_at h past).tree luck made).move puts) in
       by_command call reaches among step.0 may.0.command makes (commits_are_cases h legal call reply reaches)
 
@@ -155,7 +155,7 @@ module _ (h : History) (legal : IsLegal h) where
       let mine = of_caller h.setup may.0 _ may.1 (all.calls caller) in
       let t = (now_at h past).tree in
       let tree : (now_at h (past ++ Moved caller luck (Some made) reply ∷ [])).tree ≡ (apply (now_at h past).tree made.0 luck).1
-      = ap (λ w. w.tree) (replay_more h.setup (first h.setup) past (last ∷ [])) in
+      = ap (λ w. w.tree) (replay_more h.setup (initial h.setup) past (last ∷ [])) in
       let act = steps_act (home h.setup) t made.0 luck all.placed (made_proper h.setup legal.apart t luck made reply may.0 mine may.2) in
       let changed : (change (home h.setup) (act_of made.0 luck made.1) (wide_value (home h.setup) (now_at h past).tree)).contents a ≡ Some (AtLink target)
       = ap (λ x. (change (home h.setup) (act_of made.0 luck x) (wide_value (home h.setup) (now_at h past).tree)).contents a) may.2.1
@@ -169,12 +169,12 @@ module _ (h : History) (legal : IsLegal h) where
 
   next_right : (past later : List Record) (r : Record) → h.records ≡ past ++ r ∷ later → WereRight h past → WereRight h (past ++ r ∷ [])
   next_right past later (Began caller command) is right =
-      same_tree past (Began caller command) (ap (λ w. w.tree) (replay_more h.setup (first h.setup) past (Began caller command ∷ []))) right
+      same_tree past (Began caller command) (ap (λ w. w.tree) (replay_more h.setup (initial h.setup) past (Began caller command ∷ []))) right
   next_right past later (Moved caller luck None reply) is right =
-      same_tree past (Moved caller luck None reply) (ap (λ w. w.tree) (replay_more h.setup (first h.setup) past (Moved caller luck None reply ∷ []))) right
+      same_tree past (Moved caller luck None reply) (ap (λ w. w.tree) (replay_more h.setup (initial h.setup) past (Moved caller luck None reply ∷ []))) right
   next_right past later (Moved caller luck (Some made) reply) is right = move_right past later caller luck made reply is right
   next_right past later (Stopped caller) is right =
-      same_tree past (Stopped caller) (ap (λ w. w.tree) (replay_more h.setup (first h.setup) past (Stopped caller ∷ []))) right
+      same_tree past (Stopped caller) (ap (λ w. w.tree) (replay_more h.setup (initial h.setup) past (Stopped caller ∷ []))) right
 
   all_right : (past todo later : List Record) → h.records ≡ past ++ (todo ++ later) → WereRight h past → WereRight h (past ++ todo)
   all_right past [] later is right = subst (WereRight h) (sym (append-nil past)) right

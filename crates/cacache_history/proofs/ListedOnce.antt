@@ -23,7 +23,7 @@ use Rattle.cacache_table.proofs.Keys.{each_key_once}
 use Rattle.cacache_history.specs.Setup.{Setup}
 use Rattle.cacache_history.specs.History.{Turn}
 use Rattle.cacache_history.specs.Turns.{EachTurn}
-use Rattle.cacache_history.specs.ShownTurns.{entries_at, shown, bucket_read, by_entries}
+use Rattle.cacache_history.specs.ShownTurns.{entries_at, shown_result, bucket_read, by_entries}
 use Rattle.cacache_history.specs.ListingTurns.{TurnGives, TurnsGive, NoneTwice, OtherKey, NoKeyTwice}
 use Rattle.cacache_history.proofs.Owned.{OfBucket, latest_key, once_all, all_keys}
 use Rattle.cacache_history.proofs.Bucketed.{KeyedTurn}
@@ -82,13 +82,13 @@ refused_once : (refusal : Refusal) → NoKeyTwice (by_entries (Err refusal))
 refused_once (refusals.Fault fault) = tt
 refused_once refusals.Memory = tt
 
-bucket_of : (key : List ℕ) (es : List Entry) (a : PlainAnswer) → All (OfBucket key) es → All (OfKey key) (by_entries (shown a (Ok es)))
+bucket_of : (key : List ℕ) (es : List Entry) (a : PlainAnswer) → All (OfBucket key) es → All (OfKey key) (by_entries (shown_result a (Ok es)))
 bucket_of key es (answers.Failed faults.NotFound) all = items_of_bucket es key all
 bucket_of key es (answers.Failed fault) all = refused_of key (refusals.Fault fault)
 bucket_of key es (answers.NoMemory step) all = refused_of key refusals.Memory
 bucket_of key es other all = items_of_bucket es key all
 
-bucket_once : (es : List Entry) (a : PlainAnswer) → NoKeyTwice (by_entries (shown a (Ok es)))
+bucket_once : (es : List Entry) (a : PlainAnswer) → NoKeyTwice (by_entries (shown_result a (Ok es)))
 bucket_once es (answers.Failed faults.NotFound) = items_once es
 bucket_once es (answers.Failed fault) = refused_once (refusals.Fault fault)
 bucket_once es (answers.NoMemory step) = refused_once refusals.Memory

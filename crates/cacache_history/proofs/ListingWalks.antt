@@ -31,7 +31,7 @@ use Rattle.cacache_table.specs.declared.visit.Visit.{Visit}
 use Rattle.cacache_table.specs.declared.visit.Task.{Task}
 use Rattle.cacache_table.specs.declared.visit.Visit.TheVariants.{Enter, ReadBucket}
 use Rattle.cacache_table.specs.declared.visit.Task.TheVariants.{Make, Stumble}
-use Rattle.cacache_table.specs.Walking.{task_of, tasks_of, leaving}
+use Rattle.cacache_table.specs.Walking.{task_for_name, tasks_of, leaving}
 use Rattle.cacache_value.specs.Kinds.{Bucket, kind_in_area, kind_beside, path_kind, node_below}
 use Rattle.cacache_value.specs.Value.{bucket_in}
 use Rattle.cacache_value.specs.Placed.{MayStand, Placed}
@@ -134,7 +134,7 @@ module _ (s : Setup) (t : Tree) (folder names : Names) (placed : Placed (Some fo
       (own.0, sym (ap (joined s.cache) same ∙ child_path n))
 
   node_task : (n : List ℕ) (level : ℕ) (node : Node) (todo : List Task) → IsProperName n → level ≡ length names → look t (child n) ≡ Some node → Tasks s todo
-      → Tasks s (task_of false level (join p n) (kind_of node) ∷ todo)
+      → Tasks s (task_for_name false level (join p n) (kind_of node) ∷ todo)
   node_task n level Folder todo own at there h = by (nat_lt level 16) refl
     where
       by : (b : Bool) → nat_lt level 16 ≡ b → Tasks s (cond b (Make (Enter (join p n) (level + 1))) (Stumble faults.TooDeep (join p n)) ∷ todo)
@@ -148,7 +148,7 @@ module _ (s : Setup) (t : Tree) (folder names : Names) (placed : Placed (Some fo
   unfolding child
   name_tasks level [] at all told = tt
   name_tasks level (n ∷ ns) at all told =
-      subst (λ k. Tasks s (task_of false level (join p n.name) k ∷ tasks_of false level p ns)) (sym told.0.kind)
+      subst (λ k. Tasks s (task_for_name false level (join p n.name) k ∷ tasks_of false level p ns)) (sym told.0.kind)
       (node_task n.name level told.0.node (tasks_of false level p ns) (All-head (λ entry. IsProperName entry.name) n ns all) at told.0.stands
       (name_tasks level ns at (All-tail (λ entry. IsProperName entry.name) n ns all) told.1))
 
@@ -212,13 +212,13 @@ covers_right s key [] b h = h
 covers_right s key (Make v ∷ a) b h = inr (covers_right s key a b h)
 covers_right s key (Stumble fault path ∷ a) b h = covers_right s key a b h
 
-among_covers : (s : Setup) (key : List ℕ) (level : ℕ) (p : List ℕ) (n : Name) (ns : List Name) → IsAmong n ns → CoversAny s key (task_of false level (join p n.name) n.kind ∷ [])
+among_covers : (s : Setup) (key : List ℕ) (level : ℕ) (p : List ℕ) (n : Name) (ns : List Name) → IsAmong n ns → CoversAny s key (task_for_name false level (join p n.name) n.kind ∷ [])
     → CoversAny s key (tasks_of false level p ns)
 among_covers s key level p n [] among c = absurd among
 among_covers s key level p n (m ∷ ns) (inl same) c =
-    covers_left s key (task_of false level (join p m.name) m.kind ∷ []) (tasks_of false level p ns) (subst (λ k. CoversAny s key (task_of false level (join p k.name) k.kind ∷ [])) same c)
+    covers_left s key (task_for_name false level (join p m.name) m.kind ∷ []) (tasks_of false level p ns) (subst (λ k. CoversAny s key (task_for_name false level (join p k.name) k.kind ∷ [])) same c)
 among_covers s key level p n (m ∷ ns) (inr among) c =
-    covers_right s key (task_of false level (join p m.name) m.kind ∷ []) (tasks_of false level p ns) (among_covers s key level p n ns among c)
+    covers_right s key (task_for_name false level (join p m.name) m.kind ∷ []) (tasks_of false level p ns) (among_covers s key level p n ns among c)
 
 -- the file of a bucket that the value holds
 bucket_file : (o : Option Node) (entries : List Entry) → bucket_in o ≡ Some entries → (bytes : List ℕ) × (o ≡ Some (File bytes))
@@ -234,7 +234,7 @@ front_proper key front rest e =
     (All-take IsProperName (length front) (bucket_names key) (names_are_proper.buckets (sha1 key) (keys_have_digests key)))
 
 module _ (s : Setup) (key : List ℕ) (t : Tree) (rooted : Rooted t) (p : List ℕ) (level : ℕ) (ns : List Name) (folder names : Names) (x : List ℕ) where
-  child_at : (kind : Kind) → IsAmong (record { name = x; kind = kind }) ns → CoversAny s key (task_of false level (join p x) kind ∷ []) → CoversAny s key (tasks_of false level p ns)
+  child_at : (kind : Kind) → IsAmong (record { name = x; kind = kind }) ns → CoversAny s key (task_for_name false level (join p x) kind ∷ []) → CoversAny s key (tasks_of false level p ns)
   child_at kind among c = among_covers s key level p (record { name = x; kind = kind }) ns among c
 
   -- what leads on to the bucket is listed

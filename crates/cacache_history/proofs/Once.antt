@@ -29,7 +29,7 @@ use Rattle.cacache_table.specs.declared.visit.Task.{Task}
 use Rattle.cacache_table.specs.declared.visit.Visit.TheVariants.{Enter, ReadBucket, RemoveFile, RemoveFolder}
 use Rattle.cacache_table.specs.declared.visit.Task.TheVariants.{Make, Stumble}
 use Rattle.cacache_table.specs.Table.{wants, after, opening}
-use Rattle.cacache_table.specs.Walking.{most, failed, give, miss, walk_on, task_of, tasks_of, leaving, too_many, entered, unread_bucket, listed, items_in, visit_step, after_visit}
+use Rattle.cacache_table.specs.Walking.{most, failed, give, miss, walk_on, task_for_name, tasks_of, leaving, too_many, entered, unread_bucket, listed, items_in, visit_step, after_visit}
 use Rattle.cacache_table.proofs.Branches.{cond_leads}
 use Rattle.cacache_history.specs.Setup.{Setup, call_site, home}
 use Rattle.cacache_history.specs.History.{Turn}
@@ -115,8 +115,8 @@ child_tasks level p q (n ∷ ns) named all s tasks =
     by_level true more t = (own, more t.1)
     by_level false more t = absurd t
 
-    by : (kind : Kind) → (Tasks s (tasks_of false level p ns) → TasksAt (tasks_of false level p ns) (children q ns)) → Tasks s (task_of false level (join p n.name) kind ∷ tasks_of false level p ns)
-        → TasksAt (task_of false level (join p n.name) kind ∷ tasks_of false level p ns) ((q ++ n.name ∷ []) ∷ children q ns)
+    by : (kind : Kind) → (Tasks s (tasks_of false level p ns) → TasksAt (tasks_of false level p ns) (children q ns)) → Tasks s (task_for_name false level (join p n.name) kind ∷ tasks_of false level p ns)
+        → TasksAt (task_for_name false level (join p n.name) kind ∷ tasks_of false level p ns) ((q ++ n.name ∷ []) ∷ children q ns)
     by kinds.Folder more t = by_level (nat_lt level 16) more t
     by kinds.File more t = (own, more t.1)
     by kinds.Link more t = (own, more t.1)

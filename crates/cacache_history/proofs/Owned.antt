@@ -38,7 +38,7 @@ use Rattle.cacache_value.proofs.AppendedLines.{whole_closed, torn_closed}
 use Rattle.cacache_value.proofs.Traces.{steps_act}
 use Rattle.cacache_history.specs.Setup.{Setup}
 use Rattle.cacache_history.specs.History.{Turn}
-use Rattle.cacache_history.specs.ShownTurns.{entries_at, shown, by_entries}
+use Rattle.cacache_history.specs.ShownTurns.{entries_at, shown_result, by_entries}
 use Rattle.cacache_history.specs.Buckets.{HoldOwn}
 use Rattle.cacache_history.specs.ListingTurns.{IsFound}
 
@@ -208,7 +208,7 @@ module _ (s : Setup) (turn : Turn) (key : List ℕ) where
   refused_found (refusals.Fault fault) = All-cons (IsFound s turn) (failed fault) [] tt (All-nil (IsFound s turn))
   refused_found refusals.Memory = All-nil (IsFound s turn)
 
-  pub bucket_found : (a : PlainAnswer) → All (OfBucket key) (entries_at s (sha1 key) turn) → All (IsFound s turn) (by_entries (shown a (Ok (entries_at s (sha1 key) turn))))
+  pub bucket_found : (a : PlainAnswer) → All (OfBucket key) (entries_at s (sha1 key) turn) → All (IsFound s turn) (by_entries (shown_result a (Ok (entries_at s (sha1 key) turn))))
   bucket_found (answers.Failed faults.NotFound) all = items_found all
   bucket_found (answers.Failed fault) all = refused_found (refusals.Fault fault)
   bucket_found (answers.NoMemory step) all = refused_found refusals.Memory

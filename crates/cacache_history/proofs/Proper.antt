@@ -20,7 +20,7 @@ use Rattle.cacache_value.specs.Kinds.{Content, Bucket, Temporary, Way, Elsewhere
 use Rattle.cacache_value.specs.Placed.{IsEntryLine, Proper}
 use Rattle.cacache_value.specs.OpeningTrees.{LieApart}
 use Rattle.cacache_value.proofs.PathKinds.{paths_are_for, folders_are_ways}
-use Rattle.cacache_history.specs.Setup.{Setup, call_site, home, are_apart, apart_from_home, apart_from_files, may_take, may_export, same_place, is_among, is_outside}
+use Rattle.cacache_history.specs.Setup.{Setup, call_site, home, are_apart, apart_from_home, apart_from_files, may_take, may_export, same_place, has_file, is_outside}
 use Rattle.cacache_history.proofs.Digests.{digest_hash}
 
 -- ---- exports and links
@@ -56,11 +56,11 @@ same_kind h (Ok a) (Ok b) e k = subst (λ p. path_kind h p ≡ Elsewhere) (same_
 same_kind h (Ok a) (Err fault) e k = tt
 same_kind h (Err fault) b e k = absurd cc
 
-among_elsewhere : (h : Option Names) (files : List (List ℕ × List ℕ)) (path : List ℕ) → LieApart h files → is_among files path ≡ true → IsFor h Elsewhere path
+among_elsewhere : (h : Option Names) (files : List (List ℕ × List ℕ)) (path : List ℕ) → LieApart h files → has_file files path ≡ true → IsFor h Elsewhere path
 among_elsewhere h [] path apart e = absurd cc
 among_elsewhere h (file ∷ files) path apart e = by (same_place (names_of file.0) (names_of path)) refl (among_elsewhere h files path apart.1) e
   where
-    by : (b : Bool) → same_place (names_of file.0) (names_of path) ≡ b → (is_among files path ≡ true → IsFor h Elsewhere path) → (b || is_among files path) ≡ true → IsFor h Elsewhere path
+    by : (b : Bool) → same_place (names_of file.0) (names_of path) ≡ b → (has_file files path ≡ true → IsFor h Elsewhere path) → (b || has_file files path) ≡ true → IsFor h Elsewhere path
     by true here rest is = same_kind h (names_of file.0) (names_of path) here apart.0
     by false here rest is = rest is
 

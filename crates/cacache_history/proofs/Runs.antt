@@ -9,7 +9,7 @@ use Rattle.cacache_table.specs.Runs.{Runs, Goes, plain_reply}
 use Rattle.cacache_table.proofs.Going.{goes_over, goes_lost}
 use Rattle.cacache_history.specs.declared.record.Record.TheVariants.{Moved}
 use Rattle.cacache_history.specs.Setup.{call_site}
-use Rattle.cacache_history.specs.History.{Call, Now, History, Made, moved, now_at, Ends, MayMove, IsLegal, Reaches}
+use Rattle.cacache_history.specs.History.{Call, Now, History, Made, call_after, now_at, Ends, MayMove, IsLegal, Reaches}
 use Rattle.cacache_history.specs.Turns.{made_in}
 use Rattle.cacache_history.specs.TurnPlaces.{CallsAreRuns}
 use Rattle.cacache_history.proofs.Holding.{CallHolds, of_caller, moved_holds, held_at, legal_after}
@@ -19,7 +19,7 @@ pub record Reached (h : History) (call : Call) (reply : Option Reply) : Type 0 w
   pub holds : CallHolds h.setup call
   pub ends : Ends call.state reply
 
-move_ends : (w : Now) (luck : Luck) (made : Option Made) (reply : Option Reply) (old : Call) → MayMove w.tree old.state luck made reply → Ends (moved w.tree luck made old).state reply
+move_ends : (w : Now) (luck : Luck) (made : Option Made) (reply : Option Reply) (old : Call) → MayMove w.tree old.state luck made reply → Ends (call_after w.tree luck made old).state reply
 move_ends w luck None reply old may = may.1
 move_ends w luck (Some made) reply old may = may.3
 
@@ -28,8 +28,8 @@ reached h legal call reply r =
     let w = now_at h r.before in
     let may = (legal_after h legal r.before (Moved r.caller r.luck r.made reply ∷ r.later) r.is).0 in
     let all = held_at h legal r.before (Moved r.caller r.luck r.made reply ∷ r.later) r.is in
-    let same : moved (now_at h r.before).tree r.luck r.made may.0 ≡ call
-    = (let some : Some (moved (now_at h r.before).tree r.luck r.made may.0) ≡ Some call = sym (ap (option_map (moved (now_at h r.before).tree r.luck r.made)) may.1) ∙ r.stands in cc) in
+    let same : call_after (now_at h r.before).tree r.luck r.made may.0 ≡ call
+    = (let some : Some (call_after (now_at h r.before).tree r.luck r.made may.0) ≡ Some call = sym (ap (option_map (call_after (now_at h r.before).tree r.luck r.made)) may.1) ∙ r.stands in cc) in
     subst (λ c. Reached h c reply) same (record {
       holds = moved_holds h.setup (now_at h r.before) all r.luck r.made reply may.0 (of_caller h.setup may.0 _ may.1 (all.calls r.caller)) may.2;
       ends = move_ends (now_at h r.before) r.luck r.made reply may.0 may.2;

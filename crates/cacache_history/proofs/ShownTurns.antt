@@ -35,21 +35,21 @@ use Rattle.cacache_value.proofs.Shows.{trees_show}
 use Rattle.cacache_history.specs.Setup.{Setup, home}
 use Rattle.cacache_history.specs.History.{Turn}
 use Rattle.cacache_history.specs.Turns.{made_in}
-use Rattle.cacache_history.specs.ShownTurns.{entries_at, unless_failed, shown, as_refusal, bucket_read, content_read, there_read, by_entries}
+use Rattle.cacache_history.specs.ShownTurns.{entries_at, unless_failed, shown_result, as_refusal, bucket_read, content_read, there_read, by_entries}
 use Rattle.cacache_history.specs.TurnReplies.{OneTurn, FindsHeld, ReadsHeld, AsksHeld, ReadsNext, GetsHeld}
 use Rattle.cacache_history.proofs.Spelled.{HasIntegrity, latest_has}
 use Rattle.cacache_history.proofs.Holding.{TurnHolds, TurnsHold}
 
 -- ---- what answers show
 
-bucket_is : (bucket : Option (List Entry)) (path : List ℕ) (a : PlainAnswer) → Fits (steps.ReadAll path) a → ShowsBucket bucket a → bucket_shown a ≡ shown a (Ok (list_of bucket))
+bucket_is : (bucket : Option (List Entry)) (path : List ℕ) (a : PlainAnswer) → Fits (steps.ReadAll path) a → ShowsBucket bucket a → bucket_shown a ≡ shown_result a (Ok (list_of bucket))
 bucket_is bucket path (answers.Bytes bytes) fits h = ap (λ b. Ok (list_of b)) (sym h)
 bucket_is bucket path (answers.Failed faults.NotFound) fits h = ap (λ b. Ok (list_of b)) (sym h)
 bucket_is bucket path (answers.Failed fault) fits h = refl
 bucket_is bucket path (answers.NoMemory step) fits h = refl
 bucket_is bucket path other fits h = absurd fits
 
-content_is : (content : Result (List ℕ) Fault) (path : List ℕ) (a : PlainAnswer) → Fits (steps.ReadAll path) a → ShowsContent content a → bytes_in a ≡ shown a (as_refusal content)
+content_is : (content : Result (List ℕ) Fault) (path : List ℕ) (a : PlainAnswer) → Fits (steps.ReadAll path) a → ShowsContent content a → bytes_in a ≡ shown_result a (as_refusal content)
 content_is content path (answers.Bytes bytes) fits h = ap as_refusal (sym h)
 content_is content path (answers.Failed faults.NotFound) fits h = ap as_refusal (sym h)
 content_is content path (answers.Failed fault) fits h = refl
@@ -160,7 +160,7 @@ module _ (s : Setup) where
   FoundHas (Ok found) = HasIntegrity found
   FoundHas (Err refusal) = Unit {0}
 
-  pub bucket_has : (key : List ℕ) (entries : List Entry) (a : PlainAnswer) → All IsEntry entries → FoundHas (lookup key (shown a (Ok entries)))
+  pub bucket_has : (key : List ℕ) (entries : List Entry) (a : PlainAnswer) → All IsEntry entries → FoundHas (lookup key (shown_result a (Ok entries)))
   bucket_has key entries (answers.Failed faults.NotFound) all = latest_has key entries all
   bucket_has key entries (answers.Failed fault) all = tt
   bucket_has key entries (answers.NoMemory step) all = tt

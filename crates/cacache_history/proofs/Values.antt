@@ -14,7 +14,7 @@ use Rattle.cacache_value.proofs.Traces.{traces_act, traces_show, buckets_grow}
 use Rattle.cacache_history.specs.declared.record.Record.{Record}
 use Rattle.cacache_history.specs.declared.record.Record.TheVariants.{Began, Moved, Stopped}
 use Rattle.cacache_history.specs.Setup.{Setup, home}
-use Rattle.cacache_history.specs.History.{Call, Now, History, Made, first, next, replayed, now_at, MayMove, Legal, IsLegal}
+use Rattle.cacache_history.specs.History.{Call, Now, History, Made, initial, now_after, replayed, now_at, MayMove, Legal, IsLegal}
 use Rattle.cacache_history.specs.Values.{steps_of, ValueFollowsActs, BucketsOnlyGrow, KeepsContent, KeepContent, IsThere, ContentsStay, ContentsAreRight}
 use Rattle.cacache_history.proofs.Holding.{AllHold, of_caller, made_proper, next_holds, first_opens, first_holds, legal_front, replay_more, legal_before, legal_after, held_at}
 
@@ -25,7 +25,7 @@ pub record Traced (s : Setup) (w : Now) (records : List Record) : Type 0 where
 
 module _ (s : Setup) (apart : LieApart (home s) s.outside) where
   move_traced : (w : Now) (caller : ℕ) (luck : Luck) (made : Option Made) (reply : Option Reply) (records : List Record) (call : Call) → w.calls caller ≡ Some call
-      → MayMove w.tree call.state luck made reply → AllHold s w → Traced s (next s w (Moved caller luck made reply)) records → Traced s w (Moved caller luck made reply ∷ records)
+      → MayMove w.tree call.state luck made reply → AllHold s w → Traced s (now_after s w (Moved caller luck made reply)) records → Traced s w (Moved caller luck made reply ∷ records)
   move_traced w caller luck None reply records call e may h more = record { trace = more.trace; leads = more.leads }
   move_traced w caller luck (Some made) reply records call e may h more = record {
     trace = (made_proper s apart w.tree luck made reply call (of_caller s call _ e (h.calls caller)) may, may.1, more.trace);
@@ -35,22 +35,22 @@ module _ (s : Setup) (apart : LieApart (home s) s.outside) where
   pub traced : (w : Now) (records : List Record) → Legal s w records → AllHold s w → Traced s w records
   traced w [] legal h = record { trace = tt; leads = refl }
   traced w (Began caller command ∷ records) legal h =
-      let more = traced (next s w (Began caller command)) records legal.1 (next_holds s apart w (Began caller command) legal.0 h) in
+      let more = traced (now_after s w (Began caller command)) records legal.1 (next_holds s apart w (Began caller command) legal.0 h) in
       record { trace = more.trace; leads = more.leads }
   traced w (Moved caller luck made reply ∷ records) legal h =
       move_traced w caller luck made reply records legal.0.0 legal.0.1 legal.0.2 h
-      (traced (next s w (Moved caller luck made reply)) records legal.1 (next_holds s apart w (Moved caller luck made reply) legal.0 h))
+      (traced (now_after s w (Moved caller luck made reply)) records legal.1 (next_holds s apart w (Moved caller luck made reply) legal.0 h))
   traced w (Stopped caller ∷ records) legal h =
-      let more = traced (next s w (Stopped caller)) records legal.1 (next_holds s apart w (Stopped caller) legal.0 h) in
+      let more = traced (now_after s w (Stopped caller)) records legal.1 (next_holds s apart w (Stopped caller) legal.0 h) in
       record { trace = more.trace; leads = more.leads }
 
 pub value_follows_acts : (h : History) → IsLegal h → ValueFollowsActs h
 value_follows_acts h legal = record {
   nothing = (first_opens h legal).nothing;
   acts = λ before later is.
-      let m = traced h.setup legal.apart (first h.setup) before (legal_before h legal before later is) (first_holds h legal) in
+      let m = traced h.setup legal.apart (initial h.setup) before (legal_before h legal before later is) (first_holds h legal) in
       ap (value_of_tree (home h.setup)) (sym m.leads)
-      ∙ traces_act (home h.setup) (first h.setup).tree (steps_of before) (first_opens h legal).placed m.trace;
+      ∙ traces_act (home h.setup) (initial h.setup).tree (steps_of before) (first_opens h legal).placed m.trace;
 }
 
 pub buckets_only_grow : (h : History) → IsLegal h → BucketsOnlyGrow h
@@ -60,7 +60,7 @@ buckets_only_grow h legal before more later digest is keeps =
     (legal_front h.setup (now_at h before) more later (legal_after h legal before (more ++ later) is)) k in
     let grown = buckets_grow (home h.setup) (wide_value (home h.setup) (now_at h before).tree) digest (steps_of more) keeps in
     let tree : tree_after (now_at h before).tree (steps_of more) ≡ (now_at h (before ++ more)).tree
-    = m.leads ∙ ap (λ w. w.tree) (sym (replay_more h.setup (first h.setup) before more)) in
+    = m.leads ∙ ap (λ w. w.tree) (sym (replay_more h.setup (initial h.setup) before more)) in
     let acted = (traces_show (home h.setup) (now_at h before).tree (steps_of more) k.placed k.rooted m.trace).value in (
       grown.0,
       ap (λ t. list_of ((wide_value (home h.setup) t).buckets digest)) (sym tree)
@@ -93,7 +93,7 @@ contents_stay h legal before more later address is keeps there =
     let m = traced h.setup legal.apart (now_at h before) more
     (legal_front h.setup (now_at h before) more later (legal_after h legal before (more ++ later) is)) k in
     let tree : tree_after (now_at h before).tree (steps_of more) ≡ (now_at h (before ++ more)).tree
-    = m.leads ∙ ap (λ w. w.tree) (sym (replay_more h.setup (first h.setup) before more)) in
+    = m.leads ∙ ap (λ w. w.tree) (sym (replay_more h.setup (initial h.setup) before more)) in
     let acted = (traces_show (home h.setup) (now_at h before).tree (steps_of more) k.placed k.rooted m.trace).value in
     let same : (wide_value (home h.setup) (now_at h (before ++ more)).tree).contents address ≡ (acts (home h.setup) (wide_value (home h.setup) (now_at h before).tree) (steps_of more)).contents address
     = ap (λ t. (wide_value (home h.setup) t).contents address) (sym tree) ∙ ap (λ v. v.contents address) acted in

@@ -57,8 +57,8 @@ tree_in (Ok t) = t
 tree_in (Err fault) = bare
 
 -- before any record: the outside files alone
-abbrev pub first : Setup → Now
-first s = record { tree = tree_in (with_files bare s.outside); calls = λ caller. None; begun = 0 }
+abbrev pub initial : Setup → Now
+initial s = record { tree = tree_in (with_files bare s.outside); calls = λ caller. None; begun = 0 }
 
 -- ---- what comes after a record
 
@@ -67,8 +67,8 @@ abbrev pub set_call : ℕ → Option Call → (ℕ → Option Call) → ℕ → 
 set_call caller call calls k = if k == caller then call else calls k
 
 -- a call that begins
-abbrev pub begins : Setup → ℕ → Command → Call
-begins s number command = record {
+abbrev pub new_call : Setup → ℕ → Command → Call
+new_call s number command = record {
   command = command;
   number = number;
   turns = [];
@@ -87,9 +87,9 @@ turn_of t luck made = record {
 }
 
 -- a call after a move on this tree
-abbrev pub moved : Tree → Luck → Option Made → Call → Call
-moved t luck None call = call
-moved t luck (Some made) call = record {
+abbrev pub call_after : Tree → Luck → Option Made → Call → Call
+call_after t luck None call = call
+call_after t luck (Some made) call = record {
   command = call.command;
   number = call.number;
   turns = call.turns ++ turn_of t luck made ∷ [];
@@ -108,21 +108,21 @@ moved_tree t luck (Some made) = (apply t made.0 luck).1
 
 -- the caller's call after its move
 abbrev pub moved_call : Now → ℕ → Luck → Option Made → Option Call
-moved_call w caller luck made = option_map (moved w.tree luck made) (w.calls caller)
+moved_call w caller luck made = option_map (call_after w.tree luck made) (w.calls caller)
 
 -- calls are numbered as they begin
-abbrev pub next : Setup → Now → Record → Now
-next s w (Began caller command) = record {
+abbrev pub now_after : Setup → Now → Record → Now
+now_after s w (Began caller command) = record {
   tree = w.tree;
-  calls = set_call caller (Some (begins s w.begun command)) w.calls;
+  calls = set_call caller (Some (new_call s w.begun command)) w.calls;
   begun = w.begun + 1;
 }
-next s w (Moved caller luck made reply) = record {
+now_after s w (Moved caller luck made reply) = record {
   tree = moved_tree w.tree luck made;
   calls = set_call caller (unless_over reply (moved_call w caller luck made)) w.calls;
   begun = w.begun;
 }
-next s w (Stopped caller) = record {
+now_after s w (Stopped caller) = record {
   tree = w.tree;
   calls = set_call caller None w.calls;
   begun = w.begun;
@@ -131,11 +131,11 @@ next s w (Stopped caller) = record {
 -- after these records
 abbrev pub replayed : Setup → Now → List Record → Now
 replayed s w [] = w
-replayed s w (r ∷ records) = replayed s (next s w r) records
+replayed s w (r ∷ records) = replayed s (now_after s w r) records
 
 -- what stands after the first records of a history
 abbrev pub now_at : History → List Record → Now
-now_at h before = replayed h.setup (first h.setup) before
+now_at h before = replayed h.setup (initial h.setup) before
 
 -- ---- which records may come
 
@@ -185,13 +185,13 @@ MayCome s w (Stopped caller) = (call : Call) × (w.calls caller ≡ Some call)
 -- each record may come at its place
 abbrev pub Legal : Setup → Now → List Record → Type 0
 Legal s w [] = Unit {0}
-Legal s w (r ∷ records) = MayCome s w r × Legal s (next s w r) records
+Legal s w (r ∷ records) = MayCome s w r × Legal s (now_after s w r) records
 
 -- the outside files lie apart from the cache, and each record may come at its place
 pub record IsLegal (h : History) : Type 0 where
   pub apart : LieApart (home h.setup) h.setup.outside
-  pub opens : with_files bare h.setup.outside ≡ Ok (first h.setup).tree
-  pub legal : Legal h.setup (first h.setup) h.records
+  pub opens : with_files bare h.setup.outside ≡ Ok (initial h.setup).tree
+  pub legal : Legal h.setup (initial h.setup) h.records
 
 -- ---- calls of a history
 

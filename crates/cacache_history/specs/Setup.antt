@@ -63,10 +63,10 @@ same_place (Ok a) (Ok b) = same_path a b
 same_place a b = false
 
 -- one of these files lies here
-abbrev pub is_among : List (List ℕ × List ℕ) → List ℕ → Bool
-is_among [] path = false
-is_among (file ∷ files) path = same_place (names_of file.0) (names_of path) || is_among files path
+abbrev pub has_file : List (List ℕ × List ℕ) → List ℕ → Bool
+has_file [] path = false
+has_file (file ∷ files) path = same_place (names_of file.0) (names_of path) || has_file files path
 
 -- a link may lead here: one of the outside files lies here
 abbrev pub is_outside : Setup → List ℕ → Bool
-is_outside s path = is_among s.outside path
+is_outside s path = has_file s.outside path

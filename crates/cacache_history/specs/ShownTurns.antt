@@ -46,9 +46,9 @@ unless_failed (answers.NoMemory step) r = Err refusals.Memory
 unless_failed answer r = r
 
 -- that a file is missing isn't a failure here: it shows what is so
-abbrev pub shown : {X : Type 0} → PlainAnswer → Result X Refusal → Result X Refusal
-shown (answers.Failed faults.NotFound) r = r
-shown answer r = unless_failed answer r
+abbrev pub shown_result : {X : Type 0} → PlainAnswer → Result X Refusal → Result X Refusal
+shown_result (answers.Failed faults.NotFound) r = r
+shown_result answer r = unless_failed answer r
 
 -- a fault, as why a step was refused
 abbrev pub as_refusal : {X : Type 0} → Result X Fault → Result X Refusal
@@ -57,12 +57,12 @@ as_refusal (Err fault) = Err (refusals.Fault fault)
 
 -- the entries of a bucket
 abbrev pub bucket_read : Setup → List ℕ → Turn → Result (List Entry) Refusal
-bucket_read s digest turn = shown turn.move.answer (Ok (entries_at s digest turn))
+bucket_read s digest turn = shown_result turn.move.answer (Ok (entries_at s digest turn))
 
 -- the bytes of a content, or why there are none
 abbrev pub content_read : Setup → List Hash → Turn → Result (List ℕ) Refusal
 content_read s i turn =
-    shown turn.move.answer (as_refusal (blob_bytes turn.place (content_at s i turn)))
+    shown_result turn.move.answer (as_refusal (blob_bytes turn.place (content_at s i turn)))
 
 -- whether a content is there
 abbrev pub there_read : Setup → List Hash → Turn → Result Bool Refusal

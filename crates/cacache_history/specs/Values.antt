@@ -14,7 +14,7 @@ use Rattle.cacache_value.specs.ValueLaws.{KeepBucket, IsLonger}
 use Rattle.cacache_history.specs.declared.record.Record.{Record}
 use Rattle.cacache_history.specs.declared.record.Record.TheVariants.{Began, Moved, Stopped}
 use Rattle.cacache_history.specs.Setup.{home}
-use Rattle.cacache_history.specs.History.{History, first, now_at}
+use Rattle.cacache_history.specs.History.{History, initial, now_at}
 
 -- the steps of these records, of all callers
 abbrev pub steps_of : List Record → List Move
@@ -31,7 +31,7 @@ value_at h before = value_of_tree (home h.setup) (now_at h before).tree
 
 -- what the tree held before any record, with all of its folders
 abbrev pub opening_value : History → Value
-opening_value h = wide_value (home h.setup) (first h.setup).tree
+opening_value h = wide_value (home h.setup) (initial h.setup).tree
 
 -- the acts of these records, one after another
 abbrev pub acted : History → List Record → Value

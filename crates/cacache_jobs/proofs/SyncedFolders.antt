@@ -4,7 +4,7 @@ use Rattle.cacache_store.specs.declared.store.plain.PlainTemp.{PlainTemp}
 use Rattle.cacache_table.specs.State.{State, doing, syncing, persisting, sync_dir}
 use Rattle.cacache_table.specs.declared.carried.Commit.{Commit}
 use Rattle.cacache_table.specs.Common.{sync_up}
-use Rattle.cacache_table.specs.Storing.{moved}
+use Rattle.cacache_table.specs.Storing.{move_in}
 use Rattle.cacache_table.specs.Runs.{effort}
 
 -- the last folder comes first
@@ -22,5 +22,5 @@ of_either true s t = refl
 of_either false s t = refl
 
 -- the bound before a temporary file becomes the content
-pub moved_effort : (c : Commit) (file : PlainTemp) → effort (moved c file) ≡ cond c.options.durable 16 15
+pub moved_effort : (c : Commit) (file : PlainTemp) → effort (move_in c file) ≡ cond c.options.durable 16 15
 moved_effort c file = of_either c.options.durable (syncing c file) (persisting c file)

@@ -5,7 +5,7 @@ use Rattle.cacache_store.specs.declared.store.plain.PlainTemp.{PlainTemp}
 use Rattle.cacache_table.specs.declared.reply.Reply.{Reply}
 use Rattle.cacache_table.specs.State.{writing, syncing, persisting}
 use Rattle.cacache_table.specs.declared.carried.Commit.{Commit}
-use Rattle.cacache_table.specs.Storing.{write_rest, persist, moved}
+use Rattle.cacache_table.specs.Storing.{write_rest, persist, move_in}
 use Rattle.cacache_table.specs.Promises.{Stores, Promises}
 
 -- no bytes are left to write
@@ -20,7 +20,7 @@ some_left c file [] e = absurd cc
 some_left c file (b ∷ bs) e = refl
 
 -- a commit promises the same, durable or not
-pub moved_promise : (c : Commit) (file : PlainTemp) (r : Reply) → Promises (moved c file) r → Stores c r
+pub moved_promise : (c : Commit) (file : PlainTemp) (r : Reply) → Promises (move_in c file) r → Stores c r
 moved_promise c file r = by c.options.durable
   where
     by : (b : Bool) → Promises (cond b (syncing c file) (persisting c file)) r → Stores c r

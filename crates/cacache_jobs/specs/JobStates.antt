@@ -13,7 +13,7 @@ use Rattle.cacache_table.specs.State.{State, doing, creating, writing, syncing, 
 use Rattle.cacache_table.specs.declared.carried.Content.{Content}
 use Rattle.cacache_table.specs.Inserting.{bucket_line}
 use Rattle.cacache_table.specs.Common.{sync_up}
-use Rattle.cacache_table.specs.Storing.{placed, moved}
+use Rattle.cacache_table.specs.Storing.{placed, move_in}
 use Rattle.cacache_table.specs.Removing.{remove_bucket}
 use Rattle.cacache_table.specs.Runs.{plain_reply, EndsAs}
 use Rattle.cacache_table.specs.declared.reply.Reply.{Reply}
@@ -35,15 +35,15 @@ use Rattle.cacache_jobs.specs.declared.phase.Phase.TheVariants as phases
 -- ---- what a stage carries, as the table has it
 
 -- what an insertion answers: this integrity, or a deletion nothing
-abbrev pub told : Option (List Hash) → Reply
-told (Some i) = Stored i
-told None = Done
+abbrev pub insertion_reply : Option (List Hash) → Reply
+insertion_reply (Some i) = Stored i
+insertion_reply None = Done
 
 -- this entry is on its way, and so is this reply
 abbrev pub IsInsertion : Insertion → states.Insertion → Type 0
 IsInsertion i j =
     (j.cache ≡ i.cache) × (j.entry.key ≡ string_bytes i.key) × (j.durable ≡ i.durable)
-    × (j.reply ≡ told i.integrity)
+    × (j.reply ≡ insertion_reply i.integrity)
 
 -- a file is read for this, and these bytes of it were hashed
 abbrev pub HashesFor : Hashing → states.Hashing → List ℕ → Type 0
@@ -59,7 +59,7 @@ HashesFor (hashings.Link hasher target) h bytes =
 -- what follows syncs
 abbrev pub GoalAt : Goal → State → Type 0
 GoalAt (goals.Place c) s = s ≡ placed c.value
-GoalAt (goals.Answer i) s = s ≡ over (told i.integrity)
+GoalAt (goals.Answer i) s = s ≡ over (insertion_reply i.integrity)
 
 -- what follows an errand; the path of the next step is kept
 abbrev pub ThenAt : {T : Type 0} → (T → PlainTemp) → Then T → State → Type 0
@@ -68,7 +68,7 @@ ThenAt temp (thens.Create c rest path) s =
     × (s ≡ creating number c.value rest)
 ThenAt temp (thens.Persist c file path) s =
     (path ≡ content_path c.value.cache c.value.computed)
-    × (s ≡ moved c.value (temp file))
+    × (s ≡ move_in c.value (temp file))
 ThenAt temp (thens.Sync y) s =
     (next : State) × GoalAt y.goal next × (s ≡ sync_up y.folders.items next)
 ThenAt temp (thens.Append i line path) s =

@@ -1,6 +1,6 @@
 //! Exports: an unchecked one is one step; a checked one reads the content to its end first.
 ghost use Rattle.cacache_table.specs.Common.{go_on, fails};
-ghost use Rattle.cacache_table.specs.Exporting.{export as export_of, export_from as export_from_of, counted as counted_of};
+ghost use Rattle.cacache_table.specs.Exporting.{export as export_of, export_from as export_from_of, copied_count};
 ghost use Rattle.cacache_table.specs.State.{over};
 ghost use Rattle.cacache_table.specs.declared.reply.Reply.TheVariants.{Copied};
 ghost use Rattle.cacache_jobs.specs.JobStates.{Leads};
@@ -62,7 +62,7 @@ pub(crate) fn export_from<F: FileHandle, T: TempHandle>(
 }
 
 /// After the content was to be copied; the count that was verified is answered, and else the copy's own.
-pub(crate) fn copied<F: FileHandle, T: TempHandle>(
+pub(crate) fn after_copy<F: FileHandle, T: TempHandle>(
     alloc: Global,
     from: Text,
     to: Text,
@@ -70,7 +70,7 @@ pub(crate) fn copied<F: FileHandle, T: TempHandle>(
     taken: Result<usize, Refusal>,
 ) -> errors::Result<Phase<F, T>>
     ensures { Leads F.seen T.seen result
-        (go_on taken fails (λ n. over (Copied (counted_of verified n)))) }
+        (go_on taken fails (λ n. over (Copied (copied_count verified n)))) }
 {
     match taken {
         Ok(count) => {

@@ -3,7 +3,7 @@ ghost use Rattle.std.specs.Prelude.{◌≡◌, ℕ, List, [], ◌++◌, length};
 ghost use Rattle.cacache_store.specs.Plain.{plain_answer};
 ghost use Rattle.cacache_table.specs.Answers.{file_in};
 ghost use Rattle.cacache_table.specs.Common.{go_on, fails};
-ghost use Rattle.cacache_table.specs.Linking.{after_read, hashed as hashed_of};
+ghost use Rattle.cacache_table.specs.Linking.{after_read as after_read_of, hashed as hashed_of};
 ghost use Rattle.cacache_table.specs.StepPaths.{content_path as content_path_of};
 ghost use Rattle.cacache_table.specs.Exporting.{verified as verified_of};
 ghost use Rattle.cacache_core.specs.Pieces.{Compares};
@@ -69,7 +69,7 @@ pub(crate) fn verify<F: FileHandle, T: TempHandle>(
 }
 
 /// After the file was to be opened.
-pub(crate) fn opened<F: FileHandle, T: TempHandle>(
+pub(crate) fn after_open<F: FileHandle, T: TempHandle>(
     alloc: Global,
     hashing: Box<Hashing>,
     answer: Answer<F, T>,
@@ -85,7 +85,7 @@ pub(crate) fn opened<F: FileHandle, T: TempHandle>(
 }
 
 /// The content at this path was read to its end, and has this size: exports it where it is what its integrity says.
-fn verified<F: FileHandle, T: TempHandle>(
+fn export_verified<F: FileHandle, T: TempHandle>(
     alloc: Global,
     checker: IntegrityChecker,
     from: Text,
@@ -122,7 +122,7 @@ impl Hashing {
     {
         match self {
             Hashing::Verify(checker, from, export) => {
-                verified(alloc, checker, from, export, size)
+                export_verified(alloc, checker, from, export, size)
             }
             Hashing::Link(hasher, target) => {
                 let computed = hasher.result(alloc)?;
@@ -144,14 +144,14 @@ impl Hashing {
 }
 
 /// A piece of the file, after so many bytes; no bytes stand for the end.
-fn piece<F: FileHandle, T: TempHandle>(
+fn hash_piece<F: FileHandle, T: TempHandle>(
     alloc: Global,
     mut hashing: Box<Hashing>,
     size: usize,
     got: Got<F>,
 ) -> errors::Result<Phase<F, T>>
     ensures { (h : Purpose) (bytes : List ℕ) → HashesFor hashing.value h bytes → size ≡ length bytes
-        → Leads F.seen T.seen result (after_read h bytes (got_as F.seen got)) }
+        → Leads F.seen T.seen result (after_read_of h bytes (got_as F.seen got)) }
 {
     let Got { file, bytes } = got;
     if bytes.is_empty() {
@@ -166,7 +166,7 @@ fn piece<F: FileHandle, T: TempHandle>(
 }
 
 /// After a piece was to be read, so many bytes having been read before.
-pub(crate) fn read<F: FileHandle, T: TempHandle>(
+pub(crate) fn after_read<F: FileHandle, T: TempHandle>(
     alloc: Global,
     hashing: Box<Hashing>,
     size: usize,
@@ -174,10 +174,10 @@ pub(crate) fn read<F: FileHandle, T: TempHandle>(
 ) -> errors::Result<Phase<F, T>>
     ensures { (h : Purpose) (bytes : List ℕ) → HashesFor hashing.value h bytes → size ≡ length bytes
         → Leads F.seen T.seen result
-        (go_on (seen_by (got_as F.seen) got) fails (after_read h bytes)) }
+        (go_on (seen_by (got_as F.seen) got) fails (after_read_of h bytes)) }
 {
     match got {
-        Ok(got) => piece(alloc, hashing, size, got),
+        Ok(got) => hash_piece(alloc, hashing, size, got),
         Err(refusal) => Err(refused(refusal, messages::hashing(alloc, &hashing))),
     }
 }

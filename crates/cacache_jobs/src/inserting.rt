@@ -2,13 +2,13 @@
 ghost use Rattle.std.specs.Prelude.{◌≡◌, None, IfOk, IfErr, OnOk, option_map, string_bytes, length};
 ghost use Rattle.cacache_core.specs.declared.errors.Error.TheVariants.{OutOfMemory};
 ghost use Rattle.cacache_table.specs.Common.{go_on, fails};
-ghost use Rattle.cacache_table.specs.Inserting.{insert as insert_of, insertion as insertion_of, deletion as deletion_of, after_append, recorded, bucket_line, refused_cause, given_or, given_text, no_integrity as without_integrity};
+ghost use Rattle.cacache_table.specs.Inserting.{insert as insert_of, insertion as insertion_of, deletion as deletion_of, after_append as after_append_of, recorded, bucket_line, refused_cause, given_or, given_text, no_integrity as without_integrity};
 ghost use Rattle.cacache_table.specs.StepPaths.{bucket_path as bucket_path_of};
 ghost use Rattle.cacache_table.specs.State.{Insertion as Inserted, appending};
 ghost use Rattle.cacache_entry.specs.View.{entry_view};
 ghost use Rattle.cacache_table.specs.Runs.{EndsAs};
 ghost use Rattle.cacache_jobs.specs.IntoBuckets.{entry_with, into_bucket};
-ghost use Rattle.cacache_jobs.specs.JobStates.{Leads, PhaseAt, IsInsertion, told};
+ghost use Rattle.cacache_jobs.specs.JobStates.{Leads, PhaseAt, IsInsertion, insertion_reply};
 
 use crate::messages;
 use crate::phase::{Phase, refused};
@@ -52,7 +52,7 @@ impl Drop for Insertion {
 impl Insertion {
     /// What the call answers once the entry is in its bucket.
     pub(crate) fn into_reply(self) -> Reply
-        ensures { result ≡ told self.integrity }
+        ensures { result ≡ insertion_reply self.integrity }
     {
         let Insertion {
             cache: _cache,
@@ -153,7 +153,7 @@ pub(crate) fn insert<F: FileHandle, T: TempHandle>(
     integrity: Option<Integrity>,
 ) -> errors::Result<Phase<F, T>>
     ensures { (j : Inserted) → j.cache ≡ cache → j.entry ≡ entry_view entry
-        → j.durable ≡ durable → j.reply ≡ told integrity
+        → j.durable ≡ durable → j.reply ≡ insertion_reply integrity
         → Leads F.seen T.seen result (insert_of j) }
 {
     let line = line_of(alloc, &entry, durable)?;
@@ -196,14 +196,14 @@ fn record<F: FileHandle, T: TempHandle>(
 }
 
 /// After the line, of this size, was to be appended; a short append is not retried.
-pub(crate) fn appended<F: FileHandle, T: TempHandle>(
+pub(crate) fn after_append<F: FileHandle, T: TempHandle>(
     alloc: Global,
     insertion: Insertion,
     size: usize,
     taken: Result<usize, Refusal>,
 ) -> errors::Result<Phase<F, T>>
     ensures { (j : Inserted) → IsInsertion insertion j → size ≡ length (bucket_line j)
-        → Leads F.seen T.seen result (go_on taken fails (after_append j)) }
+        → Leads F.seen T.seen result (go_on taken fails (after_append_of j)) }
 {
     let refusal = match taken {
         Ok(count) => {
@@ -227,7 +227,7 @@ fn no_integrity(alloc: Global) -> errors::Result<Integrity>
 }
 
 /// The integrity that an insertion answers.
-fn answered(alloc: Global, integrity: Option<Integrity>) -> errors::Result<Integrity>
+fn integrity_to_answer(alloc: Global, integrity: Option<Integrity>) -> errors::Result<Integrity>
     ensures ok { IfOk result (λ i. i ≡ given_or without_integrity integrity) }
     ensures err { IfErr result (λ e. e ≡ OutOfMemory) }
 {
@@ -275,7 +275,7 @@ pub(crate) fn begin_insertion<F: FileHandle, T: TempHandle>(
     let key = key.into_string();
     let entry = entry_of(alloc, key, text, size, moment, metadata, raw_metadata);
     let (entry, (cache, integrity)) = beside(entry, (cache, integrity))?;
-    let (answered, (cache, entry)) = beside(answered(alloc, integrity), (cache, entry))?;
+    let (answered, (cache, entry)) = beside(integrity_to_answer(alloc, integrity), (cache, entry))?;
     insert(alloc, cache, entry, durable, Some(answered))
 }
 

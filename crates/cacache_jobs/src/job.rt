@@ -54,7 +54,7 @@ impl<F: Drop, T: Drop> Drop for Job<F, T> {
 
 /// Where a call is that went on so: with an error it is over.
 #[inline(always)]
-pub(crate) fn settled<F: FileHandle, T: TempHandle>(
+pub(crate) fn over_on_error<F: FileHandle, T: TempHandle>(
     phase: errors::Result<Phase<F, T>>,
 ) -> Phase<F, T>
     ensures { (s : State) → Leads F.seen T.seen phase s → PhaseGoesTo F.seen T.seen result s }
@@ -160,7 +160,7 @@ impl<F: FileHandle, T: TempHandle> Job<F, T> {
     {
         match replace(&mut self.standing, Standing::Told) {
             Standing::Out(stage) => {
-                let phase = settled(stage.resume(self.alloc, answer));
+                let phase = over_on_error(stage.resume(self.alloc, answer));
                 set(&mut self.standing, Standing::At(phase));
             }
             Standing::At(_) | Standing::Told => unreachable!(),

@@ -4,7 +4,7 @@ ghost use Rattle.cacache_core.specs.Integrity.{integrity_under};
 ghost use Rattle.cacache_store.specs.Plain.{plain_answer};
 ghost use Rattle.cacache_table.specs.Answers.{length_in};
 ghost use Rattle.cacache_table.specs.Common.{go_on, fails};
-ghost use Rattle.cacache_table.specs.Linking.{link_target as link_target_of, after_size, commit_for};
+ghost use Rattle.cacache_table.specs.Linking.{link_target as link_target_of, after_size as after_size_of, commit_for};
 ghost use Rattle.cacache_table.specs.StepPaths.{content_path as content_path_of};
 ghost use Rattle.cacache_jobs.specs.Sites.{site_of};
 ghost use Rattle.cacache_table.specs.State.{sizing, opening_file, to_link, linking as linking_state};
@@ -95,13 +95,13 @@ fn open_target<F: FileHandle, T: TempHandle>(
 
 /// After the target's size was to be told: the target is opened, to be hashed.
 #[tactic(auto, using(crate::proofs::RefusedSteps::ends_refused))]
-pub(crate) fn sized<F: FileHandle, T: TempHandle>(
+pub(crate) fn after_size<F: FileHandle, T: TempHandle>(
     alloc: Global,
     target: Box<Target<u128>>,
     answer: Answer<F, T>,
 ) -> errors::Result<Phase<F, T>>
     ensures { Leads F.seen T.seen result (go_on (length_in (plain_answer F.seen T.seen answer)) fails
-        (after_size target.value)) }
+        (after_size_of target.value)) }
 {
     let size = told_size(alloc, &target.path, answer)?;
     open_target(alloc, Box::into_inner(target).with_size(size as usize))

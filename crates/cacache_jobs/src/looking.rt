@@ -48,7 +48,7 @@ fn integrity_of(found: Found) -> Integrity
 }
 
 /// What the lookup is for, once it found this entry.
-fn found<F: FileHandle, T: TempHandle>(
+fn go_on_with_entry<F: FileHandle, T: TempHandle>(
     alloc: Global,
     lookup: Lookup,
     found: Found,
@@ -70,7 +70,7 @@ fn found<F: FileHandle, T: TempHandle>(
 }
 
 /// What the lookup is for, once it found nothing.
-fn not_found<F: FileHandle, T: TempHandle>(
+fn go_on_without_entry<F: FileHandle, T: TempHandle>(
     alloc: Global,
     lookup: Lookup,
 ) -> errors::Result<Phase<F, T>>
@@ -108,7 +108,7 @@ fn entry_in(alloc: Global, lookup: &Lookup, bytes: &[u8]) -> errors::Result<Opti
 }
 
 /// After the bucket was to be read; one that isn't there is an empty one.
-pub(crate) fn looked<F: FileHandle, T: TempHandle>(
+pub(crate) fn after_bucket_read<F: FileHandle, T: TempHandle>(
     alloc: Global,
     lookup: Lookup,
     bytes: Result<Bytes, Refusal>,
@@ -121,11 +121,11 @@ pub(crate) fn looked<F: FileHandle, T: TempHandle>(
             let entry = entry_in(alloc, &lookup, bytes.as_slice());
             let (entry, lookup) = beside(entry, lookup)?;
             match entry {
-                Some(entry) => found(alloc, lookup, entry),
-                None => not_found(alloc, lookup),
+                Some(entry) => go_on_with_entry(alloc, lookup, entry),
+                None => go_on_without_entry(alloc, lookup),
             }
         }
-        Err(Refusal::Fault(Fault::NotFound)) => not_found(alloc, lookup),
+        Err(Refusal::Fault(Fault::NotFound)) => go_on_without_entry(alloc, lookup),
         Err(refusal) => {
             let message = messages::looking(alloc, lookup.cache.as_str(), lookup.key.as_str());
             Err(refused(refusal, message))

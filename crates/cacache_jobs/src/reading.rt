@@ -1,6 +1,6 @@
 //! Reads of contents, and the question whether one is there.
 ghost use Rattle.cacache_table.specs.Common.{go_on, fails};
-ghost use Rattle.cacache_table.specs.ContentReads.{checked as checked_of, is_there as is_there_state, is_absent};
+ghost use Rattle.cacache_table.specs.ContentReads.{checked as checked_of, answer_there, answer_absent};
 ghost use Rattle.cacache_table.specs.declared.reply.Reply.TheVariants.{Exists};
 ghost use Rattle.cacache_table.specs.Replies.{there_reply};
 ghost use Rattle.cacache_table.specs.Runs.{reply_of};
@@ -41,7 +41,7 @@ pub(crate) fn ask<F: FileHandle, T: TempHandle>(
 }
 
 /// The bytes, where they meet the integrity.
-fn checked<F: FileHandle, T: TempHandle>(
+fn answer_checked<F: FileHandle, T: TempHandle>(
     alloc: Global,
     content: Content,
     bytes: Bytes,
@@ -55,7 +55,7 @@ fn checked<F: FileHandle, T: TempHandle>(
 }
 
 /// After the content was to be read: its bytes are answered where they meet the integrity.
-pub(crate) fn read<F: FileHandle, T: TempHandle>(
+pub(crate) fn after_read<F: FileHandle, T: TempHandle>(
     alloc: Global,
     content: Content,
     bytes: Result<Bytes, Refusal>,
@@ -63,7 +63,7 @@ pub(crate) fn read<F: FileHandle, T: TempHandle>(
     ensures { Leads F.seen T.seen result (go_on bytes fails (checked_of content)) }
 {
     match bytes {
-        Ok(bytes) => checked(alloc, content, bytes),
+        Ok(bytes) => answer_checked(alloc, content, bytes),
         Err(refusal) => Err(refused(refusal, messages::reading(alloc, &content))),
     }
 }
@@ -82,10 +82,10 @@ pub fn is_there(there: Result<bool, Refusal>) -> errors::Result<bool>
 }
 
 /// After the question.
-pub(crate) fn asked<F: FileHandle, T: TempHandle>(
+pub(crate) fn after_question<F: FileHandle, T: TempHandle>(
     there: Result<bool, Refusal>,
 ) -> errors::Result<Phase<F, T>>
-    ensures { Leads F.seen T.seen result (go_on there is_absent is_there_state) }
+    ensures { Leads F.seen T.seen result (go_on there answer_absent answer_there) }
 {
     Ok(Phase::Over(Reply::Exists(is_there(there)?)))
 }

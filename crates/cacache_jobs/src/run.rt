@@ -13,7 +13,7 @@ ghost use Rattle.cacache_jobs.specs.Jobs.{Stands};
 ghost use Rattle.cacache_jobs.specs.Sites.{site_of};
 ghost use Rattle.cacache_jobs.specs.JobStates.{Leads, PhaseAt};
 
-use crate::job::{Job, settled};
+use crate::job::{Job, over_on_error};
 use crate::opening::open;
 use crate::phase::Phase;
 use cacache_core::errors;
@@ -47,7 +47,7 @@ fn go_on<S: Store>(store: &mut S, alloc: Global, phase: Phase<S::File, S::Temp>)
             Phase::Over(reply) => return reply,
             Phase::Wanting(stage, step) => {
                 let answer = ask(store, step);
-                phase = settled(stage.resume(alloc, answer));
+                phase = over_on_error(stage.resume(alloc, answer));
             }
         }
     }
@@ -64,7 +64,7 @@ pub(crate) fn finish<S: Store>(
     ensures { (s : State) → Leads S.File.seen S.Temp.seen phase s
         → Ran s (plain_reply result) (S.log store.old) (S.log store.new) }
 {
-    go_on(store, alloc, settled(phase))
+    go_on(store, alloc, over_on_error(phase))
 }
 
 /// Does the steps of a call until it is over. The reply is that of a run of the call, and where the store keeps its

@@ -156,29 +156,44 @@ impl<T: TempHandle> Stage<T> {
     {
         match self {
             Stage::Doing(then) => then.resume(alloc, done_of(answer)),
-            Stage::Creating(commit, rest) => storing::created(alloc, commit, rest, answer),
+            Stage::Creating(commit, rest) => storing::after_create(alloc, commit, rest, answer),
             Stage::Writing(commit, rest) => {
-                storing::written(alloc, commit, rest, written_of(answer))
+                storing::after_write(alloc, commit, rest, written_of(answer))
             }
-            Stage::Syncing(commit, path) => storing::synced(alloc, commit, path, synced_of(answer)),
-            Stage::Persisting(commit) => storing::arrived(alloc, commit, None, done_of(answer)),
+            Stage::Syncing(commit, path) => storing::after_sync(
+                alloc,
+                commit,
+                path,
+                synced_of(answer),
+            ),
+            Stage::Persisting(commit) => storing::after_arrival(
+                alloc,
+                commit,
+                None,
+                done_of(answer),
+            ),
             Stage::Confirming(commit, target, fault) => {
-                storing::confirmed(alloc, commit, target, fault, there_of(answer))
+                storing::after_confirm(alloc, commit, target, fault, there_of(answer))
             }
             Stage::Appending(insertion, size) => {
-                inserting::appended(alloc, insertion, size, taken_of(answer))
+                inserting::after_append(alloc, insertion, size, taken_of(answer))
             }
-            Stage::Looking(lookup) => looking::looked(alloc, lookup, bytes_of(answer)),
-            Stage::Reading(content) => reading::read(alloc, content, bytes_of(answer)),
-            Stage::Asking(_content) => reading::asked(there_of(answer)),
-            Stage::Sizing(target) => linking::sized(alloc, target, answer),
-            Stage::Opening(hashing) => hashing::opened(alloc, hashing, answer),
-            Stage::Hashing(hashing, size) => hashing::read(alloc, hashing, size, got_of(answer)),
+            Stage::Looking(lookup) => looking::after_bucket_read(alloc, lookup, bytes_of(answer)),
+            Stage::Reading(content) => reading::after_read(alloc, content, bytes_of(answer)),
+            Stage::Asking(_content) => reading::after_question(there_of(answer)),
+            Stage::Sizing(target) => linking::after_size(alloc, target, answer),
+            Stage::Opening(hashing) => hashing::after_open(alloc, hashing, answer),
+            Stage::Hashing(hashing, size) => hashing::after_read(
+                alloc,
+                hashing,
+                size,
+                got_of(answer),
+            ),
             Stage::Copying(from, to, verified) => {
-                exporting::copied(alloc, from, to, verified, taken_of(answer))
+                exporting::after_copy(alloc, from, to, verified, taken_of(answer))
             }
             Stage::Linking(commit, target) => {
-                storing::arrived(alloc, commit, Some(target), done_of(answer))
+                storing::after_arrival(alloc, commit, Some(target), done_of(answer))
             }
             Stage::Walking(walk, visit) => walking::resume(alloc, walk, visit, answer),
         }

@@ -7,7 +7,7 @@ ghost use Rattle.cacache_table.specs.Answers.{temp_in};
 ghost use Rattle.cacache_table.specs.Common.{go_on, fails};
 ghost use Rattle.cacache_table.specs.StepPaths.{content_path as content_path_of, temp_path as temp_path_of};
 ghost use Rattle.cacache_table.specs.State.{Site, creating, syncing, persisting, confirming};
-ghost use Rattle.cacache_table.specs.Storing.{persist as persist_of, write_rest as write_rest_of, placed as placed_of, settled as settled_of, resettled as resettled_of, moved, indexed, after_write, after_confirm, put_commit, store as store_of};
+ghost use Rattle.cacache_table.specs.Storing.{persist as persist_of, write_rest as write_rest_of, placed as placed_of, secured as secured_of, secured_found as secured_found_of, move_in as move_in_of, indexed, after_write as after_write_of, after_confirm as after_confirm_of, put_commit, store as store_of};
 ghost use Rattle.cacache_table.specs.Seen.{seen_by, written_as};
 ghost use Rattle.cacache_jobs.specs.JobStates.{Leads, PhaseAt};
 
@@ -143,7 +143,7 @@ fn write_rest<F: FileHandle, T: TempHandle>(
 
 /// After the temporary file was to be made.
 #[tactic(auto, using(crate::proofs::RefusedSteps::ends_refused))]
-pub(crate) fn created<F: FileHandle, T: TempHandle>(
+pub(crate) fn after_create<F: FileHandle, T: TempHandle>(
     alloc: Global,
     commit: Box<Commit>,
     rest: Bytes,
@@ -166,14 +166,14 @@ fn left_after(bytes: Bytes, count: usize) -> Bytes
 }
 
 /// After these bytes were to be written.
-pub(crate) fn written<F: FileHandle, T: TempHandle>(
+pub(crate) fn after_write<F: FileHandle, T: TempHandle>(
     alloc: Global,
     commit: Box<Commit>,
     rest: Bytes,
     written: Result<Written<T>, Refusal>,
 ) -> errors::Result<Phase<F, T>>
     ensures { Leads F.seen T.seen result
-        (go_on (seen_by (written_as T.seen) written) fails (after_write commit.value rest)) }
+        (go_on (seen_by (written_as T.seen) written) fails (after_write_of commit.value rest)) }
 {
     let refusal = match written {
         Ok(Written { file, count }) => {
@@ -213,7 +213,7 @@ pub(crate) fn move_in<F: FileHandle, T: TempHandle>(
     path: Text,
 ) -> Phase<F, T>
     ensures { path ≡ content_path_of commit.value.cache commit.value.computed
-        → PhaseAt F.seen T.seen result (moved commit.value (T.seen file)) }
+        → PhaseAt F.seen T.seen result (move_in_of commit.value (T.seen file)) }
 {
     if commit.options.durable {
         return sync_temp(commit, file, path);
@@ -222,7 +222,7 @@ pub(crate) fn move_in<F: FileHandle, T: TempHandle>(
 }
 
 /// After the temporary file was to be synced: moves it to the content's path.
-pub(crate) fn synced<F: FileHandle, T: TempHandle>(
+pub(crate) fn after_sync<F: FileHandle, T: TempHandle>(
     alloc: Global,
     commit: Box<Commit>,
     path: Text,
@@ -239,28 +239,28 @@ pub(crate) fn synced<F: FileHandle, T: TempHandle>(
 }
 
 /// The content arrived: where the commit is durable, the folders that lead to it are synced.
-fn settle<F: FileHandle, T: TempHandle>(
+fn secure<F: FileHandle, T: TempHandle>(
     alloc: Global,
     commit: Box<Commit>,
 ) -> errors::Result<Phase<F, T>>
-    ensures { Leads F.seen T.seen result (settled_of commit.value) }
+    ensures { Leads F.seen T.seen result (secured_of commit.value) }
 {
     if !commit.options.durable {
-        return placed(alloc, commit);
+        return compare_and_index(alloc, commit);
     }
     let folders = content_folders(alloc, commit.cache.as_str(), &commit.computed)?;
     sync_up(alloc, folders, Goal::Place(commit))
 }
 
 /// The content was found: where the commit is durable, it is synced as well.
-fn resettle<F: FileHandle, T: TempHandle>(
+fn secure_found<F: FileHandle, T: TempHandle>(
     alloc: Global,
     commit: Box<Commit>,
 ) -> errors::Result<Phase<F, T>>
-    ensures { Leads F.seen T.seen result (resettled_of commit.value) }
+    ensures { Leads F.seen T.seen result (secured_found_of commit.value) }
 {
     if !commit.options.durable {
-        return placed(alloc, commit);
+        return compare_and_index(alloc, commit);
     }
     let folders = content_folders(alloc, commit.cache.as_str(), &commit.computed)?;
     let path = content_path(alloc, commit.cache.as_str(), &commit.computed)?;
@@ -268,17 +268,17 @@ fn resettle<F: FileHandle, T: TempHandle>(
 }
 
 /// After the content was to arrive at its place: the temporary file itself, or a link to the target.
-pub(crate) fn arrived<F: FileHandle, T: TempHandle>(
+pub(crate) fn after_arrival<F: FileHandle, T: TempHandle>(
     alloc: Global,
     commit: Box<Commit>,
     target: Option<Text>,
     done: Result<(), Refusal>,
 ) -> errors::Result<Phase<F, T>>
     ensures { Leads F.seen T.seen result
-        (go_on done (confirming commit.value) (λ _. settled_of commit.value)) }
+        (go_on done (confirming commit.value) (λ _. secured_of commit.value)) }
 {
     match done {
-        Ok(()) => settle(alloc, commit),
+        Ok(()) => secure(alloc, commit),
         Err(Refusal::Fault(fault)) => {
             let path = content_path(alloc, commit.cache.as_str(), &commit.computed)?;
             Ok(Phase::Wanting(Stage::Confirming(commit, target, fault), Step::Exists(path)))
@@ -288,7 +288,7 @@ pub(crate) fn arrived<F: FileHandle, T: TempHandle>(
 }
 
 /// After the store was asked whether the content is there all the same; without a yes, the first fault is answered.
-pub(crate) fn confirmed<F: FileHandle, T: TempHandle>(
+pub(crate) fn after_confirm<F: FileHandle, T: TempHandle>(
     alloc: Global,
     commit: Box<Commit>,
     target: Option<Text>,
@@ -296,10 +296,10 @@ pub(crate) fn confirmed<F: FileHandle, T: TempHandle>(
     there: Result<bool, Refusal>,
 ) -> errors::Result<Phase<F, T>>
     ensures { Leads F.seen T.seen result
-        (go_on there (λ _. fails fault) (after_confirm commit.value fault)) }
+        (go_on there (λ _. fails fault) (after_confirm_of commit.value fault)) }
 {
     let refusal = match there {
-        Ok(true) => return resettle(alloc, commit),
+        Ok(true) => return secure_found(alloc, commit),
         Ok(false) | Err(Refusal::Fault(_)) => Refusal::Fault(fault),
         Err(Refusal::Memory) => Refusal::Memory,
     };
@@ -348,7 +348,7 @@ fn index<F: FileHandle, T: TempHandle>(alloc: Global, commit: Commit) -> errors:
     insert(alloc, cache, entry, durable, Some(integrity))
 }
 /// The content is at its place: what was said of it is compared, the integrity first.
-pub(crate) fn placed<F: FileHandle, T: TempHandle>(
+pub(crate) fn compare_and_index<F: FileHandle, T: TempHandle>(
     alloc: Global,
     commit: Box<Commit>,
 ) -> errors::Result<Phase<F, T>>

@@ -7,7 +7,7 @@ use crate::inserting::Insertion;
 use crate::messages;
 use crate::phase::Phase;
 use crate::stage::{Stage, Then};
-use crate::storing::placed;
+use crate::storing::compare_and_index;
 use cacache_core::errors;
 use cacache_core::keeping::beside;
 use cacache_core::text::Text;
@@ -30,7 +30,7 @@ impl Goal {
         ensures { (next : State) → GoalAt self next → Leads F.seen T.seen result next }
     {
         match self {
-            Goal::Place(commit) => placed(alloc, commit),
+            Goal::Place(commit) => compare_and_index(alloc, commit),
             Goal::Answer(insertion) => Ok(Phase::Over(insertion.into_reply())),
         }
     }

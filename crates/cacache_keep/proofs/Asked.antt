@@ -16,7 +16,7 @@ use Rattle.cacache_table.specs.Table.{opening}
 use Rattle.cacache_table.specs.Runs.{Ran, plain_item}
 use Rattle.cacache_jobs.specs.Environment.{KeepsRest}
 use Rattle.cacache_jobs.specs.Sites.{site_of}
-use Rattle.cacache_keep.specs.Calls.{AsksEach, ListsEntries, Made, question_of}
+use Rattle.cacache_keep.specs.Calls.{AsksEach, ListsEntries, MadeCalls, question_of}
 
 -- ---- the environment
 
@@ -25,12 +25,12 @@ keeps_on a b c one two = (two.0 ∙ one.0, two.1 ∙ one.1, two.2 ∙ one.2)
 
 -- ---- one more call
 
-pub made_on : (site : Site) (calls : List (Command × Reply)) (call : Command × Reply) (old mid new : Option (List LogItem)) → Made site calls old mid → Ran (opening site call.0) call.1 mid new → Made site (calls ++ call ∷ []) old new
+pub made_on : (site : Site) (calls : List (Command × Reply)) (call : Command × Reply) (old mid new : Option (List LogItem)) → MadeCalls site calls old mid → Ran (opening site call.0) call.1 mid new → MadeCalls site (calls ++ call ∷ []) old new
 made_on site [] call old mid new made ran = (new, subst (λ (log : Option (List LogItem)). Ran (opening site call.0) call.1 log new) made ran, refl)
 made_on site (c ∷ calls) call old mid new made ran = (made.0, made.1, made_on site calls call made.0 mid new made.2 ran)
 
-pub mapped_on : {X : Type 0} (site : Site) (of : X → Command × Reply) (xs : List X) (x : X) (old mid new : Option (List LogItem)) → Made site (map of xs) old mid → Ran (opening site (of x).0) (of x).1 mid new → Made site (map of (xs ++ x ∷ [])) old new
-mapped_on site of xs x old mid new made ran = subst (λ (calls : List (Command × Reply)). Made site calls old new) (sym (map-append of xs (x ∷ []))) (made_on site (map of xs) (of x) old mid new made ran)
+pub mapped_on : {X : Type 0} (site : Site) (of : X → Command × Reply) (xs : List X) (x : X) (old mid new : Option (List LogItem)) → MadeCalls site (map of xs) old mid → Ran (opening site (of x).0) (of x).1 mid new → MadeCalls site (map of (xs ++ x ∷ [])) old new
+mapped_on site of xs x old mid new made ran = subst (λ (calls : List (Command × Reply)). MadeCalls site calls old new) (sym (map-append of xs (x ∷ []))) (made_on site (map of xs) (of x) old mid new made ran)
 
 -- ---- what a filter keeps of one more
 

@@ -30,7 +30,7 @@ use Rattle.cacache_table.proofs.Replies.{exists_shown}
 use Rattle.cacache_sequence.specs.Sequence.{AreAnswered, tree_on}
 use Rattle.cacache_keep_laws.specs.Contents.{IsHeld}
 use Rattle.cacache_keep_laws.specs.Answers.{AnsweredBy, AnswersOn}
-use Rattle.cacache_keep_laws.specs.Index.{IndexLists, entries_in, is_bad}
+use Rattle.cacache_keep_laws.specs.Index.{IndexLists, entries_in, is_failure}
 use Rattle.cacache_keep_laws.specs.Verifying.{is_good, is_met, says_yes, has_content}
 use Rattle.cacache_keep_laws.proofs.Logged.{answered_rest, answered_split, gains_join, tree_rest}
 use Rattle.cacache_keep_laws.proofs.Members.{Member, member_contains}
@@ -254,13 +254,13 @@ entries_back : (entries : List Found) → entries ≡ entries_in (map Ok entries
 entries_back [] = refl
 entries_back (f ∷ fs) = ap (λ l. f ∷ l) (entries_back fs)
 
-clean_ok : (entries : List Found) (item : Item) → Member item (map Ok entries) → is_bad item ≡ false
+clean_ok : (entries : List Found) (item : Item) → Member item (map Ok entries) → is_failure item ≡ false
 clean_ok [] item m = absurd m
-clean_ok (f ∷ fs) item (inl e) = ap is_bad e
+clean_ok (f ∷ fs) item (inl e) = ap is_failure e
 clean_ok (f ∷ fs) item (inr m) = clean_ok fs item m
 
-clean_one : (item given : Item) → is_bad given ≡ false → Member item (given ∷ []) → is_bad item ≡ false
-clean_one item given e (inl same) = ap is_bad same ∙ e
+clean_one : (item given : Item) → is_failure given ≡ false → Member item (given ∷ []) → is_failure item ≡ false
+clean_one item given e (inl same) = ap is_failure same ∙ e
 clean_one item given e (inr m) = absurd m
 
 pub index_lists : (site : Site) (t : Tree) (items : List Item) (entries : List Found) → AreEntries items entries → AnswersOn site t commands.Ls (replies.Listed items) → IndexLists site t entries

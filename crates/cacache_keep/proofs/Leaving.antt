@@ -23,8 +23,8 @@ use Rattle.cacache_table.specs.Runs.{Moves, Gains}
 use Rattle.cacache_sequence.specs.Sequence.{tree_on, AreAnswered}
 use Rattle.cacache_sequence.proofs.InParts.{logs_lead}
 use Rattle.cacache_sequence.proofs.Looks.{tree_stays}
-use Rattle.cacache_walks.specs.Listing.{contents_folder}
-use Rattle.cacache_walks.specs.Reading.{first}
+use Rattle.cacache_walks.specs.Listing.{content_area_in}
+use Rattle.cacache_walks.specs.Reading.{top_folder}
 use Rattle.cacache_keep_laws.specs.Contents.{HoldsJust}
 use Rattle.cacache_keep_laws.specs.Index.{IndexLists}
 use Rattle.cacache_keep_laws.specs.Collecting.{LeavesLive, Removes, is_live}
@@ -36,7 +36,7 @@ use Rattle.cacache_keep_laws.proofs.Fully.{lacks_at}
 use Rattle.cacache_keep_laws.proofs.Held.{holds_just}
 use Rattle.cacache_keep_laws.proofs.Logged.{answered_rest, answered_split, gains_join, log_rooted, looked, tree_rest, walked}
 use Rattle.cacache_keep_laws.proofs.Removed.{removals_run}
-use Rattle.cacache_keep.specs.Calls.{Made, is_used, removal}
+use Rattle.cacache_keep.specs.Calls.{MadeCalls, has_entry, removal}
 use Rattle.cacache_keep.specs.Keeping.{Collects}
 use Rattle.cacache_keep.specs.Kept.{Cleaned, CollectionsLackIdle, CollectionsLeave, LaterReadsStay, Looked}
 use Rattle.cacache_keep.proofs.Judged.{index_lists}
@@ -48,7 +48,7 @@ use Rattle.cacache_keep.proofs.Parts.{gains_none}
 abbrev removals : List ℕ → List Hash → Moves
 removals cache hs = map (λ h. (RemoveFile (joined cache (content_names h)), answers.Done)) hs
 
-removals_gain : (site : Site) (hs : List Hash) (old new : Option (List LogItem)) → Made site (map removal (map (λ h. h ∷ []) hs)) old new → Gains old new (removals site.cache hs)
+removals_gain : (site : Site) (hs : List Hash) (old new : Option (List LogItem)) → MadeCalls site (map removal (map (λ h. h ∷ []) hs)) old new → Gains old new (removals site.cache hs)
 removals_gain site [] old new made = gains_none old new made
 removals_gain site (h ∷ hs) old new made =
     let ran = made.1 in
@@ -65,9 +65,9 @@ unused_on : (b : Bool) (h : Hash) (F : List (List Hash)) (G : List Hash) → F �
 unused_on true h F G e = ap (λ l. (h ∷ []) ∷ l) e
 unused_on false h F G e = e
 
-unused_ones : (entries : List Found) (hs : List Hash) → filter (λ i. not (is_used entries i)) (map (λ h. h ∷ []) hs) ≡ map (λ h. h ∷ []) (filter (λ h. not (is_live entries h)) hs)
+unused_ones : (entries : List Found) (hs : List Hash) → filter (λ i. not (has_entry entries i)) (map (λ h. h ∷ []) hs) ≡ map (λ h. h ∷ []) (filter (λ h. not (is_live entries h)) hs)
 unused_ones entries [] = refl
-unused_ones entries (h ∷ hs) = unused_on (not (is_live entries h)) h (filter (λ i. not (is_used entries i)) (map (λ x. x ∷ []) hs)) (filter (λ x. not (is_live entries x)) hs) (unused_ones entries hs)
+unused_ones entries (h ∷ hs) = unused_on (not (is_live entries h)) h (filter (λ i. not (has_entry entries i)) (map (λ x. x ∷ []) hs)) (filter (λ x. not (is_live entries x)) hs) (unused_ones entries hs)
 
 -- ---- a collection
 
@@ -86,7 +86,7 @@ module _ (site : Site) (home : Names) (kept : ℕ) (dropped : List (List Hash)) 
   unused = filter (λ h. not (is_live entries h)) hashes
 
   dropped_are : dropped ≡ map (λ h. h ∷ []) unused
-  dropped_are = c.1.unused.which ∙ ap (λ l. filter (λ i. not (is_used entries i)) l) c.1.order.single ∙ unused_ones entries hashes
+  dropped_are = c.1.unused.which ∙ ap (λ l. filter (λ i. not (has_entry entries i)) l) c.1.order.single ∙ unused_ones entries hashes
 
   kept_are : kept ≡ length (filter (is_live entries) hashes)
   kept_are =
@@ -105,10 +105,10 @@ module _ (site : Site) (home : Names) (kept : ℕ) (dropped : List (List Hash)) 
       let list = c.1.contents in
       let l = c.1.listing.2 in
       let gone = removals site.cache unused in
-      let removing = removals_gain site unused c.0 (Some new) (subst (λ d. Made site (map removal d) c.0 (Some new)) dropped_are c.2) in
+      let removing = removals_gain site unused c.0 (Some new) (subst (λ d. MadeCalls site (map removal d) c.0 (Some new)) dropped_are c.2) in
       let gains = gains_join (Some old) c.1.found (Some new) list.0 (l.0 ++ gone) list.1 (gains_join c.1.found c.0 (Some new) l.0 gone l.2 removing) in
       let lead = logs_lead old new (list.0 ++ (l.0 ++ gone)) gains logged in
-      let walk = walked t list.0 (first (contents_folder site.cache) ∷ []) list.2 (answered_split t list.0 (l.0 ++ gone) lead.0).0 in
+      let walk = walked t list.0 (top_folder (content_area_in site.cache) ∷ []) list.2 (answered_split t list.0 (l.0 ++ gone) lead.0).0 in
       let after_walk = answered_rest t list.0 (l.0 ++ gone) walk.1 lead.0 in
       let index = looked site t commands.Ls (replies.Listed c.1.listing.0) l.0 tt l.1 (answered_split t l.0 gone after_walk).0 in
       let made = removed_by site.cache unused t (answered_rest t l.0 gone index.1 after_walk) in

@@ -10,7 +10,7 @@ use Rattle.cacache_sequence.specs.Looks.{OnlyLooks}
 use Rattle.cacache_sequence.specs.Sequence.{tree_on, AreAnswered}
 use Rattle.cacache_keep_laws.specs.Answers.{AnswersOn}
 use Rattle.cacache_keep_laws.proofs.Logged.{gains_join, tree_rest, answered_split, answered_rest, looked}
-use Rattle.cacache_keep.specs.Calls.{Made}
+use Rattle.cacache_keep.specs.Calls.{MadeCalls}
 
 abbrev pub EachOn : Site → Tree → List (Command × Reply) → Type 0
 EachOn site t [] = Unit {0}
@@ -30,7 +30,7 @@ pub gains_none : (old new : Option (List LogItem)) → new ≡ old → Gains old
 gains_none None new e = e
 gains_none (Some log) new e = e ∙ ap Some (sym (append-nil log))
 
-pub made_looks : (site : Site) (t : Tree) (calls : List (Command × Reply)) (old new : Option (List LogItem)) → AllLook calls → Made site calls old new → Part site t calls old new
+pub made_looks : (site : Site) (t : Tree) (calls : List (Command × Reply)) (old new : Option (List LogItem)) → AllLook calls → MadeCalls site calls old new → Part site t calls old new
 made_looks site t [] old new looks made = record { moves = []; gains = gains_none old new made; tells = λ a. (tt, refl) }
 made_looks site t (c ∷ calls) old new looks made =
     let ran = made.1 in

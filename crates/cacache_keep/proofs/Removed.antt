@@ -9,16 +9,16 @@ use Rattle.cacache_table.specs.declared.reply.Reply.TheVariants as replies
 use Rattle.cacache_table.specs.State.{Site}
 use Rattle.cacache_table.specs.Table.{opening}
 use Rattle.cacache_table.specs.Runs.{Ran, without_message}
-use Rattle.cacache_keep.specs.Calls.{Made, StopsRemoving, removal}
+use Rattle.cacache_keep.specs.Calls.{MadeCalls, StopsRemoving, removal}
 use Rattle.cacache_keep.proofs.Asked.{mapped_on}
 
-pub one_removed : (site : Site) (addresses : List (List Hash)) (k : ℕ) (i : List Hash) (old mid new : Option (List LogItem)) → k < length addresses → i ≡ get_or addresses k i → Made site (map removal (take k addresses)) old mid → Ran (opening site (removal i).0) (removal i).1 mid new → Made site (map removal (take (k + 1) addresses)) old new
+pub one_removed : (site : Site) (addresses : List (List Hash)) (k : ℕ) (i : List Hash) (old mid new : Option (List LogItem)) → k < length addresses → i ≡ get_or addresses k i → MadeCalls site (map removal (take k addresses)) old mid → Ran (opening site (removal i).0) (removal i).1 mid new → MadeCalls site (map removal (take (k + 1) addresses)) old new
 one_removed site addresses k i old mid new below is made ran =
     let more : take (k + 1) addresses ≡ take k addresses ++ i ∷ [] = take_more addresses k i below ∙ ap (λ (h : List Hash). take k addresses ++ h ∷ []) (sym is) in
-    subst (λ (l : List (List Hash)). Made site (map removal l) old new) (sym more) (mapped_on site removal (take k addresses) i old mid new made ran)
+    subst (λ (l : List (List Hash)). MadeCalls site (map removal l) old new) (sym more) (mapped_on site removal (take k addresses) i old mid new made ran)
 
 -- the next one was refused
-pub one_refused : (site : Site) (addresses : List (List Hash)) (k : ℕ) (i : List Hash) (e : Error) (old mid new : Option (List LogItem)) → k < length addresses → i ≡ get_or addresses k i → Made site (map removal (take k addresses)) old mid → Ran (opening site (commands.RemoveHash i)) (replies.Refused (without_message e)) mid new → StopsRemoving site addresses e old new
+pub one_refused : (site : Site) (addresses : List (List Hash)) (k : ℕ) (i : List Hash) (e : Error) (old mid new : Option (List LogItem)) → k < length addresses → i ≡ get_or addresses k i → MadeCalls site (map removal (take k addresses)) old mid → Ran (opening site (commands.RemoveHash i)) (replies.Refused (without_message e)) mid new → StopsRemoving site addresses e old new
 one_refused site addresses k i e old mid new below is made ran = record {
   gone = take k addresses;
   next = i;

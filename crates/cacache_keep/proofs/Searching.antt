@@ -17,8 +17,8 @@ use Rattle.cacache_core.specs.Same.{same_hash, same_hash-Decides}
 use Rattle.cacache_entry.specs.Latest.{Found}
 use Rattle.cacache_walks.specs.Listing.{hash_cmp}
 use Rattle.cacache_core.proofs.Meeting.{lists_finds}
-use Rattle.cacache_keep_laws.specs.Collecting.{is_at, is_live}
-use Rattle.cacache_keep.specs.Calls.{AreOthers, AreUnused, is_among, is_used}
+use Rattle.cacache_keep_laws.specs.Collecting.{is_address, is_live}
+use Rattle.cacache_keep.specs.Calls.{AreOthers, AreUnused, has_address_in, has_entry}
 use Rattle.cacache_keep.proofs.Asked.{kept, passed}
 
 -- ---- the order
@@ -64,22 +64,22 @@ found_so live a r up range at =
 
 -- ---- those that aren't live
 
-among_at : (live : List Hash) (i : List Hash) (h : Hash) → address i ≡ Some h → is_among live i ≡ lists live h
+among_at : (live : List Hash) (i : List Hash) (h : Hash) → address i ≡ Some h → has_address_in live i ≡ lists live h
 among_at live [] h at = absurd cc
 among_at live (g ∷ gs) h at = let same : g ≡ h = cc in ap (lists live) same
 
-pub among_so : (live : List Hash) (i : List Hash) (h : Hash) (b c : Bool) → address i ≡ Some h → b ≡ lists live h → b ≡ c → not (is_among live i) ≡ not c
+pub among_so : (live : List Hash) (i : List Hash) (h : Hash) (b c : Bool) → address i ≡ Some h → b ≡ lists live h → b ≡ c → not (has_address_in live i) ≡ not c
 among_so live i h b c at says so = ap not (among_at live i h at ∙ sym says ∙ so)
 
-pub live_passed : (live : List Hash) (yielded unused : List (List Hash)) (i : List Hash) → AreOthers live yielded unused → not (is_among live i) ≡ false → AreOthers live (yielded ++ i ∷ []) unused
+pub live_passed : (live : List Hash) (yielded unused : List (List Hash)) (i : List Hash) → AreOthers live yielded unused → not (has_address_in live i) ≡ false → AreOthers live (yielded ++ i ∷ []) unused
 live_passed live yielded unused i r among = record {
-  which = r.which ∙ sym (passed (λ j. not (is_among live j)) yielded i among);
+  which = r.which ∙ sym (passed (λ j. not (has_address_in live j)) yielded i among);
   fewer = omega (arith, r.fewer, length-append yielded (i ∷ []));
 }
 
-pub other_taken : (live : List Hash) (yielded unused : List (List Hash)) (i : List Hash) → AreOthers live yielded unused → not (is_among live i) ≡ true → AreOthers live (yielded ++ i ∷ []) (unused ++ i ∷ [])
+pub other_taken : (live : List Hash) (yielded unused : List (List Hash)) (i : List Hash) → AreOthers live yielded unused → not (has_address_in live i) ≡ true → AreOthers live (yielded ++ i ∷ []) (unused ++ i ∷ [])
 other_taken live yielded unused i r none = record {
-  which = ap (λ l. l ++ i ∷ []) r.which ∙ sym (kept (λ j. not (is_among live j)) yielded i none);
+  which = ap (λ l. l ++ i ∷ []) r.which ∙ sym (kept (λ j. not (has_address_in live j)) yielded i none);
   fewer = omega (arith, r.fewer, length-append yielded (i ∷ []), length-append unused (i ∷ []));
 }
 
@@ -93,12 +93,12 @@ live_listed (f ∷ entries) [] h of = absurd cc
 live_listed (f ∷ entries) (g ∷ live) h of =
     let first : Some g ≡ address f.integrity = cc in
     let rest : map Some live ≡ map (λ (x : Found). address x.integrity) entries = cc in
-    ap₂ (λ a b. a || b) (ap (λ o. is_at o h) first) (live_listed entries live h rest)
+    ap₂ (λ a b. a || b) (ap (λ o. is_address o h) first) (live_listed entries live h rest)
 
 lists_same : (a b : List Hash) (h : Hash) → Contains a h ↔ Contains b h → lists a h ≡ lists b h
 lists_same a b h same = same_bool (lists a h) (lists b h) (λ e. (lists_finds b h).1 (same.0 ((lists_finds a h).0 e))) (λ e. (lists_finds a h).1 (same.1 ((lists_finds b h).0 e)))
 
-used_so : (entries : List Found) (live sorted : List Hash) → map Some live ≡ map (λ (f : Found). address f.integrity) entries → ((h : Hash) → Contains sorted h ↔ Contains live h) → (i : List Hash) → is_among sorted i ≡ is_used entries i
+used_so : (entries : List Found) (live sorted : List Hash) → map Some live ≡ map (λ (f : Found). address f.integrity) entries → ((h : Hash) → Contains sorted h ↔ Contains live h) → (i : List Hash) → has_address_in sorted i ≡ has_entry entries i
 used_so entries live sorted of same [] = refl
 used_so entries live sorted of same (h ∷ hs) = lists_same sorted live h (same h) ∙ live_listed entries live h of
 
@@ -108,7 +108,7 @@ filter_same p q same (x ∷ xs) = ap₂ (λ b l. cond b (x ∷ l) l) (same x) (f
 
 pub no_entry_has : (entries : List Found) (live sorted : List Hash) (addresses unused : List (List Hash)) → map Some live ≡ map (λ (f : Found). address f.integrity) entries → All (λ (f : Found). IsIntegrity f.integrity) entries → ((h : Hash) → Contains sorted h ↔ Contains live h) → AreOthers sorted addresses unused → AreUnused entries addresses unused
 no_entry_has entries live sorted addresses unused of formed same r = record {
-  which = r.which ∙ filter_same (λ i. not (is_among sorted i)) (λ i. not (is_used entries i)) (λ i. ap not (used_so entries live sorted of same i)) addresses;
+  which = r.which ∙ filter_same (λ i. not (has_address_in sorted i)) (λ i. not (has_entry entries i)) (λ i. ap not (used_so entries live sorted of same i)) addresses;
   fewer = r.fewer;
   formed = formed;
 }

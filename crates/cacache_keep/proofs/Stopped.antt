@@ -17,12 +17,12 @@ use Rattle.cacache_table.specs.State.{Site, Item}
 use Rattle.cacache_table.specs.Table.{opening}
 use Rattle.cacache_table.specs.Runs.{Ran, plain_item, without_message}
 use Rattle.cacache_jobs.specs.Sites.{site_of}
-use Rattle.cacache_keep.specs.Calls.{AsksEach, IsFirstError, IsMissing, IsReading, ListsEntries, Made, SaysWhy, StopsReading, question_of}
+use Rattle.cacache_keep.specs.Calls.{AsksEach, IsFirstError, HasNoIndex, ListsOrAsks, ListsEntries, MadeCalls, SaysWhy, StopsReading, question_of}
 
 -- ---- calls behind calls
 
-pub made_both : (site : Site) (calls more : List (Command × Reply)) (old mid new : Option (List LogItem)) → Made site calls old mid → Made site more mid new → Made site (calls ++ more) old new
-made_both site [] more old mid new made after = subst (λ (log : Option (List LogItem)). Made site more log new) made after
+pub made_both : (site : Site) (calls more : List (Command × Reply)) (old mid new : Option (List LogItem)) → MadeCalls site calls old mid → MadeCalls site more mid new → MadeCalls site (calls ++ more) old new
+made_both site [] more old mid new made after = subst (λ (log : Option (List LogItem)). MadeCalls site more log new) made after
 made_both site (c ∷ calls) more old mid new made after = (made.0, made.1, made_both site calls more made.0 mid new made.2 after)
 
 why_on : (calls more : List (Command × Reply)) (e : Error) → SaysWhy more e → SaysWhy (calls ++ more) e
@@ -31,40 +31,40 @@ why_on calls more e (inr last) =
     inr (calls ++ last.0, last.1, ap (λ (l : List (Command × Reply)). calls ++ l) last.2 ∙ sym (append_assoc calls last.0 (last.1 ∷ [])), last.3)
 
 -- the error ends what begins with these calls
-pub stops_on : (site : Site) (calls : List (Command × Reply)) (e : Error) (old mid new : Option (List LogItem)) → Made site calls old mid → All (λ (c : Command × Reply). IsReading c.0) calls → StopsReading site e mid new → StopsReading site e old new
+pub stops_on : (site : Site) (calls : List (Command × Reply)) (e : Error) (old mid new : Option (List LogItem)) → MadeCalls site calls old mid → All (λ (c : Command × Reply). ListsOrAsks c.0) calls → StopsReading site e mid new → StopsReading site e old new
 stops_on site calls e old mid new made harmless s = record {
   calls = calls ++ s.calls;
   made = made_both site calls s.calls old mid new made s.made;
-  harmless = All-append (λ (c : Command × Reply). IsReading c.0) calls s.calls harmless s.harmless;
+  harmless = All-append (λ (c : Command × Reply). ListsOrAsks c.0) calls s.calls harmless s.harmless;
   why = why_on calls s.calls e s.why;
 }
 
 -- memory ran out after these calls
-pub stops_lost : (site : Site) (calls : List (Command × Reply)) (old new : Option (List LogItem)) → Made site calls old new → All (λ (c : Command × Reply). IsReading c.0) calls → StopsReading site OutOfMemory old new
+pub stops_lost : (site : Site) (calls : List (Command × Reply)) (old new : Option (List LogItem)) → MadeCalls site calls old new → All (λ (c : Command × Reply). ListsOrAsks c.0) calls → StopsReading site OutOfMemory old new
 stops_lost site calls old new made harmless = record { calls = calls; made = made; harmless = harmless; why = inl refl }
 
 -- this call was refused
-pub stops_at : (site : Site) (command : Command) (e : Error) (old new : Option (List LogItem)) → IsReading command → Ran (opening site command) (replies.Refused (without_message e)) old new → StopsReading site e old new
+pub stops_at : (site : Site) (command : Command) (e : Error) (old new : Option (List LogItem)) → ListsOrAsks command → Ran (opening site command) (replies.Refused (without_message e)) old new → StopsReading site e old new
 stops_at site command e old new reading ran = record {
   calls = (command, replies.Refused (without_message e)) ∷ [];
   made = (new, ran, refl);
-  harmless = All-cons (λ (c : Command × Reply). IsReading c.0) (command, replies.Refused (without_message e)) [] reading (All-nil (λ (c : Command × Reply). IsReading c.0));
+  harmless = All-cons (λ (c : Command × Reply). ListsOrAsks c.0) (command, replies.Refused (without_message e)) [] reading (All-nil (λ (c : Command × Reply). ListsOrAsks c.0));
   why = inr ([], (command, replies.Refused (without_message e)), refl, refl);
 }
 
 -- ---- questions, listings
 
-pub asks_harmless : (asks : List (Found × Bool)) → All (λ (c : Command × Reply). IsReading c.0) (map question_of asks)
-asks_harmless asks = All-map (λ (c : Command × Reply). IsReading c.0) question_of asks (λ k d below. tt)
+pub asks_harmless : (asks : List (Found × Bool)) → All (λ (c : Command × Reply). ListsOrAsks c.0) (map question_of asks)
+asks_harmless asks = All-map (λ (c : Command × Reply). ListsOrAsks c.0) question_of asks (λ k d below. tt)
 
 abbrev pub listing : List Item → List (Command × Reply)
 listing items = (commands.Ls, replies.Listed items) ∷ []
 
-pub listing_harmless : (items : List Item) → All (λ (c : Command × Reply). IsReading c.0) (listing items)
-listing_harmless items = All-cons (λ (c : Command × Reply). IsReading c.0) (commands.Ls, replies.Listed items) [] tt (All-nil (λ (c : Command × Reply). IsReading c.0))
+pub listing_harmless : (items : List Item) → All (λ (c : Command × Reply). ListsOrAsks c.0) (listing items)
+listing_harmless items = All-cons (λ (c : Command × Reply). ListsOrAsks c.0) (commands.Ls, replies.Listed items) [] tt (All-nil (λ (c : Command × Reply). ListsOrAsks c.0))
 
 -- the first error of the listing's items is this one, or memory ran out
-pub item_stops : (site : Site) (items : List Item) (e : Error) (old new : Option (List LogItem)) → Ran (opening site commands.Ls) (replies.Listed (map plain_item items)) old new → (IsMissing items → ⊥) → (e ≡ OutOfMemory) ⊎ IsFirstError items e → StopsReading site e old new
+pub item_stops : (site : Site) (items : List Item) (e : Error) (old new : Option (List LogItem)) → Ran (opening site commands.Ls) (replies.Listed (map plain_item items)) old new → (HasNoIndex items → ⊥) → (e ≡ OutOfMemory) ⊎ IsFirstError items e → StopsReading site e old new
 item_stops site items e old new ran there why = record {
   calls = listing (map plain_item items);
   made = (new, ran, refl);
@@ -91,7 +91,7 @@ item_stops site items e old new ran there why = record {
     only_missing (Err (IntegrityError fault)) message is = absurd (cc)
     only_missing (Err OutOfMemory) message is = absurd (cc)
 
-    missing_too : (items : List Item) → IsMissing (map plain_item items) → IsMissing items
+    missing_too : (items : List Item) → HasNoIndex (map plain_item items) → HasNoIndex items
     missing_too [] (message, is) = absurd (cc)
     missing_too (item ∷ []) (message, is) =
         let it = only_missing item message (cc) in (it.0, ap (λ (i : Item). i ∷ []) it.1)
@@ -110,7 +110,7 @@ entries_stop site entries e old mid new l s = stops_on site (listing l.0) e old 
 
 -- memory ran out right there
 pub lost_here : (site : Site) (log : Option (List LogItem)) → StopsReading site OutOfMemory log log
-lost_here site log = stops_lost site [] log log refl (All-nil (λ (c : Command × Reply). IsReading c.0))
+lost_here site log = stops_lost site [] log log refl (All-nil (λ (c : Command × Reply). ListsOrAsks c.0))
 
 -- the base folder is the same
 pub stops_base : (cache base before : List ℕ) (e : Error) (old new : Option (List LogItem)) → before ≡ base → StopsReading (site_of cache before 0) e old new → StopsReading (site_of cache base 0) e old new

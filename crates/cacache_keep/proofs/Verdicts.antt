@@ -11,15 +11,15 @@ use Rattle.cacache_table.specs.declared.command.Command.TheVariants as commands
 use Rattle.cacache_table.specs.declared.reply.Reply.TheVariants as replies
 use Rattle.cacache_table.specs.State.{Site}
 use Rattle.cacache_sequence.proofs.InParts.{logs_lead}
-use Rattle.cacache_walks.specs.Listing.{contents_folder}
-use Rattle.cacache_walks.specs.Reading.{first}
+use Rattle.cacache_walks.specs.Listing.{content_area_in}
+use Rattle.cacache_walks.specs.Reading.{top_folder}
 use Rattle.cacache_keep_laws.specs.Contents.{HoldsJust}
 use Rattle.cacache_keep_laws.specs.Verifying.{Judges, has_content}
 use Rattle.cacache_keep_laws.proofs.Members.{contains_member}
 use Rattle.cacache_keep_laws.proofs.Held.{holds_just}
 use Rattle.cacache_keep_laws.proofs.Logged.{answered_rest, answered_split, gains_join, log_rooted, looked, tree_rest, walked}
 use Rattle.cacache_keep.specs.Calls.{question_of}
-use Rattle.cacache_keep.specs.Keeping.{Verifies}
+use Rattle.cacache_keep.specs.Keeping.{VerifiesCache}
 use Rattle.cacache_keep.specs.Kept.{LeavesTree, ListsHold, VerdictsJudge}
 use Rattle.cacache_keep.specs.Reading.{Judged}
 use Rattle.cacache_keep.proofs.Judged.{asks_told, good_counted, index_lists, others_named, reads_judged}
@@ -28,7 +28,7 @@ use Rattle.cacache_keep.proofs.Parts.{AllLook, made_looks}
 pub lists_hold : ListsHold
 lists_hold cache home addresses strange old new is logged lists order =
     let lead = logs_lead old new lists.0 lists.1 logged in
-    let walk = walked (tree_of old) lists.0 (first (contents_folder cache) ∷ []) lists.2 lead.0 in (
+    let walk = walked (tree_of old) lists.0 (top_folder (content_area_in cache) ∷ []) lists.2 lead.0 in (
       (order.hashes, order.single, holds_just cache home (tree_of old) lists.0 is (log_rooted old) lists.2 walk.0 addresses strange lists.3 order),
       lead.1 ∙ walk.1,
     )
@@ -38,7 +38,7 @@ all_questions [] = tt
 all_questions (a ∷ asks) = (tt, all_questions asks)
 
 module _ (site : Site) (home : Names) (good : ℕ) (damaged : List (List Hash)) (dangling : List Found) (strange : List (List ℕ)) (old new : List LogItem)
-    (is : home_of site.cache ≡ Some home) (logged : IsLog new) (v : Verifies site good damaged dangling strange (Some old) (Some new)) where
+    (is : home_of site.cache ≡ Some home) (logged : IsLog new) (v : VerifiesCache site good damaged dangling strange (Some old) (Some new)) where
   abbrev t : Tree
   t = tree_of old
 
@@ -54,7 +54,7 @@ module _ (site : Site) (home : Names) (good : ℕ) (damaged : List (List Hash)) 
       let behind = r.moves ++ (l.0 ++ a.moves) in
       let gains = gains_join (Some old) v.found (Some new) c.0 behind c.1 (gains_join v.found v.read (Some new) r.moves (l.0 ++ a.moves) r.gains (gains_join v.read v.listed (Some new) l.0 a.moves l.2 a.gains)) in
       let lead = logs_lead old new (c.0 ++ behind) gains logged in
-      let walk = walked t c.0 (first (contents_folder site.cache) ∷ []) c.2 (answered_split t c.0 behind lead.0).0 in
+      let walk = walked t c.0 (top_folder (content_area_in site.cache) ∷ []) c.2 (answered_split t c.0 behind lead.0).0 in
       let after_walk = answered_rest t c.0 behind walk.1 lead.0 in
       let holds : HoldsJust site.cache home t hashes strange = holds_just site.cache home t c.0 is (log_rooted old) c.2 walk.0 v.addresses strange c.3 v.order in
       let reads = r.tells

@@ -18,26 +18,26 @@ use Rattle.cacache_table.specs.Runs.{Ran, plain_item, without_message}
 use Rattle.cacache_keep_laws.specs.Collecting.{is_live}
 
 -- the log gained runs of these calls with these replies, one after another
-abbrev pub Made : Site → List (Command × Reply)
+abbrev pub MadeCalls : Site → List (Command × Reply)
     → Option (List LogItem) → Option (List LogItem) → Type 0
-Made site [] old new = new ≡ old
-Made site (call ∷ calls) old new =
+MadeCalls site [] old new = new ≡ old
+MadeCalls site (call ∷ calls) old new =
     (next : Option (List LogItem)) × Ran (opening site call.0) call.1 old next
-    × Made site calls next new
+    × MadeCalls site calls next new
 
 -- ---- the index
 
 -- items, as the reply of a listing
-abbrev pub listed : {A : Type 0} → Vec Item A → Reply
-listed items = replies.Listed (map plain_item items.items)
+abbrev pub listing_reply : {A : Type 0} → Vec Item A → Reply
+listing_reply items = replies.Listed (map plain_item items.items)
 
 -- the only item says that the folder of the index isn't there
-abbrev pub IsMissing : List Item → Type 0
-IsMissing items = (message : List ℕ) × (items ≡ Err (IoError NotFound message) ∷ [])
+abbrev pub HasNoIndex : List Item → Type 0
+HasNoIndex items = (message : List ℕ) × (items ≡ Err (IoError NotFound message) ∷ [])
 
 -- the index has these entries: they are all its items, or its folder isn't there
 abbrev pub AreEntries : List Item → List Found → Type 0
-AreEntries items entries = (items ≡ map Ok entries) ⊎ (IsMissing items × (entries ≡ []))
+AreEntries items entries = (items ≡ map Ok entries) ⊎ (HasNoIndex items × (entries ≡ []))
 
 -- the log gained a listing of the index, which has these entries
 abbrev pub ListsEntries :
@@ -58,7 +58,7 @@ pub record AsksEach
     (old new : Option (List LogItem)) : Type 0 where
   pub asks : List (Found × Bool)
   pub each : map (λ a. a.0) asks ≡ entries
-  pub asking : Made site (map question_of asks) old new
+  pub asking : MadeCalls site (map question_of asks) old new
   pub absent : dangling ≡ map (λ a. a.0) (filter (λ a. not a.1) asks)
 
 -- ---- contents that are removed
@@ -68,34 +68,34 @@ abbrev pub removal : List Hash → Command × Reply
 removal i = (commands.RemoveHash i, replies.Done)
 
 -- an entry has the address of the integrity
-abbrev pub is_used : List Found → List Hash → Bool
-is_used entries [] = false
-is_used entries (h ∷ hs) = is_live entries h
+abbrev pub has_entry : List Found → List Hash → Bool
+has_entry entries [] = false
+has_entry entries (h ∷ hs) = is_live entries h
 
 -- these are the ones of the addresses that no entry has, in their order; and each entry has an
 -- integrity
 pub record AreUnused (entries : List Found) (addresses unused : List (List Hash)) : Type 0 where
-  pub which : unused ≡ filter (λ i. not (is_used entries i)) addresses
+  pub which : unused ≡ filter (λ i. not (has_entry entries i)) addresses
   pub fewer : length unused ≤ length addresses
   pub formed : All (λ f. IsIntegrity f.integrity) entries
 
 -- the address of the integrity is among the hashes
-abbrev pub is_among : List Hash → List Hash → Bool
-is_among live [] = false
-is_among live (h ∷ hs) = lists live h
+abbrev pub has_address_in : List Hash → List Hash → Bool
+has_address_in live [] = false
+has_address_in live (h ∷ hs) = lists live h
 
 -- these are the ones of the addresses that aren't among the hashes, in their order
 pub record AreOthers (live : List Hash) (addresses others : List (List Hash)) : Type 0 where
-  pub which : others ≡ filter (λ i. not (is_among live i)) addresses
+  pub which : others ≡ filter (λ i. not (has_address_in live i)) addresses
   pub fewer : length others ≤ length addresses
 
 -- ---- calls that an error ends
 
 -- the command reads, and changes nothing
-abbrev pub IsReading : Command → Type 0
-IsReading (commands.Exists i) = Unit {0}
-IsReading commands.Ls = Unit {0}
-IsReading command = ⊥
+abbrev pub ListsOrAsks : Command → Type 0
+ListsOrAsks (commands.Exists i) = Unit {0}
+ListsOrAsks commands.Ls = Unit {0}
+ListsOrAsks command = ⊥
 
 -- the error is the first among the items: those before it are entries
 abbrev pub IsFirstError : List Item → Error → Type 0
@@ -106,7 +106,7 @@ IsFirstError items e =
 abbrev pub SaysError : Reply → Error → Type 0
 SaysError (replies.Refused error) e = error ≡ without_message e
 SaysError (replies.Listed items) e =
-    IsFirstError items (without_message e) × (IsMissing items → ⊥)
+    IsFirstError items (without_message e) × (HasNoIndex items → ⊥)
 SaysError reply e = ⊥
 
 -- the last of the calls says the error, or memory ran out
@@ -120,8 +120,8 @@ SaysWhy calls e =
 pub record StopsReading
     (site : Site) (e : Error) (old new : Option (List LogItem)) : Type 0 where
   pub calls : List (Command × Reply)
-  pub made : Made site calls old new
-  pub harmless : All (λ c. IsReading c.0) calls
+  pub made : MadeCalls site calls old new
+  pub harmless : All (λ c. ListsOrAsks c.0) calls
   pub why : SaysWhy calls e
 
 -- the log gained removals of the first of these addresses, and the next one was refused
@@ -133,6 +133,6 @@ pub record StopsRemoving
   pub rest : List (List Hash)
   pub split : addresses ≡ gone ++ next ∷ rest
   pub between : Option (List LogItem)
-  pub removing : Made site (map removal gone) old between
+  pub removing : MadeCalls site (map removal gone) old between
   pub refused :
       Ran (opening site (commands.RemoveHash next)) (replies.Refused (without_message e)) between new

@@ -6,12 +6,12 @@ use Rattle.cacache_store.specs.declared.store.log.LogItem.{LogItem}
 use Rattle.cacache_entry.specs.Latest.{Found}
 use Rattle.cacache_table.specs.State.{Site}
 use Rattle.cacache_walks.specs.Listing.{IsByHash, ListsContents, StopsListing}
-use Rattle.cacache_keep.specs.Calls.{AreUnused, AsksEach, ListsEntries, Made, StopsReading, StopsRemoving, removal}
+use Rattle.cacache_keep.specs.Calls.{AreUnused, AsksEach, ListsEntries, MadeCalls, StopsReading, StopsRemoving, removal}
 use Rattle.cacache_keep.specs.Reading.{ReadsEach, StopsEach}
 
 -- The contents are listed, each is read in pieces, the index is listed, and of each entry is asked
 -- whether its content is there.
-pub record Verifies
+pub record VerifiesCache
     (site : Site) (good : ℕ) (damaged : List (List Hash)) (dangling : List Found)
     (strange : List (List ℕ)) (old new : Option (List LogItem)) : Type 0 where
   pub addresses : List (List Hash)
@@ -44,7 +44,7 @@ abbrev pub Collects : Site → ℕ → List (List Hash)
     → Option (List LogItem) → Option (List LogItem) → Type 0
 Collects site kept dropped old new =
     (chosen : Option (List LogItem)) × Chooses site kept dropped old chosen
-    × Made site (map removal dropped) chosen new
+    × MadeCalls site (map removal dropped) chosen new
 
 -- ---- errors
 

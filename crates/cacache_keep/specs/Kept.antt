@@ -15,7 +15,7 @@ use Rattle.cacache_keep_laws.specs.Contents.{HoldsJust}
 use Rattle.cacache_keep_laws.specs.Verifying.{Judges}
 use Rattle.cacache_keep_laws.specs.Collecting.{LeavesLive, LinksLeadOut, ReadsAsBefore}
 use Rattle.cacache_keep_laws.specs.Idle.{LacksIdle, Removed}
-use Rattle.cacache_keep.specs.Keeping.{Collects, Verifies}
+use Rattle.cacache_keep.specs.Keeping.{Collects, VerifiesCache}
 
 -- the log leads to the tree that it led to
 abbrev pub LeavesTree : List LogItem → List LogItem → Type 0
@@ -38,7 +38,7 @@ VerdictsJudge =
     (site : Site) (home : Names) (good : ℕ) (damaged : List (List Hash)) (dangling : List Found)
     (strange : List (List ℕ)) (old new : List LogItem)
     → home_of site.cache ≡ Some home → IsLog new
-    → Verifies site good damaged dangling strange (Some old) (Some new)
+    → VerifiesCache site good damaged dangling strange (Some old) (Some new)
     → Judges site home (tree_of old) good damaged dangling strange × LeavesTree old new
 
 -- a collection leaves what is live

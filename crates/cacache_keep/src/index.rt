@@ -4,7 +4,7 @@ ghost use Rattle.cacache_core.specs.declared.errors.Error.TheVariants.{OutOfMemo
 ghost use Rattle.cacache_table.specs.Runs.{reply_of};
 ghost use Rattle.cacache_jobs.specs.Environment.{Calls, KeepsRest};
 ghost use Rattle.cacache_jobs.specs.Sites.{site_of};
-ghost use Rattle.cacache_keep.specs.Calls.{IsFirstError, IsMissing, ListsEntries, StopsReading, listed};
+ghost use Rattle.cacache_keep.specs.Calls.{IsFirstError, HasNoIndex, ListsEntries, StopsReading, listing_reply};
 
 use cacache_core::errors::{Error, Fault, Result};
 use cacache_core::keeping::let_go;
@@ -19,7 +19,7 @@ fn items<S: Store, C, N>(
     env: &mut Env<S, C, N>,
     cache: &str,
 ) -> Result<Vec<std::result::Result<Found, Error>>>
-    ensures { Calls S.log env.old env.new cache.now Command.Ls (reply_of listed result) }
+    ensures { Calls S.log env.old env.new cache.now Command.Ls (reply_of listing_reply result) }
 {
     match call(env, cache, Command::Ls, 0) {
         Reply::Listed(items) => Ok(items.into_vec()),
@@ -29,9 +29,9 @@ fn items<S: Store, C, N>(
 }
 
 /// Whether the only item says that the folder of the index isn't there.
-fn is_missing(items: &[std::result::Result<Found, Error>]) -> bool
-    ensures yes { result ≡ true → IsMissing items.now }
-    ensures no { result ≡ false → IsMissing items.now → ⊥ }
+fn has_no_index(items: &[std::result::Result<Found, Error>]) -> bool
+    ensures yes { result ≡ true → HasNoIndex items.now }
+    ensures no { result ≡ false → HasNoIndex items.now → ⊥ }
 {
     if items.len() != 1 {
         return false;
@@ -63,7 +63,7 @@ pub(crate) fn entries<S: Store, C, N>(env: &mut Env<S, C, N>, cache: &str) -> Re
     ensures rest { KeepsRest env.old env.new }
 {
     let items = items(env, cache)?;
-    if is_missing(items.as_slice()) {
+    if has_no_index(items.as_slice()) {
         let_go(items);
         return Ok(Vec::new(env.alloc));
     }

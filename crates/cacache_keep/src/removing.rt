@@ -2,7 +2,7 @@
 ghost use Rattle.std.specs.Prelude.{OnOk, IfErr, map};
 ghost use Rattle.cacache_jobs.specs.Environment.{KeepsRest};
 ghost use Rattle.cacache_jobs.specs.Sites.{site_of};
-ghost use Rattle.cacache_keep.specs.Calls.{Made, StopsRemoving, removal};
+ghost use Rattle.cacache_keep.specs.Calls.{MadeCalls, StopsRemoving, removal};
 
 use cacache_core::errors::Result;
 use cacache_core::integrity::Integrity;
@@ -16,7 +16,7 @@ pub(crate) fn remove_each<S: Store, C: Clock, N: Names>(
     cache: &str,
     addresses: &[Integrity],
 ) -> Result<()>
-    ensures removes { OnOk result (Made (site_of cache.now env.old.base 0)
+    ensures removes { OnOk result (MadeCalls (site_of cache.now env.old.base 0)
         (map removal addresses.now) (S.log env.old.store) (S.log env.new.store)) }
     ensures stops { IfErr result (λ e. StopsRemoving (site_of cache.now env.old.base 0)
         addresses.now e (S.log env.old.store) (S.log env.new.store)) }

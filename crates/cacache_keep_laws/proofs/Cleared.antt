@@ -24,7 +24,7 @@ use Rattle.cacache_table.specs.Common.{fails}
 use Rattle.cacache_table.specs.State.{over, Walk}
 use Rattle.cacache_table.specs.declared.visit.Task.{Task}
 use Rattle.cacache_table.specs.declared.visit.Visit.TheVariants.{Enter, RemoveFile}
-use Rattle.cacache_table.specs.Walking.{most, failed, give, miss, walk_on, walk_ends, task_of, tasks_of, too_many, walk}
+use Rattle.cacache_table.specs.Walking.{most, failed, give, miss, walk_on, walk_ends, task_for_name, tasks_of, too_many, walk}
 use Rattle.cacache_table.specs.Runs.{Moves, Runs}
 use Rattle.cacache_value.specs.Kinds.{Content, Way, Stray, path_kind}
 use Rattle.cacache_value.proofs.KindsApart.{kind-below}
@@ -61,13 +61,13 @@ module _ (r : Reply) (whole : BreaksOff commands.Clear r → ⊥) where
   ended t w moves clears run = over_stays t Done r moves (subst (λ b. Runs (cond b (over Done) (over (Listed w.items))) moves r) clears run)
 
   -- the walk ends at this name, or goes on without it
-  abbrev TopName : (k : Kind) (path : List ℕ) (q : Names) (rest : List Task) (w : Walk) (t : Tree) → MadeOn (walk_on (task_of true 0 path k ∷ rest) w) t r → Type 0
+  abbrev TopName : (k : Kind) (path : List ℕ) (q : Names) (rest : List Task) (w : Walk) (t : Tree) → MadeOn (walk_on (task_for_name true 0 path k ∷ rest) w) t r → Type 0
   TopName k path q rest w t m =
       ((is_end k ≡ true) × (tree_on t m.moves ≡ t))
-      ⊎ ((is_end k ≡ false) × Swept r whole (walk_on (task_of true 0 path k ∷ rest) w) t m rest (λ new. Shed t new q))
+      ⊎ ((is_end k ≡ false) × Swept r whole (walk_on (task_for_name true 0 path k ∷ rest) w) t m rest (λ new. Shed t new q))
 
   top_name : (k : Kind) (node : Node) (path : List ℕ) (p : Names) (name : List ℕ) (rest : List Task) (w : Walk) (t : Tree) → k ≡ kind_of node → look t (p ++ name ∷ []) ≡ Some node
-      → (m : MadeOn (walk_on (task_of true 0 path k ∷ rest) w) t r) → w.clears ≡ true → Rooted t → names_of path ≡ Ok (p ++ name ∷ []) → TopName k path (p ++ name ∷ []) rest w t m
+      → (m : MadeOn (walk_on (task_for_name true 0 path k ∷ rest) w) t r) → w.clears ≡ true → Rooted t → names_of path ≡ Ok (p ++ name ∷ []) → TopName k path (p ++ name ∷ []) rest w t m
   top_name kinds.Folder Folder path p name rest w t is there m clears rooted named =
       inr (refl, visited r whole (suc (length m.moves)) (Enter path 1) (p ++ name ∷ []) rest w t m (omega arith) clears rooted (named, there, refl, long_names p name))
   top_name kinds.File (File bytes) path p name rest w t is there m clears rooted named = inl (refl, missed t w rest faults.NotADirectory m.moves clears m.run)

@@ -15,7 +15,7 @@ use Rattle.cacache_keep_laws.specs.Contents.{HoldsJust}
 use Rattle.cacache_keep_laws.specs.Idle.{LacksIdle}
 use Rattle.cacache_keep_laws.specs.Index.{IndexLists, IndexesFind, entries_in}
 use Rattle.cacache_keep_laws.proofs.Indexed.{lists_each_key}
-use Rattle.cacache_keep_laws.specs.Collecting.{LinksLeadOut, IsLive, Removes, IsLeft, is_at, is_live}
+use Rattle.cacache_keep_laws.specs.Collecting.{LinksLeadOut, IsLive, Removes, IsCollected, is_address, is_live}
 use Rattle.cacache_keep_laws.proofs.Keeping.{lacks_idle, removals_leave, stays}
 use Rattle.cacache_keep_laws.proofs.Members.{Member, contains_member, member_contains}
 
@@ -52,13 +52,13 @@ any_later : (a b : Bool) → b ≡ true → (a || b) ≡ true
 any_later true b e = refl
 any_later false b e = e
 
-at_some : (o : Option Hash) (h : Hash) → o ≡ Some h → is_at o h ≡ true
-at_some o h e = ap (λ x. is_at x h) e ∙ (same_hash-Decides h h).1 refl
+at_some : (o : Option Hash) (h : Hash) → o ≡ Some h → is_address o h ≡ true
+at_some o h e = ap (λ x. is_address x h) e ∙ (same_hash-Decides h h).1 refl
 
 live_so : (entries : List Found) (f : Found) (h : Hash) → Member f entries → address f.integrity ≡ Some h → is_live entries h ≡ true
 live_so [] f h m e = absurd m
-live_so (g ∷ entries) f h (inl same) e = any_first (is_at (address g.integrity) h) (is_live entries h) (ap (λ (x : Found). is_at (address x.integrity) h) (sym same) ∙ at_some (address f.integrity) h e)
-live_so (g ∷ entries) f h (inr m) e = any_later (is_at (address g.integrity) h) (is_live entries h) (live_so entries f h m e)
+live_so (g ∷ entries) f h (inl same) e = any_first (is_address (address g.integrity) h) (is_live entries h) (ap (λ (x : Found). is_address (address x.integrity) h) (sym same) ∙ at_some (address f.integrity) h e)
+live_so (g ∷ entries) f h (inr m) e = any_later (is_address (address g.integrity) h) (is_live entries h) (live_so entries f h m e)
 
 ok_same : (f g : Found) (x : Item) → Ok f ≡ x → x ≡ Ok g → f ≡ g
 ok_same f g x a b = let both : Ok f ≡ Ok g = a ∙ b in cc
@@ -89,7 +89,7 @@ module _ (site : Site) (home : Names) (t new : Tree) (hashes : List Hash) (stran
   dropped_hash : (h : Hash) → Contains dropped h → IsHash h
   dropped_hash h c = holds.formed h (of_dropped h c).0
 
-  pub leaves : IsLeft home dropped t new
+  pub leaves : IsCollected home dropped t new
   leaves = removals_leave site.cache home dropped t new is dropped_hash removed
 
   pub live_left : (h : Hash) → IsHash h → is_live entries h ≡ true → (value_of_tree (Some home) new).contents h ≡ (value_of_tree (Some home) t).contents h

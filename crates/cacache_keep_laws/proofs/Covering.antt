@@ -19,7 +19,7 @@ use Rattle.cacache_disk.specs.Tree.{Tree, look, listing, kind_of}
 use Rattle.cacache_disk.specs.Rooted.{Rooted}
 use Rattle.cacache_disk.specs.Apply.{apply}
 use Rattle.cacache_table.specs.Runs.{Moves}
-use Rattle.cacache_walks.specs.Reading.{Folder as Spot, Reads, first, folder_as, file_as, folders_in, files_in, files_shown, names_shown, shown_by}
+use Rattle.cacache_walks.specs.Reading.{Folder as Spot, ReadsFolders, top_folder, folder_as, file_as, folders_in, file_paths, files_shown, names_shown, shown_by}
 use Rattle.cacache_keep_laws.specs.Walks.{ReadAt, is_leaf, WalksFind, WalksStayBelow}
 use Rattle.cacache_keep_laws.proofs.Members.{Member, contains_member, member_contains, in_left, in_right, in_either, mapped, source}
 use Rattle.cacache_keep_laws.proofs.Children.{child_listed, Stands, listed_child, none_below, proper_child, FolderShows, listed, missing, folder_shown}
@@ -47,13 +47,13 @@ named_on path base name is proper =
 pub record Shown (g : Spot) (t : Tree) (p : Names) (m : PlainStep × PlainAnswer) (names : List Name) : Type 0 where
   pub rooted : Rooted t
   pub shows : FolderShows t p names
-  pub files : shown_by m.0 m.1 ≡ files_in g.path names
+  pub files : shown_by m.0 m.1 ≡ file_paths g.path names
 
 shown_in : (g : Spot) (t : Tree) (p : Names) (m : PlainStep × PlainAnswer) (names : List Name) (luck : Luck) → Rooted t → names_of g.path ≡ Ok p → m.0 ≡ ReadDir g.path → m.1 ≡ (apply t m.0 luck).0 → names_shown m.1 ≡ Some names → Shown g t p m names
 shown_in g t p m names luck rooted named is answer e = record {
   rooted = rooted;
   shows = folder_shown t g.path p luck names rooted named (ap (λ s. names_shown (apply t s luck).0) (sym is) ∙ ap names_shown (sym answer) ∙ e);
-  files = ap (λ s. shown_by s m.1) is ∙ ap (λ o. files_in g.path (unwrap_or o [])) e;
+  files = ap (λ s. shown_by s m.1) is ∙ ap (λ o. file_paths g.path (unwrap_or o [])) e;
 }
 
 -- ---- what stands below is found
@@ -102,7 +102,7 @@ module _ (g : Spot) (t : Tree) (p : Names) (m : PlainStep × PlainAnswer) (ns : 
   covered_first x xs (listed all) = standing x xs (look t (p ++ x ∷ [])) refl all
   covered_first x xs (missing apart none) = here_not x xs (ap is_leaf (none_below t p x xs shown.rooted apart))
 
-covers : (moves : Moves) (trees : List Tree) (todo : List Spot) → Reads todo moves → ReadAt trees moves → Covers todo moves trees
+covers : (moves : Moves) (trees : List Tree) (todo : List Spot) → ReadsFolders todo moves → ReadAt trees moves → Covers todo moves trees
 covers [] trees [] r a f base x xs m named = absurd m
 covers [] trees (g ∷ todo) r a f base x xs m named = absurd r
 covers (m ∷ moves) trees [] r a f base x xs k named = absurd k
@@ -185,7 +185,7 @@ module _ (top : List ℕ) (base : Names) where
           named = ap names_of is ∙ named_on g.path (base ++ h.names) s.of.name h.named (proper_in s.of s.member) ∙ ap Ok (append_assoc base h.names (s.of.name ∷ []));
         }
 
-    file_sound : (trees : List Tree) (path : List ℕ) → Member path (files_in g.path ns) → Sound (t ∷ trees) path
+    file_sound : (trees : List Tree) (path : List ℕ) → Member path (file_paths g.path ns) → Sound (t ∷ trees) path
     file_sound trees path k =
         let s = source (λ (n : Name). file_as n.kind (join g.path n.name)) path ns k in
         let stands = name_in t (base ++ h.names) ns s.of shown.shows s.member in
@@ -207,7 +207,7 @@ module _ (top : List ℕ) (base : Names) where
   unfolding AllNamed
   all_named todo more a b f k = elim (in_either f todo more k) [ inl l ↦ a f l | inr r ↦ b f r ]
 
-  sound : (moves : Moves) (trees : List Tree) (todo : List Spot) → Reads todo moves → ReadAt trees moves → AllNamed todo → (path : List ℕ) → Member path (files_shown moves) → Sound trees path
+  sound : (moves : Moves) (trees : List Tree) (todo : List Spot) → ReadsFolders todo moves → ReadAt trees moves → AllNamed todo → (path : List ℕ) → Member path (files_shown moves) → Sound trees path
   unfolding AllNamed
   sound [] trees todo r a named path k = absurd k
   sound (m ∷ moves) trees [] r a named path k = absurd r
@@ -221,7 +221,7 @@ module _ (top : List ℕ) (base : Names) where
         | inr later ↦ still t trees path (sound moves trees (folders_in g ns ++ todo) r.3.2 a.2 (all_named (folders_in g ns) todo (folder_named g t m ns h shown) (λ f among. named f (inr among))) path later)
       ]
 
-  first_named : names_of top ≡ Ok base → AllNamed (first top ∷ [])
+  first_named : names_of top ≡ Ok base → AllNamed (top_folder top ∷ [])
   unfolding AllNamed
   first_named is f (inl same) = record {
     names = [];
@@ -257,11 +257,11 @@ walks_find top base moves trees [] is reads at proper some = absurd (omega (arit
 walks_find top base moves trees (x ∷ xs) is reads at proper some =
     elim (decided (joined top (x ∷ xs)) (files_shown moves)) [
       | inl found ↦
-          let s = sound top base moves trees (first top ∷ []) reads at (first_named top base is) (joined top (x ∷ xs)) found in
+          let s = sound top base moves trees (top_folder top ∷ []) reads at (first_named top base is) (joined top (x ∷ xs)) found in
           let names : base ++ s.names ≡ base ++ x ∷ xs = (let both : Ok (base ++ s.names) ≡ Ok (base ++ x ∷ xs) = sym (named_all top base s.names is s.proper s.some) ∙ ap names_of (sym s.path_is) ∙ named_all top base (x ∷ xs) is proper some in cc) in
           let leaf : is_leaf (look s.at (base ++ x ∷ xs)) ≡ true = ap (λ n. is_leaf (look s.at n)) (sym names) ∙ s.leaf in
           (s.at, contains_member s.at trees s.among, ((λ _. leaf), (λ _. contains_member (joined top (x ∷ xs)) (files_shown moves) found)))
-      | inr lost ↦ elim (covers moves trees (first top ∷ []) reads at (first top) base x xs (inl refl) is) [
+      | inr lost ↦ elim (covers moves trees (top_folder top ∷ []) reads at (top_folder top) base x xs (inl refl) is) [
         | inl found ↦ absurd (lost found)
         | inr l ↦ (l.0, contains_member l.0 trees l.1, ((λ c. absurd (lost (member_contains (joined top (x ∷ xs)) (files_shown moves) c))), (λ h. absurd (not_true _ l.2 h))))
       ]
@@ -269,5 +269,5 @@ walks_find top base moves trees (x ∷ xs) is reads at proper some =
 
 pub walks_stay : WalksStayBelow
 walks_stay top base moves trees path is reads at c =
-    let s = sound top base moves trees (first top ∷ []) reads at (first_named top base is) path (member_contains path (files_shown moves) c) in
+    let s = sound top base moves trees (top_folder top ∷ []) reads at (first_named top base is) path (member_contains path (files_shown moves) c) in
     (s.names, s.some, s.proper, s.path_is)

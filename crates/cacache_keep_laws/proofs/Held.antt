@@ -19,8 +19,8 @@ use Rattle.cacache_value.specs.Value.{Blob, InFile, AtLink, blob_in}
 use Rattle.cacache_keep_laws.specs.Walks.{is_leaf}
 use Rattle.cacache_keep_laws.proofs.Covering.{walks_find, walks_stay}
 use Rattle.cacache_keep_laws.proofs.Logged.{copies, read_at, is_copy}
-use Rattle.cacache_walks.specs.Listing.{Sorts, IsByHash, contents_folder}
-use Rattle.cacache_walks.specs.Reading.{Reads, first, files_shown}
+use Rattle.cacache_walks.specs.Listing.{Sorts, IsByHash, content_area_in}
+use Rattle.cacache_walks.specs.Reading.{ReadsFolders, top_folder, files_shown}
 use Rattle.cacache_keep_laws.specs.Answers.{AnsweredBy}
 use Rattle.cacache_keep_laws.specs.Contents.{ContentsShown, AreThoseOf, IsHeld, LiesBelow, HoldsJust, ListingsHold}
 use Rattle.cacache_keep_laws.proofs.Members.{Member, contains_member, member_contains}
@@ -94,11 +94,11 @@ module _ (cache : List ℕ) (files : List (List ℕ)) (addresses : List (List Ha
       subst IsHash (sym (one_same h s.2.0 s.2.2)) s.2.1
 
 module _ (cache : List ℕ) (home : Names) (t : Tree) (moves : Moves) (is : home_of cache ≡ Some home) (rooted : Rooted t)
-    (reads : Reads (first (contents_folder cache) ∷ []) moves) (answered : AnsweredBy t moves) where
+    (reads : ReadsFolders (top_folder (content_area_in cache) ∷ []) moves) (answered : AnsweredBy t moves) where
   -- at the one tree
   lies_below : (path : List ℕ) → Contains (files_shown moves) path → LiesBelow cache home t path
   lies_below path c =
-      let top = contents_folder cache in
+      let top = content_area_in cache in
       let base = home ++ content_area ∷ [] in
       let s = walks_stay top base moves (copies t moves) path (top_named cache home is) reads (read_at t moves rooted answered) c in
       let f = walks_find top base moves (copies t moves) s.0 (top_named cache home is) reads (read_at t moves rooted answered) s.2 s.1 in
@@ -110,7 +110,7 @@ module _ (cache : List ℕ) (home : Names) (t : Tree) (moves : Moves) (is : home
   shown_below : (path : List ℕ) → LiesBelow cache home t path → Contains (files_shown moves) path
   shown_below path l =
       let base = home ++ content_area ∷ [] in
-      let f = walks_find (contents_folder cache) base moves (copies t moves) l.0 (top_named cache home is) reads (read_at t moves rooted answered) l.2 l.1 in
+      let f = walks_find (content_area_in cache) base moves (copies t moves) l.0 (top_named cache home is) reads (read_at t moves rooted answered) l.2 l.1 in
       let leaf : is_leaf (look f.0 (base ++ l.0)) ≡ true
       = ap (λ x. is_leaf (look x (base ++ l.0))) (is_copy t f.0 moves f.1) ∙ ap (λ n. is_leaf (look t n)) (append_assoc home (content_area ∷ []) l.0) ∙ l.4 in
       subst (λ p. Contains (files_shown moves) p) (sym l.3) (f.2.1 leaf)

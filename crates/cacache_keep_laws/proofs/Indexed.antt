@@ -32,9 +32,9 @@ use Rattle.cacache_table.specs.State.{Item, Site}
 use Rattle.cacache_table.specs.declared.visit.Task.{Task}
 use Rattle.cacache_table.specs.declared.visit.Visit.TheVariants.{Enter, ReadBucket, RemoveFile, RemoveFolder}
 use Rattle.cacache_table.specs.declared.visit.Task.TheVariants.{Make, Stumble}
-use Rattle.cacache_table.specs.Walking.{task_of, tasks_of, items_in, items_of, once}
+use Rattle.cacache_table.specs.Walking.{task_for_name, tasks_of, items_in, items_of, once}
 use Rattle.cacache_table.specs.Runs.{Moves}
-use Rattle.cacache_table.specs.ListReplies.{given, given_by, In, keys_of}
+use Rattle.cacache_table.specs.ListReplies.{items_given, given_by, In, keys_of}
 use Rattle.cacache_table.proofs.Keys.{each_key_once}
 use Rattle.cacache_table.specs.StepPaths.{bucket_path}
 use Rattle.cacache_walks.specs.Reading.{names_shown}
@@ -48,9 +48,9 @@ use Rattle.cacache_keep_laws.proofs.Listing.{ReadsAll, Good, listing_runs}
 
 -- ---- tasks
 
-task_in : (level : ℕ) (p : List ℕ) (n : Name) (names : List Name) → Member n names → Member (task_of false level (join p n.name) n.kind) (tasks_of false level p names)
+task_in : (level : ℕ) (p : List ℕ) (n : Name) (names : List Name) → Member n names → Member (task_for_name false level (join p n.name) n.kind) (tasks_of false level p names)
 task_in level p n [] m = absurd m
-task_in level p n (k ∷ ns) (inl same) = inl (ap (λ (x : Name). task_of false level (join p x.name) x.kind) same)
+task_in level p n (k ∷ ns) (inl same) = inl (ap (λ (x : Name). task_for_name false level (join p x.name) x.kind) same)
 task_in level p n (k ∷ ns) (inr m) = inr (task_in level p n ns m)
 
 -- whoever reads all stumbles over nothing
@@ -98,7 +98,7 @@ module _ (t : Tree) (rooted : Rooted t) where
   no_leaf base here e leaf = let wrong : false ≡ true = ap is_leaf (sym e) ∙ leaf in cc
 
   module _ (m : PlainStep × PlainAnswer) (moves : Moves) (p : List ℕ) (level : ℕ) (base : Names) (names : List Name) (todo : List Task) (rest : ReadsAll (tasks_of false level p names ++ todo) moves) (a : AnsweredBy t moves) (next : Reaches (tasks_of false level p names ++ todo) moves) (named : names_of p ≡ Ok base) where
-    a_bucket : (x : List ℕ) (kind : Kind) → Member (record { name = x; kind = kind }) names → task_of false level (join p x) kind ≡ Make (ReadBucket (join p x)) → Member (reads (join p x)) (m ∷ moves)
+    a_bucket : (x : List ℕ) (kind : Kind) → Member (record { name = x; kind = kind }) names → task_for_name false level (join p x) kind ≡ Make (ReadBucket (join p x)) → Member (reads (join p x)) (m ∷ moves)
     a_bucket x kind member is =
         let task = subst (λ (k : Task). Member k (tasks_of false level p names)) is (task_in level p (record { name = x; kind = kind }) names member) in
         inr (bucket_reached moves (tasks_of false level p names ++ todo) (join p x) rest a (in_left (Make (ReadBucket (join p x))) (tasks_of false level p names) todo task))
@@ -195,10 +195,10 @@ looked_up key es found e =
     let there = (each_key_once es).1 key in
     mapped (λ (k : List ℕ). option_map Ok (latest k es)) key (Ok found) (once (keys_of es)) (member_in key (once (keys_of es)) (there.1 (latest_key key es found e))) (ap (option_map Ok) e)
 
-given_member : (m : PlainStep × PlainAnswer) (moves : Moves) (x : Item) → Member m moves → Member x (given_by m.0 m.1) → Member x (given moves)
+given_member : (m : PlainStep × PlainAnswer) (moves : Moves) (x : Item) → Member m moves → Member x (given_by m.0 m.1) → Member x (items_given moves)
 given_member m [] x k h = absurd k
-given_member m (n ∷ moves) x (inl same) h = in_left x (given_by n.0 n.1) (given moves) (subst (λ (k : PlainStep × PlainAnswer). Member x (given_by k.0 k.1)) same h)
-given_member m (n ∷ moves) x (inr k) h = in_right x (given_by n.0 n.1) (given moves) (given_member m moves x k h)
+given_member m (n ∷ moves) x (inl same) h = in_left x (given_by n.0 n.1) (items_given moves) (subst (λ (k : PlainStep × PlainAnswer). Member x (given_by k.0 k.1)) same h)
+given_member m (n ∷ moves) x (inr k) h = in_right x (given_by n.0 n.1) (items_given moves) (given_member m moves x k h)
 
 -- ---- the entry of a key
 

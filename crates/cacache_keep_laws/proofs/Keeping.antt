@@ -40,7 +40,7 @@ use Rattle.cacache_value.specs.Value.{blob_in, bucket_in}
 use Rattle.cacache_value.proofs.KindsApart.{kind-below}
 use Rattle.cacache_keep_laws.proofs.Members.{Member, contains_member, member_contains}
 use Rattle.cacache_keep_laws.specs.Answers.{AnsweredBy}
-use Rattle.cacache_keep_laws.specs.Index.{is_bad}
+use Rattle.cacache_keep_laws.specs.Index.{is_failure}
 use Rattle.cacache_keep_laws.specs.Walks.{is_leaf}
 use Rattle.cacache_keep_laws.specs.Idle.{Finds, IsNeeded, LacksIdle}
 use Rattle.cacache_keep_laws.specs.Collecting.{LinksLeadOut, IsLive, Removes, RemovalsLeave, CollectionsKeepReads, CollectionsKeepLookups}
@@ -167,7 +167,7 @@ found_in home q (h ∷ hs) = at (same_path q (home ++ content_names h)) refl (fo
 module _ (site : Site) (home : Names) (t new : Tree) (listing : Moves) (items : List Item) (dropped : List Hash)
     (is : home_of site.cache ≡ Some home) (rooted : Rooted t) (out : LinksLeadOut home t)
     (ls : Runs (opening site commands.Ls) listing (Listed items)) (at : AnsweredBy t listing)
-    (fine : (item : Item) → Contains items item → is_bad item ≡ false)
+    (fine : (item : Item) → Contains items item → is_failure item ≡ false)
     (integrities : (found : Found) → Contains items (Ok found) → IsIntegrity found.integrity)
     (apart : (h : Hash) → Contains dropped h → IsHash h × (IsLive items h → ⊥))
     (r : Removes site.cache dropped t new) where

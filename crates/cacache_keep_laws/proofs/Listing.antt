@@ -21,12 +21,12 @@ use Rattle.cacache_table.specs.declared.visit.Task.{Task}
 use Rattle.cacache_table.specs.declared.visit.Visit.TheVariants.{Enter, ReadBucket, RemoveFile, RemoveFolder}
 use Rattle.cacache_table.specs.declared.visit.Task.TheVariants.{Make, Stumble}
 use Rattle.cacache_table.specs.Common.{go_on}
-use Rattle.cacache_table.specs.Walking.{most, failed, miss, walk_on, task_of, tasks_of, too_many, entered, unread_bucket, listed, items_in}
+use Rattle.cacache_table.specs.Walking.{most, failed, miss, walk_on, task_for_name, tasks_of, too_many, entered, unread_bucket, listed, items_in}
 use Rattle.cacache_table.specs.Runs.{Moves, Runs}
-use Rattle.cacache_table.specs.ListReplies.{by_bucket, by_folder, given_by, given}
+use Rattle.cacache_table.specs.ListReplies.{by_bucket, by_folder, given_by, items_given}
 use Rattle.cacache_walks.specs.Reading.{names_shown}
 use Rattle.cacache_keep_laws.proofs.Members.{Member, in_left, in_right, in_either}
-use Rattle.cacache_keep_laws.specs.Index.{is_bad}
+use Rattle.cacache_keep_laws.specs.Index.{is_failure}
 
 -- the moves read these folders and buckets, and all that lies below the folders
 abbrev pub ReadsAll : List Task → Moves → Type 0
@@ -54,7 +54,7 @@ deeper_fine : (b : Bool) (p : List ℕ) (level : ℕ) (todo : List Task) → Fin
 deeper_fine true p level todo h = h
 deeper_fine false p level todo h = (refl, h)
 
-task_fine : (kind : Kind) (level : ℕ) (p : List ℕ) (todo : List Task) → Fine todo → Fine (task_of false level p kind ∷ todo)
+task_fine : (kind : Kind) (level : ℕ) (p : List ℕ) (todo : List Task) → Fine todo → Fine (task_for_name false level p kind ∷ todo)
 task_fine kinds.File level p todo h = h
 task_fine kinds.Link level p todo h = h
 task_fine kinds.Folder level p todo h = deeper_fine (nat_lt level 16) p (level + 1) todo h
@@ -82,12 +82,12 @@ lists items left = record { clears = false; items = items; left = left }
 module _ (list : List Item) where
   -- it lists a bad item
   abbrev pub Bad : Type 0
-  Bad = (x : Item) × Member x list × (is_bad x ≡ true)
+  Bad = (x : Item) × Member x list × (is_failure x ≡ true)
 
   pub record Good (moves : Moves) (todo : List Task) (items : List Item) : Type 0 where
     pub reads : ReadsAll todo moves
     pub keeps : (x : Item) → Member x items → Member x list
-    pub gives : (x : Item) → Member x (given moves) → Member x list
+    pub gives : (x : Item) → Member x (items_given moves) → Member x list
 
   abbrev pub Outcome : Moves → List Task → List Item → Type 0
   Outcome moves todo items = Bad ⊎ Good moves todo items
@@ -97,7 +97,7 @@ module _ (list : List Item) where
   ended [] r (inr e) = absurd cc
   ended (m ∷ moves) r run = absurd (let e : None ≡ Some m.0 = run.0 in cc)
 
-  bad_member : (items : List Item) (x : Item) → is_bad x ≡ true → Listed (items ++ x ∷ []) ≡ Listed list → Bad
+  bad_member : (items : List Item) (x : Item) → is_failure x ≡ true → Listed (items ++ x ∷ []) ≡ Listed list → Bad
   bad_member items x bad e = let same : items ++ x ∷ [] ≡ list = cc in (x, subst (Member x) same (in_right x items (x ∷ []) (inl refl)), bad)
 
   full : (moves : Moves) (items : List Item) (left : ℕ) → Runs (too_many (lists items left)) moves (Listed list) → Bad
@@ -115,7 +115,7 @@ module _ (list : List Item) where
   missed moves todo items left fault next run = given_on (nat_le (length items + length (failed fault ∷ [])) most) moves todo items (failed fault ∷ []) left next run
 
   -- a fault that was given is bad
-  spoiled : (moves : Moves) (todo rest : List Task) (items : List Item) (fault : Fault) (more : Moves) → is_bad (failed fault) ≡ true → Outcome moves todo (items ++ failed fault ∷ []) → Outcome more rest items
+  spoiled : (moves : Moves) (todo rest : List Task) (items : List Item) (fault : Fault) (more : Moves) → is_failure (failed fault) ≡ true → Outcome moves todo (items ++ failed fault ∷ []) → Outcome more rest items
   spoiled moves todo rest items fault more bad (inl b) = inl b
   spoiled moves todo rest items fault more bad (inr g) = inl (failed fault, g.keeps (failed fault) (in_right (failed fault) items (failed fault ∷ []) (inl refl)), bad)
 
@@ -136,7 +136,7 @@ module _ (list : List Item) where
       inr (record {
         reads = rw e.0 tt;
         keeps = λ x m. subst (Member x) same m;
-        gives = λ x m. absurd (subst (λ ms. Member x (given ms)) e.0 m);
+        gives = λ x m. absurd (subst (λ ms. Member x (items_given ms)) e.0 m);
       })
   goes_on moves visits (Make v ∷ todo) fine items left run = visits v todo items left fine run
   goes_on moves visits (Stumble fault path ∷ todo) fine items left run =
@@ -153,7 +153,7 @@ module _ (list : List Item) where
               | inr g ↦ inr (record {
                 reads = (step, (names, shown_ok m.1 names is, g.reads));
                 keeps = g.keeps;
-                gives = λ x k. g.gives x (subst (λ (l : List Item). Member x (l ++ given moves)) (ap (λ s. given_by s m.1) step ∙ ap by_folder is) k);
+                gives = λ x k. g.gives x (subst (λ (l : List Item). Member x (l ++ items_given moves)) (ap (λ s. given_by s m.1) step ∙ ap by_folder is) k);
               })
             ]
         by_count false run = inl (full moves items left run)
@@ -163,7 +163,7 @@ module _ (list : List Item) where
           | inr g ↦ inr (record {
             reads = (step, ([], shown_missing m.1 is, g.reads));
             keeps = λ x k. g.keeps x (in_left x items (failed NotFound ∷ []) k);
-            gives = λ x k. elim (in_either x (failed NotFound ∷ []) (given moves) (subst (λ (l : List Item). Member x (l ++ given moves)) (ap (λ s. given_by s m.1) step ∙ ap by_folder is) k)) [
+            gives = λ x k. elim (in_either x (failed NotFound ∷ []) (items_given moves) (subst (λ (l : List Item). Member x (l ++ items_given moves)) (ap (λ s. given_by s m.1) step ∙ ap by_folder is) k)) [
               | inl first ↦ g.keeps x (in_right x items (failed NotFound ∷ []) first)
               | inr later ↦ g.gives x later
             ];
@@ -180,7 +180,7 @@ module _ (list : List Item) where
           | inr g ↦ inr (record {
             reads = (step, g.reads);
             keeps = λ x k. g.keeps x (in_left x items (items_in bytes) k);
-            gives = λ x k. elim (in_either x (items_in bytes) (given moves) (subst (λ (l : List Item). Member x (l ++ given moves)) (ap (λ s. given_by s m.1) step ∙ ap by_bucket is) k)) [
+            gives = λ x k. elim (in_either x (items_in bytes) (items_given moves) (subst (λ (l : List Item). Member x (l ++ items_given moves)) (ap (λ s. given_by s m.1) step ∙ ap by_bucket is) k)) [
               | inl first ↦ g.keeps x (in_right x items (items_in bytes) first)
               | inr later ↦ g.gives x later
             ];
@@ -192,7 +192,7 @@ module _ (list : List Item) where
           | inr g ↦ inr (record {
             reads = (step, g.reads);
             keeps = g.keeps;
-            gives = λ x k. g.gives x (subst (λ (l : List Item). Member x (l ++ given moves)) (ap (λ s. given_by s m.1) step ∙ ap by_bucket is) k);
+            gives = λ x k. g.gives x (subst (λ (l : List Item). Member x (l ++ items_given moves)) (ap (λ s. given_by s m.1) step ∙ ap by_bucket is) k);
           })
         ]
     reading p todo items left (Err (refusals.Fault fault)) is step fine run =

@@ -26,7 +26,7 @@ use Rattle.cacache_table.specs.Licence.{looking_on}
 use Rattle.cacache_table.proofs.Within.{calls_keep_to}
 use Rattle.cacache_sequence.proofs.Looks.{moves_keep, moves_place}
 use Rattle.cacache_sequence.proofs.ReadsStay.{listing_keeps}
-use Rattle.cacache_walks.specs.Reading.{Folder, Reads, folders_in}
+use Rattle.cacache_walks.specs.Reading.{Folder, ReadsFolders, folders_in}
 use Rattle.cacache_keep_laws.specs.Answers.{AnsweredBy, AnswersOn}
 use Rattle.cacache_keep_laws.specs.Walks.{ReadAt}
 use Rattle.cacache_keep_laws.proofs.Members.{Member, member_contains}
@@ -88,7 +88,7 @@ looked site t command r moves looks run a =
 
 -- ---- walks
 
-pub walked : (t : Tree) (moves : Moves) (todo : List Folder) → Reads todo moves → AreAnswered t moves → AnsweredBy t moves × (tree_on t moves ≡ t)
+pub walked : (t : Tree) (moves : Moves) (todo : List Folder) → ReadsFolders todo moves → AreAnswered t moves → AnsweredBy t moves × (tree_on t moves ≡ t)
 walked t [] todo r a = (tt, refl)
 walked t (m ∷ moves) [] r a = absurd r
 walked t (m ∷ moves) (f ∷ todo) r a =

@@ -28,7 +28,7 @@ use Rattle.cacache_table.specs.declared.visit.Visit.{Visit}
 use Rattle.cacache_table.specs.declared.visit.Task.{Task}
 use Rattle.cacache_table.specs.declared.visit.Visit.TheVariants.{Enter, ReadBucket, RemoveFile, RemoveFolder}
 use Rattle.cacache_table.specs.declared.visit.Task.TheVariants.{Make, Stumble}
-use Rattle.cacache_table.specs.Walking.{failed, give, miss, walk_on, task_of, tasks_of, leaving, too_many, entered}
+use Rattle.cacache_table.specs.Walking.{failed, give, miss, walk_on, task_for_name, tasks_of, leaving, too_many, entered}
 use Rattle.cacache_table.specs.Runs.{Moves, Runs}
 use Rattle.cacache_sequence.specs.Sequence.{tree_on}
 use Rattle.cacache_history.proofs.ToldFolders.{Each, Told, AreDistinct, listing_told, listing_distinct, child_listed}
@@ -144,8 +144,8 @@ module _ (r : Reply) (whole : BreaksOff commands.Clear r → ⊥) where
     file_swept false path q rest w t e m low clears rooted named there = visits (RemoveFile path) q rest w t m low clears rooted (named, there)
 
     kind_swept : (k : Kind) (node : Node) (path : List ℕ) (level : ℕ) (p : Names) (name : List ℕ) (rest : List Task) (w : Walk) (t : Tree) → k ≡ kind_of node → look t (p ++ name ∷ []) ≡ Some node → (level == 0) ≡ false
-        → (m : MadeOn (walk_on (task_of true level path k ∷ rest) w) t r) → length m.moves < fuel → w.clears ≡ true → Rooted t → names_of path ≡ Ok (p ++ name ∷ [])
-        → Swept (walk_on (task_of true level path k ∷ rest) w) t m rest (λ new. Shed t new (p ++ name ∷ []))
+        → (m : MadeOn (walk_on (task_for_name true level path k ∷ rest) w) t r) → length m.moves < fuel → w.clears ≡ true → Rooted t → names_of path ≡ Ok (p ++ name ∷ [])
+        → Swept (walk_on (task_for_name true level path k ∷ rest) w) t m rest (λ new. Shed t new (p ++ name ∷ []))
     kind_swept kinds.Folder Folder path level p name rest w t is there inner m low clears rooted named = folder_swept (nat_lt level 16) path level p name rest w t m low clears rooted named there
     kind_swept kinds.File (File bytes) path level p name rest w t is there inner m low clears rooted named = file_swept (level == 0) path (p ++ name ∷ []) rest w t inner m low clears rooted named (ap is_leaf there)
     kind_swept kinds.Link (Link target) path level p name rest w t is there inner m low clears rooted named = visits (RemoveFile path) (p ++ name ∷ []) rest w t m low clears rooted (named, ap is_leaf there)

@@ -25,9 +25,9 @@ use Rattle.cacache_table.specs.Table.{opening}
 use Rattle.cacache_table.specs.Runs.{Moves, Runs}
 use Rattle.cacache_value.specs.Kinds.{Elsewhere, IsFor}
 use Rattle.cacache_sequence.specs.Caches.{IsCache}
-use Rattle.cacache_keep_laws.specs.Contents.{HoldsJust, bucket_at, content_at}
+use Rattle.cacache_keep_laws.specs.Contents.{HoldsJust, bucket_in, content_in}
 use Rattle.cacache_keep_laws.specs.Answers.{AnsweredBy, AnswersOn}
-use Rattle.cacache_keep_laws.specs.Index.{IndexLists, is_bad}
+use Rattle.cacache_keep_laws.specs.Index.{IndexLists, is_failure}
 
 -- each link leads out of the cache
 abbrev pub LinksLeadOut : Names → Tree → Type 0
@@ -53,19 +53,19 @@ Removes cache (h ∷ hs) t new =
     × Removes cache hs (apply t (RemoveFile (joined cache (content_names h))) Plain).1 new
 
 -- the value holds no removed content, all others as before, and the buckets as before
-pub record IsLeft (home : Names) (dropped : List Hash) (t new : Tree) : Type 0 where
-  pub gone : (h : Hash) → Contains dropped h → content_at home new h ≡ None
+pub record IsCollected (home : Names) (dropped : List Hash) (t new : Tree) : Type 0 where
+  pub gone : (h : Hash) → Contains dropped h → content_in home new h ≡ None
   pub kept : (h : Hash) → IsHash h → (Contains dropped h → ⊥)
-      → content_at home new h ≡ content_at home t h
+      → content_in home new h ≡ content_in home t h
   pub buckets : (digest : List ℕ) → IsKeyDigest digest
-      → bucket_at home new digest ≡ bucket_at home t digest
+      → bucket_in home new digest ≡ bucket_in home t digest
 
 -- so it is after removals
 abbrev pub RemovalsLeave : Type 0
 RemovalsLeave =
     (cache : List ℕ) (home : Names) (dropped : List Hash) (t new : Tree)
     → home_of cache ≡ Some home → ((h : Hash) → Contains dropped h → IsHash h)
-    → Removes cache dropped t new → IsLeft home dropped t new
+    → Removes cache dropped t new → IsCollected home dropped t new
 
 -- where no live content is removed, each read by key makes the steps with the answers that it would
 -- have made before, and so has the reply that it would have had
@@ -75,7 +75,7 @@ CollectionsKeepReads =
     (dropped : List Hash) (key : List ℕ) (moves : Moves) (reply : Reply)
     → home_of site.cache ≡ Some home → Rooted t → LinksLeadOut home t
     → Runs (opening site commands.Ls) listing (Listed items) → AnsweredBy t listing
-    → ((item : Item) → Contains items item → is_bad item ≡ false)
+    → ((item : Item) → Contains items item → is_failure item ≡ false)
     → ((found : Found) → Contains items (Ok found) → IsIntegrity found.integrity)
     → ((h : Hash) → Contains dropped h → IsHash h × (IsLive items h → ⊥))
     → Removes site.cache dropped t new
@@ -95,13 +95,13 @@ CollectionsKeepLookups =
 -- ---- a collection
 
 -- the hash is this address, if there is one
-abbrev pub is_at : Option Hash → Hash → Bool
-is_at None h = false
-is_at (Some g) h = same_hash g h
+abbrev pub is_address : Option Hash → Hash → Bool
+is_address None h = false
+is_address (Some g) h = same_hash g h
 
 -- the hash is the address of one of the entries
 abbrev pub is_live : List Found → Hash → Bool
-is_live entries h = list_any (λ f. is_at (address f.integrity) h) entries
+is_live entries h = list_any (λ f. is_address (address f.integrity) h) entries
 
 -- of the contents that the cache held, those at live addresses are left, as many as were kept; the
 -- others were dropped, and are gone; the buckets are as they were, and so is the rest of the tree
@@ -116,11 +116,11 @@ pub record LeavesLive
   pub counted : kept ≡ length (filter (is_live entries) hashes)
   pub others : dropped ≡ map (λ h. h ∷ []) (filter (λ h. not (is_live entries h)) hashes)
   pub left : (h : Hash) → IsHash h → is_live entries h ≡ true
-      → content_at home new h ≡ content_at home t h
+      → content_in home new h ≡ content_in home t h
   pub gone : (h : Hash) → IsHash h → is_live entries h ≡ false
-      → content_at home new h ≡ None
+      → content_in home new h ≡ None
   pub buckets : (digest : List ℕ) → IsKeyDigest digest
-      → bucket_at home new digest ≡ bucket_at home t digest
+      → bucket_in home new digest ≡ bucket_in home t digest
   pub rest : (names : Names)
       → ((h : Hash) → IsHash h → is_live entries h ≡ false → names ≡ home ++ content_names h → ⊥)
       → look new names ≡ look t names

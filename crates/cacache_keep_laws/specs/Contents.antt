@@ -11,8 +11,8 @@ use Rattle.cacache_table.specs.Runs.{Moves}
 use Rattle.cacache_entry.specs.Entry.{Entry}
 use Rattle.cacache_value.specs.Value.{Blob, value_of_tree}
 use Rattle.cacache_walks.specs.Addresses.{IsStrange}
-use Rattle.cacache_walks.specs.Listing.{IsByHash, Sorts, contents_folder, hash_cmp}
-use Rattle.cacache_walks.specs.Reading.{Reads, first, files_shown}
+use Rattle.cacache_walks.specs.Listing.{IsByHash, Sorts, content_area_in, hash_cmp}
+use Rattle.cacache_walks.specs.Reading.{ReadsFolders, top_folder, files_shown}
 use Rattle.cacache_keep_laws.specs.Answers.{AnsweredBy}
 use Rattle.cacache_keep_laws.specs.Walks.{ReadAt, is_leaf}
 
@@ -23,16 +23,16 @@ AreThoseOf cache files addresses =
     → Contains addresses (h ∷ []) ↔ Contains files (joined cache (content_names h))
 
 -- what the cache holds at the address, if anything
-abbrev pub content_at : Names → Tree → Hash → Option Blob
-content_at home t = (value_of_tree (Some home) t).contents
+abbrev pub content_in : Names → Tree → Hash → Option Blob
+content_in home t = (value_of_tree (Some home) t).contents
 
 -- the entries in the bucket of a key's digest, if there is one
-abbrev pub bucket_at : Names → Tree → List ℕ → Option (List Entry)
-bucket_at home t = (value_of_tree (Some home) t).buckets
+abbrev pub bucket_in : Names → Tree → List ℕ → Option (List Entry)
+bucket_in home t = (value_of_tree (Some home) t).buckets
 
 -- the cache holds something at the address
 abbrev pub IsHeld : Names → Tree → Hash → Type 0
-IsHeld home t h = (blob : Blob) × (content_at home t h ≡ Some blob)
+IsHeld home t h = (blob : Blob) × (content_in home t h ≡ Some blob)
 
 -- at one of the places where the walk read, the cache holds an address exactly if it is listed
 abbrev pub ContentsShown : Type 0
@@ -40,7 +40,7 @@ ContentsShown =
     (cache : List ℕ) (home : Names) (moves : Moves) (trees : List Tree)
     (addresses : List (List Hash))
     → home_of cache ≡ Some home
-    → Reads (first (join cache content_area) ∷ []) moves → ReadAt trees moves
+    → ReadsFolders (top_folder (join cache content_area) ∷ []) moves → ReadAt trees moves
     → AreThoseOf cache (files_shown moves) addresses
     → (h : Hash) → IsHash h
     → (t : Tree) × Contains trees t × (Contains addresses (h ∷ []) ↔ IsHeld home t h)
@@ -51,7 +51,7 @@ ContentsShown =
 abbrev pub LiesBelow : List ℕ → Names → Tree → List ℕ → Type 0
 LiesBelow cache home t path =
     (names : Names) × (0 < length names) × All IsProperName names
-    × (path ≡ joined (contents_folder cache) names)
+    × (path ≡ joined (content_area_in cache) names)
     × IsTrue (is_leaf (look t (home ++ content_area ∷ names)))
 
 -- the cache holds contents at just these addresses, which come in order, none twice; and these are
@@ -71,6 +71,6 @@ ListingsHold =
     (cache : List ℕ) (home : Names) (t : Tree) (moves : Moves)
     (addresses : List (List Hash)) (strange : List (List ℕ)) (order : IsByHash addresses)
     → home_of cache ≡ Some home → Rooted t
-    → Reads (first (contents_folder cache) ∷ []) moves → AnsweredBy t moves
+    → ReadsFolders (top_folder (content_area_in cache) ∷ []) moves → AnsweredBy t moves
     → Sorts cache (files_shown moves) addresses strange
     → HoldsJust cache home t order.hashes strange

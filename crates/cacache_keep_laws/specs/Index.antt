@@ -20,10 +20,10 @@ use Rattle.cacache_table.specs.Runs.{Moves, Runs}
 use Rattle.cacache_keep_laws.specs.Answers.{AnsweredBy, AnswersOn}
 
 -- an error other than that a file or a folder is missing
-abbrev pub is_bad : Item → Bool
-is_bad (Ok found) = false
-is_bad (Err (IoError NotFound message)) = false
-is_bad (Err error) = true
+abbrev pub is_failure : Item → Bool
+is_failure (Ok found) = false
+is_failure (Err (IoError NotFound message)) = false
+is_failure (Err error) = true
 
 -- a listing without such an error lists what the lookup of each key finds
 abbrev pub ListsEachKey : Type 0
@@ -32,7 +32,7 @@ ListsEachKey =
     (key bytes : List ℕ) (found : Found)
     → home_of site.cache ≡ Some home → Rooted t
     → Runs (opening site commands.Ls) moves (Listed items) → AnsweredBy t moves
-    → ((item : Item) → Contains items item → is_bad item ≡ false)
+    → ((item : Item) → Contains items item → is_failure item ≡ false)
     → (apply t (ReadAll (bucket_path site.cache key)) Plain).0 ≡ Bytes bytes
     → latest key (entries_of bytes) ≡ Some found
     → Contains items (Ok found)
@@ -48,7 +48,7 @@ entries_in (Err error ∷ items) = entries_in items
 pub record IndexLists (site : Site) (t : Tree) (entries : List Found) : Type 0 where
   pub items : List Item
   pub answers : AnswersOn site t commands.Ls (Listed items)
-  pub clean : (item : Item) → Contains items item → is_bad item ≡ false
+  pub clean : (item : Item) → Contains items item → is_failure item ≡ false
   pub those : entries ≡ entries_in items
 
 -- it has what the lookup of each key finds

@@ -23,7 +23,7 @@ use Rattle.cacache_table.specs.Table.{opening}
 use Rattle.cacache_table.specs.Runs.{Moves, Runs}
 use Rattle.cacache_value.specs.Value.{Blob}
 use Rattle.cacache_value.specs.Shows.{blob_bytes}
-use Rattle.cacache_keep_laws.specs.Contents.{HoldsJust, content_at}
+use Rattle.cacache_keep_laws.specs.Contents.{HoldsJust, content_in}
 use Rattle.cacache_keep_laws.specs.Answers.{AnsweredBy}
 use Rattle.cacache_keep_laws.specs.Index.{IndexLists}
 
@@ -36,7 +36,7 @@ is_met i (Err fault) = false
 
 -- the bytes of the content at the address, through its link if it is one, meet it
 abbrev pub is_good : Names → Tree → Hash → Bool
-is_good home t h = is_met (h ∷ []) (blob_bytes t (content_at home t h))
+is_good home t h = is_met (h ∷ []) (blob_bytes t (content_in home t h))
 
 -- where a content stands, a read of its address answers bytes exactly if it is good; out of memory
 -- says nothing
@@ -44,7 +44,7 @@ abbrev pub ReadsTellGood : Type 0
 ReadsTellGood =
     (site : Site) (home : Names) (t : Tree) (h : Hash) (blob : Blob) (moves : Moves) (reply : Reply)
     → home_of site.cache ≡ Some home → Rooted t → IsHash h
-    → content_at home t h ≡ Some blob
+    → content_in home t h ≡ Some blob
     → Runs (opening site (commands.GetHash (h ∷ []))) moves reply → AnsweredBy t moves
     → (reply ≡ Refused OutOfMemory)
     ⊎ (((bytes : List ℕ) × (reply ≡ Read bytes)) ↔ (is_good home t h ≡ true))

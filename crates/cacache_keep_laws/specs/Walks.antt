@@ -9,7 +9,7 @@ use Rattle.cacache_disk.specs.Tree.{Tree, look}
 use Rattle.cacache_disk.specs.Rooted.{Rooted}
 use Rattle.cacache_disk.specs.Apply.{apply}
 use Rattle.cacache_table.specs.Runs.{Moves}
-use Rattle.cacache_walks.specs.Reading.{Reads, first, files_shown}
+use Rattle.cacache_walks.specs.Reading.{ReadsFolders, top_folder, files_shown}
 
 -- each move was answered by the tree at its place, under any luck
 abbrev pub ReadAt : List Tree → Moves → Type 0
@@ -31,7 +31,7 @@ is_leaf (Some (Link target)) = true
 abbrev pub WalksFind : Type 0
 WalksFind =
     (top : List ℕ) (base : Names) (moves : Moves) (trees : List Tree) (names : Names)
-    → names_of top ≡ Ok base → Reads (first top ∷ []) moves → ReadAt trees moves
+    → names_of top ≡ Ok base → ReadsFolders (top_folder top ∷ []) moves → ReadAt trees moves
     → All IsProperName names → 0 < length names
     → (t : Tree) × Contains trees t
     × (Contains (files_shown moves) (joined top names) ↔ IsTrue (is_leaf (look t (base ++ names))))
@@ -40,6 +40,6 @@ WalksFind =
 abbrev pub WalksStayBelow : Type 0
 WalksStayBelow =
     (top : List ℕ) (base : Names) (moves : Moves) (trees : List Tree) (path : List ℕ)
-    → names_of top ≡ Ok base → Reads (first top ∷ []) moves → ReadAt trees moves
+    → names_of top ≡ Ok base → ReadsFolders (top_folder top ∷ []) moves → ReadAt trees moves
     → Contains (files_shown moves) path
     → (names : Names) × (0 < length names) × All IsProperName names × (path ≡ joined top names)

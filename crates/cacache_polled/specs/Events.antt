@@ -112,23 +112,23 @@ pub record Ended (old new : WriterCore) (c : Completion) (r : Result ⊤ Complet
 -- ---- the end
 
 -- an unanswered failed write, or what is held
-abbrev pub finds_outcome : Result ℕ Fault → Finish → Finish
-finds_outcome (Ok n) held = held
-finds_outcome (Err f) held = finish.Failed f
+abbrev pub finish_outcome : Result ℕ Fault → Finish → Finish
+finish_outcome (Ok n) held = held
+finish_outcome (Err f) held = finish.Failed f
 
-abbrev pub finds_idle : Option Finished → Finish → Finish
-finds_idle None held = held
-finds_idle (Some f) held = finds_outcome f.outcome held
+abbrev pub finish_idle : Option Finished → Finish → Finish
+finish_idle None held = held
+finish_idle (Some f) held = finish_outcome f.outcome held
 
-abbrev pub finds_in : Desk → State → Finish → Finish
-finds_in d Idle held = finds_idle d.finished held
-finds_in d (Busy w) held = finish.Busy
-finds_in d Closed held = if d.is_gone then finish.Cancelled else finish.Closed
+abbrev pub finish_in : Desk → State → Finish → Finish
+finish_in d Idle held = finish_idle d.finished held
+finish_in d (Busy w) held = finish.Busy
+finish_in d Closed held = if d.is_gone then finish.Cancelled else finish.Closed
 
 -- what a commit finds where these bytes are held
-abbrev pub Finds : WriterCore → List ℕ → Finish → Type 0
-Finds c m f =
-    f ≡ finds_in c.desk c.desk.state
+abbrev pub CommitFinds : WriterCore → List ℕ → Finish → Type 0
+CommitFinds c m f =
+    f ≡ finish_in c.desk c.desk.state
     (finish.Held (integrity_under (algorithm_of c.hasher) m) (counted m))
 
 abbrev pub busy_state : State → Type 0

@@ -7,8 +7,8 @@ use Rattle.cacache_polled.specs.declared.kinds.State.{State}
 use Rattle.cacache_polled.specs.declared.kinds.State.TheVariants.{Idle, Busy, Closed}
 use Rattle.cacache_polled.specs.declared.kinds.Finished.{Finished}
 use Rattle.cacache_polled.specs.declared.kinds.Desk.{Desk}
-use Rattle.cacache_polled.specs.declared.kinds.Poll.{Poll}
-use Rattle.cacache_polled.specs.declared.kinds.Poll.TheVariants as poll
+use Rattle.cacache_polled.specs.declared.kinds.Request.{Request}
+use Rattle.cacache_polled.specs.declared.kinds.Request.TheVariants as poll
 use Rattle.cacache_polled.specs.declared.kinds.Polled.{Polled}
 use Rattle.cacache_polled.specs.declared.kinds.Polled.TheVariants as polls
 use Rattle.cacache_polled.specs.declared.kinds.Completion.{Completion}
@@ -23,7 +23,7 @@ pub data Ask : Type 0 where
   ask_flush : Ask
   ask_close : Ask
 
-abbrev pub ask_of : Poll → Ask
+abbrev pub ask_of : Request → Ask
 ask_of (poll.Write b) = ask_write b.now
 ask_of poll.Flush = ask_flush
 ask_of poll.Close = ask_close

@@ -47,7 +47,7 @@ pub struct Desk {
 
 /// What a core is asked.
 #[derive(Clone, Copy)]
-pub enum Poll<'a> {
+pub enum Request<'a> {
     /// To write these bytes, or a beginning of them.
     Write(&'a [u8]),
     /// To hand on what is buffered.

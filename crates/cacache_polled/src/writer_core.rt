@@ -3,9 +3,9 @@ ghost use Rattle.std.specs.Prelude.{◌≡◌, ◌++◌, ◌∷◌, ◌↔◌, �
 ghost use Rattle.cacache_core.specs.declared.errors.Error.TheVariants.{OutOfMemory};
 ghost use Rattle.cacache_core.specs.Hashers.{algorithm_of};
 ghost use Rattle.cacache_polled.specs.Table.{ask_write, write_again as again, fresh, polled, completed, ended_write, closed, ask_of, ask_flush, ask_close};
-ghost use Rattle.cacache_polled.specs.Events.{Event, asks, ends, Answered, Ended, HasHeld, HasSeen, Finds, busy};
+ghost use Rattle.cacache_polled.specs.Events.{Event, asks, ends, Answered, Ended, HasHeld, HasSeen, CommitFinds, busy};
 
-use crate::kinds::{Completion, Desk, Finish, Finished, Poll, Polled, State, Work};
+use crate::kinds::{Completion, Desk, Finish, Finished, Polled, Request, State, Work};
 use cacache_core::bytes::Bytes;
 use cacache_core::errors::{Fault, Result};
 use cacache_core::hasher::Hasher;
@@ -63,7 +63,7 @@ impl WriterCore {
     /// One poll, by the table: what it answers, and what it changes. It does no work itself.
     ///
     /// `OutOfMemory` is the only error, and changes nothing. Only a write that starts work can meet it.
-    pub fn poll(&mut self, alloc: Global, poll: Poll<'_>) -> Result<Polled>
+    pub fn poll(&mut self, alloc: Global, poll: Request<'_>) -> Result<Polled>
         ensures told { IfOk result (λ r. r ≡ (polled self.old.desk (ask_of poll.entry)).1) }
         ensures after { IfOk result
             (λ _. self.new.desk ≡ (polled self.old.desk (ask_of poll.entry)).0) }
@@ -78,15 +78,15 @@ impl WriterCore {
     }
 
     /// What `poll` does, by the table.
-    fn answer(&mut self, alloc: Global, poll: Poll<'_>) -> Result<Polled>
+    fn answer(&mut self, alloc: Global, poll: Request<'_>) -> Result<Polled>
         ensures answered { Answered self.old self.new (ask_of poll.entry) result }
         ensures flush { ask_of poll.entry ≡ ask_flush → IsOk result }
         ensures close { ask_of poll.entry ≡ ask_close → IsOk result }
     {
         match poll {
-            Poll::Write(bytes) => self.poll_write(alloc, bytes),
-            Poll::Flush => Ok(self.poll_flush()),
-            Poll::Close => Ok(self.poll_close()),
+            Request::Write(bytes) => self.poll_write(alloc, bytes),
+            Request::Flush => Ok(self.poll_flush()),
+            Request::Close => Ok(self.poll_close()),
         }
     }
 
@@ -234,7 +234,8 @@ impl WriterCore {
     ///
     /// `OutOfMemory` is the only error, and closes the core too.
     pub fn finish(&mut self, alloc: Global) -> Result<Finish>
-        ensures found { IfOk result (λ f. (m : List ℕ) → HasHeld self.old m → Finds self.old m f) }
+        ensures found { IfOk result
+            (λ f. (m : List ℕ) → HasHeld self.old m → CommitFinds self.old m f) }
         ensures err { IfErr result (λ e. e ≡ OutOfMemory) }
         ensures after { self.new.desk ≡ closed self.old.desk }
         ensures busy { busy self.old.desk → (self.new ≡ self.old) × (result ≡ Ok Finish.Busy) }

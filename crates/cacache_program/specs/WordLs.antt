@@ -20,12 +20,12 @@ pub record Line : Type 0 where
   pub text : List ℕ
 
 -- the line of an entry that was found
-abbrev pub line_of : Found → Line
-line_of f = record { key = f.key; text = entry_text f }
+abbrev pub output_line : Found → Line
+output_line f = record { key = f.key; text = entry_text f }
 
 -- the line of an item; an error has none
 abbrev pub line_in : Item → Option Line
-line_in (Ok found) = Some (line_of found)
+line_in (Ok found) = Some (output_line found)
 line_in (Err error) = None
 
 -- lines are ordered by key and then by text, byte by byte
@@ -71,5 +71,5 @@ PrintsListing log cache old new before after status =
     (reply : Reply) × Calls log old new cache Ls reply × TellsListing reply before after status
 
 -- items as the reply that they stand for
-abbrev pub listed : List Item → Reply
-listed items = Listed (map plain_item items)
+abbrev pub listing_reply : List Item → Reply
+listing_reply items = Listed (map plain_item items)

@@ -2,7 +2,7 @@
 ghost use Rattle.std.specs.Prelude.{◌≡◌};
 ghost use Rattle.cacache_program.specs.WordClear.{Clears};
 
-use crate::errors::{Errors, call_failed};
+use crate::errors::{Errors, tell_failed_call};
 use cacache::env::{Clock, Env, Names, Reasons};
 use std::io::Write;
 
@@ -17,6 +17,6 @@ pub(crate) fn clear<S: Reasons, C: Clock, N: Names, E: Write>(
 {
     match cacache::clear_sync(env, cache) {
         Ok(()) => 0,
-        Err(error) => call_failed(errors, &error, env.store.reason()),
+        Err(error) => tell_failed_call(errors, &error, env.store.reason()),
     }
 }

@@ -28,7 +28,7 @@ impl<E: Drop> Errors<E> {
 }
 
 /// Prints this usage, and returns the status of wrong words.
-pub fn misused<E: Write>(usage: &str, errors: &mut Errors<E>) -> u8
+pub fn tell_misuse<E: Write>(usage: &str, errors: &mut Errors<E>) -> u8
     ensures { result ≡ 2 }
 {
     let _ = errors.output.write_all(usage.as_bytes());
@@ -37,7 +37,11 @@ pub fn misused<E: Write>(usage: &str, errors: &mut Errors<E>) -> u8
 
 /// Prints a call's error on a line of its own, and returns the status of a failed call. Where the errors say why, that
 /// stands behind the text in brackets: it is `why_of` the error and this reason, and nothing if that is none.
-pub fn call_failed<E: Write>(errors: &mut Errors<E>, error: &Error, reason: Option<ErrorKind>) -> u8
+pub fn tell_failed_call<E: Write>(
+    errors: &mut Errors<E>,
+    error: &Error,
+    reason: Option<ErrorKind>,
+) -> u8
     ensures { result ≡ 1 }
 {
     let why = if errors.says_why {
@@ -53,7 +57,7 @@ pub fn call_failed<E: Write>(errors: &mut Errors<E>, error: &Error, reason: Opti
 }
 
 /// Prints that a stream failed, and returns the status of a failed call.
-pub(crate) fn stream_failed<E: Write>(errors: &mut Errors<E>, message: &[u8]) -> u8
+pub(crate) fn tell_failed_stream<E: Write>(errors: &mut Errors<E>, message: &[u8]) -> u8
     ensures { result ≡ 1 }
 {
     let _ = errors.output.write_all(message);

@@ -5,7 +5,7 @@ ghost use Rattle.cacache_program.specs.PrintedEntries.{entry_text};
 ghost use Rattle.cacache_program.specs.WordFind.{PrintsFound, found_line};
 
 use crate::entries::entry_text;
-use crate::errors::{Errors, call_failed};
+use crate::errors::{Errors, tell_failed_call};
 use crate::output::put_out;
 use cacache::env::{Clock, Env, Names, Reasons};
 use cacache::{Metadata, Result};
@@ -39,10 +39,10 @@ pub(crate) fn find<S: Reasons, C: Clock, N: Names, W: Write, E: Write>(
 {
     let found = match cacache::index::find(env, cache, key) {
         Ok(found) => found,
-        Err(error) => return call_failed(errors, &error, env.store.reason()),
+        Err(error) => return tell_failed_call(errors, &error, env.store.reason()),
     };
     match line_of(env.alloc, found) {
         Ok(line) => put_out(output, &line, errors),
-        Err(error) => call_failed(errors, &error, None),
+        Err(error) => tell_failed_call(errors, &error, None),
     }
 }

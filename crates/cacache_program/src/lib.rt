@@ -37,7 +37,7 @@ mod words;
 mod writing;
 
 pub use about::{About, HELP, USAGE, VERSION, said, tell};
-pub use errors::{Errors, call_failed, misused};
+pub use errors::{Errors, tell_failed_call, tell_misuse};
 pub use program::run;
 pub use why::{Why, asks_why, why_of};
 pub use words::{without_words, words_of};

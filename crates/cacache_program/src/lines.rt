@@ -1,7 +1,7 @@
 //! The lines of a listing.
 ghost use Rattle.std.specs.Prelude.{◌≡◌, ◌++◌, ◌||◌, IfOk, OnOk, is_some, is_err, option_to_list, map, filter_map};
 ghost use Rattle.cacache.specs.Entries.{found_view};
-ghost use Rattle.cacache_program.specs.WordLs.{IsPrintedListing, has_error, line_in, line_of, listing_text};
+ghost use Rattle.cacache_program.specs.WordLs.{IsPrintedListing, has_error, line_in, output_line as output_line_of, listing_text};
 ghost use Rattle.cacache_program.specs.Lines.{line_view, lines_of};
 
 use crate::entries::entry_text;
@@ -34,8 +34,8 @@ pub(crate) struct Listing {
 }
 
 /// The line of an entry that was found.
-fn line_of(alloc: Global, found: Metadata) -> Result<Line>
-    ensures { IfOk result (λ line. line_view line ≡ line_of (found_view found)) }
+fn output_line(alloc: Global, found: Metadata) -> Result<Line>
+    ensures { IfOk result (λ line. line_view line ≡ output_line_of (found_view found)) }
 {
     let key = found.key.clone()?;
     let text = entry_text(alloc, found)?;
@@ -51,7 +51,7 @@ impl Lines {
             (is_some self.new.first_error ≡ (is_some self.old.first_error || is_err item)) }
     {
         match item {
-            Ok(found) => self.lines.push(line_of(alloc, found.into_metadata())?)?,
+            Ok(found) => self.lines.push(output_line(alloc, found.into_metadata())?)?,
             Err(error) => {
                 if self.first_error.is_none() {
                     self.first_error = Some(error);
@@ -65,7 +65,7 @@ impl Lines {
 }
 
 /// The lines of the items, as they come.
-fn gathered(alloc: Global, items: Vec<std::result::Result<Found, Error>>) -> Result<Lines>
+fn gather(alloc: Global, items: Vec<std::result::Result<Found, Error>>) -> Result<Lines>
     ensures lines { IfOk result (λ l. lines_of l ≡ filter_map line_in items.items) }
     ensures error { IfOk result (λ l. is_some l.first_error ≡ has_error items.items) }
 {
@@ -104,7 +104,7 @@ pub(crate) fn listing_of(
         mut lines,
         first_error,
         has_more_errors,
-    } = gathered(alloc, items)?;
+    } = gather(alloc, items)?;
     lines.sort_unstable();
     let text = text_of(alloc, &lines)?;
     Ok(Listing {

@@ -1,9 +1,9 @@
 //! The word `ls`.
 ghost use Rattle.std.specs.Prelude.{◌≡◌, is_some};
 ghost use Rattle.cacache.specs.Calls.{Calls, reply_of};
-ghost use Rattle.cacache_program.specs.WordLs.{PrintsListing, PutsListing, listed};
+ghost use Rattle.cacache_program.specs.WordLs.{PrintsListing, PutsListing, listing_reply};
 
-use crate::errors::{Errors, call_failed};
+use crate::errors::{Errors, tell_failed_call};
 use crate::lines::{Listing, listing_of};
 use crate::output::{put_out, write_whole};
 use cacache::Result;
@@ -18,7 +18,7 @@ fn items<S: Store, C, N>(
     env: &mut Env<S, C, N>,
     cache: &str,
 ) -> Result<Vec<std::result::Result<Found, Error>>>
-    ensures ran { Calls S.log env.old env.new cache.now Command.Ls (reply_of (λ items. listed items.items) result) }
+    ensures ran { Calls S.log env.old env.new cache.now Command.Ls (reply_of (λ items. listing_reply items.items) result) }
     ensures lost { Calls S.log env.old env.new cache.now Command.Ls
         (Reply.Refused Error.OutOfMemory) }
 {
@@ -49,7 +49,7 @@ fn print<W: Write, E: Write>(
             } else {
                 reason
             };
-            call_failed(errors, error, reason)
+            tell_failed_call(errors, error, reason)
         }
         None => put_out(output, &listing.text, errors),
     }
@@ -69,10 +69,10 @@ pub(crate) fn ls<S: Reasons, C: Clock, N: Names, W: Write, E: Write>(
 {
     let items = match items(env, cache) {
         Ok(items) => items,
-        Err(error) => return call_failed(errors, &error, env.store.reason()),
+        Err(error) => return tell_failed_call(errors, &error, env.store.reason()),
     };
     match listing_of(env.alloc, items) {
         Ok(listing) => print(&listing, env.store.reason(), output, errors),
-        Err(error) => call_failed(errors, &error, None),
+        Err(error) => tell_failed_call(errors, &error, None),
     }
 }

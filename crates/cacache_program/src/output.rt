@@ -3,7 +3,7 @@ ghost use Rattle.std.specs.Prelude.{◌≡◌, ◌≤◌, IfSome, IfNone, true, 
 ghost use Rattle.std.specs.Io.KnownBytes.{Appends};
 ghost use Rattle.cacache_program.specs.Output.{AppendsPart, PutsOut};
 
-use crate::errors::{Errors, stream_failed};
+use crate::errors::{Errors, tell_failed_stream};
 use std::io::{ErrorKind, Write};
 
 /// Writes some of the bytes, and returns how many: 0 if the write was interrupted. None if the output
@@ -56,5 +56,5 @@ pub(crate) fn put_out<W: Write, E: Write>(
     if write_whole(output, bytes) {
         return 0;
     }
-    stream_failed(errors, b"output failed\n")
+    tell_failed_stream(errors, b"output failed\n")
 }

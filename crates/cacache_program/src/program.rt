@@ -11,7 +11,7 @@ ghost use Rattle.cacache_program.specs.WordStorm.{Storms};
 
 use crate::about::USAGE;
 use crate::clearing::clear;
-use crate::errors::{Errors, misused};
+use crate::errors::{Errors, tell_misuse};
 use crate::finding::find;
 use crate::listing::ls;
 use crate::reading::read;
@@ -25,7 +25,7 @@ use std::thread::Threads;
 use std::time;
 
 /// The name, the cache and the key that the words give; an empty name where there are fewer or more.
-fn asked(words: &[String]) -> (&str, &str, Option<&str>)
+fn parse_words(words: &[String]) -> (&str, &str, Option<&str>)
     ensures { asked_of words.now ≡ record {
       name = result.0.now;
       cache = result.1.now;
@@ -84,7 +84,7 @@ pub fn run<
         Storms threads keys (W.contents output.old) (W.contents output.new) result
         × (env.new ≡ env.old)) }
 {
-    match asked(words) {
+    match parse_words(words) {
         ("write", cache, Some(key)) => write(env, cache, key, input, output, errors),
         ("read", cache, Some(key)) => read(env, cache, key, output, errors),
         ("find", cache, Some(key)) => find(env, cache, key, output, errors),
@@ -92,6 +92,6 @@ pub fn run<
         ("storm", threads, Some(keys)) => storm(rt, threads, keys, output, errors),
         ("clear", cache, None) => clear(env, cache, errors),
         ("ls", cache, None) => ls(env, cache, output, errors),
-        _ => misused(USAGE, errors),
+        _ => tell_misuse(USAGE, errors),
     }
 }

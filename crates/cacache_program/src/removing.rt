@@ -2,7 +2,7 @@
 ghost use Rattle.std.specs.Prelude.{◌≡◌};
 ghost use Rattle.cacache_program.specs.WordRemove.{PrintsRemoval};
 
-use crate::errors::{Errors, call_failed};
+use crate::errors::{Errors, tell_failed_call};
 use cacache::env::{Clock, Env, Names, Reasons};
 use std::io::Write;
 
@@ -18,6 +18,6 @@ pub(crate) fn remove<S: Reasons, C: Clock, N: Names, E: Write>(
 {
     match cacache::remove_sync(env, cache, key) {
         Ok(()) => 0,
-        Err(error) => call_failed(errors, &error, env.store.reason()),
+        Err(error) => tell_failed_call(errors, &error, env.store.reason()),
     }
 }

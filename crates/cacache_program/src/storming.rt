@@ -6,7 +6,7 @@ ghost use Rattle.cacache.specs.Shared.{Count};
 ghost use Rattle.cacache_program.specs.WordStorm.{Storms, TellsStorm, storm_text};
 
 use crate::about::USAGE;
-use crate::errors::{Errors, call_failed, misused, stream_failed};
+use crate::errors::{Errors, tell_failed_call, tell_failed_stream, tell_misuse};
 use crate::output::put_out;
 use cacache::errors::Error;
 use cacache::jobs::Open;
@@ -48,16 +48,16 @@ fn text_of(alloc: Global, moves: u64, live: u64) -> Result<String, AllocError>
 }
 
 /// Prints why a storm failed, and returns the status: that of wrong words for numbers out of range.
-fn storm_failed<E: Write>(errors: &mut Errors<E>, fault: StormFault) -> u8
+fn tell_failed_storm<E: Write>(errors: &mut Errors<E>, fault: StormFault) -> u8
     ensures count { fault ≡ Count → result ≡ 2 }
     ensures other { fault ≢ Count → result ≡ 1 }
 {
     match fault {
-        StormFault::Count => misused(USAGE, errors),
-        StormFault::Mismatch => stream_failed(errors, b"storm: mismatch\n"),
-        StormFault::Quit => stream_failed(errors, b"storm: quit\n"),
-        StormFault::Failed(error) => call_failed(errors, &error, None),
-        StormFault::World(_) => stream_failed(errors, b"storm: world\n"),
+        StormFault::Count => tell_misuse(USAGE, errors),
+        StormFault::Mismatch => tell_failed_stream(errors, b"storm: mismatch\n"),
+        StormFault::Quit => tell_failed_stream(errors, b"storm: quit\n"),
+        StormFault::Failed(error) => tell_failed_call(errors, &error, None),
+        StormFault::World(_) => tell_failed_stream(errors, b"storm: world\n"),
     }
 }
 
@@ -73,7 +73,7 @@ fn tell<W: Write, E: Write>(
 {
     match text_of(alloc, storm.moves, storm.live) {
         Ok(text) => put_out(output, text.as_bytes(), errors),
-        Err(_) => call_failed(errors, &Error::OutOfMemory, None),
+        Err(_) => tell_failed_call(errors, &Error::OutOfMemory, None),
     }
 }
 
@@ -92,10 +92,10 @@ pub(crate) fn storm<T: Threads + Wait + Clock + AllocGlobal + Sync, W: Write, E:
     ensures quiet { result ≡ 0 → errors.new ≡ errors.old }
 {
     let (Some(threads), Some(keys)) = (number_of(threads), number_of(keys)) else {
-        return misused(USAGE, errors);
+        return tell_misuse(USAGE, errors);
     };
     match cacache::world::storm(rt, threads, keys, &Open) {
         Ok(storm) => tell(rt.alloc(), storm, output, errors),
-        Err(fault) => storm_failed(errors, fault),
+        Err(fault) => tell_failed_storm(errors, fault),
     }
 }

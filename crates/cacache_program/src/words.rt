@@ -2,7 +2,7 @@
 ghost use Rattle.std.specs.Prelude.{◌≡◌, ◌≢◌};
 ghost use Rattle.std.specs.IoError.{error_kind};
 
-use crate::errors::{Errors, misused, stream_failed};
+use crate::errors::{Errors, tell_failed_stream, tell_misuse};
 use std::env::{Env, args};
 use std::io::{self, ErrorKind, Write};
 
@@ -22,7 +22,7 @@ pub fn without_words<E: Write>(error: &io::Error, usage: &str, errors: &mut Erro
     ensures wrong { error_kind error.now ≢ ErrorKind.OutOfMemory → result ≡ 2 }
 {
     if error.kind() == ErrorKind::OutOfMemory {
-        return stream_failed(errors, b"out of memory\n");
+        return tell_failed_stream(errors, b"out of memory\n");
     }
-    misused(usage, errors)
+    tell_misuse(usage, errors)
 }

@@ -4,7 +4,7 @@ ghost use Rattle.cacache.specs.Integrities.{integrity_text};
 ghost use Rattle.cacache_program.specs.Output.{PutsOut};
 ghost use Rattle.cacache_program.specs.WordWrite.{Writes};
 
-use crate::errors::{Errors, call_failed, stream_failed};
+use crate::errors::{Errors, tell_failed_call, tell_failed_stream};
 use crate::output::put_out;
 use cacache::Integrity;
 use cacache::env::{Clock, Env, Names, Reasons};
@@ -25,18 +25,18 @@ fn print<W: Write, E: Write>(
 {
     match format!(in alloc; "{integrity}\n") {
         Ok(line) => put_out(output, line.as_bytes(), errors),
-        Err(_) => stream_failed(errors, b"out of memory\n"),
+        Err(_) => tell_failed_stream(errors, b"out of memory\n"),
     }
 }
 
 /// Prints why the input couldn't be read, and returns the status.
-fn input_failed<E: Write>(errors: &mut Errors<E>, kind: ErrorKind) -> u8
+fn tell_failed_input<E: Write>(errors: &mut Errors<E>, kind: ErrorKind) -> u8
     ensures { result ≡ 1 }
 {
     if kind == ErrorKind::OutOfMemory {
-        return call_failed(errors, &Error::OutOfMemory, None);
+        return tell_failed_call(errors, &Error::OutOfMemory, None);
     }
-    stream_failed(errors, b"input failed\n")
+    tell_failed_stream(errors, b"input failed\n")
 }
 
 /// Stores all that the input gives under the key, and prints the integrity and a line feed.
@@ -54,10 +54,10 @@ pub(crate) fn write<S: Reasons, C: Clock, N: Names, R: Read, W: Write, E: Write>
 {
     let mut data = Vec::new(env.alloc);
     if let Err(error) = input.read_to_end(&mut data) {
-        return input_failed(errors, error.kind());
+        return tell_failed_input(errors, error.kind());
     }
     match cacache::write_vec_sync(env, cache, key, data) {
         Ok(integrity) => print(env.alloc, &integrity, output, errors),
-        Err(error) => call_failed(errors, &error, env.store.reason()),
+        Err(error) => tell_failed_call(errors, &error, env.store.reason()),
     }
 }

@@ -4,7 +4,7 @@ ghost use Rattle.cacache_put.specs.OpenLinkers.{BeginsLink, OpensLink, asks_file
 ghost use Rattle.cacache_put.specs.Options.{options_of};
 ghost use Rattle.cacache_table.specs.Linking.{linked_to};
 
-use crate::linker::{SyncToLinker, linked, open_target};
+use crate::linker::{SyncToLinker, new_target, open_target};
 use crate::opts::WriteOpts;
 use cacache_core::errors::Result;
 use cacache_core::keeping::beside;
@@ -33,7 +33,7 @@ impl WriteOpts {
         let time = self.set_time();
         let (key, opts) = beside(Text::from_str(alloc, key), self)?;
         let (options, key) = beside(opts.into_options(alloc), Some(key))?;
-        let linked = linked(alloc, env.base.as_str(), cache, key, target, time, options)?;
+        let linked = new_target(alloc, env.base.as_str(), cache, key, target, time, options)?;
         open_target(alloc, &mut env.store, linked)
     }
 
@@ -52,7 +52,7 @@ impl WriteOpts {
         let alloc = env.alloc;
         let options = self.into_options(alloc)?;
         let base = env.base.as_str();
-        let linked = linked(alloc, base, cache, None, target, Some(0), options)?;
+        let linked = new_target(alloc, base, cache, None, target, Some(0), options)?;
         open_target(alloc, &mut env.store, linked)
     }
 }

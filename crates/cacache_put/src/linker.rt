@@ -46,7 +46,7 @@ pub struct SyncToLinker<F> {
 }
 
 /// What is to be linked in the cache; a target without a `/` in front starts at the base folder.
-pub(crate) fn linked(
+pub(crate) fn new_target(
     alloc: Global,
     base: &str,
     cache: &str,
@@ -88,7 +88,7 @@ pub(crate) fn open_target<S: Store>(
 }
 
 /// Asks the target's size, which the link is to have.
-fn sized<S: Store>(alloc: Global, store: &mut S, linked: LinkTarget) -> Result<LinkTarget>
+fn ask_size<S: Store>(alloc: Global, store: &mut S, linked: LinkTarget) -> Result<LinkTarget>
     ensures asks { AsksSize linked result (S.log store.old) (S.log store.new) }
     ensures begins { Sizes linked result (S.log store.old) (S.log store.new) }
 {
@@ -100,7 +100,7 @@ fn sized<S: Store>(alloc: Global, store: &mut S, linked: LinkTarget) -> Result<L
 }
 
 /// Asks the target's size, and opens it.
-fn open_sized<S: Store>(
+fn ask_size_and_open<S: Store>(
     alloc: Global,
     store: &mut S,
     linked: LinkTarget,
@@ -109,7 +109,7 @@ fn open_sized<S: Store>(
     ensures begins { OpensLinker S.File.seen linked.moment (asks_size linked) result
         (S.log store.old) (S.log store.new) }
 {
-    match sized(alloc, store, linked) {
+    match ask_size(alloc, store, linked) {
         Ok(linked) => open_target(alloc, store, linked),
         Err(error) => Err(error),
     }
@@ -131,8 +131,8 @@ fn open_blank<S: Store, C, N>(
     let alloc = env.alloc;
     let base = env.base.as_str();
     let options = Options::blank(Algorithm::Sha256);
-    let linked = linked(alloc, base, cache, key, target, time, options)?;
-    open_sized(alloc, &mut env.store, linked)
+    let linked = new_target(alloc, base, cache, key, target, time, options)?;
+    ask_size_and_open(alloc, &mut env.store, linked)
 }
 
 /// Makes the link of a target that was read to its end and has this integrity and size.

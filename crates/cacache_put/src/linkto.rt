@@ -19,7 +19,7 @@ use cacache_store::store::Store;
 use cacache_table::{Command, Link, Options};
 
 /// Makes the call of a link to the target.
-fn linked<S: Store, C, N>(
+fn make_link<S: Store, C, N>(
     env: &mut Env<S, C, N>,
     cache: &str,
     key: Option<Text>,
@@ -71,7 +71,7 @@ pub fn link_to_sync<S: Store, C: Clock, N: Names>(
 {
     let moment = moment(&mut env.clock, None);
     let key = Some(Text::from_str(env.alloc, key)?);
-    linked(env, cache, key, target, moment)
+    make_link(env, cache, key, target, moment)
 }
 
 /// Makes a link to the target the content of its bytes, without a key, and answers their SHA-256 integrity. The target is
@@ -96,5 +96,5 @@ pub fn link_to_hash_sync<S: Store, C: Clock, N: Names>(
     ensures ran { Calls S.log env.old env.new cache.now
         (commands.Link (link_to None target.now 0)) (reply_of Stored result) }
 {
-    linked(env, cache, None, target, 0)
+    make_link(env, cache, None, target, 0)
 }

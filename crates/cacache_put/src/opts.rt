@@ -52,7 +52,7 @@ impl Model for WriteOpts {
 }
 
 /// Bytes that may be absent, which are moved.
-fn shared(alloc: Global, bytes: Option<Vec<u8>>) -> Result<Option<Bytes>, AllocError>
+fn share_bytes(alloc: Global, bytes: Option<Vec<u8>>) -> Result<Option<Bytes>, AllocError>
     ensures { IfOk result (λ shared. shared ≡ option_map (λ v. v.items) bytes) }
 {
     match bytes {
@@ -200,7 +200,7 @@ impl WriteOpts {
             time: _,
         } = self;
         let kept = (integrity, metadata);
-        let (raw_metadata, (integrity, metadata)) = beside(shared(alloc, raw_metadata), kept)?;
+        let (raw_metadata, (integrity, metadata)) = beside(share_bytes(alloc, raw_metadata), kept)?;
         Ok(Options {
             algorithm,
             size,

@@ -6,7 +6,7 @@ ghost use Rattle.cacache_table.specs.declared.command.Command.TheVariants as com
 ghost use Rattle.cacache_table.specs.declared.reply.Reply.TheVariants.{Stored};
 ghost use Rattle.cacache_table.specs.Runs.{reply_of};
 ghost use Rattle.cacache_jobs.specs.Environment.{Steps, RunsNumbered, RunsPut};
-ghost use Rattle.cacache_put.specs.Puts.{keyed_put, unkeyed_put};
+ghost use Rattle.cacache_put.specs.Puts.{keyed_put as keyed_put_of, unkeyed_put as unkeyed_put_of};
 
 use cacache_core::bytes::Bytes;
 use cacache_core::errors::Result;
@@ -19,14 +19,14 @@ use cacache_table::{Command, Options, Put};
 use std::alloc::{AllocError, Global};
 
 /// What to store: the bytes, under a key.
-fn keyed(
+fn keyed_put(
     alloc: Global,
     algorithm: Algorithm,
     key: &str,
     data: Vec<u8>,
     moment: u64,
 ) -> std::result::Result<Put, AllocError>
-    ensures { IfOk result (λ put. put ≡ keyed_put algorithm key.now «data».items moment) }
+    ensures { IfOk result (λ put. put ≡ keyed_put_of algorithm key.now «data».items moment) }
 {
     let key = Some(Text::from_str(alloc, key)?);
     let data = Bytes::new(alloc, data)?;
@@ -41,12 +41,12 @@ fn keyed(
 }
 
 /// What to store: the bytes, without a key.
-fn unkeyed(
+fn unkeyed_put(
     alloc: Global,
     algorithm: Algorithm,
     data: Vec<u8>,
 ) -> std::result::Result<Put, AllocError>
-    ensures { IfOk result (λ put. put ≡ unkeyed_put algorithm «data».items) }
+    ensures { IfOk result (λ put. put ≡ unkeyed_put_of algorithm «data».items) }
 {
     let data = Bytes::new(alloc, data)?;
     let options = Options::blank(algorithm);
@@ -59,7 +59,7 @@ fn unkeyed(
 }
 
 /// Stores it with a temporary file of this number.
-fn stored<S: Store, C, N>(
+fn store<S: Store, C, N>(
     env: &mut Env<S, C, N>,
     cache: &str,
     put: Put,
@@ -99,7 +99,7 @@ pub fn write_sync<S: Store, C: Clock, N: Names>(
 ) -> Result<Integrity>
     ensures stored { IfOk result (λ i. i ≡ integrity_under Sha256 «data».now) }
     ensures ran { RunsPut S.log C.given N.given env.old env.new cache.now
-        (keyed_put Sha256 key.now «data».now) (reply_of Stored result) }
+        (keyed_put_of Sha256 key.now «data».now) (reply_of Stored result) }
 {
     write_sync_with_algo(env, Algorithm::Sha256, cache, key, data)
 }
@@ -122,13 +122,13 @@ pub fn write_sync_with_algo<S: Store, C: Clock, N: Names>(
 ) -> Result<Integrity>
     ensures stored { IfOk result (λ i. i ≡ integrity_under algo «data».now) }
     ensures ran { RunsPut S.log C.given N.given env.old env.new cache.now
-        (keyed_put algo key.now «data».now) (reply_of Stored result) }
+        (keyed_put_of algo key.now «data».now) (reply_of Stored result) }
 {
     let moment = env.clock.now();
     let number = env.names.fresh();
     let copy = Vec::from_slice(env.alloc, data)?;
-    let put = keyed(env.alloc, algo, key, copy, moment)?;
-    stored(env, cache, put, number)
+    let put = keyed_put(env.alloc, algo, key, copy, moment)?;
+    store(env, cache, put, number)
 }
 
 /// What `write_sync` does, with bytes that are moved in, so that none is copied.
@@ -146,7 +146,7 @@ pub fn write_vec_sync<S: Store, C: Clock, N: Names>(
 ) -> Result<Integrity>
     ensures stored { IfOk result (λ i. i ≡ integrity_under Sha256 «data».items) }
     ensures ran { RunsPut S.log C.given N.given env.old env.new cache.now
-        (keyed_put Sha256 key.now «data».items) (reply_of Stored result) }
+        (keyed_put_of Sha256 key.now «data».items) (reply_of Stored result) }
 {
     write_vec_sync_with_algo(env, Algorithm::Sha256, cache, key, data)
 }
@@ -161,12 +161,12 @@ pub fn write_vec_sync_with_algo<S: Store, C: Clock, N: Names>(
 ) -> Result<Integrity>
     ensures stored { IfOk result (λ i. i ≡ integrity_under algo «data».items) }
     ensures ran { RunsPut S.log C.given N.given env.old env.new cache.now
-        (keyed_put algo key.now «data».items) (reply_of Stored result) }
+        (keyed_put_of algo key.now «data».items) (reply_of Stored result) }
 {
     let moment = env.clock.now();
     let number = env.names.fresh();
-    let put = keyed(env.alloc, algo, key, data, moment)?;
-    stored(env, cache, put, number)
+    let put = keyed_put(env.alloc, algo, key, data, moment)?;
+    store(env, cache, put, number)
 }
 
 /// Stores the bytes without a key, and answers their SHA-256 integrity.
@@ -187,7 +187,7 @@ pub fn write_hash_sync<S: Store, C: Clock, N: Names>(
 ) -> Result<Integrity>
     ensures stored { IfOk result (λ i. i ≡ integrity_under Sha256 «data».now) }
     ensures ran { RunsNumbered S.log N.given env.old env.new cache.now
-        (commands.Put (unkeyed_put Sha256 «data».now)) (reply_of Stored result) }
+        (commands.Put (unkeyed_put_of Sha256 «data».now)) (reply_of Stored result) }
 {
     write_hash_sync_with_algo(env, Algorithm::Sha256, cache, data)
 }
@@ -209,12 +209,12 @@ pub fn write_hash_sync_with_algo<S: Store, C: Clock, N: Names>(
 ) -> Result<Integrity>
     ensures stored { IfOk result (λ i. i ≡ integrity_under algo «data».now) }
     ensures ran { RunsNumbered S.log N.given env.old env.new cache.now
-        (commands.Put (unkeyed_put algo «data».now)) (reply_of Stored result) }
+        (commands.Put (unkeyed_put_of algo «data».now)) (reply_of Stored result) }
 {
     let number = env.names.fresh();
     let copy = Vec::from_slice(env.alloc, data)?;
-    let put = unkeyed(env.alloc, algo, copy)?;
-    stored(env, cache, put, number)
+    let put = unkeyed_put(env.alloc, algo, copy)?;
+    store(env, cache, put, number)
 }
 
 /// What `write_hash_sync` does, with bytes that are moved in, so that none is copied.
@@ -225,7 +225,7 @@ pub fn write_hash_vec_sync<S: Store, C: Clock, N: Names>(
 ) -> Result<Integrity>
     ensures stored { IfOk result (λ i. i ≡ integrity_under Sha256 «data».items) }
     ensures ran { RunsNumbered S.log N.given env.old env.new cache.now
-        (commands.Put (unkeyed_put Sha256 «data».items)) (reply_of Stored result) }
+        (commands.Put (unkeyed_put_of Sha256 «data».items)) (reply_of Stored result) }
 {
     write_hash_vec_sync_with_algo(env, Algorithm::Sha256, cache, data)
 }
@@ -239,9 +239,9 @@ pub fn write_hash_vec_sync_with_algo<S: Store, C: Clock, N: Names>(
 ) -> Result<Integrity>
     ensures stored { IfOk result (λ i. i ≡ integrity_under algo «data».items) }
     ensures ran { RunsNumbered S.log N.given env.old env.new cache.now
-        (commands.Put (unkeyed_put algo «data».items)) (reply_of Stored result) }
+        (commands.Put (unkeyed_put_of algo «data».items)) (reply_of Stored result) }
 {
     let number = env.names.fresh();
-    let put = unkeyed(env.alloc, algo, data)?;
-    stored(env, cache, put, number)
+    let put = unkeyed_put(env.alloc, algo, data)?;
+    store(env, cache, put, number)
 }

@@ -6,7 +6,7 @@ ghost use Rattle.cacache_table.specs.declared.reply.Reply.TheVariants.{Stored};
 ghost use Rattle.cacache_table.specs.Promises.{Stores};
 ghost use Rattle.cacache_table.specs.Runs.{reply_of};
 ghost use Rattle.cacache_content.specs.Passed.{passed};
-ghost use Rattle.cacache_content.specs.OpenWrites.{HasTaken, GoesOn, RemovesTemp, TriesToRemove, Takes, TakesPart, WholeFails, IsWriteError, IsRetried};
+ghost use Rattle.cacache_content.specs.OpenWrites.{HasTaken, IsSameWriter, RemovesTemp, TriesToRemove, Takes, TakesPart, WholeFails, IsWriteError, IsRetried};
 ghost use Rattle.cacache_put.specs.Options.{nothing_said};
 ghost use Rattle.cacache_put.specs.KeyedWriters.{OpensAt, OpensKeyed, CommitsWriter, writer_commit};
 
@@ -155,7 +155,7 @@ impl<T: TempFile> SyncWriter<T> {
         ensures bytes { IfOk result (λ w. Appends (T.seen self.writer.file).bytes
             (T.seen w.writer.file).bytes «data».now) }
         ensures takes { IfOk result (λ w. Takes self.writer w.writer «data».now) }
-        ensures goes_on { IfOk result (λ w. GoesOn T.seen self.writer w.writer) }
+        ensures goes_on { IfOk result (λ w. IsSameWriter T.seen self.writer w.writer) }
         ensures said { IfOk result (λ w. w ≡ record self { writer = w.writer }) }
         ensures quiet { OnOk result (env.new.store ≡ env.old.store) }
         ensures removed { IfErr result
@@ -215,7 +215,7 @@ impl<T: TempFile> Write for SyncWriter<T> {
         ensures bytes { WriteAppends (T.seen self.old.writer.file).bytes
             (T.seen self.new.writer.file).bytes result buf.now }
         ensures takes { Takes self.old.writer self.new.writer (passed result buf.now) }
-        ensures goes_on { GoesOn T.seen self.old.writer self.new.writer }
+        ensures goes_on { IsSameWriter T.seen self.old.writer self.new.writer }
         ensures said { self.new ≡ record self.old { writer = self.new.writer } }
         ensures earned { T.writes self.old.writer.file (length buf.now) result
             self.new.writer.file }
@@ -233,7 +233,7 @@ impl<T: TempFile> Write for SyncWriter<T> {
         ensures takes { OnOk result (Takes self.old.writer self.new.writer buf.now) }
         ensures part { OnErr result
             (TakesPart T.seen self.old.writer self.new.writer buf.now) }
-        ensures goes_on { GoesOn T.seen self.old.writer self.new.writer }
+        ensures goes_on { IsSameWriter T.seen self.old.writer self.new.writer }
         ensures said { self.new ≡ record self.old { writer = self.new.writer } }
         ensures earned { IfErr result (WholeFails T.writes self.new.writer.file) }
         ensures retried { IfErr result IsRetried }

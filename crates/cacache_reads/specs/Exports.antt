@@ -29,12 +29,12 @@ exporting how checked source to =
     commands.Export source (record { how = how; checked = checked; to = to })
 
 -- an export that verifies the content first
-abbrev pub checked : How → Source → List ℕ → Command
-checked how = exporting how true
+abbrev pub checked_export : How → Source → List ℕ → Command
+checked_export how = exporting how true
 
 -- an export that doesn't verify the content
-abbrev pub unchecked : How → Source → List ℕ → Command
-unchecked how = exporting how false
+abbrev pub unchecked_export : How → Source → List ℕ → Command
+unchecked_export how = exporting how false
 
 -- wherever the command is called, it answers a count
 abbrev pub SaysCount : Command → Type 0

@@ -5,12 +5,12 @@ ghost use Rattle.cacache_table.specs.declared.command.Source.TheVariants.{Hash};
 ghost use Rattle.cacache_table.specs.declared.reply.Reply.TheVariants.{Copied, Done};
 ghost use Rattle.cacache_table.specs.Runs.{reply_of};
 ghost use Rattle.cacache_core.specs.Integrity.{IsIntegrity};
-ghost use Rattle.cacache_reads.specs.Exports.{checked, unchecked};
+ghost use Rattle.cacache_reads.specs.Exports.{checked_export, unchecked_export};
 ghost use Rattle.cacache_jobs.specs.ReadFirst.{Verified};
 ghost use Rattle.cacache_table.specs.Replies.{done};
 ghost use Rattle.cacache_jobs.specs.Environment.{Calls};
 
-use crate::exporting::{Named, copied, linked};
+use crate::exporting::{Named, copy_content, link_content};
 use cacache_core::errors::Result;
 use cacache_core::integrity::Integrity;
 use cacache_store::env::{Clock, Env, Names};
@@ -40,9 +40,9 @@ pub fn copy_hash_sync<S: Store, C: Clock, N: Names>(
     ensures verified { IfOk result (λ count. Verified cache.now (Hash sri.now) (Copied count)
         (S.log env.old.store) (S.log env.new.store)) }
     ensures ran { Calls S.log env.old env.new cache.now
-        (checked Copy (Hash sri.now) to.now) (reply_of Copied result) }
+        (checked_export Copy (Hash sri.now) to.now) (reply_of Copied result) }
 {
-    copied(env, cache, Named::Hash(sri), true, to)
+    copy_content(env, cache, Named::Hash(sri), true, to)
 }
 
 /// Copies the content of the integrity to this path, and answers how many bytes it has. A file there is overwritten.
@@ -65,9 +65,9 @@ pub fn copy_hash_unchecked_sync<S: Store, C: Clock, N: Names>(
 ) -> Result<u64>
     ensures formed { IsIntegrity sri.now }
     ensures ran { Calls S.log env.old env.new cache.now
-        (unchecked Copy (Hash sri.now) to.now) (reply_of Copied result) }
+        (unchecked_export Copy (Hash sri.now) to.now) (reply_of Copied result) }
 {
-    copied(env, cache, Named::Hash(sri), false, to)
+    copy_content(env, cache, Named::Hash(sri), false, to)
 }
 
 /// Makes a file at this path that shares its storage with the content of the integrity. Nothing may stand there. The
@@ -93,9 +93,9 @@ pub fn reflink_hash_sync<S: Store, C: Clock, N: Names>(
     ensures verified { IfOk result (λ _. Verified cache.now (Hash sri.now) Done
         (S.log env.old.store) (S.log env.new.store)) }
     ensures ran { Calls S.log env.old env.new cache.now
-        (checked Reflink (Hash sri.now) to.now) (reply_of done result) }
+        (checked_export Reflink (Hash sri.now) to.now) (reply_of done result) }
 {
-    linked(env, cache, Named::Hash(sri), How::Reflink, true, to)
+    link_content(env, cache, Named::Hash(sri), How::Reflink, true, to)
 }
 
 /// Makes a file at this path that shares its storage with the content of the integrity. Nothing may stand there.
@@ -117,9 +117,9 @@ pub fn reflink_hash_unchecked_sync<S: Store, C: Clock, N: Names>(
 ) -> Result<()>
     ensures formed { IsIntegrity sri.now }
     ensures ran { Calls S.log env.old env.new cache.now
-        (unchecked Reflink (Hash sri.now) to.now) (reply_of done result) }
+        (unchecked_export Reflink (Hash sri.now) to.now) (reply_of done result) }
 {
-    linked(env, cache, Named::Hash(sri), How::Reflink, false, to)
+    link_content(env, cache, Named::Hash(sri), How::Reflink, false, to)
 }
 
 /// Gives the content of the integrity one more name, which is this path. Nothing may stand there. The content is read
@@ -145,9 +145,9 @@ pub fn hard_link_hash_sync<S: Store, C: Clock, N: Names>(
     ensures verified { IfOk result (λ _. Verified cache.now (Hash sri.now) Done
         (S.log env.old.store) (S.log env.new.store)) }
     ensures ran { Calls S.log env.old env.new cache.now
-        (checked HardLink (Hash sri.now) to.now) (reply_of done result) }
+        (checked_export HardLink (Hash sri.now) to.now) (reply_of done result) }
 {
-    linked(env, cache, Named::Hash(sri), How::HardLink, true, to)
+    link_content(env, cache, Named::Hash(sri), How::HardLink, true, to)
 }
 
 /// Gives the content of the integrity one more name, which is this path. Nothing may stand there. Whether it meets the
@@ -169,7 +169,7 @@ pub fn hard_link_hash_unchecked_sync<S: Store, C: Clock, N: Names>(
 ) -> Result<()>
     ensures formed { IsIntegrity sri.now }
     ensures ran { Calls S.log env.old env.new cache.now
-        (unchecked HardLink (Hash sri.now) to.now) (reply_of done result) }
+        (unchecked_export HardLink (Hash sri.now) to.now) (reply_of done result) }
 {
-    linked(env, cache, Named::Hash(sri), How::HardLink, false, to)
+    link_content(env, cache, Named::Hash(sri), How::HardLink, false, to)
 }

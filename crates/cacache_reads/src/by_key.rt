@@ -4,12 +4,12 @@ ghost use Rattle.cacache_table.specs.declared.command.How.TheVariants.{Copy, Ref
 ghost use Rattle.cacache_table.specs.declared.command.Source.TheVariants.{Key};
 ghost use Rattle.cacache_table.specs.declared.reply.Reply.TheVariants.{Copied, Done};
 ghost use Rattle.cacache_table.specs.Runs.{reply_of};
-ghost use Rattle.cacache_reads.specs.Exports.{checked, unchecked};
+ghost use Rattle.cacache_reads.specs.Exports.{checked_export, unchecked_export};
 ghost use Rattle.cacache_jobs.specs.ReadFirst.{Verified};
 ghost use Rattle.cacache_table.specs.Replies.{done};
 ghost use Rattle.cacache_jobs.specs.Environment.{Calls};
 
-use crate::exporting::{Named, copied, linked};
+use crate::exporting::{Named, copy_content, link_content};
 use cacache_core::errors::Result;
 use cacache_store::env::{Clock, Env, Names};
 use cacache_store::store::Store;
@@ -38,9 +38,9 @@ pub fn copy_sync<S: Store, C: Clock, N: Names>(
     ensures verified { IfOk result (λ count. Verified cache.now (Key key.now) (Copied count)
         (S.log env.old.store) (S.log env.new.store)) }
     ensures ran { Calls S.log env.old env.new cache.now
-        (checked Copy (Key key.now) to.now) (reply_of Copied result) }
+        (checked_export Copy (Key key.now) to.now) (reply_of Copied result) }
 {
-    copied(env, cache, Named::Key(key), true, to)
+    copy_content(env, cache, Named::Key(key), true, to)
 }
 
 /// Copies the content that a lookup of the key finds to this path, and answers how many bytes it has. A file there is
@@ -62,9 +62,9 @@ pub fn copy_unchecked_sync<S: Store, C: Clock, N: Names>(
     to: &str,
 ) -> Result<u64>
     ensures ran { Calls S.log env.old env.new cache.now
-        (unchecked Copy (Key key.now) to.now) (reply_of Copied result) }
+        (unchecked_export Copy (Key key.now) to.now) (reply_of Copied result) }
 {
-    copied(env, cache, Named::Key(key), false, to)
+    copy_content(env, cache, Named::Key(key), false, to)
 }
 
 /// Makes a file at this path that shares its storage with the content that a lookup of the key finds. Nothing may stand
@@ -91,9 +91,9 @@ pub fn reflink_sync<S: Store, C: Clock, N: Names>(
     ensures verified { IfOk result (λ _. Verified cache.now (Key key.now) Done
         (S.log env.old.store) (S.log env.new.store)) }
     ensures ran { Calls S.log env.old env.new cache.now
-        (checked Reflink (Key key.now) to.now) (reply_of done result) }
+        (checked_export Reflink (Key key.now) to.now) (reply_of done result) }
 {
-    linked(env, cache, Named::Key(key), How::Reflink, true, to)
+    link_content(env, cache, Named::Key(key), How::Reflink, true, to)
 }
 
 /// Makes a file at this path that shares its storage with the content that a lookup of the key finds. Nothing may stand
@@ -116,9 +116,9 @@ pub fn reflink_unchecked_sync<S: Store, C: Clock, N: Names>(
     to: &str,
 ) -> Result<()>
     ensures ran { Calls S.log env.old env.new cache.now
-        (unchecked Reflink (Key key.now) to.now) (reply_of done result) }
+        (unchecked_export Reflink (Key key.now) to.now) (reply_of done result) }
 {
-    linked(env, cache, Named::Key(key), How::Reflink, false, to)
+    link_content(env, cache, Named::Key(key), How::Reflink, false, to)
 }
 
 /// Gives the content that a lookup of the key finds one more name, which is this path. Nothing may stand there. The
@@ -145,9 +145,9 @@ pub fn hard_link_sync<S: Store, C: Clock, N: Names>(
     ensures verified { IfOk result (λ _. Verified cache.now (Key key.now) Done
         (S.log env.old.store) (S.log env.new.store)) }
     ensures ran { Calls S.log env.old env.new cache.now
-        (checked HardLink (Key key.now) to.now) (reply_of done result) }
+        (checked_export HardLink (Key key.now) to.now) (reply_of done result) }
 {
-    linked(env, cache, Named::Key(key), How::HardLink, true, to)
+    link_content(env, cache, Named::Key(key), How::HardLink, true, to)
 }
 
 /// Gives the content that a lookup of the key finds one more name, which is this path. Nothing may stand there. Whether
@@ -168,7 +168,7 @@ pub fn hard_link_unchecked_sync<S: Store, C: Clock, N: Names>(
     to: &str,
 ) -> Result<()>
     ensures ran { Calls S.log env.old env.new cache.now
-        (unchecked HardLink (Key key.now) to.now) (reply_of done result) }
+        (unchecked_export HardLink (Key key.now) to.now) (reply_of done result) }
 {
-    linked(env, cache, Named::Key(key), How::HardLink, false, to)
+    link_content(env, cache, Named::Key(key), How::HardLink, false, to)
 }

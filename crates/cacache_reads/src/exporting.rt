@@ -19,7 +19,7 @@ use cacache_table::{Command, Export, How, Source};
 use std::alloc::{AllocError, Global};
 
 /// Makes a call that says how many bytes were copied.
-fn counted<S: Store, C, N>(env: &mut Env<S, C, N>, cache: &str, command: Command) -> Result<u64>
+fn make_copy<S: Store, C, N>(env: &mut Env<S, C, N>, cache: &str, command: Command) -> Result<u64>
     requires { SaysCount command }
     ensures first { IfOk result (λ count. ReadsFirst (site_of cache.now env.old.base 0) command
         (Copied count) (S.log env.old.store) (S.log env.new.store)) }
@@ -29,7 +29,7 @@ fn counted<S: Store, C, N>(env: &mut Env<S, C, N>, cache: &str, command: Command
 }
 
 /// Makes a call that says nothing but that it is done.
-fn done<S: Store, C, N>(env: &mut Env<S, C, N>, cache: &str, command: Command) -> Result<()>
+fn make_link<S: Store, C, N>(env: &mut Env<S, C, N>, cache: &str, command: Command) -> Result<()>
     requires { SaysNothing command }
     ensures first { IfOk result (λ _. ReadsFirst (site_of cache.now env.old.base 0) command
         Done (S.log env.old.store) (S.log env.new.store)) }
@@ -62,7 +62,7 @@ fn source_of(alloc: Global, named: Named<'_>) -> std::result::Result<Source, All
 }
 
 /// Copies the content to this path, verified first or not, and answers how many bytes it has.
-pub fn copied<S: Store, C, N>(
+pub fn copy_content<S: Store, C, N>(
     env: &mut Env<S, C, N>,
     cache: &str,
     named: Named<'_>,
@@ -79,11 +79,11 @@ pub fn copied<S: Store, C, N>(
     let to = Text::from_str(env.alloc, to)?;
     let how = How::Copy;
     let export = Export { how, checked, to };
-    counted(env, cache, Command::Export(source, export))
+    make_copy(env, cache, Command::Export(source, export))
 }
 
 /// Shares the storage of the content with this path, or gives it this name, verified first or not.
-pub fn linked<S: Store, C, N>(
+pub fn link_content<S: Store, C, N>(
     env: &mut Env<S, C, N>,
     cache: &str,
     named: Named<'_>,
@@ -101,5 +101,5 @@ pub fn linked<S: Store, C, N>(
     let source = source_of(env.alloc, named)?;
     let to = Text::from_str(env.alloc, to)?;
     let export = Export { how, checked, to };
-    done(env, cache, Command::Export(source, export))
+    make_link(env, cache, Command::Export(source, export))
 }

@@ -26,5 +26,5 @@ pub use by_key::{
     copy_sync, copy_unchecked_sync, hard_link_sync, hard_link_unchecked_sync, reflink_sync,
     reflink_unchecked_sync,
 };
-pub use exporting::{Named, copied, linked};
+pub use exporting::{Named, copy_content, link_content};
 pub use reading::{exists_sync, has_content, read_hash_sync, read_sync};

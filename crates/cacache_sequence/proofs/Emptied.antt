@@ -31,7 +31,7 @@ use Rattle.cacache_disk.proofs.Roots.{same_self}
 use Rattle.cacache_table.specs.declared.reply.Reply.TheVariants.{Done}
 use Rattle.cacache_table.specs.State.{walking, Walk}
 use Rattle.cacache_table.specs.declared.visit.Visit.TheVariants.{Enter}
-use Rattle.cacache_table.specs.Walking.{task_of, tasks_of, leaving, most, walk}
+use Rattle.cacache_table.specs.Walking.{task_for_name, tasks_of, leaving, most, walk}
 use Rattle.cacache_table.specs.Runs.{Moves, Runs}
 use Rattle.cacache_value.specs.Value.{blob_in, bucket_in, folders_below, empty_value, value_of_tree}
 use Rattle.cacache_value.proofs.PutValues.{same_value}
@@ -50,7 +50,7 @@ is_child-snoc p name =
     let same : pointwise (pointwise nat_eq) p p ≡ true = lists_ties (slice_cmp nat_cmp) texts_ties p p ∙ same_self p in
     rw (eq-eqb (length (p ++ name ∷ [])) (length p + 1) l, front, same) refl
 
-task_gone : (t : Tree) (p : List ℕ) (k : Kind) → TaskGone t (task_of true 0 p k) → Gone t p
+task_gone : (t : Tree) (p : List ℕ) (k : Kind) → TaskGone t (task_for_name true 0 p k) → Gone t p
 task_gone t p kinds.Folder h = h refl
 task_gone t p kinds.File h = absurd h
 task_gone t p kinds.Link h = h

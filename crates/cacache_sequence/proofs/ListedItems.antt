@@ -11,7 +11,7 @@ use Rattle.cacache_table.specs.State.{Item}
 use Rattle.cacache_table.specs.Walking.{once, items_of}
 use Rattle.cacache_table.proofs.Keys.{each_key_once}
 use Rattle.cacache_history.specs.ListingTurns.{OtherKey, NoKeyTwice}
-use Rattle.cacache_sequence.specs.ListedKeys.{AreEntries}
+use Rattle.cacache_sequence.specs.ListedKeys.{AreAllFound}
 
 -- ---- lists
 
@@ -30,12 +30,12 @@ in_right x (y ∷ xs) ys i = inr (in_right x xs ys i)
 
 -- ---- lists without errors
 
-pub entries_left : (xs ys : List Item) → AreEntries (xs ++ ys) → AreEntries xs
+pub entries_left : (xs ys : List Item) → AreAllFound (xs ++ ys) → AreAllFound xs
 entries_left [] ys h = tt
 entries_left (Ok f ∷ xs) ys h = entries_left xs ys h
 entries_left (Err e ∷ xs) ys h = absurd h
 
-pub entries_right : (xs ys : List Item) → AreEntries (xs ++ ys) → AreEntries ys
+pub entries_right : (xs ys : List Item) → AreAllFound (xs ++ ys) → AreAllFound ys
 entries_right [] ys h = h
 entries_right (Ok f ∷ xs) ys h = entries_right xs ys h
 entries_right (Err e ∷ xs) ys h = absurd h

@@ -11,7 +11,7 @@ use Rattle.cacache_table.specs.declared.command.Command.TheVariants as commands
 use Rattle.cacache_table.specs.declared.reply.Reply.{Reply}
 use Rattle.cacache_table.specs.declared.reply.Reply.TheVariants as replies
 use Rattle.cacache_table.specs.Causes.{Faulted}
-use Rattle.cacache_table.specs.ListReplies.{given, too_deep, ListsGiven}
+use Rattle.cacache_table.specs.ListReplies.{items_given, too_deep, ListsGiven}
 use Rattle.cacache_table.specs.Runs.{plain_reply}
 use Rattle.cacache_table.specs.State.{Site, Item}
 use Rattle.cacache_table.specs.Table.{opening}
@@ -24,7 +24,7 @@ use Rattle.cacache_history.specs.Turns.{made_in, EachTurn}
 use Rattle.cacache_history.proofs.Holding.{TurnsHold}
 use Rattle.cacache_sequence.specs.Sequence.{turns_on}
 use Rattle.cacache_sequence.specs.Caches.{AStepFailed, IsCache, setup_at}
-use Rattle.cacache_sequence.specs.ListedKeys.{IsShown, AreEntries, AllListed, ListsKeys, GivesKeys, ListingsGive}
+use Rattle.cacache_sequence.specs.ListedKeys.{IsShown, AreAllFound, AllListed, ListsKeys, GivesKeys, ListingsGive}
 use Rattle.cacache_sequence.proofs.Known.{Known, known}
 use Rattle.cacache_table.specs.Licence.{looking_on, AllMay}
 use Rattle.cacache_table.proofs.Within.{calls_keep_to}
@@ -48,12 +48,12 @@ no_key_twice : (b : Bool) (items : List Item) → NoKeyTwice items → NoKeyTwic
 no_key_twice true items h = once_front most items h
 no_key_twice false items h = h
 
-never_entries : (items : List Item) → AreEntries (items ++ too_deep ∷ []) → ⊥
+never_entries : (items : List Item) → AreAllFound (items ++ too_deep ∷ []) → ⊥
 never_entries [] h = h
 never_entries (Ok f ∷ items) h = never_entries items h
 never_entries (Err e ∷ items) h = h
 
-unless_past : (P : List Item → Type 0) (b : Bool) (items : List Item) → (b ≡ false → AreEntries items → P items) → AreEntries (cond b (take most items ++ too_deep ∷ []) items)
+unless_past : (P : List Item → Type 0) (b : Bool) (items : List Item) → (b ≡ false → AreAllFound items → P items) → AreAllFound (cond b (take most items ++ too_deep ∷ []) items)
     → P (cond b (take most items ++ too_deep ∷ []) items)
 unless_past P true items h entries = absurd (never_entries (take most items) entries)
 unless_past P false items h entries = h refl entries
@@ -82,13 +82,13 @@ module _ (cache base : List ℕ) (old new : List LogItem) (list : List Item) (so
       let why = Faulted (made_in turns) in
       let past = is_past turns h.0 in
       let shown = both_all (Leads s t) (Explained why) (IsShown cache old new) (shown_item cache base old new why failed) items (turns_lead s t turns items here h.1) (turns_explained s turns items holds h.1) in
-      let all : AreEntries (listing_of turns h.0) → AllListed cache old (listing_of turns h.0)
+      let all : AreAllFound (listing_of turns h.0) → AllListed cache old (listing_of turns h.0)
       = unless_past (AllListed cache old) past items (λ near entries key found leads.
       turns_list s t key found leads turns items holds here h.1 entries (h.4.finds near key (has_bucket s t key found leads turns here))) in
       let same : list ≡ listing_of turns h.0 = (let reply : replies.Listed list ≡ replies.Listed (listing_of turns h.0) = h.4.answers in cc) in
       subst (λ l. ListsKeys cache l old new) (sym same) (record { shown = all_shown cache base old new past items shown; once = no_key_twice past items h.3; all = all })
 
-gives_keys : (cache base : List ℕ) (old new : List LogItem) → IsCache cache old → (r : Reply) → plain_reply r ≡ r → (k : Known cache base commands.Ls r old new) → ListsGiven (given k.call.moves) r → GivesKeys cache r old new
+gives_keys : (cache base : List ℕ) (old new : List LogItem) → IsCache cache old → (r : Reply) → plain_reply r ≡ r → (k : Known cache base commands.Ls r old new) → ListsGiven (items_given k.call.moves) r → GivesKeys cache r old new
 gives_keys cache base old new sound (replies.Listed list) plain k gave =
     let s = setup_at cache base in
     let moves = turns_on (tree_of old) k.call.moves in

@@ -30,13 +30,13 @@ use Rattle.cacache_value.specs.Value.{value_of_tree}
 use Rattle.cacache_value.proofs.Shows.{apply_answer}
 use Rattle.cacache_history.specs.Setup.{Setup, home}
 use Rattle.cacache_history.specs.History.{Turn}
-use Rattle.cacache_history.specs.ShownTurns.{entries_at, shown, bucket_read, by_entries}
+use Rattle.cacache_history.specs.ShownTurns.{entries_at, shown_result, bucket_read, by_entries}
 use Rattle.cacache_history.specs.Turns.{made_in, EachTurn}
 use Rattle.cacache_history.specs.ListingTurns.{IsFound, TurnGives, TurnsGive, AnyTurn, HasBucket, TurnReadsBucket, FailsAbove}
 use Rattle.cacache_history.proofs.Holding.{TurnHolds, TurnsHold}
 use Rattle.cacache_history.proofs.ShownTurns.{bucket_below, bucket_at_turn}
 use Rattle.cacache_sequence.specs.ReadAnswers.{entries_on}
-use Rattle.cacache_sequence.specs.ListedKeys.{AreEntries}
+use Rattle.cacache_sequence.specs.ListedKeys.{AreAllFound}
 use Rattle.cacache_sequence.proofs.ReadAnswers.{is_shown}
 use Rattle.cacache_sequence.proofs.ListedItems.{in_left, in_right, entries_left, entries_right, lists_entries, lists_found}
 
@@ -60,7 +60,7 @@ folder_explained step path (answers.Failed fault) fits = failed_so step fault
 folder_explained step path (answers.NoMemory back) fits = All-nil (Explained (Faults step (answers.NoMemory back)))
 folder_explained step path other fits = absurd fits
 
-bucket_explained : (step : PlainStep) (es : List Entry) (a : PlainAnswer) → All (Explained (Faults step a)) (by_entries (shown a (Ok es)))
+bucket_explained : (step : PlainStep) (es : List Entry) (a : PlainAnswer) → All (Explained (Faults step a)) (by_entries (shown_result a (Ok es)))
 bucket_explained step es (answers.Failed faults.NotFound) = lists_entries (Explained (Faults step (answers.Failed faults.NotFound))) (λ f. tt) es
 bucket_explained step es (answers.Failed fault) = failed_so step fault
 bucket_explained step es (answers.NoMemory back) = All-nil (Explained (Faults step (answers.NoMemory back)))
@@ -137,13 +137,13 @@ module _ (s : Setup) (turn : Turn) (holds : TurnHolds s turn) (path : List ℕ) 
 
 -- ---- what fails gives an error
 
-folder_errs : (a : PlainAnswer) (refusal : Refusal) → IsGiven a → names_in a ≡ Err refusal → AreEntries (by_folder (names_in a)) → ⊥
+folder_errs : (a : PlainAnswer) (refusal : Refusal) → IsGiven a → names_in a ≡ Err refusal → AreAllFound (by_folder (names_in a)) → ⊥
 folder_errs (answers.Names names) refusal given is h = absurd cc
 folder_errs (answers.Failed fault) refusal given is h = h
 folder_errs (answers.NoMemory back) refusal given is h = given
 folder_errs other refusal given is h = h
 
-bucket_errs : (es : List Entry) (a : PlainAnswer) (refusal : Refusal) → IsGiven a → shown a (Ok es) ≡ Err refusal → AreEntries (by_entries (shown a (Ok es))) → ⊥
+bucket_errs : (es : List Entry) (a : PlainAnswer) (refusal : Refusal) → IsGiven a → shown_result a (Ok es) ≡ Err refusal → AreAllFound (by_entries (shown_result a (Ok es))) → ⊥
 bucket_errs es (answers.Failed faults.NotFound) refusal given is h = absurd cc
 bucket_errs es (answers.Failed fault) refusal given is h = h
 bucket_errs es (answers.NoMemory back) refusal given is h = given
@@ -170,29 +170,29 @@ module _ (s : Setup) (t : Tree) (key : List ℕ) (f : Found) (leads : latest key
         sym (bucket_at_turn s turn holds (bucket_path s.cache key) (sha1 other) is (subst (NamesBelow (home s) (bucket_names_of (sha1 other))) (sym same) (bucket_below s other)))
         ∙ bucket_at_turn s turn holds (bucket_path s.cache key) (sha1 key) is (bucket_below s key)
 
-    bucket_lists : (items : List Item) → turn.move.step ≡ steps.ReadAll (bucket_path s.cache key) → TurnGives s turn (steps.ReadAll (bucket_path s.cache key)) items → AreEntries items → In (Ok f) items
+    bucket_lists : (items : List Item) → turn.move.step ≡ steps.ReadAll (bucket_path s.cache key) → TurnGives s turn (steps.ReadAll (bucket_path s.cache key)) items → AreAllFound items → In (Ok f) items
     bucket_lists items is g entries =
         let es = entries_at s (sha1 key) turn in
-        let same : items ≡ by_entries (shown turn.move.answer (Ok (entries_at s (sha1 key) turn))) = g.2 ∙ ap by_entries (reads_same g.0 is g.1) in
+        let same : items ≡ by_entries (shown_result turn.move.answer (Ok (entries_at s (sha1 key) turn))) = g.2 ∙ ap by_entries (reads_same g.0 is g.1) in
         elim (is_shown turn.move.answer (Ok es)) [
           | inl e ↦ subst (In (Ok f)) (sym (same ∙ ap by_entries e)) (lists_found key es f (ap (λ p. latest key (entries_on (home s) p key)) here ∙ leads))
-          | inr e ↦ absurd (bucket_errs es turn.move.answer e.0 (bucket_given s turn holds (bucket_path s.cache key) is) e.1 (subst AreEntries same entries))
+          | inr e ↦ absurd (bucket_errs es turn.move.answer e.0 (bucket_given s turn holds (bucket_path s.cache key) is) e.1 (subst AreAllFound same entries))
         ]
 
-    folder_lists : (path : List ℕ) (items : List Item) (refusal : Refusal) → turn.move.step ≡ steps.ReadDir path → names_in turn.move.answer ≡ Err refusal → TurnGives s turn (steps.ReadDir path) items → AreEntries items
+    folder_lists : (path : List ℕ) (items : List Item) (refusal : Refusal) → turn.move.step ≡ steps.ReadDir path → names_in turn.move.answer ≡ Err refusal → TurnGives s turn (steps.ReadDir path) items → AreAllFound items
         → In (Ok f) items
-    folder_lists path items refusal is fails g entries = absurd (folder_errs turn.move.answer refusal (folder_given s turn holds path is) fails (subst AreEntries g.1 entries))
+    folder_lists path items refusal is fails g entries = absurd (folder_errs turn.move.answer refusal (folder_given s turn holds path is) fails (subst AreAllFound g.1 entries))
 
-    turn_lists : (items : List Item) → TurnGives s turn turn.move.step items → AreEntries items → TurnReadsBucket s key turn ⊎ FailsAbove s key turn → In (Ok f) items
+    turn_lists : (items : List Item) → TurnGives s turn turn.move.step items → AreAllFound items → TurnReadsBucket s key turn ⊎ FailsAbove s key turn → In (Ok f) items
     turn_lists items g entries (inl reads) = bucket_lists items reads (subst (λ step. TurnGives s turn step items) reads g) entries
     turn_lists items g entries (inr fails) = folder_lists _ items fails.1 fails.2 fails.3 (subst (λ step. TurnGives s turn step items) fails.2 g) entries
 
-  pub turns_list : (turns : List Turn) (items : List Item) → TurnsHold s turns → EachTurn (IsHere s t) turns → TurnsGive s turns items → AreEntries items
+  pub turns_list : (turns : List Turn) (items : List Item) → TurnsHold s turns → EachTurn (IsHere s t) turns → TurnsGive s turns items → AreAllFound items
       → AnyTurn (λ turn. TurnReadsBucket s key turn ⊎ FailsAbove s key turn) turns → In (Ok f) items
   turns_list [] items hold here g entries any = absurd any
   turns_list (turn ∷ turns) items hold here g entries (inl sees) =
-      let all = subst AreEntries g.2 entries in
+      let all = subst AreAllFound g.2 entries in
       subst (In (Ok f)) (sym g.2) (in_left (Ok f) g.0 g.1 (turn_lists turn hold.0 here.0 g.0 g.3 (entries_left g.0 g.1 all) sees))
   turns_list (turn ∷ turns) items hold here g entries (inr later) =
-      let all = subst AreEntries g.2 entries in
+      let all = subst AreAllFound g.2 entries in
       subst (In (Ok f)) (sym g.2) (in_right (Ok f) g.0 g.1 (turns_list turns g.1 hold.1 here.1 g.4 (entries_right g.0 g.1 all) later))

@@ -40,7 +40,7 @@ use Rattle.cacache_sequence.specs.ReadAnswers.{entries_on, UnlessFailed}
 use Rattle.cacache_sequence.specs.CallErrors.{FailsOnly}
 use Rattle.cacache_sequence.specs.Caches.{IsCache, HasContent, HasKey, LacksKey, Grows, IsExcused, Called, setup_at}
 use Rattle.cacache_table.specs.SingleSteps.{FailsAt}
-use Rattle.cacache_sequence.specs.OpenWriters.{LeavesCache}
+use Rattle.cacache_sequence.specs.OpenWriters.{LeavesKnownCache}
 use Rattle.cacache_sequence.specs.OpenReaders.{OpensContent, LookupRan, OpensWhatWasFound, OpensByKey, GivesFile, ReadersOpen, GivesNone, ReadersOpenKey}
 use Rattle.cacache_sequence.proofs.ReadsStay.{reading_keeps, opening_keeps, opened_so}
 use Rattle.cacache_sequence.proofs.Known.{Known, known, excuse}
@@ -52,7 +52,7 @@ use Rattle.cacache_sequence.proofs.OpenWriters.{gains_none, gains_grow, excused_
 
 -- ---- a tree that stays
 
-leaves : (cache : List ℕ) (old new : List LogItem) → IsCache cache old → tree_of new ≡ tree_of old → Grows old new → LeavesCache cache old new
+leaves : (cache : List ℕ) (old new : List LogItem) → IsCache cache old → tree_of new ≡ tree_of old → Grows old new → LeavesKnownCache cache old new
 leaves cache old new sound same grows = (subst (IsSound (home_of cache)) (sym same) sound, same_stays_known cache old new (ap (value_of_tree (home_of cache)) same), grows)
 
 front : (t : Tree) (log more : List LogItem) → IsReplayable t (log ++ more) → IsReplayable t log
@@ -232,7 +232,7 @@ module _ (cache base key : List ℕ) (old : List LogItem) (sound : IsCache cache
     -- what is to be shown
     abbrev Result_of : Result PlainFile Error → Type 0
     Result_of r =
-        LeavesCache cache old new × ((i : List Hash) (bytes : List ℕ) → HasKey cache key i bytes old → GivesFile bytes r old new) × (LacksKey cache key old → GivesNone cache key r old new)
+        LeavesKnownCache cache old new × ((i : List Hash) (bytes : List ℕ) → HasKey cache key i bytes old → GivesFile bytes r old new) × (LacksKey cache key old → GivesNone cache key r old new)
 
     refused : (e : Error) → LookupRan cache base key (replies.Refused (without_message e)) (Some old) (Some new) → IsLog new → Result_of (Err e)
     refused e ran logged =

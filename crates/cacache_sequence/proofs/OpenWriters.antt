@@ -35,7 +35,7 @@ use Rattle.cacache_sequence.specs.Sequence.{tree_on, turns_on, Alike, after_deed
 use Rattle.cacache_sequence.specs.InParts.{Begun}
 use Rattle.cacache_sequence.specs.Caches.{IsCache, Grows, IsExcused, setup_at}
 use Rattle.cacache_table.specs.SingleSteps.{Does, FailsAt}
-use Rattle.cacache_sequence.specs.OpenWriters.{LeavesCache, make_folder, make_file, OpensWriter, HasOpened, WritersOpen}
+use Rattle.cacache_sequence.specs.OpenWriters.{LeavesKnownCache, make_folder, make_file, OpensWriter, HasOpened, WritersOpen}
 use Rattle.cacache_sequence.proofs.KeptKeys.{stays_known}
 use Rattle.cacache_sequence.proofs.Logs.{some_same, joined}
 use Rattle.cacache_sequence.proofs.InParts.{logs_lead, calls_begin, parts_go_on}
@@ -112,7 +112,7 @@ module _ (cache : List ℕ) (number : ℕ) (old new : List LogItem) (sound : IsC
 
   -- what it keeps, as far as it goes
   abbrev Kept : Type 0
-  Kept = LeavesCache cache old new
+  Kept = LeavesKnownCache cache old new
 
   part_keeps : (moves : Moves) (next : State) → Goes begins moves next → deeds (turns_on (tree_of old) moves) ≡ [] → Gains (Some old) (Some new) moves → Kept
   part_keeps moves next goes nothing gains =

@@ -36,7 +36,7 @@ use Rattle.cacache_table.specs.declared.carried.Commit.{Commit}
 use Rattle.cacache_table.specs.Storing.{insertion_of, indexed, sized, compared, matches, write_rest, after_write, put_commit}
 use Rattle.cacache_table.specs.Table.{wants, after, opening}
 use Rattle.cacache_table.proofs.Branches.{cond_leads, go_on_leads}
-use Rattle.cacache_table.proofs.Leading.{moves_on, settles, records}
+use Rattle.cacache_table.proofs.Leading.{moves_on, secures, records}
 use Rattle.cacache_value.specs.Acts.{Act, Nothing, PutBytes, PutLink, AddEntries, Drop, MakeFolders, DropFolder, act_of}
 use Rattle.cacache_value.specs.Kinds.{Content, IsFor, path_kind}
 use Rattle.cacache_value.specs.Placed.{Placed, Proper}
@@ -168,7 +168,7 @@ module _ (home : Option Names) (t : Tree) (rooted : Rooted t) (is_placed : Place
       let kind = of_names (λ names. path_kind home names ≡ Content) path ready.1 for (place_ok t path ready.1 ready.2) in
       let done = persisted_so home t file path ready.1 ready.0 ready.2 (suits home t ready.1 Content kind is_placed) in
       subst (λ a. Ready (apply t (steps.Persist file (content_path c.cache c.computed)) Plain).1 (after (persisting c file) a)) (sym done)
-      (settles (Ready new) (λ p s h. (h, h)) c (by_integrity new c c.options.integrity))
+      (secures (Ready new) (λ p s h. (h, h)) c (by_integrity new c c.options.integrity))
 
   goes : (s : State) (step : PlainStep) → Ready t s → wants s ≡ Some step → Proper home step → Goes s step
   goes (doing (make_folder p) (creating number c rest)) step ready want proper =

@@ -23,7 +23,7 @@ use Rattle.cacache_table.specs.Runs.{Moves, plain_reply}
 use Rattle.cacache_value.specs.Shows.{blob_bytes}
 use Rattle.cacache_history.specs.Setup.{Setup, home}
 use Rattle.cacache_history.specs.History.{Turn, turn_of}
-use Rattle.cacache_history.specs.ShownTurns.{shown, as_refusal, content_at, bucket_read, content_read}
+use Rattle.cacache_history.specs.ShownTurns.{shown_result, as_refusal, content_at, bucket_read, content_read}
 use Rattle.cacache_history.specs.TurnReplies.{FindsHeld, ReadsHeld, ReadsNext, GetsHeld, ReadsValue}
 use Rattle.cacache_sequence.specs.Sequence.{turns_on, tree_on}
 use Rattle.cacache_sequence.specs.ReadAnswers.{entries_on, read_on, get_on, reply_on, UnlessFailed, RepliesFollow, ReadsKeep}
@@ -35,7 +35,7 @@ use Rattle.cacache_sequence.proofs.ReadsStay.{reading_keeps}
 abbrev Shown : {X : Type 0} → Result X Refusal → Result X Refusal → Type 0
 Shown r b = (b ≡ r) ⊎ ((refusal : Refusal) × (b ≡ Err refusal))
 
-pub is_shown : {X : Type 0} (a : PlainAnswer) (r : Result X Refusal) → Shown r (shown a r)
+pub is_shown : {X : Type 0} (a : PlainAnswer) (r : Result X Refusal) → Shown r (shown_result a r)
 is_shown (answers.Failed faults.NotFound) r = inl refl
 is_shown (answers.Failed fault) r = inr (refusals.Fault fault, refl)
 is_shown (answers.NoMemory step) r = inr (refusals.Memory, refl)
@@ -92,7 +92,7 @@ module _ (s : Setup) (r : Reply) where
       let rest : turns_on (apply t m.0 Plain).1 moves ≡ h.1 = cc in
       let step : m.0 ≡ steps.ReadAll (bucket_path s.cache key) = ap (λ (turn : Turn). turn.move.step) first ∙ h.3 in
       let keeps : (apply t m.0 Plain).1 ≡ t = ap (λ x. (apply t x Plain).1) step ∙ reading_keeps t (bucket_path s.cache key) in
-      let next : ReadsNext s key (lookup key (shown m.1 (Ok (entries_on (home s) t key)))) (turns_on (apply t m.0 Plain).1 moves) r
+      let next : ReadsNext s key (lookup key (shown_result m.1 (Ok (entries_on (home s) t key)))) (turns_on (apply t m.0 Plain).1 moves) r
       = subst (λ more. ReadsNext s key (lookup key (bucket_read s (sha1 key) (turn_of t Plain m))) more r) (sym rest)
       (subst (λ (turn : Turn). ReadsNext s key (lookup key (bucket_read s (sha1 key) turn)) h.1 r) (sym first) h.4) in
       elim (is_shown m.1 (Ok (entries_on (home s) t key))) [

@@ -19,7 +19,7 @@ use Rattle.cacache_value.specs.Value.{wide_value, cache_part, value_of_tree}
 use Rattle.cacache_value.proofs.OpeningTrees.{files_open}
 use Rattle.cacache_value.proofs.Traces.{traces_act}
 use Rattle.cacache_history.specs.Setup.{Setup, call_site, home, may_export, is_outside}
-use Rattle.cacache_history.specs.History.{Now, Ends, MayMove, NamesIntegrity, begins, moved, turn_of}
+use Rattle.cacache_history.specs.History.{Now, Ends, MayMove, NamesIntegrity, new_call, call_after, turn_of}
 use Rattle.cacache_history.specs.History as histories
 use Rattle.cacache_history.specs.Turns.{made_in, EachTurn}
 use Rattle.cacache_history.specs.Commits.{deeds}
@@ -56,7 +56,7 @@ alone t = record { tree = t; calls = λ caller. None; begun = 0 }
 -- a call of a world after these moves
 abbrev pub on_its_way : Tree → Moves → histories.Call → histories.Call
 on_its_way t [] call = call
-on_its_way t (m ∷ moves) call = on_its_way (apply t m.0 Plain).1 moves (moved t Plain (Some m) call)
+on_its_way t (m ∷ moves) call = on_its_way (apply t m.0 Plain).1 moves (call_after t Plain (Some m) call)
 
 -- ---- turns and moves
 
@@ -67,15 +67,15 @@ turns_made t (m ∷ moves) = ap (λ l. m ∷ l) (turns_made (apply t m.0 Plain).
 turns_gained : (t : Tree) (moves : Moves) (call : histories.Call) → (on_its_way t moves call).turns ≡ call.turns ++ turns_on t moves
 turns_gained t [] call = sym (append-nil call.turns)
 turns_gained t (m ∷ moves) call =
-    turns_gained (apply t m.0 Plain).1 moves (moved t Plain (Some m) call) ∙ append_assoc call.turns (turn_of t Plain m ∷ []) (turns_on (apply t m.0 Plain).1 moves)
+    turns_gained (apply t m.0 Plain).1 moves (call_after t Plain (Some m) call) ∙ append_assoc call.turns (turn_of t Plain m ∷ []) (turns_on (apply t m.0 Plain).1 moves)
 
 same_command : (t : Tree) (moves : Moves) (call : histories.Call) → (on_its_way t moves call).command ≡ call.command
 same_command t [] call = refl
-same_command t (m ∷ moves) call = same_command (apply t m.0 Plain).1 moves (moved t Plain (Some m) call)
+same_command t (m ∷ moves) call = same_command (apply t m.0 Plain).1 moves (call_after t Plain (Some m) call)
 
 same_number : (t : Tree) (moves : Moves) (call : histories.Call) → (on_its_way t moves call).number ≡ call.number
 same_number t [] call = refl
-same_number t (m ∷ moves) call = same_number (apply t m.0 Plain).1 moves (moved t Plain (Some m) call)
+same_number t (m ∷ moves) call = same_number (apply t m.0 Plain).1 moves (call_after t Plain (Some m) call)
 
 pub moves_after : (t : Tree) (moves : Moves) → tree_after t (plain_moves moves) ≡ tree_on t moves
 moves_after t [] = refl
@@ -107,7 +107,7 @@ module _ (s : Setup) (apart : LieApart (home s) s.outside) where
       let holds = tree_holds s apart (alone t) Plain (Some m) e.0 call tree mine may in
       let next : AllHold s (alone (apply t m.0 Plain).1) = record { placed = holds.0; rooted = holds.1; formed = holds.2; right = holds.3; calls = λ k. tt } in
       let kept = move_keyed s apart (alone t) Plain (Some m) e.0 call tree mine may keeps in
-      let more = run_holds (apply t m.0 Plain).1 moves r (moved t Plain (Some m) call) next kept (moved_holds s (alone t) tree Plain (Some m) e.0 call mine may) run.2 answered.1 in
+      let more = run_holds (apply t m.0 Plain).1 moves r (call_after t Plain (Some m) call) next kept (moved_holds s (alone t) tree Plain (Some m) e.0 call mine may) run.2 answered.1 in
       record {
         calls = more.calls;
         tree = more.tree;
@@ -119,10 +119,10 @@ module _ (s : Setup) (apart : LieApart (home s) s.outside) where
   -- ---- a call
 
   -- its steps make contents of nothing but the call's own
-  makes_own : (t : Tree) (call : SequenceCall) → CallHolds s (on_its_way t call.moves (begins s call.number call.command))
+  makes_own : (t : Tree) (call : SequenceCall) → CallHolds s (on_its_way t call.moves (new_call s call.number call.command))
       → EachTurn (λ turn. Makes (own_of (call_site s call.number) call.command) turn.move.step) (turns_on t call.moves)
   makes_own t call holds =
-      let start = begins s call.number call.command in
+      let start = new_call s call.number call.command in
       let now = on_its_way t call.moves start in
       subst (EachTurn (λ turn. Makes (own_of (call_site s call.number) call.command) turn.move.step)) (turns_gained t call.moves start)
       (subst (λ c. EachTurn (λ turn. Makes (own_of (call_site s call.number) c) turn.move.step) now.turns) (same_command t call.moves start)
@@ -139,7 +139,7 @@ module _ (s : Setup) (apart : LieApart (home s) s.outside) where
       → Runs (opening (call_site s call.number) call.command) call.moves (plain_reply call.reply) → AreAnswered t call.moves
       → CallIsAnswered s t call × AllHold s (alone (tree_on t call.moves)) × Keeps s (tree_on t call.moves)
   call_answers t call tree keeps may named run answered =
-      let start = begins s call.number call.command in
+      let start = new_call s call.number call.command in
       let holds = run_holds t call.moves call.reply start tree keeps (begins_hold s call.number call.command may named) run answered in
       let turns = turns_on t call.moves in
       let made : made_in turns ≡ call.moves = turns_made t call.moves in

@@ -19,10 +19,10 @@ IsShown cache old new (Ok found) = found_under cache found.key old ≡ Some foun
 IsShown cache old new (Err e) = AStepFailed old new ⊎ (e ≡ IoError TooDeep [])
 
 -- no item is an error
-abbrev pub AreEntries : List Item → Type 0
-AreEntries [] = Unit {0}
-AreEntries (Ok found ∷ items) = AreEntries items
-AreEntries (Err e ∷ items) = ⊥
+abbrev pub AreAllFound : List Item → Type 0
+AreAllFound [] = Unit {0}
+AreAllFound (Ok found ∷ items) = AreAllFound items
+AreAllFound (Err e ∷ items) = ⊥
 
 -- each key that leads to an entry is listed with it
 abbrev pub AllListed : List ℕ → List LogItem → List Item → Type 0
@@ -33,7 +33,7 @@ AllListed cache log items =
 pub record ListsKeys (cache : List ℕ) (items : List Item) (old new : List LogItem) : Type 0 where
   pub shown : All (IsShown cache old new) items
   pub once : NoKeyTwice items
-  pub all : AreEntries items → AllListed cache old items
+  pub all : AreAllFound items → AllListed cache old items
 
 -- a listing answers them, or is out of memory
 abbrev pub GivesKeys : List ℕ → Reply → List LogItem → List LogItem → Type 0

@@ -17,7 +17,7 @@ use Rattle.cacache_table.specs.Runs.{Ran, without_message}
 use Rattle.cacache_table.specs.Table.{opening}
 use Rattle.cacache_sequence.specs.Caches.{IsCache, HasContent, HasKey, LacksKey, IsExcused}
 use Rattle.cacache_table.specs.SingleSteps.{Does, FailsAt}
-use Rattle.cacache_sequence.specs.OpenWriters.{LeavesCache}
+use Rattle.cacache_sequence.specs.OpenWriters.{LeavesKnownCache}
 
 -- ---- an opening
 
@@ -64,7 +64,7 @@ abbrev pub ReadersOpen : Type 0
 ReadersOpen =
     (cache : List ℕ) (i : List Hash) (r : Result PlainFile Error) (old new : List LogItem)
     → IsCache cache old → OpensContent cache i r (Some old) (Some new) → IsLog new
-    → LeavesCache cache old new
+    → LeavesKnownCache cache old new
     × ((bytes : List ℕ) → HasContent cache i bytes old → GivesFile bytes r old new)
 
 -- there is none of a key that leads to nothing
@@ -78,7 +78,7 @@ abbrev pub ReadersOpenKey : Type 0
 ReadersOpenKey =
     (cache base key : List ℕ) (r : Result PlainFile Error) (old new : List LogItem)
     → IsCache cache old → OpensByKey cache base key r (Some old) (Some new) → IsLog new
-    → LeavesCache cache old new
+    → LeavesKnownCache cache old new
     × ((i : List Hash) (bytes : List ℕ)
     → HasKey cache key i bytes old → GivesFile bytes r old new)
     × (LacksKey cache key old → GivesNone cache key r old new)

@@ -29,8 +29,8 @@ NothingElse cache i bytes log =
     (lies_under cache i log ≡ None) ⊎ (lies_under cache i log ≡ Some (InFile bytes))
 
 -- a cache is left, of which all that was known is so still
-abbrev pub LeavesCache : List ℕ → List LogItem → List LogItem → Type 0
-LeavesCache cache old new = IsCache cache new × StaysKnown cache old new × Grows old new
+abbrev pub LeavesKnownCache : List ℕ → List LogItem → List LogItem → Type 0
+LeavesKnownCache cache old new = IsCache cache new × StaysKnown cache old new × Grows old new
 
 -- ---- an opening
 
@@ -87,7 +87,7 @@ abbrev pub WritersOpen : Type 0
 WritersOpen =
     (cache : List ℕ) (number : ℕ) (r : Result PlainTemp Error) (old new : List LogItem)
     → IsCache cache old → OpensWriter cache number r (Some old) (Some new) → IsLog new
-    → LeavesCache cache old new × HasOpened cache number r old new
+    → LeavesKnownCache cache old new × HasOpened cache number r old new
 
 -- a commit leaves a cache, if its entry is well-formed or refused
 abbrev pub CommitsLast : Type 0

@@ -9,7 +9,7 @@ use Rattle.cacache_table.specs.declared.reply.Reply.{Reply}
 use Rattle.cacache_history.specs.declared.record.Record.{Record}
 use Rattle.cacache_history.specs.declared.record.Record.TheVariants.{Began, Moved, Stopped}
 use Rattle.cacache_history.specs.Setup.{Setup}
-use Rattle.cacache_history.specs.History.{History, Call, Made, Now, IsLegal, Legal, next, first, set_call}
+use Rattle.cacache_history.specs.History.{History, Call, Made, Now, IsLegal, Legal, now_after, initial, set_call}
 use Rattle.cacache_shared.specs.Lines.{is_move, is_move_of, moves, moves_of}
 
 -- the moves of the first callers
@@ -55,18 +55,18 @@ counted : (s : Setup) (w : Now) (rs : List Record) → CallsBelow s.callers w.ca
 counted s w [] below legal = empty s.callers
 counted s w (Began c command ∷ rs) below legal =
     idle s.callers (Began c command) rs (λ j. refl)
-    ∙ counted s (next s w (Began c command)) rs (set_below s.callers c _ w.calls legal.0.0 below) legal.1
+    ∙ counted s (now_after s w (Began c command)) rs (set_below s.callers c _ w.calls legal.0.0 below) legal.1
     ∙ sym (none is_move (Began c command) rs refl)
 counted s w (Stopped c ∷ rs) below legal =
     idle s.callers (Stopped c) rs (λ j. refl)
-    ∙ counted s (next s w (Stopped c)) rs (set_below s.callers c None w.calls (below c legal.0.0 legal.0.1) below) legal.1
+    ∙ counted s (now_after s w (Stopped c)) rs (set_below s.callers c None w.calls (below c legal.0.0 legal.0.1) below) legal.1
     ∙ sym (none is_move (Stopped c) rs refl)
 counted s w (Moved c luck made reply ∷ rs) below legal =
     let lt : c < s.callers = below c legal.0.0 legal.0.1 in
-    let more = counted s (next s w (Moved c luck made reply)) rs (set_below s.callers c _ w.calls lt below) legal.1 in
+    let more = counted s (now_after s w (Moved c luck made reply)) rs (set_below s.callers c _ w.calls lt below) legal.1 in
     let all = one is_move (Moved c luck made reply) rs in
     let mine = busy s.callers c luck made reply rs in
     grind (arith, nat_tests, more, all, mine, lt)
 
 pub all_counted : (h : History) → IsLegal h → moves_below h.records h.setup.callers ≡ moves h.records
-all_counted h legal = counted h.setup (first h.setup) h.records (λ k call e. absurd cc) legal.legal
+all_counted h legal = counted h.setup (initial h.setup) h.records (λ k call e. absurd cc) legal.legal

@@ -33,9 +33,9 @@ command_in caller (Began c command) = if c == caller then Some command else None
 command_in caller line = None
 
 -- the reply that this caller was given here
-abbrev pub reply_in : ℕ → Record → Option Reply
-reply_in caller (Moved c luck made reply) = if c == caller then reply else None
-reply_in caller line = None
+abbrev pub reply_given : ℕ → Record → Option Reply
+reply_given caller (Moved c luck made reply) = if c == caller then reply else None
+reply_given caller line = None
 
 -- what this caller began, in order
 abbrev pub commands_of : ℕ → List Record → List Command
@@ -43,4 +43,4 @@ commands_of caller = filter_map (command_in caller)
 
 -- what this caller was answered, in order
 abbrev pub replies_of : ℕ → List Record → List Reply
-replies_of caller = filter_map (reply_in caller)
+replies_of caller = filter_map (reply_given caller)

@@ -52,7 +52,7 @@ fn got_these<L: Ledger>(alloc: Global, later: &[Record], seat: &Seat<L>) -> bool
 }
 
 /// All parts of the seats in one share, which counts all their moves. None of no seats.
-pub(crate) fn merged<L: Ledger>(seats: Vec<Seat<L>>) -> Option<Share<L>>
+pub(crate) fn merge_seats<L: Ledger>(seats: Vec<Seat<L>>) -> Option<Share<L>>
     ensures none { IfNone result (vec_len seats ≡ 0) }
     ensures parts { IfSome result (λ all. all.parts ≡ vec_len seats) }
     ensures amount { IfSome result (λ all. all.amount ≡ sum_by (λ s. s.count) seats.items) }
@@ -60,13 +60,13 @@ pub(crate) fn merged<L: Ledger>(seats: Vec<Seat<L>>) -> Option<Share<L>>
     let mut all: Option<Share<L>> = None;
     for seat in seats {
         let share = seat.into_share();
-        all = Some(joined(all, share));
+        all = Some(join_shares(all, share));
     }
     all
 }
 
 /// Both shares in one.
-fn joined<L: Ledger>(all: Option<Share<L>>, share: Share<L>) -> Share<L>
+fn join_shares<L: Ledger>(all: Option<Share<L>>, share: Share<L>) -> Share<L>
     ensures none { IfNone all (result ≡ share) }
     ensures parts { IfSome all (λ s. result.parts ≡ s.parts + share.parts) }
     ensures amount { IfSome all (λ s. result.amount ≡ s.amount + share.amount) }

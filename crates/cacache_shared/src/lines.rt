@@ -1,6 +1,6 @@
 //! What the records of a world say of a caller.
 ghost use Rattle.std.specs.Prelude.{◌≡◌, drop, option_copied};
-ghost use Rattle.cacache_shared.specs.Lines.{is_move_of, moves_of, command_in, reply_in};
+ghost use Rattle.cacache_shared.specs.Lines.{is_move_of, moves_of, command_in, reply_given};
 
 use cacache_history::Record;
 use cacache_table::{Command, Reply};
@@ -54,7 +54,7 @@ pub(crate) fn command_in(line: &Record, caller: usize) -> Option<&Command>
 
 /// The reply that the caller was given here.
 pub(crate) fn reply_in(line: &Record, caller: usize) -> Option<&Reply>
-    ensures { option_copied result ≡ reply_in caller line.now }
+    ensures { option_copied result ≡ reply_given caller line.now }
 {
     match line {
         Record::Moved(c, _, _, Some(reply)) if *c == caller => Some(reply),

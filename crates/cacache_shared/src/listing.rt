@@ -10,7 +10,7 @@ pub(crate) fn live_entries(world: World) -> Result<u64, StormFault> {
     let mut world = world;
     let listed = list(&mut world);
     let_go(world);
-    counted(listed?)
+    count_entries(listed?)
 }
 
 /// The reply of a listing that no step of another caller comes between.
@@ -26,7 +26,7 @@ fn list(world: &mut World) -> Result<Reply, StormFault> {
 }
 
 /// How many entries a listing has.
-fn counted(reply: Reply) -> Result<u64, StormFault> {
+fn count_entries(reply: Reply) -> Result<u64, StormFault> {
     match reply {
         Reply::Listed(items) => count_of(&items),
         Reply::Refused(error) => Err(StormFault::Failed(error)),

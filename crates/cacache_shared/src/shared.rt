@@ -4,7 +4,7 @@ ghost use Rattle.cacache_shared.specs.Lines.{moves};
 ghost use Rattle.cacache_shared.specs.Seats.{SeatAgrees, SeatGoes, fresh_seats, with_command};
 
 use crate::blank::Blank;
-use crate::closing::{all_agree, merged};
+use crate::closing::{all_agree, merge_seats};
 use crate::inside::Inside;
 use crate::lines::moves_in;
 use crate::seat::{Seat, Went};
@@ -59,7 +59,7 @@ impl<L: Ledger> SharedWorld<L> {
             count: count as u64,
             of: PhantomData,
         };
-        let book = seated(blank, &world, &mut seats);
+        let book = make_seats(blank, &world, &mut seats);
         let shared = SharedWorld {
             inside: Mutex::new(Inside::new(world, book)),
             callers,
@@ -133,7 +133,7 @@ impl<L: Ledger> SharedWorld<L> {
             return Err((shared, seats));
         }
         let Inside { world, mut book } = inside;
-        let Some(mut all) = merged(seats) else {
+        let Some(mut all) = merge_seats(seats) else {
             unreachable!()
         };
         book.audit(&mut all);
@@ -143,7 +143,7 @@ impl<L: Ledger> SharedWorld<L> {
 
 /// Makes a seat for each caller of a world, for which there is room, and the book that counts all moves.
 #[tactic(auto, using(crate::proofs::Callers::all_counted))]
-fn seated<L: Ledger>(blank: Blank<L>, world: &World, seats: &mut Vec<Seat<L>>) -> Book<L>
+fn make_seats<L: Ledger>(blank: Blank<L>, world: &World, seats: &mut Vec<Seat<L>>) -> Book<L>
     requires each { blank.blank.parts ≡ world.now.setup.callers }
     requires none { seats.old.items ≡ [] }
     requires room { world.now.setup.callers ≤ vec_capacity seats.old }

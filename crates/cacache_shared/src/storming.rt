@@ -73,7 +73,7 @@ fn storm_in<L: Ledger + Send + Sync, R: Threads + Wait + Clock + Sync, G: Gate +
     };
     let ended = run_all(rt, alloc, &shared, seats, keys, gate)?;
     let seats = seats_of(alloc, ended)?;
-    let moves = counted(seats.as_slice());
+    let moves = count_moves(seats.as_slice());
     let Ok(world) = shared.close(seats) else {
         return Err(StormFault::Mismatch);
     };
@@ -82,7 +82,7 @@ fn storm_in<L: Ledger + Send + Sync, R: Threads + Wait + Clock + Sync, G: Gate +
 }
 
 /// How many moves the seats count.
-fn counted<L: Ledger>(seats: &[Seat<L>]) -> u64 {
+fn count_moves<L: Ledger>(seats: &[Seat<L>]) -> u64 {
     let mut moves: u64 = 0;
     for seat in seats {
         moves = moves.saturating_add(seat.count());

@@ -17,8 +17,8 @@ use Rattle.cacache_table.specs.declared.answers.Refusal.{Refusal}
 use Rattle.cacache_table.specs.declared.reply.Reply.TheVariants.{Copied, Done, Exists, Listed, Read}
 use Rattle.cacache_table.specs.Answers.{done_in, temp_in, written_in, synced_in, there_in, taken_in, bytes_in, file_in, got_in, length_in, names_in}
 use Rattle.cacache_table.specs.Common.{ends_with, fails, go_on}
-use Rattle.cacache_table.specs.ContentReads.{checked, is_there, is_absent}
-use Rattle.cacache_table.specs.Exporting.{counted}
+use Rattle.cacache_table.specs.ContentReads.{checked, answer_there, answer_absent}
+use Rattle.cacache_table.specs.Exporting.{copied_count}
 use Rattle.cacache_table.specs.Inserting.{bucket_line, recorded, after_append}
 use Rattle.cacache_table.specs.Linking.{with_size, after_size, after_read, hashed_path}
 use Rattle.cacache_table.specs.Looking.{found_in, found_for, after_bucket, no_bucket}
@@ -32,11 +32,11 @@ use Rattle.cacache_table.specs.declared.visit.Task.{Task}
 use Rattle.cacache_table.specs.declared.visit.Visit.TheVariants.{Enter, ReadBucket, RemoveFile, RemoveFolder}
 use Rattle.cacache_table.specs.declared.visit.Task.TheVariants.{Make, Stumble}
 use Rattle.cacache_table.specs.StepPaths.{temp_path, content_folder}
-use Rattle.cacache_table.specs.Storing.{placed, settled, write_rest, after_write, after_confirm}
+use Rattle.cacache_table.specs.Storing.{placed, secured, write_rest, after_write, after_confirm}
 use Rattle.cacache_table.specs.Table.{piece, wants, after}
 use Rattle.cacache_table.specs.Walking.{EachVisit, most, failed, give, miss, walk_on, tasks_of, leaving, too_many, entered, unread_bucket, listed, visit_step, after_visit, items_in}
 use Rattle.cacache_table.proofs.Branches.{cond_leads, go_on_leads}
-use Rattle.cacache_table.proofs.Leading.{moves_on, settles, resettles, records}
+use Rattle.cacache_table.proofs.Leading.{moves_on, secures, secures_found, records}
 use Rattle.cacache_table.proofs.Visits.{each_append, MayMeet, each_name, each_leaving}
 
 -- nothing is asked of a walk
@@ -102,7 +102,7 @@ module _ (Good : PlainStep → PlainAnswer → Type 0) (P : State → Type 0) wh
     pub sized : (t : Target ℕ) (n : ℕ) → P (sizing t) → P (opening_file (to_link (with_size t n)))
     pub opened : (x : Hashing) (file : PlainFile) → Brings Good (steps.Open (hashed_path x)) file_in file → P (opening_file x) → P (hashing x file [])
     pub got : (x : Hashing) (file : PlainFile) (bytes : List ℕ) (g : PlainFile × List ℕ) → Brings Good (steps.Read file piece) got_in g → P (hashing x file bytes) → P (after_read x bytes g)
-    pub copied : (from to : List ℕ) (count : Option ℕ) (n : ℕ) → P (copying from to count) → P (over (Copied (counted count n)))
+    pub copied : (from to : List ℕ) (count : Option ℕ) (n : ℕ) → P (copying from to count) → P (over (Copied (copied_count count n)))
 
 -- and for what holds of walks, by whether they clear, and of each of their visits
 module _ (Good : PlainStep → PlainAnswer → Type 0) (P : State → Type 0) (K : Bool → Type 0) (V : Visit → Type 0) where
@@ -139,11 +139,11 @@ module _ (Good : PlainStep → PlainAnswer → Type 0) (P : State → Type 0) (K
     writes x file rest w b h = cond_leads P (w.1 == 0) (fails faults.WriteZero) (write_rest x w.0 (drop w.1 rest)) (λ _. fails_so faults.WriteZero) (λ _. rests x w.0 (drop w.1 rest) (c.commits.wrote x file rest w b h))
 
     -- a content that was put goes on as one that is found there after a fault, whichever that is
-    stored : (x : Commit) (a : Result (Unit {0}) Refusal) → ((fault : Fault) → P (confirming x fault)) → P (go_on a (confirming x) (λ _. settled x))
-    stored x a k = go_on_leads P a (confirming x) (λ _. settled x) memory k (λ _ _. let m = c.commits.there x faults.Device (k faults.Device) in settles P m.1 x m.0)
+    stored : (x : Commit) (a : Result (Unit {0}) Refusal) → ((fault : Fault) → P (confirming x fault)) → P (go_on a (confirming x) (λ _. secured x))
+    stored x a k = go_on_leads P a (confirming x) (λ _. secured x) memory k (λ _ _. let m = c.commits.there x faults.Device (k faults.Device) in secures P m.1 x m.0)
 
     confirms : (x : Commit) (fault : Fault) (there : Bool) → P (confirming x fault) → P (after_confirm x fault there)
-    confirms x fault true h = let m = c.commits.there x fault h in resettles P m.1 x m.0
+    confirms x fault true h = let m = c.commits.there x fault h in secures_found P m.1 x m.0
     confirms x fault false h = fails_so fault
 
     appends : (i : Insertion) (n : ℕ) → P (appending i) → P (after_append i n)
@@ -224,11 +224,11 @@ module _ (Good : PlainStep → PlainAnswer → Type 0) (P : State → Type 0) (K
     keeps (appending i) a good h = leads (taken_in a) (after_append i) (λ n _. appends i n h)
     keeps (looking l) a good h = go_on_leads P (bytes_in a) (no_bucket l) (after_bucket l) memory (λ fault. unread l fault h) (λ bytes _. c.reads.found l (found_in l.key bytes) h)
     keeps (reading k) a good h = leads (bytes_in a) (checked k) (λ bytes _. checks k bytes h)
-    keeps (asking k) a good h = go_on_leads P (there_in a) is_absent is_there memory (λ _. c.reads.asked k false h) (λ there _. c.reads.asked k there h)
+    keeps (asking k) a good h = go_on_leads P (there_in a) answer_absent answer_there memory (λ _. c.reads.asked k false h) (λ there _. c.reads.asked k there h)
     keeps (sizing t) a good h = leads (length_in a) (after_size t) (λ n _. c.files.sized t n h)
     keeps (opening_file x) a good h = leads (file_in a) (λ file. hashing x file []) (λ file e. c.files.opened x file (a, good, e) h)
     keeps (hashing x file bytes) a good h = leads (got_in a) (after_read x bytes) (λ g e. c.files.got x file bytes g (a, good, e) h)
-    keeps (copying from to count) a good h = leads (taken_in a) (λ n. over (Copied (counted count n))) (λ n _. c.files.copied from to count n h)
+    keeps (copying from to count) a good h = leads (taken_in a) (λ n. over (Copied (copied_count count n))) (λ n _. c.files.copied from to count n h)
     keeps (walking w v todo) a good h = let k = c.walks.visited w v todo h in visits w todo k.0 k.1.1 v a good k.1.0
     keeps (over reply) a good h = h
 

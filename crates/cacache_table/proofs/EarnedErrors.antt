@@ -44,12 +44,12 @@ use Rattle.cacache_table.specs.declared.visit.Task.TheVariants.{Make, Stumble}
 use Rattle.cacache_table.specs.declared.carried.Aim.TheVariants as aims
 use Rattle.cacache_table.specs.Common.{ends_with, fails, go_on, errand_step, sync_up}
 use Rattle.cacache_table.specs.Inserting.{insertion, deletion, unless_refused, refused_cause, bucket_line, recorded, after_append}
-use Rattle.cacache_table.specs.Storing.{insertion_of, indexed, sized, matches, compared, placed, settled, resettled, moved, write_rest, after_write, after_confirm}
-use Rattle.cacache_table.specs.ContentReads.{checked, is_there, is_absent}
-use Rattle.cacache_table.specs.Exporting.{export_from, export_content, export, counted}
+use Rattle.cacache_table.specs.Storing.{insertion_of, indexed, sized, matches, compared, placed, secured, secured_found, move_in, write_rest, after_write, after_confirm}
+use Rattle.cacache_table.specs.ContentReads.{checked, answer_there, answer_absent}
+use Rattle.cacache_table.specs.Exporting.{export_from, export_content, export, copied_count}
 use Rattle.cacache_table.specs.Linking.{after_size, hashed_path, hashed, after_read}
 use Rattle.cacache_table.specs.Looking.{found_in, found_content, found_for, after_bucket, no_bucket}
-use Rattle.cacache_table.specs.Walking.{most, failed, give, miss, walk_on, task_of, tasks_of, leaving, too_many, entered, unread_bucket, listed, visit_step, after_visit, items_in}
+use Rattle.cacache_table.specs.Walking.{most, failed, give, miss, walk_on, task_for_name, tasks_of, leaving, too_many, entered, unread_bucket, listed, visit_step, after_visit, items_in}
 use Rattle.cacache_table.specs.Table.{piece, wants, after, opening}
 use Rattle.cacache_table.specs.Runs.{Moves, Runs}
 use Rattle.cacache_table.proofs.Branches.{cond_leads}
@@ -207,12 +207,12 @@ clean_syncs : (folders : List (List ℕ)) (s : State) → IsClean s → IsClean 
 clean_syncs [] s h = h
 clean_syncs (p ∷ ps) s h = clean_syncs ps (doing (sync_dir p) s) h
 
-clean_settled : (c : Commit) → IsClean (settled c)
-clean_settled c =
+clean_secured : (c : Commit) → IsClean (secured c)
+clean_secured c =
     cond_leads IsClean c.options.durable (sync_up (content_folders c.cache c.computed) (placed c)) (placed c)
     (λ _. clean_syncs (content_folders c.cache c.computed) (placed c) (clean_integrity c c.options.integrity)) (λ _. clean_integrity c c.options.integrity)
 
-clean_moved : (c : Commit) (file : PlainTemp) → IsClean (moved c file)
+clean_moved : (c : Commit) (file : PlainTemp) → IsClean (move_in c file)
 clean_moved c file = cond_leads IsClean c.options.durable (syncing c file) (persisting c file) (λ _. (tt, λ f x. x)) (λ _. (tt, λ f x. x))
 
 module _ (O : Fault → Type 0) (a : PlainStep) (t : PlainAnswer) (moves : Moves) (r : Reply) where
@@ -274,15 +274,15 @@ module _ (O : Fault → Type 0) (a : PlainStep) (t : PlainAnswer) (moves : Moves
   syncs [] s k g h = g h
   syncs (p ∷ ps) s k g h = syncs ps (doing (sync_dir p) s) k (clean_now s k) h
 
-  settles : (c : Commit) → Causes (settled c) moves r → Now
-  settles c h =
+  secures : (c : Commit) → Causes (secured c) moves r → Now
+  secures c h =
       cond_leads (λ s. Causes s moves r → Now) c.options.durable (sync_up (content_folders c.cache c.computed) (placed c)) (placed c)
       (λ _. syncs (content_folders c.cache c.computed) (placed c) (clean_integrity c c.options.integrity) (places c)) (λ _. places c) h
 
-  resettles : (c : Commit) → Causes (resettled c) moves r → Now
-  resettles c h =
-      cond_leads (λ s. Causes s moves r → Now) c.options.durable (doing (sync_file (content_path c.cache c.computed)) (settled c)) (settled c)
-      (λ _. clean_now (settled c) (clean_settled c)) (λ _. settles c) h
+  secures_found : (c : Commit) → Causes (secured_found c) moves r → Now
+  secures_found c h =
+      cond_leads (λ s. Causes s moves r → Now) c.options.durable (doing (sync_file (content_path c.cache c.computed)) (secured c)) (secured c)
+      (λ _. clean_now (secured c) (clean_secured c)) (λ _. secures c) h
 
   records : (i : Insertion) → HasCause O ((a, t) ∷ moves) i.reply → HasCause (λ _. ⊥) [] i.reply → Causes (recorded i) moves r → Now
   records i now k h =
@@ -291,7 +291,7 @@ module _ (O : Fault → Type 0) (a : PlainStep) (t : PlainAnswer) (moves : Moves
       (λ _. over_now i.reply now) h
 
   writes_rest : (c : Commit) (file : PlainTemp) (rest : List ℕ) → Causes (write_rest c file rest) moves r → Now
-  writes_rest c file [] h = clean_now (moved c file) (clean_moved c file) h
+  writes_rest c file [] h = clean_now (move_in c file) (clean_moved c file) h
   writes_rest c file (b ∷ bs) h = holds_none (h tt)
 
   exports_from : (how : How) (from to : List ℕ) (count : Option ℕ) → Causes (export_from how from to count) moves r → Now
@@ -351,7 +351,7 @@ own_rest (Stumble g path ∷ a) b f h (inl e) = own_base b f (rw e h.0)
 own_rest (Stumble g path ∷ a) b f h (inr o) = own_rest a b f h.1 o
 own_rest (Make v ∷ a) b f h o = own_rest a b f h o
 
-task_ordinary : (clears : Bool) (level : ℕ) (p : List ℕ) (kind : Kind) → Ordinary (task_of clears level p kind ∷ [])
+task_ordinary : (clears : Bool) (level : ℕ) (p : List ℕ) (kind : Kind) → Ordinary (task_for_name clears level p kind ∷ [])
 task_ordinary clears level p kinds.Folder = by_level (nat_lt level 16)
   where
     by_level : (b : Bool) → Ordinary (cond b (Make (Enter p (level + 1))) (Stumble faults.TooDeep p) ∷ [])
@@ -368,7 +368,7 @@ task_ordinary true level p kinds.File = by_top (level == 0)
 
 tasks_ordinary : (clears : Bool) (level : ℕ) (p : List ℕ) (names : List Name) → Ordinary (tasks_of clears level p names)
 tasks_ordinary clears level p [] = tt
-tasks_ordinary clears level p (n ∷ ns) = ordinary_append (task_of clears level (join p n.name) n.kind ∷ []) (tasks_of clears level p ns) (task_ordinary clears level (join p n.name) n.kind) (tasks_ordinary clears level p ns)
+tasks_ordinary clears level p (n ∷ ns) = ordinary_append (task_for_name clears level (join p n.name) n.kind ∷ []) (tasks_of clears level p ns) (task_ordinary clears level (join p n.name) n.kind) (tasks_ordinary clears level p ns)
 
 leaving_ordinary : (clears : Bool) (level : ℕ) (p : List ℕ) → Ordinary (leaving clears level p)
 leaving_ordinary clears level p = by_both clears (level == 0)
@@ -466,7 +466,7 @@ sent i t moves r n e k h =
     (λ short. fails_now (λ _. ⊥) a t moves r faults.ShortAppend (inr (short_faults (bucket_path i.cache i.entry.key) (bucket_line i) t n e (leb-false (length (bucket_line i)) n short)))) h
 
 confirms : (c : Commit) (fault : Fault) (a : PlainStep) (t : PlainAnswer) (moves : Moves) (r : Reply) (there : Bool) → Causes (after_confirm c fault there) moves r → HasCause (λ f. f ≡ fault) ((a, t) ∷ moves) r
-confirms c fault a t moves r true h = resettles (λ f. f ≡ fault) a t moves r c h
+confirms c fault a t moves r true h = secures_found (λ f. f ≡ fault) a t moves r c h
 confirms c fault a t moves r false h = fails_now (λ f. f ≡ fault) a t moves r fault (inl refl) h
 
 causes_step : (s : State) (t : PlainAnswer) (moves : Moves) (r : Reply) → FitsWanted (wants s) t → Causes (after s t) moves r → Causes s (with_item (wants s) t moves) r
@@ -474,8 +474,8 @@ causes_step (doing errand s) t moves r fits h = λ k. goes_or_fails (own s) (err
 causes_step (creating number c rest) t moves r fits h = λ k. goes_or_fails (λ _. ⊥) (steps.CreateTemp (temp_path c.cache number)) t moves r (temp_in t) (λ file. write_rest c file rest) (λ f e. temp_faults (temp_path c.cache number) t f fits e) (λ file _. writes_rest (λ _. ⊥) (steps.CreateTemp (temp_path c.cache number)) t moves r c file rest) h
 causes_step (writing c file rest) t moves r fits h = λ k. goes_or_fails (λ _. ⊥) (steps.Write file rest) t moves r (written_in t) (after_write c rest) (λ f e. written_faults file rest t f fits e) (λ w e. wrote c file rest t moves r w e) h
 causes_step (syncing c file) t moves r fits h = λ k. goes_or_fails (λ _. ⊥) (steps.SyncTemp file) t moves r (synced_in t) (persisting c) (λ f e. synced_faults file t f fits e) (λ g _ q. holds_none (λ _. ⊥) (steps.SyncTemp file) t moves r (q tt)) h
-causes_step (persisting c file) t moves r fits h = λ k. goes (λ _. ⊥) (steps.Persist file (content_path c.cache c.computed)) t moves r (done_in t) (confirming c) (λ _. settled c) (λ f e g. later (λ _. ⊥) (steps.Persist file (content_path c.cache c.computed)) t moves r (λ x. x ≡ f) (λ x same. inr (rw same (persist_faults file (content_path c.cache c.computed) t f fits e))) (g tt)) (λ _ _. settles (λ _. ⊥) (steps.Persist file (content_path c.cache c.computed)) t moves r c) h
-causes_step (linking c target) t moves r fits h = λ k. goes (λ _. ⊥) (steps.Symlink target (content_path c.cache c.computed)) t moves r (done_in t) (confirming c) (λ _. settled c) (λ f e g. later (λ _. ⊥) (steps.Symlink target (content_path c.cache c.computed)) t moves r (λ x. x ≡ f) (λ x same. inr (rw same (symlink_faults target (content_path c.cache c.computed) t f fits e))) (g tt)) (λ _ _. settles (λ _. ⊥) (steps.Symlink target (content_path c.cache c.computed)) t moves r c) h
+causes_step (persisting c file) t moves r fits h = λ k. goes (λ _. ⊥) (steps.Persist file (content_path c.cache c.computed)) t moves r (done_in t) (confirming c) (λ _. secured c) (λ f e g. later (λ _. ⊥) (steps.Persist file (content_path c.cache c.computed)) t moves r (λ x. x ≡ f) (λ x same. inr (rw same (persist_faults file (content_path c.cache c.computed) t f fits e))) (g tt)) (λ _ _. secures (λ _. ⊥) (steps.Persist file (content_path c.cache c.computed)) t moves r c) h
+causes_step (linking c target) t moves r fits h = λ k. goes (λ _. ⊥) (steps.Symlink target (content_path c.cache c.computed)) t moves r (done_in t) (confirming c) (λ _. secured c) (λ f e g. later (λ _. ⊥) (steps.Symlink target (content_path c.cache c.computed)) t moves r (λ x. x ≡ f) (λ x same. inr (rw same (symlink_faults target (content_path c.cache c.computed) t f fits e))) (g tt)) (λ _ _. secures (λ _. ⊥) (steps.Symlink target (content_path c.cache c.computed)) t moves r c) h
 causes_step (confirming c fault) t moves r fits h = λ k. goes (λ f. f ≡ fault) (steps.Exists (content_path c.cache c.computed)) t moves r (there_in t) (λ _. fails fault) (after_confirm c fault) (λ f e. fails_now (λ f. f ≡ fault) (steps.Exists (content_path c.cache c.computed)) t moves r fault (inl refl)) (λ there _. confirms c fault (steps.Exists (content_path c.cache c.computed)) t moves r there) h
 causes_step (appending i) t moves r fits h = λ k. goes_or_fails (λ _. ⊥) (steps.Append (bucket_path i.cache i.entry.key) (bucket_line i)) t moves r (taken_in t) (after_append i) (λ f e. append_faults _ _ t f fits e) (λ n e. sent i t moves r n e k) h
 causes_step (looking l) t moves r fits h = λ k. goes (λ _. ⊥) (steps.ReadAll (bucket_path l.cache l.key)) t moves r (bytes_in t) (no_bucket l) (after_bucket l) (λ f e. unreads (λ _. ⊥) (steps.ReadAll (bucket_path l.cache l.key)) t moves r l f (bytes_faults _ t f fits e)) (λ bytes _. founds (λ _. ⊥) (steps.ReadAll (bucket_path l.cache l.key)) t moves r l l.aim (found_in l.key bytes)) h
@@ -483,8 +483,8 @@ causes_step (reading x) t moves r fits h = λ k. goes_or_fails (λ _. ⊥) (step
 causes_step (sizing target) t moves r fits h = λ k. goes_or_fails (λ _. ⊥) (steps.Size target.path) t moves r (length_in t) (after_size target) (λ f e. length_faults _ t f fits e) (λ n _ g. holds_none (λ _. ⊥) (steps.Size target.path) t moves r (g tt)) h
 causes_step (opening_file x) t moves r fits h = λ k. goes_or_fails (λ _. ⊥) (steps.Open (hashed_path x)) t moves r (file_in t) (λ file. hashing x file []) (λ f e. file_faults _ t f fits e) (λ file _ g. holds_none (λ _. ⊥) (steps.Open (hashed_path x)) t moves r (g tt)) h
 causes_step (hashing x file bytes) t moves r fits h = λ k. goes_or_fails (λ _. ⊥) (steps.Read file piece) t moves r (got_in t) (after_read x bytes) (λ f e. got_faults file piece t f fits e) (λ got _. reads_on (λ _. ⊥) (steps.Read file piece) t moves r x bytes got.0 got.1) h
-causes_step (asking x) t moves r fits h = λ k. goes (λ _. ⊥) (steps.Exists (content_path x.cache x.integrity)) t moves r (there_in t) is_absent is_there (λ f e. over_now (λ _. ⊥) (steps.Exists (content_path x.cache x.integrity)) t moves r (Exists false) tt) (λ there _. over_now (λ _. ⊥) (steps.Exists (content_path x.cache x.integrity)) t moves r (Exists there) tt) h
-causes_step (copying from to count) t moves r fits h = λ k. goes_or_fails (λ _. ⊥) (steps.Copy from to) t moves r (taken_in t) (λ n. over (Copied (counted count n))) (λ f e. copy_faults from to t f fits e) (λ n _. over_now (λ _. ⊥) (steps.Copy from to) t moves r (Copied (counted count n)) tt) h
+causes_step (asking x) t moves r fits h = λ k. goes (λ _. ⊥) (steps.Exists (content_path x.cache x.integrity)) t moves r (there_in t) answer_absent answer_there (λ f e. over_now (λ _. ⊥) (steps.Exists (content_path x.cache x.integrity)) t moves r (Exists false) tt) (λ there _. over_now (λ _. ⊥) (steps.Exists (content_path x.cache x.integrity)) t moves r (Exists there) tt) h
+causes_step (copying from to count) t moves r fits h = λ k. goes_or_fails (λ _. ⊥) (steps.Copy from to) t moves r (taken_in t) (λ n. over (Copied (copied_count count n))) (λ f e. copy_faults from to t f fits e) (λ n _. over_now (λ _. ⊥) (steps.Copy from to) t moves r (Copied (copied_count count n)) tt) h
 causes_step (walking w v todo) t moves r fits h = λ k. visits w v todo t moves r fits h
 causes_step (over reply) t moves r fits h = h
 

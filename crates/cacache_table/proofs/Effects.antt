@@ -30,7 +30,7 @@ use Rattle.cacache_table.specs.declared.carried.Commit.{Commit}
 use Rattle.cacache_table.specs.declared.target.Target.{Target}
 use Rattle.cacache_table.specs.Common.{ends_with, fails, go_on, errand_step, sync_up}
 use Rattle.cacache_table.specs.Inserting.{insertion, deletion, unless_refused, refused_cause, bucket_line, recorded, after_append}
-use Rattle.cacache_table.specs.Storing.{insertion_of, indexed, sized, matches, compared, placed, settled, resettled, moved, write_rest, after_write, after_confirm, put_commit}
+use Rattle.cacache_table.specs.Storing.{insertion_of, indexed, sized, matches, compared, placed, secured, secured_found, move_in, write_rest, after_write, after_confirm, put_commit}
 use Rattle.cacache_table.specs.Linking.{link_target, after_size, after_read}
 use Rattle.cacache_table.specs.Table.{piece, wants, after, opening}
 use Rattle.cacache_table.specs.Runs.{Moves, Runs}
@@ -100,15 +100,15 @@ module _ (c : Commit) (effects : List Effect) (r : Reply) where
   places : Does (placed c) effects r → Indexes c c.key effects r
   places h = by_integrity c.options.integrity h
 
-  settles : Does (settled c) effects r → Indexes c c.key effects r
-  settles h =
+  secures : Does (secured c) effects r → Indexes c c.key effects r
+  secures h =
       cond_leads (λ s. Does s effects r → Indexes c c.key effects r) c.options.durable (sync_up (content_folders c.cache c.computed) (placed c)) (placed c)
       (λ _. synced effects r (Indexes c c.key effects r) (content_folders c.cache c.computed) (placed c) (ends_before c.key) places) (λ _. places) h
 
-  resettles : Does (resettled c) effects r → Indexes c c.key effects r
-  resettles h =
-      cond_leads (λ s. Does s effects r → Indexes c c.key effects r) c.options.durable (doing (sync_file (content_path c.cache c.computed)) (settled c)) (settled c)
-      (λ _ d. elim d [ inl a ↦ ends_before c.key a | inr b ↦ settles b ]) (λ _. settles) h
+  secures_found : Does (secured_found c) effects r → Indexes c c.key effects r
+  secures_found h =
+      cond_leads (λ s. Does s effects r → Indexes c c.key effects r) c.options.durable (doing (sync_file (content_path c.cache c.computed)) (secured c)) (secured c)
+      (λ _ d. elim d [ inl a ↦ ends_before c.key a | inr b ↦ secures b ]) (λ _. secures) h
 
   -- ---- before
 
@@ -118,18 +118,18 @@ module _ (c : Commit) (effects : List Effect) (r : Reply) where
   no_memory : Does (ends_with OutOfMemory) effects r → Commits c effects r
   no_memory h = inl (refused OutOfMemory effects r h)
 
-  puts : (a : Result (Unit {0}) Refusal) → Does (go_on a (confirming c) (λ _. settled c)) effects r → Commits c (if_done a (stored (content_path c.cache c.computed)) effects) r
-  puts (Ok done) h = inr (effects, refl, settles h)
+  puts : (a : Result (Unit {0}) Refusal) → Does (go_on a (confirming c) (λ _. secured c)) effects r → Commits c (if_done a (stored (content_path c.cache c.computed)) effects) r
+  puts (Ok done) h = inr (effects, refl, secures h)
   puts (Err (refusals.Fault fault)) h = h
   puts (Err refusals.Memory) h = no_memory h
 
   confirms : (fault : Fault) (a : Result Bool Refusal) → Does (go_on a (λ _. fails fault) (after_confirm c fault)) effects r → Commits c (if_there a (stored (content_path c.cache c.computed)) effects) r
-  confirms fault (Ok true) h = inr (effects, refl, resettles h)
+  confirms fault (Ok true) h = inr (effects, refl, secures_found h)
   confirms fault (Ok false) h = fails_first fault h
   confirms fault (Err (refusals.Fault other)) h = fails_first fault h
   confirms fault (Err refusals.Memory) h = no_memory h
 
-  moves : (file : PlainTemp) → Does (moved c file) effects r → Commits c effects r
+  moves : (file : PlainTemp) → Does (move_in c file) effects r → Commits c effects r
   moves file h = cond_leads (λ s. Does s effects r → Commits c effects r) c.options.durable (syncing c file) (persisting c file) (λ _ g. g) (λ _ g. g) h
 
   writes_rest : (file : PlainTemp) (rest : List ℕ) → Does (write_rest c file rest) effects r → Commits c effects r

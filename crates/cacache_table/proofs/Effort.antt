@@ -39,12 +39,12 @@ use Rattle.cacache_table.specs.declared.visit.Task.TheVariants.{Make, Stumble}
 use Rattle.cacache_table.specs.declared.carried.Aim.TheVariants as aims
 use Rattle.cacache_table.specs.Common.{ends_with, fails, sync_up}
 use Rattle.cacache_table.specs.Inserting.{unless_refused, refused_cause, bucket_line, recorded, after_append}
-use Rattle.cacache_table.specs.Storing.{insertion_of, indexed, sized, matches, compared, placed, settled, resettled, moved, write_rest, after_write, after_confirm}
+use Rattle.cacache_table.specs.Storing.{insertion_of, indexed, sized, matches, compared, placed, secured, secured_found, move_in, write_rest, after_write, after_confirm}
 use Rattle.cacache_table.specs.ContentReads.{checked}
-use Rattle.cacache_table.specs.Exporting.{export_from, export, counted}
+use Rattle.cacache_table.specs.Exporting.{export_from, export, copied_count}
 use Rattle.cacache_table.specs.Linking.{after_size, hashed_path, hashed, after_read}
 use Rattle.cacache_table.specs.Looking.{found_in, found_for, after_bucket, no_bucket}
-use Rattle.cacache_table.specs.Walking.{most, failed, give, miss, walk_on, go_deeper, task_of, tasks_of, leaving, too_many, entered, unread_bucket, after_visit, items_in}
+use Rattle.cacache_table.specs.Walking.{most, failed, give, miss, walk_on, go_deeper, task_for_name, tasks_of, leaving, too_many, entered, unread_bucket, after_visit, items_in}
 use Rattle.cacache_table.specs.Table.{piece, wants, after}
 use Rattle.cacache_table.specs.Runs.{weight, weights, effort}
 use Rattle.cacache_table.proofs.Branches.{cond_leads, go_on_leads}
@@ -94,17 +94,17 @@ compared_below c (Some expected) = cond_leads (Below 8) (matches expected c.comp
 placed_below : (c : Commit) → Below 8 (placed c)
 placed_below c = compared_below c c.options.integrity
 
-settled_below : (c : Commit) → Below 13 (settled c)
-settled_below c =
+secured_below : (c : Commit) → Below 13 (secured c)
+secured_below c =
     cond_leads (Below 13) c.options.durable (sync_up (content_folders c.cache c.computed) (placed c)) (placed c)
     (λ _. synced_below (content_folders c.cache c.computed) (placed c) 13 (omega (arith, placed_below c, content_count c.cache c.computed))) (λ _. omega (arith, placed_below c))
 
-resettled_below : (c : Commit) → Below 14 (resettled c)
-resettled_below c =
-    cond_leads (Below 14) c.options.durable (doing (sync_file (content_path c.cache c.computed)) (settled c)) (settled c)
-    (λ _. omega (arith, settled_below c)) (λ _. omega (arith, settled_below c))
+secured_found_below : (c : Commit) → Below 14 (secured_found c)
+secured_found_below c =
+    cond_leads (Below 14) c.options.durable (doing (sync_file (content_path c.cache c.computed)) (secured c)) (secured c)
+    (λ _. omega (arith, secured_below c)) (λ _. omega (arith, secured_below c))
 
-moved_below : (c : Commit) (file : PlainTemp) → Below 17 (moved c file)
+moved_below : (c : Commit) (file : PlainTemp) → Below 17 (move_in c file)
 moved_below c file = cond_leads (Below 17) c.options.durable (syncing c file) (persisting c file) (λ _. omega arith) (λ _. omega arith)
 
 rest_below : (c : Commit) (file : PlainTemp) (rest : List ℕ) → Below (length rest + 19) (write_rest c file rest)
@@ -123,7 +123,7 @@ wrote_below c rest w =
     (λ e. less_below c w.0 rest w.1 (omega (arith, eqb-false w.1 0 e)))
 
 confirmed_below : (c : Commit) (fault : Fault) (there : Bool) → Below 14 (after_confirm c fault there)
-confirmed_below c fault true = resettled_below c
+confirmed_below c fault true = secured_found_below c
 confirmed_below c fault false = omega arith
 
 recorded_below : (i : Insertion) → Below 6 (recorded i)
@@ -220,7 +220,7 @@ file_light : (p : List ℕ) (b : Bool) → weights (cond b (Stumble faults.NotAD
 file_light p true = omega arith
 file_light p false = omega arith
 
-task_light : (clears : Bool) (level : ℕ) (p : List ℕ) (kind : Kind) → weights (task_of clears level p kind ∷ []) ≤ 2
+task_light : (clears : Bool) (level : ℕ) (p : List ℕ) (kind : Kind) → weights (task_for_name clears level p kind ∷ []) ≤ 2
 task_light clears level p kinds.Folder = deeper_light p level
 task_light false level p kinds.File = omega arith
 task_light false level p kinds.Link = omega arith
@@ -230,7 +230,7 @@ task_light true level p kinds.Link = omega arith
 tasks_light : (clears : Bool) (level : ℕ) (p : List ℕ) (names : List Name) → weights (tasks_of clears level p names) ≤ 2 * length names
 tasks_light clears level p [] = omega arith
 tasks_light clears level p (n ∷ ns) =
-    omega (arith, weights_append (task_of clears level (join p n.name) n.kind ∷ []) (tasks_of clears level p ns), task_light clears level (join p n.name) n.kind, tasks_light clears level p ns)
+    omega (arith, weights_append (task_for_name clears level (join p n.name) n.kind ∷ []) (tasks_of clears level p ns), task_light clears level (join p n.name) n.kind, tasks_light clears level p ns)
 
 leaving_light : (clears : Bool) (level : ℕ) (p : List ℕ) → weights (leaving clears level p) ≤ 1
 leaving_light clears level p = by_both clears (level == 0)
@@ -279,8 +279,8 @@ falls (doing errand s) a t e fits = go_on_leads (Below (effort s + 1)) (done_in 
 falls (creating number c rest) a t e fits = go_on_leads (Below (length rest + 19)) (temp_in t) fails (λ file. write_rest c file rest) (omega arith) (λ _. omega arith) (λ file _. rest_below c file rest)
 falls (writing c file rest) a t e fits = go_on_leads (Below (length rest + 18)) (written_in t) fails (after_write c rest) (omega arith) (λ _. omega arith) (λ w _. wrote_below c rest w)
 falls (syncing c file) a t e fits = go_on_leads (Below 16) (synced_in t) fails (persisting c) (omega arith) (λ _. omega arith) (λ _ _. omega arith)
-falls (persisting c file) a t e fits = go_on_leads (Below 15) (done_in t) (confirming c) (λ _. settled c) (omega arith) (λ _. omega arith) (λ _ _. omega (arith, settled_below c))
-falls (linking c target) a t e fits = go_on_leads (Below 15) (done_in t) (confirming c) (λ _. settled c) (omega arith) (λ _. omega arith) (λ _ _. omega (arith, settled_below c))
+falls (persisting c file) a t e fits = go_on_leads (Below 15) (done_in t) (confirming c) (λ _. secured c) (omega arith) (λ _. omega arith) (λ _ _. omega (arith, secured_below c))
+falls (linking c target) a t e fits = go_on_leads (Below 15) (done_in t) (confirming c) (λ _. secured c) (omega arith) (λ _. omega arith) (λ _ _. omega (arith, secured_below c))
 falls (confirming c fault) a t e fits = go_on_leads (Below 14) (there_in t) (λ _. fails fault) (after_confirm c fault) (omega arith) (λ _. omega arith) (λ there _. confirmed_below c fault there)
 falls (appending i) a t e fits = go_on_leads (Below 6) (taken_in t) fails (after_append i) (omega arith) (λ _. omega arith) (λ n _. appended_below i n)
 falls (looking l) a t e fits = go_on_leads (Below (2 ^ 64 + 18)) (bytes_in t) (no_bucket l) (after_bucket l) (omega arith) (unread_below l) (λ bytes _. found_below l l.aim (found_in l.key bytes))
@@ -292,6 +292,6 @@ falls (hashing h file bytes) a t e fits =
     go_on_leads (Below (file.left + 17)) (got_in t) fails (after_read h bytes) (omega arith) (λ _. omega arith)
     (λ x k. read_below h bytes file.left x.0 x.1 (left_after file t x (let same : steps.Read file piece ≡ a = cc in rw same fits) k))
 falls (asking k) a t e fits = go_on_leads (Below 1) (there_in t) (λ _. over (Exists false)) (λ there. over (Exists there)) (omega arith) (λ _. omega arith) (λ _ _. omega arith)
-falls (copying from to count) a t e fits = go_on_leads (Below 1) (taken_in t) fails (λ n. over (Copied (counted count n))) (omega arith) (λ _. omega arith) (λ _ _. omega arith)
+falls (copying from to count) a t e fits = go_on_leads (Below 1) (taken_in t) fails (λ n. over (Copied (copied_count count n))) (omega arith) (λ _. omega arith) (λ _ _. omega arith)
 falls (walking w v todo) a t e fits = visit_below w v todo t
 falls (over reply) a t e fits = absurd cc

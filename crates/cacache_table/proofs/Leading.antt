@@ -11,11 +11,11 @@ use Rattle.cacache_table.specs.Inserting.{unless_refused, refused_cause, recorde
 use Rattle.cacache_table.specs.State.{State, doing, syncing, persisting, appending, over, Insertion, make_folder, sync_file, sync_dir}
 use Rattle.cacache_table.specs.declared.carried.Commit.{Commit}
 use Rattle.cacache_table.specs.StepPaths.{content_path, content_folders, bucket_path, bucket_folders}
-use Rattle.cacache_table.specs.Storing.{insertion_of, indexed, sized, matches, compared, placed, settled, resettled, moved}
+use Rattle.cacache_table.specs.Storing.{insertion_of, indexed, sized, matches, compared, placed, secured, secured_found, move_in}
 use Rattle.cacache_table.proofs.Branches.{cond_leads}
 
 module _ (P : State → Type 0) where
-  pub moves_on : (c : Commit) (file : PlainTemp) → P (syncing c file) → P (persisting c file) → P (moved c file)
+  pub moves_on : (c : Commit) (file : PlainTemp) → P (syncing c file) → P (persisting c file) → P (move_in c file)
   moves_on c file h k = cond_leads P c.options.durable (syncing c file) (persisting c file) (λ _. h) (λ _. k)
 
   -- where each sync leads to what holds behind it
@@ -24,15 +24,15 @@ module _ (P : State → Type 0) where
     syncs [] s h = h
     syncs (p ∷ ps) s h = syncs ps (doing (sync_dir p) s) (before p s h).1
 
-    pub settles : (c : Commit) → P (placed c) → P (settled c)
-    settles c h =
+    pub secures : (c : Commit) → P (placed c) → P (secured c)
+    secures c h =
         cond_leads P c.options.durable (sync_up (content_folders c.cache c.computed) (placed c)) (placed c)
         (λ _. syncs (content_folders c.cache c.computed) (placed c) h) (λ _. h)
 
-    pub resettles : (c : Commit) → P (placed c) → P (resettled c)
-    resettles c h =
-        cond_leads P c.options.durable (doing (sync_file (content_path c.cache c.computed)) (settled c)) (settled c)
-        (λ _. (before (content_path c.cache c.computed) (settled c) (settles c h)).0) (λ _. settles c h)
+    pub secures_found : (c : Commit) → P (placed c) → P (secured_found c)
+    secures_found c h =
+        cond_leads P c.options.durable (doing (sync_file (content_path c.cache c.computed)) (secured c)) (secured c)
+        (λ _. (before (content_path c.cache c.computed) (secured c) (secures c h)).0) (λ _. secures c h)
 
     pub records : (i : Insertion) → P (over i.reply) → P (recorded i)
     records i h =

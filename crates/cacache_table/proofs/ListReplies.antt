@@ -22,11 +22,11 @@ use Rattle.cacache_table.specs.declared.visit.Task.{Task}
 use Rattle.cacache_table.specs.declared.visit.Visit.TheVariants.{Enter, ReadBucket, RemoveFile, RemoveFolder}
 use Rattle.cacache_table.specs.declared.visit.Task.TheVariants.{Make, Stumble}
 use Rattle.cacache_table.specs.Common.{fails, go_on}
-use Rattle.cacache_table.specs.Walking.{most, failed, give, miss, walk_on, task_of, tasks_of, leaving, too_many, entered, unread_bucket, listed, items_in}
+use Rattle.cacache_table.specs.Walking.{most, failed, give, miss, walk_on, task_for_name, tasks_of, leaving, too_many, entered, unread_bucket, listed, items_in}
 use Rattle.cacache_table.specs.Table.{wants, after, opening}
 use Rattle.cacache_table.specs.Runs.{Moves, Runs}
 use Rattle.cacache_table.proofs.Branches.{cond_leads}
-use Rattle.cacache_table.specs.ListReplies.{by_bucket, by_folder, given_by, given, too_deep, AddsTooDeep, ListsGiven}
+use Rattle.cacache_table.specs.ListReplies.{by_bucket, by_folder, given_by, items_given, too_deep, AddsTooDeep, ListsGiven}
 
 -- ---- what is still to do on a listing
 
@@ -46,7 +46,7 @@ lists_append [] b h k = k
 lists_append (Make v ∷ a) b h k = (h.0, lists_append a b h.1 k)
 lists_append (Stumble fault path ∷ a) b h k = (h.0, lists_append a b h.1 k)
 
-task_lists : (level : ℕ) (p : List ℕ) (kind : Kind) (todo : List Task) → Lists todo → Lists (task_of false level p kind ∷ todo)
+task_lists : (level : ℕ) (p : List ℕ) (kind : Kind) (todo : List Task) → Lists todo → Lists (task_for_name false level p kind ∷ todo)
 task_lists level p kinds.File todo h = (tt, h)
 task_lists level p kinds.Link todo h = (tt, h)
 task_lists level p kinds.Folder todo h = by_level (nat_lt level 16)
@@ -176,17 +176,17 @@ memory_gives (walking w v todo) = λ e k l. refl
 memory_gives (over reply) = (refl, inr refl)
 memory_gives s = tt
 
-runs_give : (s : State) (moves : Moves) (r : Reply) → Runs s moves r → Given s (given moves) r
+runs_give : (s : State) (moves : Moves) (r : Reply) → Runs s moves r → Given s (items_given moves) r
 runs_give s [] r (inl e) = rw e (refl, inl refl)
 runs_give s [] r (inr e) = rw e (memory_gives s)
 runs_give s (m ∷ moves) r run =
-    let h = given_before s m.1 (given moves) r (runs_give (after s m.1) moves r run.2) in
+    let h = given_before s m.1 (items_given moves) r (runs_give (after s m.1) moves r run.2) in
     rw run.0 at h
 
-pub lists_shown : (site : Site) (moves : Moves) (r : Reply) → Runs (opening site commands.Ls) moves r → ListsGiven (given moves) r
+pub lists_shown : (site : Site) (moves : Moves) (r : Reply) → Runs (opening site commands.Ls) moves r → ListsGiven (items_given moves) r
 lists_shown site moves r run = by_reply r (runs_give (opening site commands.Ls) moves r run refl tt tt)
   where
-    by_reply : (r : Reply) → Gives (record { clears = false; items = []; left = most }) (given moves) r → ListsGiven (given moves) r
+    by_reply : (r : Reply) → Gives (record { clears = false; items = []; left = most }) (items_given moves) r → ListsGiven (items_given moves) r
     by_reply (Listed list) (inl long) = inl long
     by_reply (Listed list) (inr h) = inr (rw h.1 h.2)
     by_reply (Refused e) h = h

@@ -30,9 +30,9 @@ use Rattle.cacache_table.specs.declared.target.Target.{Target}
 use Rattle.cacache_table.specs.declared.carried.Aim.TheVariants as aims
 use Rattle.cacache_table.specs.Common.{ends_with, fails}
 use Rattle.cacache_table.specs.Inserting.{insertion, deletion, unless_refused, refused_cause}
-use Rattle.cacache_table.specs.Storing.{insertion_of, indexed, sized, matches, compared, placed, moved}
+use Rattle.cacache_table.specs.Storing.{insertion_of, indexed, sized, matches, compared, placed, move_in}
 use Rattle.cacache_table.specs.ContentReads.{checked}
-use Rattle.cacache_table.specs.Exporting.{export_from, export_content, export, verified, counted}
+use Rattle.cacache_table.specs.Exporting.{export_from, export_content, export, verified, copied_count}
 use Rattle.cacache_table.specs.Linking.{with_size, commit_for, hashed, after_read}
 use Rattle.cacache_table.specs.Looking.{found_content, found_for}
 use Rattle.cacache_table.specs.Table.{after, opening}
@@ -295,7 +295,7 @@ module _ (r : Reply) where
 
   -- ---- copies
 
-  counts : (count : Option ℕ) (n m : ℕ) → count ≡ Some m → counted count n ≡ m
+  counts : (count : Option ℕ) (n m : ℕ) → count ≡ Some m → copied_count count n ≡ m
   counts None n m e = absurd cc
   counts (Some v) n m e = cc
 
@@ -333,7 +333,7 @@ module _ (r : Reply) where
       sized = λ t n h p. h (sizes t n p);
       opened = λ x file b h. h;
       got = λ x file bytes g b h p. h (reads_on x bytes g.0 g.1 p);
-      copied = λ from to count n h p. h (over_keeps (Copies count) (λ _. tt) r (Copied (counted count n)) (counts count n) p);
+      copied = λ from to count n h p. h (over_keeps (Copies count) (λ _. tt) r (Copied (copied_count count n)) (counts count n) p);
     }
 
     walks_give : ClosedWalk AnyAnswer Gives WalkGives AnyVisit

@@ -22,7 +22,7 @@ use Rattle.cacache_table.specs.declared.carried.Lookup.{Lookup}
 use Rattle.cacache_table.specs.declared.carried.Content.{Content}
 use Rattle.cacache_table.specs.declared.carried.Aim.TheVariants as aims
 use Rattle.cacache_table.specs.Common.{ends_with, fails, go_on}
-use Rattle.cacache_table.specs.ContentReads.{checked, is_there, is_absent}
+use Rattle.cacache_table.specs.ContentReads.{checked, answer_there, answer_absent}
 use Rattle.cacache_table.specs.Looking.{found_in, found_for, after_bucket, no_bucket}
 use Rattle.cacache_table.specs.Table.{wants, after, opening}
 use Rattle.cacache_table.specs.Runs.{Moves, Runs}
@@ -102,7 +102,7 @@ content_shown cache i moves r run = one_step (reading (content cache i)) (steps.
 pub reads_shown : (site : Site) (i : List Hash) (moves : Moves) (r : Reply) → Runs (opening site (commands.GetHash i)) moves r → OrMemory (ReadsContentOnce site.cache i moves r) r
 reads_shown site i moves r run = content_shown site.cache i moves r run
 
-asked_after : (a : Result Bool Refusal) → go_on a is_absent is_there ≡ over (there_reply a)
+asked_after : (a : Result Bool Refusal) → go_on a answer_absent answer_there ≡ over (there_reply a)
 asked_after (Ok there) = refl
 asked_after (Err (refusals.Fault fault)) = refl
 asked_after (Err refusals.Memory) = refl

@@ -11,7 +11,7 @@ use Rattle.cacache_table.specs.declared.visit.Visit.{Visit}
 use Rattle.cacache_table.specs.declared.visit.Task.{Task}
 use Rattle.cacache_table.specs.declared.visit.Visit.TheVariants.{Enter, ReadBucket, RemoveFile, RemoveFolder}
 use Rattle.cacache_table.specs.declared.visit.Task.TheVariants.{Make, Stumble}
-use Rattle.cacache_table.specs.Walking.{EachVisit, task_of, tasks_of, leaving}
+use Rattle.cacache_table.specs.Walking.{EachVisit, task_for_name, tasks_of, leaving}
 
 pub each_append : (V : Visit → Type 0) (xs ys : List Task) → EachVisit V xs → EachVisit V ys → EachVisit V (xs ++ ys)
 each_append V [] ys h k = k
@@ -38,7 +38,7 @@ module _ (V : Visit → Type 0) (level : ℕ) (p : List ℕ) where
   one_of true x y h k = h
   one_of false x y h k = k
 
-  each_kind : (b : Bool) (q : List ℕ) (kind : Kind) → V (Enter q (level + 1)) → V (cond b (RemoveFile q) (ReadBucket q)) → EachVisit V (task_of b level q kind ∷ [])
+  each_kind : (b : Bool) (q : List ℕ) (kind : Kind) → V (Enter q (level + 1)) → V (cond b (RemoveFile q) (ReadBucket q)) → EachVisit V (task_for_name b level q kind ∷ [])
   each_kind b q kinds.Folder h k = one_of (nat_lt level 16) (Make (Enter q (level + 1))) (Stumble faults.TooDeep q) (h, tt) tt
   each_kind false q kinds.File h k = (k, tt)
   each_kind false q kinds.Link h k = (k, tt)
@@ -49,7 +49,7 @@ module _ (V : Visit → Type 0) (level : ℕ) (p : List ℕ) where
   each_name b [] h = tt
   each_name b (n ∷ ns) h =
       let k : MayMeet b n = All-head (MayMeet b) n ns h in
-      each_append V (task_of b level (join p n.name) n.kind ∷ []) (tasks_of b level p ns) (each_kind b (join p n.name) n.kind k.0 k.1) (each_name b ns (All-tail (MayMeet b) n ns h))
+      each_append V (task_for_name b level (join p n.name) n.kind ∷ []) (tasks_of b level p ns) (each_kind b (join p n.name) n.kind k.0 k.1) (each_name b ns (All-tail (MayMeet b) n ns h))
 
   pub each_leaving : V (RemoveFolder p) → EachVisit V (leaving true level p)
   each_leaving h = by (level == 0)

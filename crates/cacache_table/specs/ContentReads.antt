@@ -17,9 +17,9 @@ checked k bytes =
     else ends_with (IntegrityError (Check k.integrity (actual k.integrity bytes)))
 
 -- whether the content is there, as the store says
-abbrev pub is_there : Bool → State
-is_there there = over (Exists there)
+abbrev pub answer_there : Bool → State
+answer_there there = over (Exists there)
 
 -- after a failed question nothing is there
-abbrev pub is_absent : Fault → State
-is_absent fault = over (Exists false)
+abbrev pub answer_absent : Fault → State
+answer_absent fault = over (Exists false)

@@ -34,6 +34,6 @@ verified k e bytes =
     else ends_with (IntegrityError (Check k.integrity (actual k.integrity bytes)))
 
 -- a copy answers the count that was verified, and else its own
-abbrev pub counted : Option ℕ → ℕ → ℕ
-counted None n = n
-counted (Some verified) n = verified
+abbrev pub copied_count : Option ℕ → ℕ → ℕ
+copied_count None n = n
+copied_count (Some verified) n = verified

@@ -39,9 +39,9 @@ given_by (steps.ReadDir path) t = by_folder (names_in t)
 given_by step t = []
 
 -- the items that all steps give, in order
-abbrev pub given : Moves → List Item
-given [] = []
-given (m ∷ moves) = given_by m.0 m.1 ++ given moves
+abbrev pub items_given : Moves → List Item
+items_given [] = []
+items_given (m ∷ moves) = given_by m.0 m.1 ++ items_given moves
 
 -- ---- what is listed
 
@@ -66,7 +66,7 @@ ListsGiven items r = ⊥
 abbrev pub ListsShown : Type 0
 ListsShown =
     (site : Site) (moves : Moves) (r : Reply)
-    → Runs (opening site commands.Ls) moves r → ListsGiven (given moves) r
+    → Runs (opening site commands.Ls) moves r → ListsGiven (items_given moves) r
 
 -- ---- each key once
 

@@ -57,16 +57,16 @@ abbrev pub placed : Commit → State
 placed c = compared c c.options.integrity
 
 -- where the commit is durable, the folders that lead to the content are synced first
-abbrev pub settled : Commit → State
-settled c =
+abbrev pub secured : Commit → State
+secured c =
     if c.options.durable then sync_up (content_folders c.cache c.computed) (placed c)
     else placed c
 
 -- and before them the content itself, where it was found there
-abbrev pub resettled : Commit → State
-resettled c =
-    if c.options.durable then doing (sync_file (content_path c.cache c.computed)) (settled c)
-    else settled c
+abbrev pub secured_found : Commit → State
+secured_found c =
+    if c.options.durable then doing (sync_file (content_path c.cache c.computed)) (secured c)
+    else secured c
 
 -- ---- before
 
@@ -75,12 +75,12 @@ abbrev pub into_folder : Commit → State → State
 into_folder c s = doing (make_folder (content_folder c.cache c.computed)) s
 
 -- a temporary file becomes the content; where the commit is durable, it is synced first
-abbrev pub moved : Commit → PlainTemp → State
-moved c file = if c.options.durable then syncing c file else persisting c file
+abbrev pub move_in : Commit → PlainTemp → State
+move_in c file = if c.options.durable then syncing c file else persisting c file
 
 -- the same once the content's folder is made
 abbrev pub persist : Commit → PlainTemp → State
-persist c file = into_folder c (moved c file)
+persist c file = into_folder c (move_in c file)
 
 -- a link to the target becomes the content
 abbrev pub link : Commit → List ℕ → State
@@ -98,7 +98,7 @@ after_write c rest (file, n) =
 
 -- without a yes, the first fault is answered
 abbrev pub after_confirm : Commit → Fault → Bool → State
-after_confirm c fault there = if there then resettled c else fails fault
+after_confirm c fault there = if there then secured_found c else fails fault
 
 -- the integrity of a put's bytes is known before its first step
 abbrev pub put_commit : List ℕ → Put → Commit

@@ -13,10 +13,10 @@ use Rattle.cacache_table.specs.State.{State, doing, creating, writing, syncing, 
 use Rattle.cacache_table.specs.declared.carried.Aim.TheVariants as aims
 use Rattle.cacache_table.specs.Common.{fails, go_on, errand_step}
 use Rattle.cacache_table.specs.Inserting.{insert, insertion, deletion, bucket_line, after_append}
-use Rattle.cacache_table.specs.Storing.{settled, write_rest, after_write, after_confirm, store}
+use Rattle.cacache_table.specs.Storing.{secured, write_rest, after_write, after_confirm, store}
 use Rattle.cacache_table.specs.Looking.{after_bucket, no_bucket}
-use Rattle.cacache_table.specs.ContentReads.{checked, is_there, is_absent}
-use Rattle.cacache_table.specs.Exporting.{export, counted}
+use Rattle.cacache_table.specs.ContentReads.{checked, answer_there, answer_absent}
+use Rattle.cacache_table.specs.Exporting.{export, copied_count}
 use Rattle.cacache_table.specs.Linking.{link_target, after_size, hashed_path, after_read}
 use Rattle.cacache_table.specs.Removing.{remove_content}
 use Rattle.cacache_table.specs.Walking.{visit_step, after_visit, walk}
@@ -52,18 +52,18 @@ after (doing errand s) t = go_on (done_in t) fails (λ _. s)
 after (creating number c rest) t = go_on (temp_in t) fails (λ file. write_rest c file rest)
 after (writing c file rest) t = go_on (written_in t) fails (after_write c rest)
 after (syncing c file) t = go_on (synced_in t) fails (persisting c)
-after (persisting c file) t = go_on (done_in t) (confirming c) (λ _. settled c)
-after (linking c target) t = go_on (done_in t) (confirming c) (λ _. settled c)
+after (persisting c file) t = go_on (done_in t) (confirming c) (λ _. secured c)
+after (linking c target) t = go_on (done_in t) (confirming c) (λ _. secured c)
 after (confirming c fault) t = go_on (there_in t) (λ _. fails fault) (after_confirm c fault)
 after (appending i) t = go_on (taken_in t) fails (after_append i)
 after (looking l) t = go_on (bytes_in t) (no_bucket l) (after_bucket l)
 after (reading k) t = go_on (bytes_in t) fails (checked k)
-after (asking k) t = go_on (there_in t) is_absent is_there
+after (asking k) t = go_on (there_in t) answer_absent answer_there
 after (sizing target) t = go_on (length_in t) fails (after_size target)
 after (opening_file h) t = go_on (file_in t) fails (λ file. hashing h file [])
 after (hashing h file bytes) t = go_on (got_in t) fails (after_read h bytes)
 after (copying from to verified) t =
-    go_on (taken_in t) fails (λ n. over (Copied (counted verified n)))
+    go_on (taken_in t) fails (λ n. over (Copied (copied_count verified n)))
 after (walking w v todo) t = after_visit w v todo t
 after (over reply) t = over reply
 

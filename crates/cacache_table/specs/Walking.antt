@@ -90,19 +90,19 @@ go_deeper p level =
     if nat_lt level 16 then Make (Enter p (level + 1)) else Stumble faults.TooDeep p
 
 -- a clearing stumbles over a file in the top folder
-abbrev pub task_of : Bool → ℕ → List ℕ → Kind → Task
-task_of clears level p kinds.Folder = go_deeper p level
-task_of false level p kinds.File = Make (ReadBucket p)
-task_of false level p kinds.Link = Make (ReadBucket p)
-task_of true level p kinds.File =
+abbrev pub task_for_name : Bool → ℕ → List ℕ → Kind → Task
+task_for_name clears level p kinds.Folder = go_deeper p level
+task_for_name false level p kinds.File = Make (ReadBucket p)
+task_for_name false level p kinds.Link = Make (ReadBucket p)
+task_for_name true level p kinds.File =
     if level == 0 then Stumble faults.NotADirectory p else Make (RemoveFile p)
-task_of true level p kinds.Link = Make (RemoveFile p)
+task_for_name true level p kinds.Link = Make (RemoveFile p)
 
 -- the tasks that a folder's names bring, one for each
 abbrev pub tasks_of : Bool → ℕ → List ℕ → List Name → List Task
 tasks_of clears level p [] = []
 tasks_of clears level p (n ∷ ns) =
-    task_of clears level (join p n.name) n.kind ∷ tasks_of clears level p ns
+    task_for_name clears level (join p n.name) n.kind ∷ tasks_of clears level p ns
 
 -- a clearing removes each folder but the top one, once it is empty
 abbrev pub leaving : Bool → ℕ → List ℕ → List Task

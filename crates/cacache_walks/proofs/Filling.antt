@@ -11,7 +11,7 @@ use Rattle.cacache_table.specs.declared.visit.Visit.{Visit}
 use Rattle.cacache_walks.specs.declared.walk.Walk.{Walk}
 use Rattle.cacache_walks.specs.declared.iterator.Ls.{Ls}
 use Rattle.cacache_walks.specs.WalkStates.{walk_of}
-use Rattle.cacache_walks.specs.Iterating.{KeepsEnv, Lists, listing, ready, StandsBy, Gave, steps_left, items_left, left}
+use Rattle.cacache_walks.specs.Iterating.{KeepsEnv, Lists, listing_state, ready, StandsBy, Gave, steps_left, items_left, left}
 use Rattle.cacache_walks.proofs.VisitAnswers.{Stepped}
 
 module _ {S C N : Type 0} (log : S → Option (List LogItem)) (cache : List ℕ) (old : Option (List LogItem)) where
@@ -50,7 +50,7 @@ module _ {S C N : Type 0} (log : S → Option (List LogItem)) (cache : List ℕ)
       stands_at after after.visit before.visit ((given ++ plain_item x ∷ []) ++ ready log after) (given ++ ready log before) visit (sym all) (stands_as before after before.visit (given ++ ready log before) store walk h)
 
   -- out of memory is the last item
-  pub given_last : (after : Ls S C N) (given : List Item) → after.visit ≡ None → after.ready.items ≡ [] → Ran (listing cache) (Refused OutOfMemory) old (log after.env.now.store) → Gave log cache old after (given ++ Err OutOfMemory ∷ [])
+  pub given_last : (after : Ls S C N) (given : List Item) → after.visit ≡ None → after.ready.items ≡ [] → Ran (listing_state cache) (Refused OutOfMemory) old (log after.env.now.store) → Gave log cache old after (given ++ Err OutOfMemory ∷ [])
   given_last after given visit none ran =
       let all : (given ++ Err OutOfMemory ∷ []) ++ ready log after ≡ given ++ Err OutOfMemory ∷ [] = rw none (append-nil (given ++ Err OutOfMemory ∷ [])) in
       stands_at after after.visit None ((given ++ Err OutOfMemory ∷ []) ++ ready log after) (given ++ Err OutOfMemory ∷ []) visit all (inr (given, refl, ran))

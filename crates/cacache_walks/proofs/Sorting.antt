@@ -5,22 +5,22 @@ use Rattle.std.proofs.lemmas.List.Elements.{Contains-push, Contains-push_cases, 
 use Rattle.cacache_core.proofs.PathTexts.{paths_differ}
 use Rattle.cacache_core.specs.declared.integrity.digest.Hash.{Hash}
 use Rattle.cacache_core.specs.Paths.{joined, content_names}
-use Rattle.cacache_walks.specs.Addresses.{IsContent, IsStrange}
+use Rattle.cacache_walks.specs.Addresses.{IsContentPath, IsStrange}
 use Rattle.cacache_walks.specs.Listing.{Sorts, ListedAreShown}
 
-unique : (cache path : List ℕ) (i j : List Hash) → IsContent cache path i → IsContent cache path j → i ≡ j
+unique : (cache path : List ℕ) (i j : List Hash) → IsContentPath cache path i → IsContentPath cache path j → i ≡ j
 unique cache path i j a b = a.2 ∙ ap (λ (h : Hash). h ∷ []) ((paths_differ.contents cache a.0 b.0 a.1 b.1).0 (sym a.3 ∙ b.3)) ∙ sym b.2
 
-pub sorts_content : (cache p : List ℕ) (i : List Hash) (files strange : List (List ℕ)) (addresses : List (List Hash)) → IsContent cache p i → Sorts cache files addresses strange → Sorts cache (files ++ p ∷ []) (addresses ++ i ∷ []) strange
+pub sorts_content : (cache p : List ℕ) (i : List Hash) (files strange : List (List ℕ)) (addresses : List (List Hash)) → IsContentPath cache p i → Sorts cache files addresses strange → Sorts cache (files ++ p ∷ []) (addresses ++ i ∷ []) strange
 sorts_content cache p i files strange addresses is s = record {
   contents = λ j. (
     (λ c. elim (Contains-push_cases addresses i j c) [
       | inl old ↦ let k = (s.contents j).0 old in (k.0, Contains-append_left files (p ∷ []) k.0 k.1, k.2)
-      | inr same ↦ (p, Contains-push files p, subst (IsContent cache p) same is)
+      | inr same ↦ (p, Contains-push files p, subst (IsContentPath cache p) same is)
     ]),
     (λ k. elim (Contains-push_cases files p k.0 k.1) [
       | inl old ↦ Contains-append_left addresses (i ∷ []) j ((s.contents j).1 (k.0, old, k.2))
-      | inr same ↦ let e : i ≡ j = unique cache k.0 i j (subst (λ (q : List ℕ). IsContent cache q i) same is) k.2 in subst (Contains (addresses ++ i ∷ [])) e (Contains-push addresses i)
+      | inr same ↦ let e : i ≡ j = unique cache k.0 i j (subst (λ (q : List ℕ). IsContentPath cache q i) same is) k.2 in subst (Contains (addresses ++ i ∷ [])) e (Contains-push addresses i)
     ]),
   );
   others = λ q. (

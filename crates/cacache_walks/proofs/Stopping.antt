@@ -22,9 +22,9 @@ use Rattle.cacache_table.specs.declared.visit.Visit.{Visit}
 use Rattle.cacache_table.specs.declared.visit.Visit.TheVariants.{Enter, ReadBucket, RemoveFile, RemoveFolder}
 use Rattle.cacache_walks.specs.declared.walk.Walk as walks
 use Rattle.cacache_walks.specs.WalkStates.{Counts, WalksAt, pending, walk_of}
-use Rattle.cacache_walks.specs.Reading.{Folder, HasDeeper, IsErrorOf, IsOwnError, Reads, Stops, files_shown, folders_in, names_shown}
+use Rattle.cacache_walks.specs.Reading.{Folder, HasDeeper, IsErrorOf, IsOwnError, ReadsFolders, StopsWalk, files_shown, folders_in, names_shown}
 use Rattle.cacache_walks.specs.Listing.{StopsAt}
-use Rattle.cacache_walks.specs.WalkSteps.{AnswerShows, Answered, GoesFrom, Matches, Stands, StopsIn, StopsVisit}
+use Rattle.cacache_walks.specs.WalkSteps.{AnswerShows, Answered, GoesFrom, Matches, WalkStands, StopsIn, StopsVisit}
 use Rattle.cacache_walks.proofs.Stumbling.{deeper_or_none, lists}
 use Rattle.cacache_walks.proofs.VisitSteps.{lists_nothing, tasks_match, unmoved}
 use Rattle.cacache_walks.proofs.WholeWalk.{gains_both}
@@ -64,7 +64,7 @@ stops_behind path t names old new shows left level todo deep =
 
 -- ---- at a visit
 
-pub stops_visit : (v : Visit) (e : Error) (old new : Option (List LogItem)) (w : walks.Walk) (fs : List Folder) → StopsVisit v e old new → Stands (Some v) w fs → StopsAt w.left fs e old new
+pub stops_visit : (v : Visit) (e : Error) (old new : Option (List LogItem)) (w : walks.Walk) (fs : List Folder) → StopsVisit v e old new → WalkStands (Some v) w fs → StopsAt w.left fs e old new
 stops_visit (Enter path level) e old new w [] stops s = absurd s.3
 stops_visit (Enter path level) e old new w (f ∷ fs) stops s = rw s.3.0 (stops w.left level fs s.3.1)
 stops_visit (ReadBucket path) e old new w fs stops s = absurd stops
@@ -72,7 +72,7 @@ stops_visit (RemoveFile path) e old new w fs stops s = absurd stops
 stops_visit (RemoveFolder path) e old new w fs stops s = absurd stops
 
 -- after it there was no memory left
-pub stops_after : (v : Visit) (t : PlainAnswer) (old new : Option (List LogItem)) (before after : List (List ℕ)) (w : walks.Walk) (fs : List Folder) → Answered v t old new before after → Stands (Some v) w fs → StopsAt w.left fs OutOfMemory old new
+pub stops_after : (v : Visit) (t : PlainAnswer) (old new : Option (List LogItem)) (before after : List (List ℕ)) (w : walks.Walk) (fs : List Folder) → Answered v t old new before after → WalkStands (Some v) w fs → StopsAt w.left fs OutOfMemory old new
 stops_after (Enter path level) t old new before after w [] a s = absurd s.3
 stops_after (Enter path level) t old new before after w (f ∷ fs) a s = rw s.3.0 (stops_behind path a.2.0 a.0 old new a.2.1 w.left level fs s.3.1)
 stops_after (ReadBucket path) t old new before after w fs a s = stops_here w.left fs OutOfMemory old new a.1 tt
@@ -114,7 +114,7 @@ deep_by (RemoveFile path) t e old new before after w0 w1 next fs a m h some says
 deep_by (RemoveFolder path) t e old new before after w0 w1 next fs a m h some says = absurd m
 
 -- after a visit the walk has an item
-pub stops_deep : (v : Visit) (t : PlainAnswer) (e : Error) (old new : Option (List LogItem)) (before after : List (List ℕ)) (w0 w1 : walks.Walk) (next : Option Visit) (fs : List Folder) → Answered v t old new before after → Stands (Some v) w0 fs → (Counts [] w0 → WalksAt [] w1 next (after_visit (walk_of [] w0) v (pending w0.todo.items) t)) → ¬ (w1.items.items ≡ []) → IsErrorOf (Failed TooDeep) e → StopsAt w0.left fs e old new
+pub stops_deep : (v : Visit) (t : PlainAnswer) (e : Error) (old new : Option (List LogItem)) (before after : List (List ℕ)) (w0 w1 : walks.Walk) (next : Option Visit) (fs : List Folder) → Answered v t old new before after → WalkStands (Some v) w0 fs → (Counts [] w0 → WalksAt [] w1 next (after_visit (walk_of [] w0) v (pending w0.todo.items) t)) → ¬ (w1.items.items ≡ []) → IsErrorOf (Failed TooDeep) e → StopsAt w0.left fs e old new
 stops_deep v t e old new before after w0 w1 next fs a s h some says =
     deep_by v t e old new before after w0 w1 next fs a s.3 (subst (λ u. WalksAt [] w1 next (after_visit u v (pending w0.todo.items) t)) (lists_nothing w0 s.0 s.1) (h s.2)) some says
 
@@ -124,13 +124,13 @@ pub stops_on : {next : Option Visit} {w : walks.Walk} {left : ℕ} {fs : List Fo
 stops_on {old = old} {mid = mid} {new = new} e g s = (g.moves ++ s.0, gains_both old mid new g.moves s.0 g.gained s.1, g.stops s.0 e s.2)
 
 -- a whole walk may still end out of memory
-reads_stop : (left : ℕ) (fs : List Folder) (moves : Moves) → Reads fs moves → Stops left fs moves OutOfMemory
+reads_stop : (left : ℕ) (fs : List Folder) (moves : Moves) → ReadsFolders fs moves → StopsWalk left fs moves OutOfMemory
 reads_stop left [] [] r = tt
 reads_stop left [] (m ∷ moves) r = absurd r
 reads_stop left (f ∷ fs) [] r = absurd r
 reads_stop left (f ∷ fs) (m ∷ moves) r = (r.0, r.1, r.2, inl (r.3.0, r.3.1, reads_stop (left - length r.3.0) (folders_in f r.3.0 ++ fs) moves r.3.2))
 
-pub stops_whole : (left : ℕ) (fs : List Folder) (files : List (List ℕ)) (old new : Option (List LogItem)) → (moves : Moves) × Gains old new moves × Reads fs moves × (files ≡ files_shown moves) → StopsAt left fs OutOfMemory old new
+pub stops_whole : (left : ℕ) (fs : List Folder) (files : List (List ℕ)) (old new : Option (List LogItem)) → (moves : Moves) × Gains old new moves × ReadsFolders fs moves × (files ≡ files_shown moves) → StopsAt left fs OutOfMemory old new
 stops_whole left fs files old new whole = (whole.0, whole.1, reads_stop left fs whole.0 whole.2)
 
 -- ---- errors

@@ -12,8 +12,8 @@ use Rattle.cacache_table.specs.Runs.{Moves, plain_item}
 use Rattle.cacache_table.specs.declared.visit.Visit.{Visit}
 use Rattle.cacache_walks.specs.declared.walk.Walk as walks
 use Rattle.cacache_walks.specs.WalkStates.{WalksAt, pending, walk_of}
-use Rattle.cacache_walks.specs.Reading.{Folder, HasDeeper, Stops}
-use Rattle.cacache_walks.specs.WalkSteps.{Matches, Stands}
+use Rattle.cacache_walks.specs.Reading.{Folder, HasDeeper, StopsWalk}
+use Rattle.cacache_walks.specs.WalkSteps.{Matches, WalkStands}
 
 abbrev pub items_at : State → List Item
 items_at (walking w v todo) = w.items
@@ -65,7 +65,7 @@ not_over false w v todo items e = absurd cc
 
 -- ---- from its tasks it goes on to the first
 
-pub led : (tasks : List Task) (left : ℕ) (w : walks.Walk) (next : Option Visit) (fs : List Folder) → w.items.items ≡ [] → Matches tasks fs → WalksAt [] w next (walk_on tasks (lists [] left)) → Stands next w fs
+pub led : (tasks : List Task) (left : ℕ) (w : walks.Walk) (next : Option Visit) (fs : List Folder) → w.items.items ≡ [] → Matches tasks fs → WalksAt [] w next (walk_on tasks (lists [] left)) → WalkStands next w fs
 led [] left w None [] none m h = refl
 led [] left w None (f ∷ fs) none m h = absurd m
 led [] left w (Some v) fs none m h = absurd (let e = h.1 in cc)
@@ -84,15 +84,15 @@ abbrev left_at : State → ℕ
 left_at (walking w v todo) = w.left
 left_at other = 0
 
-none_left : (n k : ℕ) (moves : Moves) (e : Error) → Stops n [] moves e → Stops k [] moves e
+none_left : (n k : ℕ) (moves : Moves) (e : Error) → StopsWalk n [] moves e → StopsWalk k [] moves e
 none_left n k [] e s = s
 none_left n k (m ∷ moves) e s = absurd s
 
-pub at_most : (x y : Visit) (todo more : List Task) (left : ℕ) (w : walks.Walk) (fs : List Folder) (moves : Moves) (e : Error) → walking (lists [] left) x todo ≡ walking (walk_of [] w) y more → Stops w.left fs moves e → Stops left fs moves e
-at_most x y todo more left w fs moves e is s = subst (λ (n : ℕ). Stops n fs moves e) (sym (ap left_at is)) s
+pub at_most : (x y : Visit) (todo more : List Task) (left : ℕ) (w : walks.Walk) (fs : List Folder) (moves : Moves) (e : Error) → walking (lists [] left) x todo ≡ walking (walk_of [] w) y more → StopsWalk w.left fs moves e → StopsWalk left fs moves e
+at_most x y todo more left w fs moves e is s = subst (λ (n : ℕ). StopsWalk n fs moves e) (sym (ap left_at is)) s
 
 -- the walk goes on with them
-pub same_left : (tasks : List Task) (left : ℕ) (w : walks.Walk) (next : Option Visit) (fs : List Folder) → w.items.items ≡ [] → Matches tasks fs → WalksAt [] w next (walk_on tasks (lists [] left)) → (moves : Moves) (e : Error) → Stops w.left fs moves e → Stops left fs moves e
+pub same_left : (tasks : List Task) (left : ℕ) (w : walks.Walk) (next : Option Visit) (fs : List Folder) → w.items.items ≡ [] → Matches tasks fs → WalksAt [] w next (walk_on tasks (lists [] left)) → (moves : Moves) (e : Error) → StopsWalk w.left fs moves e → StopsWalk left fs moves e
 same_left [] left w next [] none m h moves e s = none_left w.left left moves e s
 same_left [] left w next (f ∷ fs) none m h moves e s = absurd m
 same_left (Make x ∷ todo) left w (Some v) fs none m h moves e s = at_most x v todo (pending w.todo.items) left w fs moves e h.1 s

@@ -19,7 +19,7 @@ use Rattle.cacache_table.proofs.Promises.{calls_answer}
 use Rattle.cacache_table.specs.declared.visit.Visit.{Visit}
 use Rattle.cacache_walks.specs.declared.walk.Walk.{Walk}
 use Rattle.cacache_walks.specs.WalkStates.{Bounds, WalksAt, WalkLeads, walk_of}
-use Rattle.cacache_walks.specs.Iterating.{Lists, listing, steps_left, items_left}
+use Rattle.cacache_walks.specs.Iterating.{Lists, listing_state, steps_left, items_left}
 
 module _ (cache : List ℕ) (old new : Option (List LogItem)) where
   abbrev site : Site
@@ -27,29 +27,29 @@ module _ (cache : List ℕ) (old new : Option (List LogItem)) where
 
   -- where a listing is that went on so
   abbrev pub Stepped : List Item → Result (Option Visit) Error → Walk → Type 0
-  Stepped items (Ok (Some v)) w = (s : State) × Gone (listing cache) s old new × WalksAt items w (Some v) s
+  Stepped items (Ok (Some v)) w = (s : State) × Gone (listing_state cache) s old new × WalksAt items w (Some v) s
   Stepped items (Ok None) w = Lists cache (items ++ map plain_item w.items.items) old new × Bounds items w
-  Stepped items (Err e) w = (e ≡ OutOfMemory) × Ran (listing cache) (Refused OutOfMemory) old new
+  Stepped items (Err e) w = (e ≡ OutOfMemory) × Ran (listing_state cache) (Refused OutOfMemory) old new
 
   -- a listing that is over answers its items
-  whole : (clears : Bool) (items : List Item) (left : ℕ) → Gone (listing cache) (walk_ends (record { clears = clears; items = items; left = left })) old new → Lists cache items old new
-  whole true items left g = let r = gone_over (listing cache) old new Done g in absurd (calls_answer site commands.Ls r.0 Done r.1)
-  whole false items left g = inl (gone_over (listing cache) old new (Listed items) g)
+  whole : (clears : Bool) (items : List Item) (left : ℕ) → Gone (listing_state cache) (walk_ends (record { clears = clears; items = items; left = left })) old new → Lists cache items old new
+  whole true items left g = let r = gone_over (listing_state cache) old new Done g in absurd (calls_answer site commands.Ls r.0 Done r.1)
+  whole false items left g = inl (gone_over (listing_state cache) old new (Listed items) g)
 
   -- it is refused out of memory alone
-  refused : (e : Error) (s : State) → Gone (listing cache) s old new → EndsAs e s → (e ≡ OutOfMemory) × Ran (listing cache) (Refused OutOfMemory) old new
-  refused e s g (inr m) = (m, gone_lost (listing cache) s old new g)
+  refused : (e : Error) (s : State) → Gone (listing_state cache) s old new → EndsAs e s → (e ≡ OutOfMemory) × Ran (listing_state cache) (Refused OutOfMemory) old new
+  refused e s g (inr m) = (m, gone_lost (listing_state cache) s old new g)
   refused e s g (inl is) =
-      let r = gone_over (listing cache) old new (Refused (without_message e)) (rw is at g) in
-      (memory_said e (ap Refused (lists_shown site r.0 (Refused (without_message e)) r.1)), gone_lost (listing cache) s old new g)
+      let r = gone_over (listing_state cache) old new (Refused (without_message e)) (rw is at g) in
+      (memory_said e (ap Refused (lists_shown site r.0 (Refused (without_message e)) r.1)), gone_lost (listing_state cache) s old new g)
 
-  stepped : (items : List Item) (result : Result (Option Visit) Error) (w : Walk) (s : State) → Gone (listing cache) s old new → WalkLeads items result w s → Stepped items result w
+  stepped : (items : List Item) (result : Result (Option Visit) Error) (w : Walk) (s : State) → Gone (listing_state cache) s old new → WalkLeads items result w s → Stepped items result w
   stepped items (Ok (Some v)) w s g h = (s, g, h)
   stepped items (Ok None) w s g h = (whole w.clears _ w.left (rw h.1 at g), h.0)
   stepped items (Err e) w s g h = refused e s g h
 
 -- memory was refused for the step: nothing goes on from there
-lost : (cache : List ℕ) (old new : Option (List LogItem)) (items : List Item) (result : Result (Option Visit) Error) (w : Walk) → Ran (listing cache) (Refused OutOfMemory) old new → WalkLeads items result w (over (Refused OutOfMemory)) → Stepped cache old new items result w
+lost : (cache : List ℕ) (old new : Option (List LogItem)) (items : List Item) (result : Result (Option Visit) Error) (w : Walk) → Ran (listing_state cache) (Refused OutOfMemory) old new → WalkLeads items result w (over (Refused OutOfMemory)) → Stepped cache old new items result w
 lost cache old new items (Ok (Some v)) w run h = absurd (let wrong = h.1 in cc)
 lost cache old new items (Ok None) w run h = absurd (by_test w.clears h.1)
   where
@@ -59,7 +59,7 @@ lost cache old new items (Ok None) w run h = absurd (by_test w.clears h.1)
 lost cache old new items (Err e) w run (inl said) = (memory_said e (let same : over (Refused OutOfMemory) ≡ over (Refused (without_message e)) = said in cc), run)
 lost cache old new items (Err e) w run (inr m) = (m, run)
 
-module _ (cache : List ℕ) (old mid new : Option (List LogItem)) (items : List Item) (v : Visit) (w0 w1 : Walk) (s : State) (a : PlainStep) (t : PlainAnswer) (gone : Gone (listing cache) s old mid) (stands : WalksAt items w0 (Some v) s) (is : a ≡ visit_step v) (fits : Fits a t) (logs : Logs mid new a t) where
+module _ (cache : List ℕ) (old mid new : Option (List LogItem)) (items : List Item) (v : Visit) (w0 w1 : Walk) (s : State) (a : PlainStep) (t : PlainAnswer) (gone : Gone (listing_state cache) s old mid) (stands : WalksAt items w0 (Some v) s) (is : a ≡ visit_step v) (fits : Fits a t) (logs : Logs mid new a t) where
   wanted : wants s ≡ Some a
   wanted = rw (stands.1, is) refl
 
@@ -67,8 +67,8 @@ module _ (cache : List ℕ) (old mid new : Option (List LogItem)) (items : List 
   pub visited : (result : Result (Option Visit) Error) → WalkLeads items result w1 (after s t) → Stepped cache old new items result w1
   visited result leads =
       elim (answer_cases t) [
-        | inl p ↦ lost cache old new items result w1 (rw (unmoved mid new a p.0 t p.1 logs) (gone_lost (listing cache) s old mid gone)) (rw (p.1, no_memory_after s a p.0 wanted) at leads)
-        | inr n ↦ stepped cache old new items result w1 (after s t) (gone_on (listing cache) s old mid new a t gone wanted fits logs n) leads
+        | inl p ↦ lost cache old new items result w1 (rw (unmoved mid new a p.0 t p.1 logs) (gone_lost (listing_state cache) s old mid gone)) (rw (p.1, no_memory_after s a p.0 wanted) at leads)
+        | inr n ↦ stepped cache old new items result w1 (after s t) (gone_on (listing_state cache) s old mid new a t gone wanted fits logs n) leads
       ]
 
   -- fewer steps may still come

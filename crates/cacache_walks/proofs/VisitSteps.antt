@@ -18,7 +18,7 @@ use Rattle.cacache_store.specs.Fits.{Fits, AreProperNames}
 use Rattle.cacache_table.specs.State.{walking}
 use Rattle.cacache_table.specs.declared.visit.Task.{Task}
 use Rattle.cacache_table.specs.declared.visit.Task.TheVariants.{Make, Stumble}
-use Rattle.cacache_table.specs.Walking.{failed, walk_on, tasks_of, task_of, entered, after_visit, too_many, visit_step}
+use Rattle.cacache_table.specs.Walking.{failed, walk_on, tasks_of, task_for_name, entered, after_visit, too_many, visit_step}
 use Rattle.cacache_table.specs.Table.{after}
 use Rattle.cacache_table.specs.Runs.{Gains, Moves, effort}
 use Rattle.cacache_table.proofs.Effort.{falls}
@@ -26,8 +26,8 @@ use Rattle.cacache_table.specs.declared.visit.Visit.{Visit}
 use Rattle.cacache_table.specs.declared.visit.Visit.TheVariants.{Enter, ReadBucket, RemoveFile, RemoveFolder}
 use Rattle.cacache_walks.specs.declared.walk.Walk as walks
 use Rattle.cacache_walks.specs.WalkStates.{Counts, WalksAt, pending, walk_of}
-use Rattle.cacache_walks.specs.Reading.{Folder, folder_as, folders_in, files_in, names_shown, Stops}
-use Rattle.cacache_walks.specs.WalkSteps.{AnswerShows, Answered, Matches, Stands, GoesFrom, steps_left}
+use Rattle.cacache_walks.specs.Reading.{Folder, folder_as, folders_in, file_paths, names_shown, StopsWalk}
+use Rattle.cacache_walks.specs.WalkSteps.{AnswerShows, Answered, Matches, WalkStands, GoesFrom, steps_left}
 use Rattle.cacache_walks.proofs.Stumbling.{lists, none_at, no_items, led, same_left}
 
 -- ---- the tasks of a folder
@@ -36,7 +36,7 @@ below_sixteen : (b : Bool) (path : List ℕ) (level : ℕ) (ts : List Task) (fs 
 below_sixteen true path level ts fs is m = let lt : level < 16 = ltb-true level 16 is in (refl, omega (arith, lt), m)
 below_sixteen false path level ts fs is m = let deep : 16 ≤ level = ltb-false level 16 is in (omega (arith, deep), m)
 
-one_task : (k : Kind) (path : List ℕ) (level : ℕ) (ts : List Task) (xs ys : List Folder) → Matches ts (xs ++ ys) → Matches (task_of false level path k ∷ ts) (cons_option (folder_as k path level) xs ++ ys)
+one_task : (k : Kind) (path : List ℕ) (level : ℕ) (ts : List Task) (xs ys : List Folder) → Matches ts (xs ++ ys) → Matches (task_for_name false level path k ∷ ts) (cons_option (folder_as k path level) xs ++ ys)
 one_task kinds.Folder path level ts xs ys m = below_sixteen (nat_lt level 16) path level ts (xs ++ ys) refl m
 one_task kinds.File path level ts xs ys m = m
 one_task kinds.Link path level ts xs ys m = m
@@ -45,11 +45,11 @@ pub tasks_match : (level : ℕ) (path : List ℕ) (ns : List Name) (ts : List Ta
 tasks_match level path [] ts fs m = m
 tasks_match level path (n ∷ ns) ts fs m = one_task n.kind (join path n.name) level (tasks_of false level path ns ++ ts) (folders_in (record { path = path; level = level }) ns) fs (tasks_match level path ns ts fs m)
 
-entered_at : (b : Bool) (tasks : List Task) (left more : ℕ) (w : walks.Walk) (next : Option Visit) (fs : List Folder) → w.items.items ≡ [] → Matches tasks fs → WalksAt [] w next (cond b (walk_on tasks (lists [] left)) (too_many (lists [] more))) → Stands next w fs
+entered_at : (b : Bool) (tasks : List Task) (left more : ℕ) (w : walks.Walk) (next : Option Visit) (fs : List Folder) → w.items.items ≡ [] → Matches tasks fs → WalksAt [] w next (cond b (walk_on tasks (lists [] left)) (too_many (lists [] more))) → WalkStands next w fs
 entered_at true tasks left more w next fs none m h = led tasks left w next fs none m h
 entered_at false tasks left more w next fs none m h = absurd (none_at (failed TooDeep ∷ []) (no_items w next _ none h) (omega arith))
 
-left_entered : (b : Bool) (tasks : List Task) (left old : ℕ) (w : walks.Walk) (next : Option Visit) (fs : List Folder) → w.items.items ≡ [] → Matches tasks fs → WalksAt [] w next (cond b (walk_on tasks (lists [] left)) (too_many (lists [] old))) → (moves : Moves) (e : Error) → Stops w.left fs moves e → Stops left fs moves e
+left_entered : (b : Bool) (tasks : List Task) (left old : ℕ) (w : walks.Walk) (next : Option Visit) (fs : List Folder) → w.items.items ≡ [] → Matches tasks fs → WalksAt [] w next (cond b (walk_on tasks (lists [] left)) (too_many (lists [] old))) → (moves : Moves) (e : Error) → StopsWalk w.left fs moves e → StopsWalk left fs moves e
 left_entered true tasks left old w next fs none m h moves e s = same_left tasks left w next fs none m h moves e s
 left_entered false tasks left old w next fs none m h moves e s = absurd (none_at (failed TooDeep ∷ []) (no_items w next _ none h) (omega arith))
 
@@ -73,12 +73,12 @@ not_entered v t old new before after w0 w1 next fs is gained found m h none = re
   stops = λ more e s. same_left (pending w0.todo.items) w0.left w1 next fs none m h more e s;
 }
 
-entered_folder : (path : List ℕ) (level : ℕ) (names : List Name) (u : PlainAnswer) (old new : Option (List LogItem)) (before after : List (List ℕ)) (w0 w1 : walks.Walk) (next : Option Visit) (f : Folder) (fs : List Folder) → AnswerShows u names path old new → after ≡ before ++ files_in path names → f ≡ record { path = path; level = level } → level ≤ 16 → Matches (pending w0.todo.items) fs → WalksAt [] w1 next (entered (lists [] w0.left) path level (pending w0.todo.items) names) → w1.items.items ≡ [] → GoesFrom w0.left (f ∷ fs) next w1 old new before after
+entered_folder : (path : List ℕ) (level : ℕ) (names : List Name) (u : PlainAnswer) (old new : Option (List LogItem)) (before after : List (List ℕ)) (w0 w1 : walks.Walk) (next : Option Visit) (f : Folder) (fs : List Folder) → AnswerShows u names path old new → after ≡ before ++ file_paths path names → f ≡ record { path = path; level = level } → level ≤ 16 → Matches (pending w0.todo.items) fs → WalksAt [] w1 next (entered (lists [] w0.left) path level (pending w0.todo.items) names) → w1.items.items ≡ [] → GoesFrom w0.left (f ∷ fs) next w1 old new before after
 entered_folder path level names u old new before after w0 w1 next f fs shows found is deep m entered_so none =
     let h = rw (append-nil (tasks_of false level path names)) at entered_so in record {
       moves = (ReadDir path, u) ∷ [];
       gained = shows.gained;
-      found = rw shows.shown (found ∙ ap (λ l. before ++ l) (sym (append-nil (files_in path names))));
+      found = rw shows.shown (found ∙ ap (λ l. before ++ l) (sym (append-nil (file_paths path names))));
       rest = folders_in (record { path = path; level = level }) names ++ fs;
       stands = entered_at (nat_le (length names) w0.left) (tasks_of false level path names ++ pending w0.todo.items) (w0.left - length names) w0.left w1 next _ none (tasks_match level path names (pending w0.todo.items) fs m) h;
       reads = λ more r. rw is (refl, shows.fits, deep, (names, shows.shown, r));
@@ -93,7 +93,7 @@ goes_by (RemoveFile path) t old new before after w0 w1 next fs a m h none = absu
 goes_by (RemoveFolder path) t old new before after w0 w1 next fs a m h none = absurd m
 
 -- a visit's answer takes it on
-pub goes_after : (v : Visit) (t : PlainAnswer) (old new : Option (List LogItem)) (before after : List (List ℕ)) (w0 w1 : walks.Walk) (next : Option Visit) (fs : List Folder) → Answered v t old new before after → Stands (Some v) w0 fs → (Counts [] w0 → WalksAt [] w1 next (after_visit (walk_of [] w0) v (pending w0.todo.items) t)) → w1.items.items ≡ [] → GoesFrom w0.left fs next w1 old new before after
+pub goes_after : (v : Visit) (t : PlainAnswer) (old new : Option (List LogItem)) (before after : List (List ℕ)) (w0 w1 : walks.Walk) (next : Option Visit) (fs : List Folder) → Answered v t old new before after → WalkStands (Some v) w0 fs → (Counts [] w0 → WalksAt [] w1 next (after_visit (walk_of [] w0) v (pending w0.todo.items) t)) → w1.items.items ≡ [] → GoesFrom w0.left fs next w1 old new before after
 goes_after v t old new before after w0 w1 next fs a s h none =
     goes_by v t old new before after w0 w1 next fs a s.3 (subst (λ u. WalksAt [] w1 next (after_visit u v (pending w0.todo.items) t)) (lists_nothing w0 s.0 s.1) (h s.2)) none
 
@@ -123,5 +123,5 @@ fewer_by v t w0 w1 None fits h =
     let below : effort (after s t) < effort s = falls s (visit_step v) t refl fits in
     omega (arith, below)
 
-pub fewer_after : (v : Visit) (t : PlainAnswer) (old new : Option (List LogItem)) (before after : List (List ℕ)) (w0 w1 : walks.Walk) (next : Option Visit) (fs : List Folder) → Answered v t old new before after → Stands (Some v) w0 fs → (Counts [] w0 → WalksAt [] w1 next (after_visit (walk_of [] w0) v (pending w0.todo.items) t)) → steps_left next w1 < steps_left (Some v) w0
+pub fewer_after : (v : Visit) (t : PlainAnswer) (old new : Option (List LogItem)) (before after : List (List ℕ)) (w0 w1 : walks.Walk) (next : Option Visit) (fs : List Folder) → Answered v t old new before after → WalkStands (Some v) w0 fs → (Counts [] w0 → WalksAt [] w1 next (after_visit (walk_of [] w0) v (pending w0.todo.items) t)) → steps_left next w1 < steps_left (Some v) w0
 fewer_after v t old new before after w0 w1 next fs a s h = fewer_by v t w0 w1 next (fits_answer v t old new before after a) (h s.2)

@@ -13,7 +13,7 @@ use Rattle.cacache_table.specs.declared.visit.Visit.{Visit}
 use Rattle.cacache_table.specs.declared.visit.Visit.TheVariants.{Enter}
 use Rattle.cacache_walks.specs.declared.walk.Walk as walks
 use Rattle.cacache_walks.specs.WalkStates.{WalksAt, pending, walk_of}
-use Rattle.cacache_walks.specs.Reading.{Folder, Reads, files_shown, shown_by, first, Stops}
+use Rattle.cacache_walks.specs.Reading.{Folder, ReadsFolders, files_shown, shown_by, top_folder, StopsWalk}
 use Rattle.cacache_walks.specs.WalkSteps.{Matches, GoesFrom}
 use Rattle.cacache_walks.proofs.Stumbling.{at_most, clears_at, lists}
 use Rattle.cacache_walks.proofs.VisitSteps.{unmoved}
@@ -34,12 +34,12 @@ goes_on {left = left} {fs = fs} {old = old} {mid = mid} {new = new} {before = be
   found = h.found ∙ ap (λ l. l ++ files_shown h.moves) g.found ∙ append_assoc before (files_shown g.moves) (files_shown h.moves) ∙ ap (λ l. before ++ l) (sym (flat_map-append (λ m. shown_by m.0 m.1) g.moves h.moves));
   rest = h.rest;
   stands = h.stands;
-  reads = λ more r. subst (Reads fs) (sym (append_assoc g.moves h.moves more)) (g.reads (h.moves ++ more) (h.reads more r));
-  stops = λ more e s. subst (λ (ms : Moves). Stops left fs ms e) (sym (append_assoc g.moves h.moves more)) (g.stops (h.moves ++ more) e (h.stops more e s));
+  reads = λ more r. subst (ReadsFolders fs) (sym (append_assoc g.moves h.moves more)) (g.reads (h.moves ++ more) (h.reads more r));
+  stops = λ more e s. subst (λ (ms : Moves). StopsWalk left fs ms e) (sym (append_assoc g.moves h.moves more)) (g.stops (h.moves ++ more) e (h.stops more e s));
 }
 
 -- it begins before its folder
-pub begins : (w : walks.Walk) (v : Visit) (top : List ℕ) (log : Option (List LogItem)) → w.items.items ≡ [] → WalksAt [] w (Some v) (walk false top) → GoesFrom most (first top ∷ []) (Some v) w log log [] []
+pub begins : (w : walks.Walk) (v : Visit) (top : List ℕ) (log : Option (List LogItem)) → w.items.items ≡ [] → WalksAt [] w (Some v) (walk false top) → GoesFrom most (top_folder top ∷ []) (Some v) w log log [] []
 begins w v top log none h =
     let e : walking (lists [] most) (Enter top 0) [] ≡ walking (walk_of [] w) v (pending w.todo.items) = h.1 in
     let clears : w.clears ≡ false = sym (ap clears_at e) in
@@ -49,14 +49,14 @@ begins w v top log none h =
       moves = [];
       gained = unmoved log log refl;
       found = refl;
-      rest = first top ∷ [];
-      stands = (clears, none, h.0, subst (λ y. Matches (Make y ∷ pending w.todo.items) (first top ∷ [])) same (subst (λ ts. Matches (Make (Enter top 0) ∷ ts) (first top ∷ [])) rest (refl, omega arith, tt)));
+      rest = top_folder top ∷ [];
+      stands = (clears, none, h.0, subst (λ y. Matches (Make y ∷ pending w.todo.items) (top_folder top ∷ [])) same (subst (λ ts. Matches (Make (Enter top 0) ∷ ts) (top_folder top ∷ [])) rest (refl, omega arith, tt)));
       reads = λ more r. r;
-      stops = λ more f s. at_most (Enter top 0) v [] (pending w.todo.items) most w (first top ∷ []) more f e s;
+      stops = λ more f s. at_most (Enter top 0) v [] (pending w.todo.items) most w (top_folder top ∷ []) more f e s;
     }
 
 -- it is over when no folder is left
-pub ended : (next : Option Visit) (w : walks.Walk) (top : List ℕ) (old new : Option (List LogItem)) (files : List (List ℕ)) → next ≡ None → GoesFrom most (first top ∷ []) next w old new [] files → (moves : Moves) × Gains old new moves × Reads (first top ∷ []) moves × (files ≡ files_shown moves)
+pub ended : (next : Option Visit) (w : walks.Walk) (top : List ℕ) (old new : Option (List LogItem)) (files : List (List ℕ)) → next ≡ None → GoesFrom most (top_folder top ∷ []) next w old new [] files → (moves : Moves) × Gains old new moves × ReadsFolders (top_folder top ∷ []) moves × (files ≡ files_shown moves)
 ended next w top old new files is g =
     let none : g.rest ≡ [] = rw is at g.stands in
-    (g.moves, g.gained, subst (Reads (first top ∷ [])) (append-nil g.moves) (g.reads [] (rw none tt)), g.found)
+    (g.moves, g.gained, subst (ReadsFolders (top_folder top ∷ [])) (append-nil g.moves) (g.reads [] (rw none tt)), g.found)

@@ -12,8 +12,8 @@ use Rattle.cacache_core.specs.Texts.{name_of}
 -- ---- what is told of a path
 
 -- it is the content path of the integrity, which has one hash
-abbrev pub IsContent : List ℕ → List ℕ → List Hash → Type 0
-IsContent cache path i =
+abbrev pub IsContentPath : List ℕ → List ℕ → List Hash → Type 0
+IsContentPath cache path i =
     (h : Hash) × IsHash h × (i ≡ h ∷ []) × (path ≡ joined cache (content_names h))
 
 -- it is the content path of none

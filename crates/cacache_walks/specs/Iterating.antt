@@ -18,21 +18,21 @@ use Rattle.cacache_walks.specs.WalkStates.{WalksAt, pending}
 -- ---- what a listing gives
 
 -- where the command begins; a listing has no number, and asks for no base folder
-abbrev pub listing : List ℕ → State
-listing cache = opening (record { cache = cache; base = []; number = 0 }) commands.Ls
+abbrev pub listing_state : List ℕ → State
+listing_state cache = opening (record { cache = cache; base = []; number = 0 }) commands.Ls
 
 -- The items are those of a run of the command, and where the store keeps its log, that run is what
 -- the log gained. Out of memory ends a run, and is then the last item.
 abbrev pub Lists : List ℕ → List Item → Option (List LogItem) → Option (List LogItem) → Type 0
 Lists cache items old new =
-    Ran (listing cache) (Listed items) old new
+    Ran (listing_state cache) (Listed items) old new
     ⊎ ((before : List Item) × (items ≡ before ++ Err OutOfMemory ∷ [])
-    × Ran (listing cache) (Refused OutOfMemory) old new)
+    × Ran (listing_state cache) (Refused OutOfMemory) old new)
 
 -- an item as callers take it
-abbrev pub item_of : Result Metadata Error → Item
-item_of (Ok found) = Ok (found_view found)
-item_of (Err error) = Err (without_message error)
+abbrev pub item_view : Result Metadata Error → Item
+item_view (Ok found) = Ok (found_view found)
+item_view (Err error) = Err (without_message error)
 
 -- ---- how far it is
 
@@ -65,7 +65,7 @@ module _ {S C N : Type 0} (log : S → Option (List LogItem)) where
   abbrev pub StandsBy :
       Option Visit → List ℕ → Option (List LogItem) → Ls S C N → List Item → Type 0
   StandsBy (Some v) cache old ls items =
-      (s : State) × Gone (listing cache) s old (log ls.env.now.store)
+      (s : State) × Gone (listing_state cache) s old (log ls.env.now.store)
       × (ls.walk.items.items ≡ []) × WalksAt items ls.walk (Some v) s
   StandsBy None cache old ls items = Lists cache items old (log ls.env.now.store)
 
@@ -84,7 +84,7 @@ module _ {S C N : Type 0} (log : S → Option (List LogItem)) where
       Option (Result Metadata Error) → List ℕ → Option (List LogItem) → Ls S C N → List Item → Type 0
   GaveNext None cache old ls given =
       Lists cache given old (log ls.env.now.store) × Gave cache old ls given
-  GaveNext (Some item) cache old ls given = Gave cache old ls (given ++ item_of item ∷ [])
+  GaveNext (Some item) cache old ls given = Gave cache old ls (given ++ item_view item ∷ [])
 
   -- what one call gives, whatever was given before
   abbrev pub GivesOn : Ls S C N → Option (Result Metadata Error) → Ls S C N → Type 0
@@ -103,7 +103,7 @@ module _ {S C N : Type 0} (log : S → Option (List LogItem)) where
       Result (Unit {0}) Error → List ℕ → Option (List LogItem) → Ls S C N → List Item → Type 0
   WentOn (Ok done) cache old ls items = StandsBy ls.visit cache old ls (items ++ ready ls)
   WentOn (Err e) cache old ls items =
-      (e ≡ OutOfMemory) × Ran (listing cache) (Refused OutOfMemory) old (log ls.env.now.store)
+      (e ≡ OutOfMemory) × Ran (listing_state cache) (Refused OutOfMemory) old (log ls.env.now.store)
 
   -- the visit left fewer steps to be made, and no more items to be given
   abbrev pub Shortens : Visit → Ls S C N → Ls S C N → Type 0
@@ -119,5 +119,5 @@ module _ {S C N : Type 0} (log : S → Option (List LogItem)) where
   Filled (Ok done) cache old ls given =
       Gave cache old ls given × (ls.ready.items ≡ [] → ls.visit ≡ None)
   Filled (Err e) cache old ls given =
-      (e ≡ OutOfMemory) × Ran (listing cache) (Refused OutOfMemory) old (log ls.env.now.store)
+      (e ≡ OutOfMemory) × Ran (listing_state cache) (Refused OutOfMemory) old (log ls.env.now.store)
       × (ls.visit ≡ None) × (ls.ready.items ≡ [])

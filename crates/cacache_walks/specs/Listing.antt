@@ -11,8 +11,8 @@ use Rattle.cacache_core.specs.Paths.{join, joined, content_area, content_names}
 use Rattle.cacache_store.specs.declared.store.log.LogItem.{LogItem}
 use Rattle.cacache_table.specs.Runs.{Moves, Gains}
 use Rattle.cacache_table.specs.Walking.{most}
-use Rattle.cacache_walks.specs.Addresses.{IsContent, IsStrange}
-use Rattle.cacache_walks.specs.Reading.{Folder, Reads, Stops, first, files_shown}
+use Rattle.cacache_walks.specs.Addresses.{IsContentPath, IsStrange}
+use Rattle.cacache_walks.specs.Reading.{Folder, ReadsFolders, StopsWalk, top_folder, files_shown}
 
 -- ---- what it holds
 
@@ -21,19 +21,20 @@ pub record Sorts
     (cache : List ℕ) (files : List (List ℕ))
     (addresses : List (List Hash)) (strange : List (List ℕ)) : Type 0 where
   pub contents : (i : List Hash)
-      → Contains addresses i ↔ ((path : List ℕ) × Contains files path × IsContent cache path i)
+      → Contains addresses i ↔ ((path : List ℕ) × Contains files path × IsContentPath cache path i)
   pub others : (path : List ℕ)
       → Contains strange path ↔ (Contains files path × IsStrange cache path)
 
 -- the folder of contents
-abbrev pub contents_folder : List ℕ → List ℕ
-contents_folder cache = join cache content_area
+abbrev pub content_area_in : List ℕ → List ℕ
+content_area_in cache = join cache content_area
 
 -- the log gained a walk through the folder of contents, and the files that it shows are sorted so
 abbrev pub ListsContents : List ℕ → List (List Hash) → List (List ℕ)
     → Option (List LogItem) → Option (List LogItem) → Type 0
 ListsContents cache addresses strange old new =
-    (moves : Moves) × Gains old new moves × Reads (first (contents_folder cache) ∷ []) moves
+    (moves : Moves) × Gains old new moves × ReadsFolders
+    (top_folder (content_area_in cache) ∷ []) moves
     × Sorts cache (files_shown moves) addresses strange
 
 -- ---- its order
@@ -58,17 +59,17 @@ IsByBytes paths = IsStrictlySortedBy (slice_cmp nat_cmp) paths
 -- the log gained moves through these folders, with at most so many names, which this error ended
 abbrev pub StopsAt : ℕ → List Folder → Error
     → Option (List LogItem) → Option (List LogItem) → Type 0
-StopsAt left todo e old new = (moves : Moves) × Gains old new moves × Stops left todo moves e
+StopsAt left todo e old new = (moves : Moves) × Gains old new moves × StopsWalk left todo moves e
 
 -- the error ended the walk through this folder, which takes at most 2^63 names
 abbrev pub StopsBelow : List ℕ → Error
     → Option (List LogItem) → Option (List LogItem) → Type 0
-StopsBelow path = StopsAt most (first path ∷ [])
+StopsBelow path = StopsAt most (top_folder path ∷ [])
 
 -- the error ended the walk through the folder of contents
 abbrev pub StopsListing : List ℕ → Error
     → Option (List LogItem) → Option (List LogItem) → Type 0
-StopsListing cache = StopsBelow (contents_folder cache)
+StopsListing cache = StopsBelow (content_area_in cache)
 
 -- ---- a law
 

@@ -20,8 +20,8 @@ pub record Folder : Type 0 where
   pub level : ℕ
 
 -- the folder where the walk begins
-abbrev pub first : List ℕ → Folder
-first path = record { path = path; level = 0 }
+abbrev pub top_folder : List ℕ → Folder
+top_folder path = record { path = path; level = 0 }
 
 -- ---- what stands in a folder
 
@@ -42,8 +42,8 @@ abbrev pub folders_in : Folder → List Name → List Folder
 folders_in f names = filter_map (λ n. folder_as n.kind (join f.path n.name) f.level) names
 
 -- the paths of the files and links that a folder's names tell
-abbrev pub files_in : List ℕ → List Name → List (List ℕ)
-files_in path names = filter_map (λ n. file_as n.kind (join path n.name)) names
+abbrev pub file_paths : List ℕ → List Name → List (List ℕ)
+file_paths path names = filter_map (λ n. file_as n.kind (join path n.name)) names
 
 -- ---- a whole walk
 
@@ -54,18 +54,18 @@ names_shown (Failed NotFound) = Some []
 names_shown answer = None
 
 -- the moves read these folders, each at most sixteen levels down, and all folders below them
-abbrev pub Reads : List Folder → Moves → Type 0
-Reads [] [] = Unit {0}
-Reads [] (m ∷ moves) = ⊥
-Reads (f ∷ todo) [] = ⊥
-Reads (f ∷ todo) (m ∷ moves) =
+abbrev pub ReadsFolders : List Folder → Moves → Type 0
+ReadsFolders [] [] = Unit {0}
+ReadsFolders [] (m ∷ moves) = ⊥
+ReadsFolders (f ∷ todo) [] = ⊥
+ReadsFolders (f ∷ todo) (m ∷ moves) =
     (m.0 ≡ ReadDir f.path) × Fits m.0 m.1 × (f.level ≤ 16)
     × ((names : List Name) × (names_shown m.1 ≡ Some names)
-    × Reads (folders_in f names ++ todo) moves)
+    × ReadsFolders (folders_in f names ++ todo) moves)
 
 -- the files and links that a move shows
 abbrev pub shown_by : PlainStep → PlainAnswer → List (List ℕ)
-shown_by (ReadDir path) answer = files_in path (unwrap_or (names_shown answer) [])
+shown_by (ReadDir path) answer = file_paths path (unwrap_or (names_shown answer) [])
 shown_by step answer = []
 
 -- the files and links that the moves show
@@ -98,11 +98,11 @@ EndsBy left answer e =
     ⊎ ((names_shown answer ≡ None) × IsErrorOf answer e)
 
 -- the moves begin a walk that may take so many names, and this error ends it
-abbrev pub Stops : ℕ → List Folder → Moves → Error → Type 0
-Stops left todo [] e = IsOwnError todo e
-Stops left [] (m ∷ moves) e = ⊥
-Stops left (f ∷ todo) (m ∷ moves) e =
+abbrev pub StopsWalk : ℕ → List Folder → Moves → Error → Type 0
+StopsWalk left todo [] e = IsOwnError todo e
+StopsWalk left [] (m ∷ moves) e = ⊥
+StopsWalk left (f ∷ todo) (m ∷ moves) e =
     (m.0 ≡ ReadDir f.path) × Fits m.0 m.1 × (f.level ≤ 16)
     × (((names : List Name) × (names_shown m.1 ≡ Some names)
-    × Stops (left - length names) (folders_in f names ++ todo) moves e)
+    × StopsWalk (left - length names) (folders_in f names ++ todo) moves e)
     ⊎ ((moves ≡ []) × EndsBy left m.1 e))

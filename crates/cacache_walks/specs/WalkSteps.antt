@@ -15,7 +15,7 @@ use Rattle.cacache_table.specs.declared.visit.Visit.{Visit}
 use Rattle.cacache_table.specs.declared.visit.Visit.TheVariants.{Enter, ReadBucket, RemoveFile, RemoveFolder}
 use Rattle.cacache_walks.specs.declared.walk.Walk.{Walk}
 use Rattle.cacache_walks.specs.WalkStates.{Counts, pending}
-use Rattle.cacache_walks.specs.Reading.{Folder, Reads, Stops, names_shown, files_in, files_shown}
+use Rattle.cacache_walks.specs.Reading.{Folder, ReadsFolders, StopsWalk, names_shown, file_paths, files_shown}
 use Rattle.cacache_walks.specs.Listing.{StopsAt}
 
 -- ---- one visit
@@ -34,7 +34,7 @@ abbrev pub Answered : Visit → PlainAnswer → Option (List LogItem) → Option
 Answered (Enter path level) t old new before after =
     (names : List Name) × (t ≡ Names names)
     × ((shown : PlainAnswer) × AnswerShows shown names path old new)
-    × (after ≡ before ++ files_in path names)
+    × (after ≡ before ++ file_paths path names)
 Answered v t old new before after = (t ≡ Failed NotFound) × (new ≡ old) × (after ≡ before)
 
 -- this error ended the reading of the folder, wherever the walk was
@@ -65,11 +65,11 @@ Matches (Stumble fault path ∷ todo) [] = ⊥
 Matches (Stumble fault path ∷ todo) (f ∷ fs) = (16 < f.level) × Matches todo fs
 
 -- it wants the step of this visit, before these folders; or it is over
-abbrev pub Stands : Option Visit → Walk → List Folder → Type 0
-Stands (Some v) w fs =
+abbrev pub WalkStands : Option Visit → Walk → List Folder → Type 0
+WalkStands (Some v) w fs =
     (w.clears ≡ false) × (w.items.items ≡ []) × Counts [] w
     × Matches (Make v ∷ pending w.todo.items) fs
-Stands None w fs = fs ≡ []
+WalkStands None w fs = fs ≡ []
 
 -- from these folders, with so many names, it went on so: by moves, to the files that they show
 pub record GoesFrom
@@ -79,10 +79,10 @@ pub record GoesFrom
   pub gained : Gains old new moves
   pub found : after ≡ before ++ files_shown moves
   pub rest : List Folder
-  pub stands : Stands next w rest
-  pub reads : (more : Moves) → Reads rest more → Reads fs (moves ++ more)
+  pub stands : WalkStands next w rest
+  pub reads : (more : Moves) → ReadsFolders rest more → ReadsFolders fs (moves ++ more)
   pub stops : (more : Moves) (e : Error)
-      → Stops w.left rest more e → Stops left fs (moves ++ more) e
+      → StopsWalk w.left rest more e → StopsWalk left fs (moves ++ more) e
 
 -- how many steps may still come
 abbrev pub steps_left : Option Visit → Walk → ℕ

@@ -1,7 +1,7 @@
 //! The call that lists the contents.
 ghost use Rattle.std.specs.Prelude.{◌≡◌, IfOk, IfErr, map, string_bytes};
 ghost use Rattle.cacache_core.specs.declared.errors.Error.TheVariants.{OutOfMemory};
-ghost use Rattle.cacache_walks.specs.Listing.{IsByBytes, IsByHash, ListedAreShown, ListsContents, Sorts, StopsListing, contents_folder};
+ghost use Rattle.cacache_walks.specs.Listing.{IsByBytes, IsByHash, ListedAreShown, ListsContents, Sorts, StopsListing, content_area_in};
 
 mod address;
 mod order;
@@ -36,8 +36,8 @@ struct Parts {
 }
 
 /// The files and links by what their paths are, as they come.
-fn told(alloc: Global, cache: &str, top: &str, files: Vec<Text>) -> Result<Parts>
-    requires { top.now ≡ contents_folder cache.now }
+fn tell_apart(alloc: Global, cache: &str, top: &str, files: Vec<Text>) -> Result<Parts>
+    requires { top.now ≡ content_area_in cache.now }
     ensures sorts { IfOk result
         (λ f. Sorts cache.now files.items f.addresses.items f.strange.items) }
     ensures memory { IfErr result (λ e. e ≡ OutOfMemory) }
@@ -65,8 +65,8 @@ fn strings(alloc: Global, texts: Vec<Text>) -> std::result::Result<Vec<String>, 
 }
 
 /// The files and links in order, by what their paths are.
-fn sorted(alloc: Global, cache: &str, top: &str, files: Vec<Text>) -> Result<Contents>
-    requires { top.now ≡ contents_folder cache.now }
+fn contents_from(alloc: Global, cache: &str, top: &str, files: Vec<Text>) -> Result<Contents>
+    requires { top.now ≡ content_area_in cache.now }
     ensures sorts { IfOk result (λ c. Sorts cache.now files.items
         c.addresses.items (map string_bytes c.strange.items)) }
     ensures by_hash { IfOk result (λ c. IsByHash c.addresses.items) }
@@ -76,7 +76,7 @@ fn sorted(alloc: Global, cache: &str, top: &str, files: Vec<Text>) -> Result<Con
     let Parts {
         mut addresses,
         mut strange,
-    } = told(alloc, cache, top, files)?;
+    } = tell_apart(alloc, cache, top, files)?;
     sort_addresses(&mut addresses);
     sort_paths(&mut strange);
     let strange = strings(alloc, strange)?;
@@ -113,7 +113,7 @@ pub fn list<S: Store, C: Clock, N: Names>(env: &mut Env<S, C, N>, cache: &str) -
     let alloc = env.alloc;
     let top = paths::join(alloc, cache, paths::CONTENT_AREA)?;
     let files = files_below(&mut env.store, alloc, top.as_str())?;
-    sorted(alloc, cache, top.as_str(), files)
+    contents_from(alloc, cache, top.as_str(), files)
 }
 
 /// What a listing of contents says of one address.

@@ -1,7 +1,7 @@
 //! The names of a folder that a walk enters, and the tasks that they bring.
 ghost use Rattle.std.specs.Prelude.{◌≡◌, ◌++◌, OnOk};
 ghost use Rattle.cacache_table.specs.Common.{go_on};
-ghost use Rattle.cacache_table.specs.Walking.{walk_on as walk_on_of, miss as miss_of, entered as entered_of, task_of, tasks_of, leaving};
+ghost use Rattle.cacache_table.specs.Walking.{walk_on as walk_on_of, miss as miss_of, entered as entered_of, task_for_name, tasks_of, leaving};
 ghost use Rattle.cacache_walks.specs.WalkStates.{GoesOn, pending};
 
 use crate::messages;
@@ -18,7 +18,7 @@ const DEEPEST: u8 = 16;
 
 /// The task that a name in a folder of this level brings, by its path. Links are never followed.
 fn task_at(clears: bool, level: u8, path: Text, kind: Kind) -> Task
-    ensures { result ≡ task_of clears level path kind }
+    ensures { result ≡ task_for_name clears level path kind }
 {
     match kind {
         Kind::Folder => {
@@ -88,7 +88,7 @@ fn push_leaving(
 
 impl Walk {
     /// The names of a folder: their tasks come before those that were to do.
-    fn entered(
+    fn enter_names(
         &mut self,
         alloc: Global,
         folder: Text,
@@ -128,14 +128,14 @@ impl Walk {
             (λ w todo. go_on names (miss_of w (walk_on_of todo)) (entered_of w folder level todo)) }
     {
         match names {
-            Ok(names) => self.entered(alloc, folder, level, names),
+            Ok(names) => self.enter_names(alloc, folder, level, names),
             Err(refusal) => {
                 let message = if self.clears && level == 0 {
                     messages::clearing_folder(alloc, &self.top)
                 } else {
                     self.message(alloc, &folder)
                 };
-                self.missed(alloc, refusal, message)
+                self.after_refusal(alloc, refusal, message)
             }
         }
     }

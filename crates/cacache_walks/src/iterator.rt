@@ -7,7 +7,7 @@ ghost use Rattle.cacache_store.specs.declared.store.log.LogItem.{LogItem};
 ghost use Rattle.cacache_table.specs.Runs.{plain_item};
 ghost use Rattle.cacache_table.specs.State.{Item};
 ghost use Rattle.cacache_walks.specs.Lending.{EnvRests};
-ghost use Rattle.cacache_walks.specs.Iterating.{Filled, Gave, IsListing, KeepsEnv, NextGives, Shortens, StandsBy, WentOn, item_of, left};
+ghost use Rattle.cacache_walks.specs.Iterating.{Filled, Gave, IsListing, KeepsEnv, NextGives, Shortens, StandsBy, WentOn, item_view, left};
 
 use crate::walk::Walk;
 use cacache_core::errors::{self, Error};
@@ -35,8 +35,8 @@ pub struct Ls<'a, S, C, N> {
 }
 
 /// An item as callers take it.
-fn taken(item: Result<Found, Error>) -> errors::Result<Metadata>
-    ensures { item_of result ≡ plain_item item }
+fn metadata_of(item: Result<Found, Error>) -> errors::Result<Metadata>
+    ensures { item_view result ≡ plain_item item }
 {
     Ok(item?.into_metadata())
 }
@@ -134,7 +134,7 @@ impl<'a, S: Store, C, N> Iterator for Ls<'a, S, C, N> {
             return Some(Err(error));
         }
         match self.ready.pop() {
-            Some(item) => Some(taken(item)),
+            Some(item) => Some(metadata_of(item)),
             None => None,
         }
     }

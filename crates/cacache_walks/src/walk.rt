@@ -173,7 +173,7 @@ impl Walk {
     }
 
     /// After a refused step.
-    pub(crate) fn missed(
+    pub(crate) fn after_refusal(
         &mut self,
         alloc: Global,
         refusal: Refusal,
@@ -194,7 +194,7 @@ impl Walk {
     }
 
     /// The bytes of a bucket: their items are listed.
-    fn listed(&mut self, alloc: Global, bytes: Bytes) -> errors::Result<Option<Visit>>
+    fn give_listed(&mut self, alloc: Global, bytes: Bytes) -> errors::Result<Option<Visit>>
         ensures { GoesOn self.old self.new result (λ w todo. listed_of w todo bytes) }
     {
         let items = bucket::items(alloc, bytes.as_slice())?;
@@ -215,17 +215,17 @@ impl Walk {
             (λ w todo. go_on bytes (unread_bucket w todo) (listed_of w todo)) }
     {
         match bytes {
-            Ok(bytes) => self.listed(alloc, bytes),
+            Ok(bytes) => self.give_listed(alloc, bytes),
             Err(Refusal::Fault(Fault::NotFound)) => self.walk_on(alloc),
             Err(refusal) => {
                 let message = messages::listing_bucket(alloc, &bucket);
-                self.missed(alloc, refusal, message)
+                self.after_refusal(alloc, refusal, message)
             }
         }
     }
 
     /// After a file or a folder was to be removed.
-    fn removed(
+    fn after_removal(
         &mut self,
         alloc: Global,
         path: Text,
@@ -238,7 +238,7 @@ impl Walk {
             Ok(()) => self.walk_on(alloc),
             Err(refusal) => {
                 let message = messages::clearing(alloc, &path);
-                self.missed(alloc, refusal, message)
+                self.after_refusal(alloc, refusal, message)
             }
         }
     }
@@ -263,8 +263,8 @@ impl Walk {
                 names_of(answer),
             ),
             Visit::ReadBucket(bucket) => self.read(alloc, bucket, bytes_of(answer)),
-            Visit::RemoveFile(path) => self.removed(alloc, path, done_of(answer)),
-            Visit::RemoveFolder(path) => self.removed(alloc, path, done_of(answer)),
+            Visit::RemoveFile(path) => self.after_removal(alloc, path, done_of(answer)),
+            Visit::RemoveFolder(path) => self.after_removal(alloc, path, done_of(answer)),
         }
     }
 }

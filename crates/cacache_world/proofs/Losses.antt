@@ -15,7 +15,7 @@ use Rattle.cacache_loss.specs.Moments.{Moment, after, next}
 use Rattle.cacache_loss.proofs.ChangedNames.{histories_leave_caches}
 use Rattle.cacache_history.specs.declared.record.Record.{Record}
 use Rattle.cacache_history.specs.declared.record.Record.TheVariants.{Began, Moved, Stopped}
-use Rattle.cacache_history.specs.History.{History, IsLegal, first, tree_in}
+use Rattle.cacache_history.specs.History.{History, IsLegal, initial, tree_in}
 use Rattle.cacache_history.specs.Setup.{home}
 use Rattle.cacache_history.specs.Values.{steps_of}
 use Rattle.cacache_history.proofs.Holding.{first_holds, first_opens}
@@ -51,8 +51,8 @@ record_more now later records i r below is so new made =
 pub left_rooted : (h : History) (loss : Loss) (t : Tree) → IsLegal h → LeftBy h loss t → Rooted t
 left_rooted h loss t legal left =
     let opens = first_opens h legal in
-    let trace = (traced h.setup legal.apart (first h.setup) h.records legal.legal (first_holds h legal)).trace in
-    let cache = histories_leave_caches (home h.setup) (first h.setup).tree (steps_of h.records) (chosen loss.undone.items loss.tails.items) opens.placed opens.rooted trace in
+    let trace = (traced h.setup legal.apart (initial h.setup) h.records legal.legal (first_holds h legal)).trace in
+    let cache = histories_leave_caches (home h.setup) (initial h.setup).tree (steps_of h.records) (chosen loss.undone.items loss.tails.items) opens.placed opens.rooted trace in
     subst Rooted (sym (cache.one.only t left)) cache.rooted
 
 -- what is left of the moment after all records is left of their history

@@ -10,7 +10,7 @@ use Rattle.std.proofs.lemmas.List.{take_all}
 use Rattle.cacache_core.specs.declared.errors.Fault.{Fault}
 use Rattle.cacache_core.specs.declared.errors.Fault.TheVariants.{InvalidInput}
 use Rattle.cacache_core.specs.PathNames.{Names, home_of, names_of, pieces, is_above, is_name, is_bad}
-use Rattle.cacache_history.specs.Setup.{are_apart, apart_from_text, apart_from_files, same_place, is_among}
+use Rattle.cacache_history.specs.Setup.{are_apart, apart_from_text, apart_from_files, same_place, has_file}
 
 -- ---- the names of a text
 
@@ -133,37 +133,37 @@ none_same (Ok a) (Err fault) e = refl
 none_same (Err f) (Err fault) e = refl
 
 -- a text that names nothing is no file's
-pub none_among : (files : List (List ℕ × List ℕ)) (text : List ℕ) → None ≡ result_ok (names_of text) → false ≡ is_among files text
+pub none_among : (files : List (List ℕ × List ℕ)) (text : List ℕ) → None ≡ result_ok (names_of text) → false ≡ has_file files text
 none_among [] text e = refl
 none_among (file ∷ files) text e = rw (none_same (names_of file.0) (names_of text) e) (none_among files text e)
 
 pub one_here : (files : List (List ℕ × List ℕ)) (n : ℕ) (file : List ℕ × List ℕ) (text : List ℕ) → n < length files → file ≡ get_or files n file
-    → same_place (names_of file.0) (names_of text) ≡ true → true ≡ is_among files text
+    → same_place (names_of file.0) (names_of text) ≡ true → true ≡ has_file files text
 one_here [] n file text below here same = absurd (omega (arith, below))
 one_here (f ∷ files) zero file text below here same =
     let same' : same_place (names_of f.0) (names_of text) ≡ true = ap (λ (x : List ℕ × List ℕ). same_place (names_of x.0) (names_of text)) (sym here) ∙ same in
     rw same' refl
 one_here (f ∷ files) (suc n) file text below here same = by (same_place (names_of f.0) (names_of text)) (one_here files n file text (omega (arith, below)) here same)
   where
-    by : (b : Bool) → true ≡ is_among files text → true ≡ (b || is_among files text)
+    by : (b : Bool) → true ≡ has_file files text → true ≡ (b || has_file files text)
     by true h = refl
     by false h = h
 
 not_yet-suc : (files : List (List ℕ × List ℕ)) (n : ℕ) (file : List ℕ × List ℕ) (text : List ℕ) → n < length files → file ≡ get_or files n file
-    → same_place (names_of file.0) (names_of text) ≡ false → is_among (take n files) text ≡ false → is_among (take (suc n) files) text ≡ false
+    → same_place (names_of file.0) (names_of text) ≡ false → has_file (take n files) text ≡ false → has_file (take (suc n) files) text ≡ false
 not_yet-suc [] n file text below here other before = absurd (omega (arith, below))
 not_yet-suc (f ∷ files) zero file text below here other before =
     let other' : same_place (names_of f.0) (names_of text) ≡ false = ap (λ (x : List ℕ × List ℕ). same_place (names_of x.0) (names_of text)) (sym here) ∙ other in
     rw other' refl
 not_yet-suc (f ∷ files) (suc n) file text below here other before = by (same_place (names_of f.0) (names_of text)) (not_yet-suc files n file text (omega (arith, below)) here other) before
   where
-    by : (b : Bool) → (is_among (take n files) text ≡ false → is_among (take (suc n) files) text ≡ false)
-        → (b || is_among (take n files) text) ≡ false → (b || is_among (take (suc n) files) text) ≡ false
+    by : (b : Bool) → (has_file (take n files) text ≡ false → has_file (take (suc n) files) text ≡ false)
+        → (b || has_file (take n files) text) ≡ false → (b || has_file (take (suc n) files) text) ≡ false
     by true h e = e
     by false h e = h e
 
 pub not_yet : (files : List (List ℕ × List ℕ)) (n : ℕ) (file : List ℕ × List ℕ) (text : List ℕ) → n < length files → file ≡ get_or files n file
-    → same_place (names_of file.0) (names_of text) ≡ false → is_among (take n files) text ≡ false → is_among (take (n + 1) files) text ≡ false
+    → same_place (names_of file.0) (names_of text) ≡ false → has_file (take n files) text ≡ false → has_file (take (n + 1) files) text ≡ false
 not_yet files n file text below here other before =
     let next : suc n ≡ n + 1 = omega arith in
-    subst (λ m. is_among (take m files) text ≡ false) next (not_yet-suc files n file text below here other before)
+    subst (λ m. has_file (take m files) text ≡ false) next (not_yet-suc files n file text below here other before)

@@ -11,12 +11,12 @@ use Rattle.cacache_jobs.specs.Jobs.{OutAt, Tells}
 use Rattle.cacache_jobs.proofs.Running.{out_wants, turn_at}
 use Rattle.cacache_history.specs.History.{Ends}
 use Rattle.cacache_history.proofs.Runs.{memory_plain}
-use Rattle.cacache_world.specs.Turned.{DiskJob, StandsIn, GoesInto, IsSaid}
+use Rattle.cacache_world.specs.Turned.{DiskJob, JobStands, GoesInto, IsSaid}
 
 pub wanted_out : (job : DiskJob) (s : State) (step : PlainStep) → OutAt (λ temp. temp) job.standing s step → wants s ≡ Some step
 wanted_out job s step out = out_wants (λ file. file) (λ temp. temp) job.standing s step out
 
-pub stands_where : (job : DiskJob) (s : State) → GoesInto job s → StandsIn job s ⊎ StandsIn job (over (Refused OutOfMemory))
+pub stands_where : (job : DiskJob) (s : State) → GoesInto job s → JobStands job s ⊎ JobStands job (over (Refused OutOfMemory))
 stands_where job s goes = turn_at (λ file. file) (λ temp. temp) job.standing s goes
 
 -- a call that is over wants no step
@@ -41,17 +41,17 @@ ends_lost s reply said kept e (same, inl is) = inr (same ∙ is ∙ over_inner r
 ends_lost s reply said kept e (same, inr is) = inr (same ∙ is)
 
 -- a job that went to a state and handed a step out
-pub goes_step : (job : DiskJob) (s : State) (step : PlainStep) → GoesInto job s → ((t : State) → StandsIn job t → wants t ≡ Some step) → (wants s ≡ Some step) × StandsIn job s
+pub goes_step : (job : DiskJob) (s : State) (step : PlainStep) → GoesInto job s → ((t : State) → JobStands job t → wants t ≡ Some step) → (wants s ≡ Some step) × JobStands job s
 goes_step job s step goes wanted = by (stands_where job s goes)
   where
-    by : StandsIn job s ⊎ StandsIn job (over (Refused OutOfMemory)) → (wants s ≡ Some step) × StandsIn job s
+    by : JobStands job s ⊎ JobStands job (over (Refused OutOfMemory)) → (wants s ≡ Some step) × JobStands job s
     by (inl stands) = (wanted s stands, stands)
     by (inr lost) = let no : None ≡ Some step = wanted (over (Refused OutOfMemory)) lost in absurd cc
 
 -- a job that went to a state and handed its reply out
-pub goes_over : (job : DiskJob) (s : State) (reply said kept : Reply) → GoesInto job s → ((t : State) → StandsIn job t → t ≡ over (plain_reply reply)) → IsSaid reply said kept → Ends s (Some kept)
+pub goes_over : (job : DiskJob) (s : State) (reply said kept : Reply) → GoesInto job s → ((t : State) → JobStands job t → t ≡ over (plain_reply reply)) → IsSaid reply said kept → Ends s (Some kept)
 goes_over job s reply said kept goes is_over is = by (stands_where job s goes)
   where
-    by : StandsIn job s ⊎ StandsIn job (over (Refused OutOfMemory)) → Ends s (Some kept)
+    by : JobStands job s ⊎ JobStands job (over (Refused OutOfMemory)) → Ends s (Some kept)
     by (inl stands) = ends_so s reply said kept (is_over s stands) is
     by (inr lost) = ends_lost s reply said kept (is_over (over (Refused OutOfMemory)) lost) is

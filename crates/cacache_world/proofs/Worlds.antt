@@ -15,10 +15,10 @@ use Rattle.cacache_jobs.specs.Jobs.{Tells, can_go_on}
 use Rattle.cacache_history.specs.declared.record.Record.{Record}
 use Rattle.cacache_history.specs.declared.record.Record.TheVariants.{Began, Moved, Stopped}
 use Rattle.cacache_history.specs.Setup.{Setup, call_site}
-use Rattle.cacache_history.specs.History.{Call, Now, History, Made, tree_in, first, moved, moved_call, unless_over, begins, next, replayed, MayMove, MayCome, Legal, IsLegal}
+use Rattle.cacache_history.specs.History.{Call, Now, History, Made, tree_in, initial, call_after, moved_call, unless_over, new_call, now_after, replayed, MayMove, MayCome, Legal, IsLegal}
 use Rattle.cacache_world.specs.declared.turn.After.{After}
 use Rattle.cacache_world.specs.declared.turn.After.TheVariants as ways
-use Rattle.cacache_world.specs.Turned.{DiskJob, StandsIn, StandsAfter, reply_after, said_of, job_of, IsMade}
+use Rattle.cacache_world.specs.Turned.{DiskJob, JobStands, StandsAfter, reply_after, said_of, job_of, IsMade}
 use Rattle.cacache_world.specs.WorldKept.{history_of, setup_of, adding, last, JobAt, Keeps, TellsOwn}
 use Rattle.cacache_world.specs.declared.event.Move.TheVariants as moves
 use Rattle.cacache_world.proofs.Turning.{over_wants_none}
@@ -27,19 +27,19 @@ use Rattle.cacache_world.specs.declared.event.WorldFault.{WorldFault}
 use Rattle.cacache_world.specs.declared.event.WorldFault.TheVariants as faults
 use Rattle.cacache_world.specs.Faults.{IsFreeAt, IsUnready, IsFree, HasCall, CantBegin}
 
-replay-push : (s : Setup) (w : Now) (records : List Record) (r : Record) → replayed s w (records ++ r ∷ []) ≡ next s (replayed s w records) r
+replay-push : (s : Setup) (w : Now) (records : List Record) (r : Record) → replayed s w (records ++ r ∷ []) ≡ now_after s (replayed s w records) r
 replay-push s w [] r = refl
-replay-push s w (x ∷ records) r = replay-push s (next s w x) records r
+replay-push s w (x ∷ records) r = replay-push s (now_after s w x) records r
 
 legal-push : (s : Setup) (w : Now) (records : List Record) (r : Record) → Legal s w records → MayCome s (replayed s w records) r → Legal s w (records ++ r ∷ [])
 legal-push s w [] r legal may = (may, tt)
-legal-push s w (x ∷ records) r legal may = (legal.0, legal-push s (next s w x) records r legal.1 may)
+legal-push s w (x ∷ records) r legal may = (legal.0, legal-push s (now_after s w x) records r legal.1 may)
 
-last_more : (h : History) (r : Record) → last (adding h r) ≡ next h.setup (last h) r
-last_more h r = replay-push h.setup (first h.setup) h.records r
+last_more : (h : History) (r : Record) → last (adding h r) ≡ now_after h.setup (last h) r
+last_more h r = replay-push h.setup (initial h.setup) h.records r
 
 legal_more : (h : History) (r : Record) → IsLegal h → MayCome h.setup (last h) r → IsLegal (adding h r)
-legal_more h r legal may = record { apart = legal.apart; opens = legal.opens; legal = legal-push h.setup (first h.setup) h.records r legal.legal may }
+legal_more h r legal may = record { apart = legal.apart; opens = legal.opens; legal = legal-push h.setup (initial h.setup) h.records r legal.legal may }
 
 -- ---- places
 
@@ -69,11 +69,11 @@ set_again (x ∷ xs) zero a b = refl
 set_again (x ∷ xs) (suc k) a b = ap (λ ys. x ∷ ys) (set_again xs k a b)
 
 -- the call of a caller that has a job
-has_call : (job : DiskJob) (o : Option (Option DiskJob)) (call : Option Call) → o ≡ Some (Some job) → JobAt o call → (c : Call) × (call ≡ Some c) × StandsIn job c.state
+has_call : (job : DiskJob) (o : Option (Option DiskJob)) (call : Option Call) → o ≡ Some (Some job) → JobAt o call → (c : Call) × (call ≡ Some c) × JobStands job c.state
 has_call job None call e h = let no : None ≡ Some (Some job) = e in absurd cc
 has_call job (Some None) call e h = let no : Some None ≡ Some (Some job) = e in absurd cc
 has_call job (Some (Some j)) None e h = absurd h
-has_call job (Some (Some j)) (Some c) e h = let same : j ≡ job = cc in (c, refl, subst (λ x. StandsIn x c.state) same h.0)
+has_call job (Some (Some j)) (Some c) e h = let same : j ≡ job = cc in (c, refl, subst (λ x. JobStands x c.state) same h.0)
 
 has_ready : (job : DiskJob) (o : Option (Option DiskJob)) (call : Option Call) → o ≡ Some (Some job) → JobAt o call → IsTrue (can_go_on job)
 has_ready job None call e h = let no : None ≡ Some (Some job) = e in absurd cc
@@ -86,18 +86,18 @@ no_call None call e h = h
 no_call (Some None) call e h = h
 no_call (Some (Some job)) call e h = let no : Some (Some job) ≡ Some None = e in absurd cc
 
-back_job : (job same : DiskJob) (o : Option (Option DiskJob)) (call : Option Call) → o ≡ Some (Some job) → JobAt o call → ((s : State) → StandsIn job s → StandsIn same s) → IsTrue (can_go_on same)
+back_job : (job same : DiskJob) (o : Option (Option DiskJob)) (call : Option Call) → o ≡ Some (Some job) → JobAt o call → ((s : State) → JobStands job s → JobStands same s) → IsTrue (can_go_on same)
     → JobAt (Some (Some same)) call
 back_job job same None call e h to ready = let no : None ≡ Some (Some job) = e in absurd cc
 back_job job same (Some None) call e h to ready = let no : Some None ≡ Some (Some job) = e in absurd cc
 back_job job same (Some (Some j)) None e h to ready = absurd h
-back_job job same (Some (Some j)) (Some c) e h to ready = let is : j ≡ job = cc in (to c.state (subst (λ x. StandsIn x c.state) is h.0), ready)
+back_job job same (Some (Some j)) (Some c) e h to ready = let is : j ≡ job = cc in (to c.state (subst (λ x. JobStands x c.state) is h.0), ready)
 
 -- ---- one record more
 
 keeps_more : (h : History) (r : Record) (t t' : Tree) (b b' : ℕ) (jobs jobs' : List (Option DiskJob)) → Keeps h t b jobs → MayCome h.setup (last h) r
-    → (next h.setup (last h) r).tree ≡ t' → (next h.setup (last h) r).begun ≡ b'
-    → ((k : ℕ) → JobAt (slice_get jobs' k) ((next h.setup (last h) r).calls k)) → Keeps (adding h r) t' b' jobs'
+    → (now_after h.setup (last h) r).tree ≡ t' → (now_after h.setup (last h) r).begun ≡ b'
+    → ((k : ℕ) → JobAt (slice_get jobs' k) ((now_after h.setup (last h) r).calls k)) → Keeps (adding h r) t' b' jobs'
 keeps_more h r t t' b b' jobs jobs' k may tree begun at = record {
   legal = legal_more h r k.legal may;
   tree = ap (λ w. w.tree) (last_more h r) ∙ tree;
@@ -117,27 +117,27 @@ stop_left h t b jobs jobs' caller job k here gone =
     record {
       may = (c.0, c.1);
       keeps = keeps_more h (Stopped caller) t t b b jobs jobs' k (c.0, c.1) k.tree k.begun
-          (subst (λ xs. (m : ℕ) → JobAt (slice_get xs m) ((next h.setup (last h) (Stopped caller)).calls m)) (sym gone)
+          (subst (λ xs. (m : ℕ) → JobAt (slice_get xs m) ((now_after h.setup (last h) (Stopped caller)).calls m)) (sym gone)
           (set_jobs jobs caller (Some job) None (last h).calls None here k.calls refl));
     }
 
 pub begin_left : (h : History) (t : Tree) (b : ℕ) (jobs jobs' : List (Option DiskJob)) (caller : ℕ) (command : Command) (job : DiskJob) → Keeps h t b jobs → slice_get jobs caller ≡ Some None
-    → caller < h.setup.callers → MayAsk h.setup b command → StandsIn job (opening (call_site h.setup b) command) → IsTrue (can_go_on job) → jobs' ≡ slice_set jobs caller (Some job)
+    → caller < h.setup.callers → MayAsk h.setup b command → JobStands job (opening (call_site h.setup b) command) → IsTrue (can_go_on job) → jobs' ≡ slice_set jobs caller (Some job)
     → Left h (Began caller command) t (b + 1) jobs'
 begin_left h t b jobs jobs' caller command job k free within may stands ready set =
     let ask : MayAsk h.setup (last h).begun command = subst (λ n. MayAsk h.setup n command) (sym k.begun) may in
     let come : MayCome h.setup (last h) (Began caller command) = (within, no_call (slice_get jobs caller) _ free (k.calls caller), ask.0, ask.1) in
-    let there : StandsIn job (opening (call_site h.setup (last h).begun) command) = subst (λ n. StandsIn job (opening (call_site h.setup n) command)) (sym k.begun) stands in
+    let there : JobStands job (opening (call_site h.setup (last h).begun) command) = subst (λ n. JobStands job (opening (call_site h.setup n) command)) (sym k.begun) stands in
     record {
       may = come;
       keeps = keeps_more h (Began caller command) t t b (b + 1) jobs jobs' k come k.tree (ap (λ n. n + 1) k.begun)
-          (subst (λ xs. (m : ℕ) → JobAt (slice_get xs m) ((next h.setup (last h) (Began caller command)).calls m)) (sym set)
-          (set_jobs jobs caller None (Some job) (last h).calls (Some (begins h.setup (last h).begun command)) free k.calls (there, ready)));
+          (subst (λ xs. (m : ℕ) → JobAt (slice_get xs m) ((now_after h.setup (last h) (Began caller command)).calls m)) (sym set)
+          (set_jobs jobs caller None (Some job) (last h).calls (Some (new_call h.setup (last h).begun command)) free k.calls (there, ready)));
     }
 
 -- a call that was over before any step
 pub over_left : (h : History) (t : Tree) (b : ℕ) (jobs jobs' : List (Option DiskJob)) (caller : ℕ) (job : DiskJob) (luck : Luck) (reply : Reply) → Keeps h t b jobs → slice_get jobs caller ≡ Some (Some job)
-    → ((s : State) → StandsIn job s → Tells (Some reply) s) → jobs' ≡ slice_set jobs caller None → Left h (Moved caller luck None (Some reply)) t b jobs'
+    → ((s : State) → JobStands job s → Tells (Some reply) s) → jobs' ≡ slice_set jobs caller None → Left h (Moved caller luck None (Some reply)) t b jobs'
 over_left h t b jobs jobs' caller job luck reply k here ends gone =
     let c = has_call job (slice_get jobs caller) _ here (k.calls caller) in
     let is = ends c.0.state c.2 in
@@ -145,13 +145,13 @@ over_left h t b jobs jobs' caller job luck reply k here ends gone =
     record {
       may = come;
       keeps = keeps_more h (Moved caller luck None (Some reply)) t t b b jobs jobs' k come k.tree k.begun
-          (subst (λ xs. (m : ℕ) → JobAt (slice_get xs m) ((next h.setup (last h) (Moved caller luck None (Some reply))).calls m)) (sym gone)
+          (subst (λ xs. (m : ℕ) → JobAt (slice_get xs m) ((now_after h.setup (last h) (Moved caller luck None (Some reply))).calls m)) (sym gone)
           (set_jobs jobs caller (Some job) None (last h).calls None here k.calls refl));
     }
 
 -- its own reply is told
 pub tells_own : (h : History) (t : Tree) (b : ℕ) (jobs : List (Option DiskJob)) (caller : ℕ) (job : DiskJob) (reply : Reply) → Keeps h t b jobs → slice_get jobs caller ≡ Some (Some job)
-    → ((s : State) → StandsIn job s → Tells (Some reply) s) → TellsOwn h caller None (moves.Done reply)
+    → ((s : State) → JobStands job s → Tells (Some reply) s) → TellsOwn h caller None (moves.Done reply)
 tells_own h t b jobs caller job reply k here ends = let c = has_call job (slice_get jobs caller) _ here (k.calls caller) in (c.0, c.1, ends c.0.state c.2)
 
 job_after : (a : After) (c : Call) → StandsAfter a c.state → JobAt (Some (job_of a)) (unless_over (reply_after a) (Some c))
@@ -165,13 +165,13 @@ move_left h t t' b jobs jobs' caller job luck made a k here is set =
     let c = has_call job (slice_get jobs caller) _ here (k.calls caller) in
     let m = is c.0.state c.2 in
     let come : MayCome h.setup (last h) (Moved caller luck (Some made) (reply_after a)) = (c.0, c.1, subst (λ y. MayMove y c.0.state luck (Some made) (reply_after a)) (sym k.tree) m.0) in
-    let call_is : moved_call (last h) caller luck (Some made) ≡ Some (moved (last h).tree luck (Some made) c.0) = ap (option_map (moved (last h).tree luck (Some made))) c.1 in
+    let call_is : moved_call (last h) caller luck (Some made) ≡ Some (call_after (last h).tree luck (Some made) c.0) = ap (option_map (call_after (last h).tree luck (Some made))) c.1 in
     record {
       may = come;
       keeps = keeps_more h (Moved caller luck (Some made) (reply_after a)) t t' b b jobs jobs' k come (ap (λ y. (apply y made.0 luck).1) k.tree ∙ sym m.1) k.begun
-          (subst (λ xs. (n : ℕ) → JobAt (slice_get xs n) ((next h.setup (last h) (Moved caller luck (Some made) (reply_after a))).calls n)) (sym set)
+          (subst (λ xs. (n : ℕ) → JobAt (slice_get xs n) ((now_after h.setup (last h) (Moved caller luck (Some made) (reply_after a))).calls n)) (sym set)
           (set_jobs jobs caller (Some job) (job_of a) (last h).calls _ here k.calls
-          (subst (λ y. JobAt (Some (job_of a)) (unless_over (reply_after a) y)) (sym call_is) (job_after a (moved (last h).tree luck (Some made) c.0) m.2))));
+          (subst (λ y. JobAt (Some (job_of a)) (unless_over (reply_after a) y)) (sym call_is) (job_after a (call_after (last h).tree luck (Some made) c.0) m.2))));
     }
 
 said_is : (a : After) (s : State) → StandsAfter a s → said_of a ≡ reply_after a
@@ -187,7 +187,7 @@ told_is h t t' b jobs caller job luck made a k here is =
 
 -- a call whose step was handed back
 pub back_keeps : (h : History) (t : Tree) (b : ℕ) (jobs jobs' : List (Option DiskJob)) (caller : ℕ) (job same : DiskJob) → Keeps h t b jobs → slice_get jobs caller ≡ Some (Some job)
-    → ((s : State) → StandsIn job s → StandsIn same s) → IsTrue (can_go_on same) → jobs' ≡ slice_set jobs caller (Some same) → Keeps h t b jobs'
+    → ((s : State) → JobStands job s → JobStands same s) → IsTrue (can_go_on same) → jobs' ≡ slice_set jobs caller (Some same) → Keeps h t b jobs'
 back_keeps h t b jobs jobs' caller job same k here to ready set = record {
   legal = k.legal;
   tree = k.tree;

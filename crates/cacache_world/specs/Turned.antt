@@ -25,8 +25,8 @@ abbrev pub DiskJob : Type 0
 DiskJob = Job PlainFile PlainTemp
 
 -- the job stands in this state, and no step is out
-abbrev pub StandsIn : DiskJob → State → Type 0
-StandsIn job s = Stands (λ file. file) (λ temp. temp) job s
+abbrev pub JobStands : DiskJob → State → Type 0
+JobStands job s = Stands (λ file. file) (λ temp. temp) job s
 
 -- unless memory was refused
 abbrev pub GoesInto : DiskJob → State → Type 0
@@ -38,9 +38,9 @@ IsSaid reply said kept = (kept ≡ said) × ((said ≡ reply) ⊎ (said ≡ Refu
 
 -- both are the reply of a call that is over; where there is none, the call wants a step
 abbrev pub AreOwn : DiskJob → Option (Reply × Reply) → Type 0
-AreOwn job None = (s : State) → StandsIn job s → Tells None s
+AreOwn job None = (s : State) → JobStands job s → Tells None s
 AreOwn job (Some replies) =
-    (replies.1 ≡ replies.0) × ((s : State) → StandsIn job s → Tells (Some replies.1) s)
+    (replies.1 ≡ replies.0) × ((s : State) → JobStands job s → Tells (Some replies.1) s)
 
 -- ---- after a step
 
@@ -61,7 +61,7 @@ job_of (ways.Over said kept) = None
 
 -- the call that goes on stands in this state, and both replies are the same
 abbrev pub StandsAfter : After → State → Type 0
-StandsAfter (ways.On job) s = StandsIn job s × IsTrue (can_go_on job)
+StandsAfter (ways.On job) s = JobStands job s × IsTrue (can_go_on job)
 StandsAfter (ways.Over said kept) s = said ≡ kept
 
 -- in each state that the job went to it goes on, or is over
@@ -84,7 +84,7 @@ AreTurnParts after job kept move =
 -- the step that the job wanted in each state that it stood in, and how it stands then
 abbrev pub IsMade : DiskJob → Luck → Tree → Made → After → Tree → Type 0
 IsMade job luck old made next new =
-    (s : State) → StandsIn job s
+    (s : State) → JobStands job s
     → MayMove old s luck (Some made) (reply_after next)
     × (new ≡ (apply old made.0 luck).1) × StandsAfter next (after s made.1)
 
@@ -94,6 +94,6 @@ abbrev pub IsTurn : DiskJob → Luck → Tree → Turn → Tree → Type 0
 IsTurn job luck old (turns.Made step answer next) new =
     IsMade job luck old (step, answer) next new
 IsTurn job luck old (turns.Back same) new =
-    (new ≡ old) × IsTrue (can_go_on same) × ((s : State) → StandsIn job s → StandsIn same s)
+    (new ≡ old) × IsTrue (can_go_on same) × ((s : State) → JobStands job s → JobStands same s)
 IsTurn job luck old (turns.Over said kept) new =
-    (new ≡ old) × (kept ≡ said) × ((s : State) → StandsIn job s → Tells (Some kept) s)
+    (new ≡ old) × (kept ≡ said) × ((s : State) → JobStands job s → Tells (Some kept) s)

@@ -12,7 +12,7 @@ use Rattle.cacache_history.specs.History.{History, Call, Made, IsLegal, MayCome,
 use Rattle.cacache_world.specs.declared.event.Move.{Move}
 use Rattle.cacache_world.specs.declared.event.Move.TheVariants as moves
 use Rattle.cacache_world.specs.declared.world.World.TheInside.{Inside}
-use Rattle.cacache_world.specs.Turned.{DiskJob, StandsIn, told_by}
+use Rattle.cacache_world.specs.Turned.{DiskJob, JobStands, told_by}
 
 -- ---- what a world tells
 
@@ -26,8 +26,8 @@ abbrev pub history_of : Setup → List Record → History
 history_of setup records = record { setup = setup; records = records }
 
 -- the history that a world tells
-abbrev pub told : Inside → History
-told w = history_of (setup_of w.cache w.outside.items (vec_len w.calls)) w.records.items
+abbrev pub history_told : Inside → History
+history_told w = history_of (setup_of w.cache w.outside.items (vec_len w.calls)) w.records.items
 
 -- with one record more
 abbrev pub adding : History → Record → History
@@ -56,7 +56,7 @@ abbrev pub JobAt : Option (Option DiskJob) → Option Call → Type 0
 JobAt None call = call ≡ None
 JobAt (Some None) call = call ≡ None
 JobAt (Some (Some job)) None = ⊥
-JobAt (Some (Some job)) (Some call) = StandsIn job call.state × IsTrue (can_go_on job)
+JobAt (Some (Some job)) (Some call) = JobStands job call.state × IsTrue (can_go_on job)
 
 -- the history is legal, and the disk and the jobs are where it leads
 pub record Keeps (h : History) (t : Tree) (b : ℕ) (jobs : List (Option DiskJob)) : Type 0 where
@@ -67,13 +67,13 @@ pub record Keeps (h : History) (t : Tree) (b : ℕ) (jobs : List (Option DiskJob
 
 -- a world's disk and jobs are where its legal history leads
 abbrev pub WorldIsKept : Inside → Type 0
-WorldIsKept w = Keeps (told w) w.disk w.begun w.calls.items
+WorldIsKept w = Keeps (history_told w) w.disk w.begun w.calls.items
 
 -- ---- places of calls
 
 -- a caller's place holds a job
-abbrev pub IsHeld : List (Option DiskJob) → ℕ → Type 0
-IsHeld jobs caller = (job : DiskJob) × (slice_get jobs caller ≡ Some (Some job))
+abbrev pub HasJob : List (Option DiskJob) → ℕ → Type 0
+HasJob jobs caller = (job : DiskJob) × (slice_get jobs caller ≡ Some (Some job))
 
 -- a job that was taken from its place
 pub record IsLifted (old : List (Option DiskJob)) (caller : ℕ) (job : DiskJob)

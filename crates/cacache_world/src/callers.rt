@@ -1,6 +1,6 @@
 //! The callers' calls, and the list of what happened.
 ghost use Rattle.std.specs.Prelude.{◌≡◌, ◌<◌, ◌++◌, ◌∷◌, [], IfOk, replicate, vec_len, vec_capacity, slice_get, slice_set, option_copied, Some, None, OnOk, IfErr};
-ghost use Rattle.cacache_world.specs.WorldKept.{IsHeld, IsLifted};
+ghost use Rattle.cacache_world.specs.WorldKept.{HasJob, IsLifted};
 ghost use Rattle.cacache_world.specs.Faults.{IsIdleFault, IsBusyFault};
 
 use crate::event::WorldFault;
@@ -55,8 +55,8 @@ fn call_at(calls: &Vec<Option<Call>>, caller: usize) -> Option<&Option<Call>>
 }
 
 /// That a caller has a call.
-pub(crate) fn held(calls: &Vec<Option<Call>>, caller: usize) -> Result<(), WorldFault>
-    ensures held { OnOk result (IsHeld calls.now.items caller) }
+pub(crate) fn check_has_call(calls: &Vec<Option<Call>>, caller: usize) -> Result<(), WorldFault>
+    ensures held { OnOk result (HasJob calls.now.items caller) }
     ensures within { OnOk result (caller < vec_len calls.now) }
     ensures why { IfErr result (λ fault.
         IsIdleFault (vec_len calls.now) calls.now.items caller fault) }
@@ -69,7 +69,7 @@ pub(crate) fn held(calls: &Vec<Option<Call>>, caller: usize) -> Result<(), World
 }
 
 /// That a caller has no call.
-pub(crate) fn free(calls: &Vec<Option<Call>>, caller: usize) -> Result<(), WorldFault>
+pub(crate) fn check_has_none(calls: &Vec<Option<Call>>, caller: usize) -> Result<(), WorldFault>
     ensures free { OnOk result (slice_get calls.now.items caller ≡ Some None) }
     ensures within { OnOk result (caller < vec_len calls.now) }
     ensures why { IfErr result (λ fault.
@@ -84,7 +84,7 @@ pub(crate) fn free(calls: &Vec<Option<Call>>, caller: usize) -> Result<(), World
 
 /// Takes a caller's call from its place.
 pub(crate) fn lift(calls: &mut Vec<Option<Call>>, caller: usize) -> Call
-    requires held { IsHeld calls.old.items caller }
+    requires held { HasJob calls.old.items caller }
     requires within { caller < vec_len calls.old }
     ensures lifted { IsLifted calls.old.items caller result calls.new.items }
     ensures len { vec_len calls.new ≡ vec_len calls.old }

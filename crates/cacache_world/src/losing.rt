@@ -7,7 +7,7 @@ ghost use Rattle.cacache_loss.specs.Running.{moment_of};
 ghost use Rattle.cacache_world.specs.Losses.{LeftBy};
 ghost use Rattle.cacache_world.specs.WorldKept.{history_of, setup_of};
 
-use crate::outside::planted;
+use crate::outside::plant_all;
 use cacache_core::bytes::Bytes;
 use cacache_core::text::Text;
 use cacache_disk::{Disk, Nodes};
@@ -27,7 +27,7 @@ fn run_on(running: Running, happened: &Record) -> Result<Running, AllocError>
 }
 
 /// The moment after these records, where a disk began with all of it fixed.
-fn replayed(disk: Disk, records: &[Record]) -> Result<Running, AllocError>
+fn replay(disk: Disk, records: &[Record]) -> Result<Running, AllocError>
     ensures { IfOk result (λ r.
         moment_of r ≡ after (opening disk) (steps_of records.now)) }
 {
@@ -51,9 +51,9 @@ pub(crate) fn nodes_left(
         loss.now nodes) }
 {
     // The world was made of these files, so that only memory can be lacking now.
-    let Ok(disk) = planted(alloc, cache, outside) else {
+    let Ok(disk) = plant_all(alloc, cache, outside) else {
         return Err(AllocError);
     };
-    let running = replayed(disk, records)?;
+    let running = replay(disk, records)?;
     running.lose(cache, loss)
 }

@@ -2,7 +2,7 @@
 ghost use Rattle.std.specs.Prelude.{◌≡◌, ℕ, List, Ok, IfOk, option_map};
 ghost use Rattle.std.specs.Result.{result_ok};
 ghost use Rattle.cacache_core.specs.PathNames.{home_of, names_of};
-ghost use Rattle.cacache_history.specs.Setup.{are_apart, apart_from_home, apart_from_text, apart_from_files, may_export, same_place, is_among, is_outside};
+ghost use Rattle.cacache_history.specs.Setup.{are_apart, apart_from_home, apart_from_text, apart_from_files, may_export, same_place, has_file as has_file_of, is_outside};
 ghost use Rattle.cacache_world.specs.WorldKept.{setup_of};
 
 use cacache_core::bytes::Bytes;
@@ -115,9 +115,9 @@ fn is_same(alloc: Global, text: &str, path: &[Text]) -> Result<bool, AllocError>
 }
 
 /// Whether one of these files lies at a path, by its names.
-fn is_among(alloc: Global, files: &[(Text, Bytes)], path: &[Text]) -> Result<bool, AllocError>
+fn has_file(alloc: Global, files: &[(Text, Bytes)], path: &[Text]) -> Result<bool, AllocError>
     ensures { IfOk result (λ among. (text : List ℕ) → names_of text ≡ Ok path.now
-        → among ≡ is_among files.now text) }
+        → among ≡ has_file_of files.now text) }
 {
     for file in files {
         if is_same(alloc, file.0.as_str(), path)? {
@@ -137,7 +137,7 @@ pub(crate) fn is_outside(
         → may ≡ is_outside (setup_of cache outside.now callers) path.now) }
 {
     match path_names(alloc, path)? {
-        Some(names) => is_among(alloc, outside, names.as_slice()),
+        Some(names) => has_file(alloc, outside, names.as_slice()),
         None => Ok(false),
     }
 }

@@ -42,7 +42,7 @@ fn plant(
 }
 
 /// A disk with nothing but outside files.
-pub(crate) fn planted(
+pub(crate) fn plant_all(
     alloc: Global,
     cache: &str,
     outside: &[(Text, Bytes)],

@@ -3,13 +3,13 @@ ghost use Rattle.std.specs.Prelude.{◌≡◌, ◌<◌, ◌+◌, ◌^◌, ℕ, I
 ghost use Rattle.cacache_table.specs.Table.{opening};
 ghost use Rattle.cacache_jobs.specs.Jobs.{can_go_on};
 ghost use Rattle.cacache_jobs.specs.Sites.{site_of};
-ghost use Rattle.cacache_world.specs.Turned.{StandsIn};
+ghost use Rattle.cacache_world.specs.Turned.{JobStands};
 ghost use Rattle.cacache_world.specs.WorldKept.{setup_of};
 ghost use Rattle.cacache_world.specs.Admitted.{MayAsk};
 ghost use Rattle.cacache_world.specs.Faults.{IsUnready};
 
 use crate::admitting::admit;
-use crate::callers::{free, make_room};
+use crate::callers::{check_has_none, make_room};
 use crate::event::WorldFault;
 use crate::turn::Call;
 use cacache_core::bytes::Bytes;
@@ -20,16 +20,16 @@ use cacache_table::Command;
 use std::alloc::{AllocError, Global};
 
 /// The job of a command.
-fn started(alloc: Global, cache: &Text, number: u64, command: &Command) -> Result<Call, AllocError>
+fn start(alloc: Global, cache: &Text, number: u64, command: &Command) -> Result<Call, AllocError>
     ensures ready { IfOk result (λ job. IsTrue (can_go_on job)) }
     ensures opens { IfOk result (λ job.
-        StandsIn job (opening (site_of cache.now (codes "/") number) command.now)) }
+        JobStands job (opening (site_of cache.now (codes "/") number) command.now)) }
 {
     Job::try_new(alloc, cache.as_str(), "/", command.copy()?, number)
 }
 
 /// The job of a command that a caller may begin, and room for one record more.
-pub(crate) fn prepared(
+pub(crate) fn prepare(
     alloc: Global,
     cache: &Text,
     outside: &[(Text, Bytes)],
@@ -46,13 +46,13 @@ pub(crate) fn prepared(
     ensures counts { OnOk result (number + 1 < 2 ^ 64) }
     ensures ready { IfOk result (λ job. IsTrue (can_go_on job)) }
     ensures opens { IfOk result (λ job.
-        StandsIn job (opening (site_of cache.now (codes "/") number) command.now)) }
+        JobStands job (opening (site_of cache.now (codes "/") number) command.now)) }
     ensures items { records.new.items ≡ records.old.items }
     ensures room { OnOk result (vec_len records.new < vec_capacity records.new) }
     ensures why { IfErr result (λ fault. (callers : ℕ) → IsUnready (vec_len calls.now)
         calls.now.items caller (setup_of cache.now outside.now callers) command.now fault) }
 {
-    free(calls, caller)?;
+    check_has_none(calls, caller)?;
     admit(alloc, cache.as_str(), outside, command)?;
     if number == u64::MAX {
         return Err(WorldFault::OutOfMemory);
@@ -60,7 +60,7 @@ pub(crate) fn prepared(
     if make_room(records).is_err() {
         return Err(WorldFault::OutOfMemory);
     }
-    match started(alloc, cache, number, command) {
+    match start(alloc, cache, number, command) {
         Ok(job) => Ok(job),
         Err(_) => Err(WorldFault::OutOfMemory),
     }

@@ -69,7 +69,7 @@ fn own_reply(alloc: Global, job: &Call) -> Result<Option<(Reply, Reply)>, AllocE
 }
 
 /// Whether a call goes on.
-fn looked(alloc: Global, mut job: Call) -> After
+fn after_step(alloc: Global, mut job: Call) -> After
     requires { IsTrue (can_go_on job) }
     ensures { TurnGoesOn job result }
 {
@@ -108,14 +108,14 @@ pub(crate) fn advance(alloc: Global, disk: &mut Disk, mut job: Call, luck: Luck)
             }
             Ok((answer, copy)) => {
                 job.take(copy);
-                Turn::Made(step, answer, looked(alloc, job))
+                Turn::Made(step, answer, after_step(alloc, job))
             }
         },
     }
 }
 
 /// The call that goes on, the reply for the history, and what the caller is told.
-pub(crate) fn parted(after: After) -> (Option<Call>, Option<Reply>, Move)
+pub(crate) fn turn_parts(after: After) -> (Option<Call>, Option<Reply>, Move)
     ensures { AreTurnParts after result.0 result.1 result.2 }
 {
     match after {

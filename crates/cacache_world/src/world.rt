@@ -10,12 +10,12 @@ ghost use Rattle.cacache_world.specs.declared.event.WorldFault.TheVariants.{OutO
 ghost use Rattle.cacache_world.specs.Losses.{LeftBy};
 ghost use Rattle.cacache_world.specs.Faults.{CantMove, CantBegin, CantOpen};
 
-use crate::callers::{held, idle, lift, make_room, note, place};
+use crate::callers::{check_has_call, idle, lift, make_room, note, place};
 use crate::event::{Move, WorldFault};
 use crate::losing::nodes_left;
-use crate::outside::planted;
-use crate::starting::prepared;
-use crate::turn::{Call, Turn, advance, parted};
+use crate::outside::plant_all;
+use crate::starting::prepare;
+use crate::turn::{Call, Turn, advance, turn_parts};
 use cacache_core::bytes::Bytes;
 use cacache_core::keeping::let_go;
 use cacache_core::text::Text;
@@ -41,7 +41,7 @@ pub struct World {
 
 impl Model for World {
     ghost use Rattle.cacache_history.specs.History.{History};
-    ghost use Rattle.cacache_world.specs.WorldKept.{told, WorldIsKept};
+    ghost use Rattle.cacache_world.specs.WorldKept.{history_told, WorldIsKept};
     ghost use Rattle.cacache_table.specs.JsonCode.{data_code};
     ghost use Rattle.std.specs.Coded.{codes};
 
@@ -49,7 +49,7 @@ impl Model for World {
 
     ghost coded = { Prim.hlevel (codes, data_code) };
 
-    ghost view = { told };
+    ghost view = { history_told };
 
     ghost invariant = { WorldIsKept };
 }
@@ -73,7 +73,7 @@ impl World {
         ensures apart { OnOk result (FilesAreApart cache outside.items) }
         ensures why { IfErr result (λ fault. CantOpen cache outside.items fault) }
     {
-        let disk = planted(alloc, cache.as_str(), outside.as_slice())?;
+        let disk = plant_all(alloc, cache.as_str(), outside.as_slice())?;
         let Ok(calls) = idle(alloc, callers) else {
             return Err(WorldFault::OutOfMemory);
         };
@@ -89,7 +89,7 @@ impl World {
     }
 
     /// How many calls began in its history, which is legal.
-    fn begun(&self) -> u64
+    fn calls_begun(&self) -> u64
         ensures legal { IsLegal self.now }
         ensures count { result ≡ (last self.now).begun }
     {
@@ -103,7 +103,7 @@ impl World {
         ensures durable { Outlives self.now }
         ensures few { FewCalls self.now }
     {
-        let _count = self.begun();
+        let _count = self.calls_begun();
     }
 
     /// A caller without a call begins one.
@@ -119,7 +119,7 @@ impl World {
         ensures same { OnErr result (self.new ≡ self.old) }
         ensures why { IfErr result (λ fault. CantBegin self.old caller command fault) }
     {
-        let job = match prepared(
+        let job = match prepare(
             self.alloc,
             &self.cache,
             self.outside.as_slice(),
@@ -152,7 +152,7 @@ impl World {
         ensures same { OnErr result (self.new ≡ self.old) }
         ensures why { IfErr result (λ fault. CantMove self.old caller fault) }
     {
-        held(&self.calls, caller)?;
+        check_has_call(&self.calls, caller)?;
         if make_room(&mut self.records).is_err() {
             return Err(WorldFault::OutOfMemory);
         }
@@ -175,7 +175,7 @@ impl World {
         ensures same { OnErr result (self.new ≡ self.old) }
         ensures why { IfErr result (λ fault. CantMove self.old caller fault) }
     {
-        held(&self.calls, caller)?;
+        check_has_call(&self.calls, caller)?;
         if make_room(&mut self.records).is_err() {
             return Err(WorldFault::OutOfMemory);
         }
@@ -193,7 +193,7 @@ impl World {
                 Err(WorldFault::OutOfMemory)
             }
             Turn::Made(step, answer, after) => {
-                let (call, reply, told) = parted(after);
+                let (call, reply, told) = turn_parts(after);
                 let made = Some((step, answer));
                 note(&mut self.records, Record::Moved(caller, luck, made, reply));
                 place(&mut self.calls, caller, call);

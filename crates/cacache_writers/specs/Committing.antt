@@ -17,7 +17,7 @@ use Rattle.cacache_jobs.specs.Environment.{MomentOf}
 use Rattle.cacache_polled.specs.declared.writer_core.WriterCore.{WriterCore}
 use Rattle.cacache_polled.specs.declared.kinds.Finish.{Finish}
 use Rattle.cacache_polled.specs.declared.kinds.Finish.TheVariants.{Busy, Closed, Cancelled, Failed, Held}
-use Rattle.cacache_polled.specs.Events.{Finds}
+use Rattle.cacache_polled.specs.Events.{CommitFinds}
 use Rattle.cacache_async.specs.Waiting.{TellsFault}
 use Rattle.cacache_writers.specs.declared.about.About.{About}
 
@@ -59,4 +59,4 @@ module _ {T S C N : Type 0} (temp : T → PlainTemp) (log : S → Option (List L
   abbrev pub Gives : WriterCore → List ℕ → Option T → Option About → Result (List Hash) Error → Type 0
   Gives core bytes file a r =
       ((r ≡ Err OutOfMemory) × (new ≡ old))
-      ⊎ ((f : Finish) × Finds core bytes f × GivesFor f file a r)
+      ⊎ ((f : Finish) × CommitFinds core bytes f × GivesFor f file a r)

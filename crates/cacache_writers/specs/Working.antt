@@ -21,9 +21,9 @@ Appended old new b (Wrote n) = Appends old new (take n b)
 Appended old new b c = Keeps old new
 
 -- what the work did to the file; it is given back, but for one that was to be removed
-abbrev pub Does :
+abbrev pub DoesWork :
     {T : Type 0} → (T → PlainTemp) → Work → T → Option T → Completion → Type 0
-Does temp (Write b) old (Some new) c = Appended (temp old).bytes (temp new).bytes b c
-Does temp Flush old (Some new) c = ⊤
-Does temp Remove old None c = ⊤
-Does temp w old new c = ⊥
+DoesWork temp (Write b) old (Some new) c = Appended (temp old).bytes (temp new).bytes b c
+DoesWork temp Flush old (Some new) c = ⊤
+DoesWork temp Remove old None c = ⊤
+DoesWork temp w old new c = ⊥

@@ -8,7 +8,7 @@ use crate::shared::{Kept, Shared};
 use crate::worker::Worker;
 use cacache_core::errors::Result;
 use cacache_core::integrity::Algorithm;
-use cacache_polled::{Poll as Asked, WriterCore};
+use cacache_polled::{Request as Asked, WriterCore};
 use futures::task::{Context, Poll, Source};
 use std::alloc::Global;
 use std::sync::atomic::{AtomicBool, Ordering};

@@ -5,7 +5,7 @@ ghost use Rattle.cacache_writers.specs.Sharing.{IsPolled, IsEnded, taken_out, le
 
 use cacache_async::polling;
 use cacache_core::errors::Result;
-use cacache_polled::{Completion, Poll, Polled, Work, WriterCore};
+use cacache_polled::{Completion, Polled, Request, Work, WriterCore};
 use futures::task::{Source, Waker};
 use std::alloc::Global;
 use std::sync::atomic::{AtomicBool, Ordering};
@@ -37,7 +37,7 @@ impl<T: Drop> Kept<T> {
     /// One poll. Ok(None) is pending, and Ok(Some) how many bytes a write took. Work that begins is kept for a worker.
     ///
     /// `IoError` has the core's fault. `OutOfMemory` changes nothing, or came to a message.
-    pub fn poll(&mut self, alloc: Global, poll: Poll<'_>) -> Result<Option<usize>>
+    pub fn poll(&mut self, alloc: Global, poll: Request<'_>) -> Result<Option<usize>>
         ensures polled { IsPolled self.old self.new (ask_of poll.entry) result }
     {
         match self.core.poll(alloc, poll) {

@@ -1,6 +1,6 @@
 //! Work that is done with a temporary file.
 ghost use Rattle.cacache_polled.specs.declared.kinds.Work.TheVariants.{Write};
-ghost use Rattle.cacache_writers.specs.Working.{Appended, Does, FitsWork};
+ghost use Rattle.cacache_writers.specs.Working.{Appended, DoesWork, FitsWork};
 
 use crate::removal::RemovableTemp;
 use cacache_core::bytes::Bytes;
@@ -9,7 +9,7 @@ use cacache_polled::{Completion, Work};
 use cacache_store::store::TempFile;
 
 /// Writes some of these bytes to the file.
-fn written<T: TempFile>(file: &mut T, bytes: &Bytes) -> Completion
+fn write_piece<T: TempFile>(file: &mut T, bytes: &Bytes) -> Completion
     ensures fits { FitsWork (Write bytes.now) result }
     ensures does { Appended (T.seen file.old).bytes (T.seen file.new).bytes bytes.now result }
 {
@@ -20,14 +20,14 @@ fn written<T: TempFile>(file: &mut T, bytes: &Bytes) -> Completion
 }
 
 /// Does the work with the file, and says how it ended.
-pub(crate) fn done<T: RemovableTemp>(work: Work, temp: T) -> (Option<T>, Completion)
+pub(crate) fn do_work<T: RemovableTemp>(work: Work, temp: T) -> (Option<T>, Completion)
     ensures fits { FitsWork work result.1 }
-    ensures does { Does T.seen work temp result.0 result.1 }
+    ensures does { DoesWork T.seen work temp result.0 result.1 }
 {
     let mut file = temp;
     match work {
         Work::Write(bytes) => {
-            let completion = written(&mut file, &bytes);
+            let completion = write_piece(&mut file, &bytes);
             (Some(file), completion)
         }
         Work::Flush => match file.flush() {

@@ -1,7 +1,7 @@
 //! The worker of a polled file.
 use crate::removal::RemovableTemp;
 use crate::shared::Shared;
-use crate::work::done;
+use crate::work::do_work;
 use cacache_core::errors::Fault;
 use cacache_jobs::{Gate, Pass};
 use cacache_polled::Completion;
@@ -87,7 +87,7 @@ fn work_once<R: Wait, T: RemovableTemp>(rt: &R, shared: &Shared<T>) -> Turned {
         return Turned::NoWork;
     };
     let (temp, completion) = match temp {
-        Some(file) => done(work, file),
+        Some(file) => do_work(work, file),
         None => (None, Completion::Failed(Fault::Closed)),
     };
     shared.end(rt, temp, completion);

@@ -3,14 +3,14 @@ use crate::answers::{add, bytes_of};
 use cacache_core::errors::{Fault, Result as Answered};
 use cacache_core::integrity::Algorithm;
 use cacache_core::keeping::let_go;
-use cacache_polled::{Completion, Finish, Poll, Polled, Work, WriterCore};
+use cacache_polled::{Completion, Finish, Polled, Request, Work, WriterCore};
 use rows::Flaw;
 use rows::answers::given;
 use rows::words::{cut, number_of, word_of};
 use std::alloc::{AllocError, Global};
 
 /// What a core answers a poll. A poll that memory was refused to changed nothing, so it is made once more.
-fn polled(alloc: Global, core: &mut WriterCore, poll: Poll<'_>) -> Answered<Polled> {
+fn polled(alloc: Global, core: &mut WriterCore, poll: Request<'_>) -> Answered<Polled> {
     match core.poll(alloc, poll) {
         Err(error) => {
             let_go(error);
@@ -41,7 +41,7 @@ fn shown(alloc: Global, polled: &Polled) -> Result<String, AllocError> {
 }
 
 /// What a poll gives.
-fn asked(alloc: Global, core: &mut WriterCore, poll: Poll<'_>) -> Result<String, Flaw> {
+fn asked(alloc: Global, core: &mut WriterCore, poll: Request<'_>) -> Result<String, Flaw> {
     let polled = given(polled(alloc, core, poll))?;
     let line = shown(alloc, &polled);
     let_go(polled);
@@ -111,9 +111,9 @@ fn ended(alloc: Global, core: &mut WriterCore, name: &str, what: &str) -> Result
 fn stepped(alloc: Global, core: &mut WriterCore, step: &str) -> Result<String, Flaw> {
     let (name, what) = cut(step);
     match name {
-        "write" => asked(alloc, core, Poll::Write(bytes_of(what))),
-        "flush" => asked(alloc, core, Poll::Flush),
-        "close" => asked(alloc, core, Poll::Close),
+        "write" => asked(alloc, core, Request::Write(bytes_of(what))),
+        "flush" => asked(alloc, core, Request::Flush),
+        "close" => asked(alloc, core, Request::Close),
         _ => ended(alloc, core, name, what),
     }
 }

@@ -20,7 +20,7 @@ use Rattle.cacache_table.specs.Table.{opening}
 use Rattle.cacache_jobs.specs.Sites.{site_of}
 use Rattle.cacache_sequence.specs.Caches.{HasKey, Grows, IsExcused, Called, ExcusesLast}
 use Rattle.cacache_sequence.specs.Keeping.{found_under}
-use Rattle.cacache_sequence.specs.ListedKeys.{IsShown, AreEntries, ListsKeys, GivesKeys}
+use Rattle.cacache_sequence.specs.ListedKeys.{IsShown, AreAllFound, ListsKeys, GivesKeys}
 use Rattle.uses.proofs.Told.{plain_error, memory_error}
 
 -- ---- a listing was made
@@ -60,7 +60,7 @@ plain_entries : (entries : List Found) → map plain_item (map (λ f. Ok f) entr
 plain_entries [] = refl
 plain_entries (f ∷ fs) = ap (λ l. Ok f ∷ l) (plain_entries fs)
 
-are_entries : (entries : List Found) → AreEntries (map (λ f. Ok f) entries)
+are_entries : (entries : List Found) → AreAllFound (map (λ f. Ok f) entries)
 are_entries [] = tt
 are_entries (f ∷ fs) = are_entries fs
 

@@ -5,7 +5,7 @@ ghost use Rattle.cacache_folder.specs.FolderHandles.{seen_file, seen_temp};
 ghost use Rattle.cacache_folder.specs.PartialSteps.{HandsBackWhole};
 ghost use Rattle.cacache_folder.specs.Reasons.{Explains};
 
-use crate::folder::faults::refused;
+use crate::folder::faults::failed_answer;
 use crate::folder::opened::FolderFile;
 use crate::folder::temp::FolderTemp;
 use cacache_core::bytes::Bytes;
@@ -31,12 +31,12 @@ pub(crate) fn created<F: FileHandle, R: Files + Drop>(
 {
     match created {
         Ok((rt, file)) => Answer::Temp(FolderTemp::new(rt, file, path)),
-        Err(error) => refused(error, Step::CreateTemp(path), reason),
+        Err(error) => failed_answer(error, Step::CreateTemp(path), reason),
     }
 }
 
 /// Does a `Write` and answers it.
-pub(crate) fn written<F: FileHandle, R: Files + Drop>(
+pub(crate) fn write_temp<F: FileHandle, R: Files + Drop>(
     temp: FolderTemp<R>,
     bytes: Bytes,
     reason: &mut Option<ErrorKind>,
@@ -50,12 +50,12 @@ pub(crate) fn written<F: FileHandle, R: Files + Drop>(
     let mut temp = temp;
     match temp.write_some(bytes.as_slice()) {
         Ok(count) => Answer::Wrote(temp, count),
-        Err(error) => refused(error, Step::Write(temp, bytes), reason),
+        Err(error) => failed_answer(error, Step::Write(temp, bytes), reason),
     }
 }
 
 /// Does a `SyncTemp` and answers it.
-pub(crate) fn synced<F: FileHandle, R: Files + Drop>(
+pub(crate) fn sync_temp<F: FileHandle, R: Files + Drop>(
     temp: FolderTemp<R>,
     reason: &mut Option<ErrorKind>,
 ) -> Answer<F, FolderTemp<R>>
@@ -67,7 +67,7 @@ pub(crate) fn synced<F: FileHandle, R: Files + Drop>(
 {
     match temp.sync() {
         Ok(()) => Answer::Synced(temp),
-        Err(error) => refused(error, Step::SyncTemp(temp), reason),
+        Err(error) => failed_answer(error, Step::SyncTemp(temp), reason),
     }
 }
 
@@ -89,7 +89,7 @@ pub(crate) fn moved<F: FileHandle, R: Files + Drop>(
             temp.close();
             Answer::Done
         }
-        Err(error) => refused(error, Step::Persist(temp, path), reason),
+        Err(error) => failed_answer(error, Step::Persist(temp, path), reason),
     }
 }
 
@@ -107,12 +107,12 @@ pub(crate) fn readable<F: Read + Drop, T: TempHandle>(
 {
     match opened {
         Ok(file) => Answer::File(FolderFile::new(file)),
-        Err(error) => refused(error, Step::Open(path), reason),
+        Err(error) => failed_answer(error, Step::Open(path), reason),
     }
 }
 
 /// Does a `Read` and answers it.
-pub(crate) fn given<F: Read + Drop, T: TempHandle>(
+pub(crate) fn read_piece<F: Read + Drop, T: TempHandle>(
     alloc: Global,
     file: FolderFile<F>,
     max: usize,
@@ -127,6 +127,6 @@ pub(crate) fn given<F: Read + Drop, T: TempHandle>(
     let mut file = file;
     match file.read_piece(alloc, max) {
         Ok(bytes) => Answer::Got(file, bytes),
-        Err(error) => refused(error, Step::Read(file, max), reason),
+        Err(error) => failed_answer(error, Step::Read(file, max), reason),
     }
 }

@@ -132,7 +132,7 @@ impl Descent {
     }
 
     /// Keeps that the folder was looked at.
-    pub(crate) fn looked(&mut self) {
+    pub(crate) fn mark_looked(&mut self) {
         self.steps = 0;
     }
 }

@@ -30,7 +30,7 @@ fn may_do_a_part<F: FileHandle, T: TempHandle>(step: &Step<F, T>) -> bool
 
 /// The answer to a step that failed with this error, whose kind becomes the reason. Out of memory hands the step back
 /// only if nothing can have changed.
-pub(crate) fn refused<F: FileHandle, T: TempHandle>(
+pub(crate) fn failed_answer<F: FileHandle, T: TempHandle>(
     error: io::Error,
     step: Step<F, T>,
     reason: &mut Option<ErrorKind>,

@@ -59,7 +59,7 @@ fn kind_of(found: FileType) -> Kind {
 type Looked<T> = Result<T, ErrorKind>;
 
 /// The same with the error's kind alone.
-fn looked<T>(found: io::Result<T>) -> Looked<T>
+fn with_error_kind<T>(found: io::Result<T>) -> Looked<T>
     ensures { IfOk result (λ x. found ≡ Ok x) }
 {
     match found {
@@ -197,7 +197,7 @@ impl<R: Files + AllocGlobal + Clone + Drop> FolderStore<R> {
     {
         let mut buf = [0; NAMES];
         for _ in 0..u64::MAX {
-            let count = looked(read_again(open, &mut buf))?;
+            let count = with_error_kind(read_again(open, &mut buf))?;
             if count == 0 {
                 return Ok(());
             }
@@ -226,12 +226,12 @@ impl<R: Files + AllocGlobal + Clone + Drop> FolderStore<R> {
     /// Opens a folder. One that a listing named has to be a folder still, and no link; elsewhere a link is followed,
     /// and one that leads to nothing is no folder. `folder` is the path with a `/` behind it.
     fn open_folder(&self, path: &str, folder: &str, was_named: bool) -> Looked<R::Dir> {
-        match looked(self.rt.open_dir(path)) {
+        match with_error_kind(self.rt.open_dir(path)) {
             Err(ErrorKind::NotADirectory | ErrorKind::FilesystemLoop) if was_named => {
                 Err(ErrorKind::NotADirectory)
             }
             Err(ErrorKind::NotADirectory | ErrorKind::FilesystemLoop) => {
-                match looked(self.rt.open_dir(folder)) {
+                match with_error_kind(self.rt.open_dir(folder)) {
                     Err(ErrorKind::NotFound) => Err(ErrorKind::NotADirectory),
                     opened => opened,
                 }

@@ -9,7 +9,7 @@ use std::rt::Files;
 
 impl<R: Files + AllocGlobal + Clone + Drop> FolderStore<R> {
     /// The folder that stands at this path; None if something else does.
-    fn found(&self, path: &[u8]) -> io::Result<Option<Node>> {
+    fn folder_at(&self, path: &[u8]) -> io::Result<Option<Node>> {
         let Ok(path) = std::str::from_utf8(path) else {
             return Ok(None);
         };
@@ -24,12 +24,14 @@ impl<R: Files + AllocGlobal + Clone + Drop> FolderStore<R> {
         let Some((last, node)) = entered.top() else {
             return Ok(true);
         };
-        if entered.len() < 2 || matches!(self.found(last)?, Some(found) if found.is_same(node)) {
+        if entered.len() < 2
+            || matches!(self.folder_at(last)?, Some(found) if found.is_same(node))
+        {
             return Ok(true);
         }
         for below in 1..entered.len() {
             let path = entered.path(below).unwrap_or_default();
-            if self.found(path)?.is_none() {
+            if self.folder_at(path)?.is_none() {
                 return Ok(false);
             }
         }
@@ -43,7 +45,7 @@ impl<R: Files + AllocGlobal + Clone + Drop> FolderStore<R> {
         if !self.stays()? {
             return Err(io::Error::from(ErrorKind::NotADirectory));
         }
-        self.descent.looked();
+        self.descent.mark_looked();
         Ok(())
     }
 

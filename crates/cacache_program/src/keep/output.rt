@@ -1,7 +1,7 @@
 //! What goes to the output.
 ghost use Rattle.std.specs.Prelude.{◌≡◌, ◌⊎◌};
 
-use crate::errors::{Errors, call_failed};
+use crate::errors::{Errors, tell_failed_call};
 use cacache::errors::Error;
 use cacache_keep::{Collected, Verdict};
 use std::alloc::{AllocError, Global};
@@ -34,7 +34,7 @@ pub(crate) fn put_out<W: Write, E: Write>(
     ensures quiet { result ≡ 0 → errors.new ≡ errors.old }
 {
     let Ok(text) = text else {
-        return call_failed(errors, &Error::OutOfMemory, None);
+        return tell_failed_call(errors, &Error::OutOfMemory, None);
     };
     match output.write_all(text.as_bytes()) {
         Ok(()) => status,

@@ -2,7 +2,7 @@
 ghost use Rattle.std.specs.Prelude.{◌≡◌, ◌≢◌, ◌≤◌, ◌⊎◌};
 ghost use Rattle.cacache_program.specs.KeepWords.{IsWrong};
 
-use crate::errors::{Errors, call_failed, misused};
+use crate::errors::{Errors, tell_failed_call, tell_misuse};
 use crate::keep::about::USAGE;
 use crate::keep::output::{collected_text, put_out, verdict_text};
 use cacache::env::{Clock, Env, Names, Reasons};
@@ -21,7 +21,7 @@ fn status_of(verdict: &Verdict) -> u8
 }
 
 /// Verifies the cache, and prints how many contents are good and damaged, entries dangle, and other files are there.
-fn verified<S: Reasons, C: Clock, N: Names, W: Write, E: Write>(
+fn verify_and_print<S: Reasons, C: Clock, N: Names, W: Write, E: Write>(
     env: &mut Env<S, C, N>,
     cache: &str,
     output: &mut W,
@@ -35,12 +35,12 @@ fn verified<S: Reasons, C: Clock, N: Names, W: Write, E: Write>(
             let status = status_of(&verdict);
             put_out(verdict_text(env.alloc, &verdict), status, output, errors)
         }
-        Err(error) => call_failed(errors, &error, env.store.reason()),
+        Err(error) => tell_failed_call(errors, &error, env.store.reason()),
     }
 }
 
 /// Collects the cache, and prints how many contents were kept and dropped.
-fn collected<S: Reasons, C: Clock, N: Names, W: Write, E: Write>(
+fn collect_and_print<S: Reasons, C: Clock, N: Names, W: Write, E: Write>(
     env: &mut Env<S, C, N>,
     cache: &str,
     output: &mut W,
@@ -51,7 +51,7 @@ fn collected<S: Reasons, C: Clock, N: Names, W: Write, E: Write>(
 {
     match collect(env, cache) {
         Ok(collected) => put_out(collected_text(env.alloc, &collected), 0, output, errors),
-        Err(error) => call_failed(errors, &error, env.store.reason()),
+        Err(error) => tell_failed_call(errors, &error, env.store.reason()),
     }
 }
 
@@ -69,11 +69,11 @@ pub fn run<S: Reasons, C: Clock, N: Names, W: Write, E: Write>(
     ensures quiet { result ≡ 0 → errors.new ≡ errors.old }
 {
     let [word, cache] = words else {
-        return misused(USAGE, errors);
+        return tell_misuse(USAGE, errors);
     };
     match word.as_str() {
-        "verify" => verified(env, cache.as_str(), output, errors),
-        "collect" => collected(env, cache.as_str(), output, errors),
-        _ => misused(USAGE, errors),
+        "verify" => verify_and_print(env, cache.as_str(), output, errors),
+        "collect" => collect_and_print(env, cache.as_str(), output, errors),
+        _ => tell_misuse(USAGE, errors),
     }
 }

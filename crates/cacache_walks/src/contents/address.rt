@@ -4,8 +4,8 @@ ghost use Rattle.hex.specs.Hex.{decode_of};
 ghost use Rattle.cacache_core.specs.declared.errors.Error.TheVariants.{OutOfMemory};
 ghost use Rattle.cacache_core.specs.declared.integrity.digest.Hash.{Hash};
 ghost use Rattle.cacache_core.specs.Integrity.{IsHash};
-ghost use Rattle.cacache_walks.specs.Addresses.{HasNoBytes, HasNoNames, IsContent, IsStrange, by_letter, digits_of, names_text};
-ghost use Rattle.cacache_walks.specs.Listing.{contents_folder};
+ghost use Rattle.cacache_walks.specs.Addresses.{HasNoBytes, HasNoNames, IsContentPath, IsStrange, by_letter, digits_of, names_text};
+ghost use Rattle.cacache_walks.specs.Listing.{content_area_in};
 
 use cacache_core::errors::{Error, Result};
 use cacache_core::integrity::{Algorithm, Integrity};
@@ -46,7 +46,7 @@ fn digits_in(alloc: Global, text: &[u8]) -> std::result::Result<Vec<u8>, AllocEr
 }
 
 /// The bytes of hex digits, if they are that.
-fn decoded(alloc: Global, digits: &[u8]) -> Result<Option<Vec<u8>>>
+fn decode_hex(alloc: Global, digits: &[u8]) -> Result<Option<Vec<u8>>>
     ensures bytes { IfOk result (λ r. MatchOption r (HasNoBytes digits.now)
         (λ v. decode_of digits.now ≡ Ok v.items)) }
     ensures memory { IfErr result (λ e. e ≡ OutOfMemory) }
@@ -74,7 +74,7 @@ fn hash_in(alloc: Global, text: &[u8]) -> Result<Option<(Algorithm, Vec<u8>)>>
         return Ok(None);
     }
     let digits = digits_in(alloc, &text[skipped..])?;
-    match decoded(alloc, &digits)? {
+    match decode_hex(alloc, &digits)? {
         Some(digest) => {
             if digest.len() < 3 {
                 return Ok(None);
@@ -92,9 +92,9 @@ pub(crate) fn address_at(
     top: &str,
     path: &str,
 ) -> Result<Option<Integrity>>
-    requires { top.now ≡ contents_folder cache.now }
+    requires { top.now ≡ content_area_in cache.now }
     ensures address { IfOk result (λ r. MatchOption r
-        (IsStrange cache.now path.now) (IsContent cache.now path.now)) }
+        (IsStrange cache.now path.now) (IsContentPath cache.now path.now)) }
     ensures memory { IfErr result (λ e. e ≡ OutOfMemory) }
 {
     if path.len() < top.len() {

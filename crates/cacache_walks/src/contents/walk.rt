@@ -4,9 +4,9 @@ ghost use Rattle.cacache_core.specs.declared.errors.Fault.TheVariants.{NotFound}
 ghost use Rattle.cacache_store.specs.declared.store.answer.Answer.TheVariants.{Failed};
 ghost use Rattle.cacache_store.specs.Plain.{PlainAnswer, plain_answer};
 ghost use Rattle.cacache_table.specs.Runs.{Moves, Gains};
-ghost use Rattle.cacache_walks.specs.Reading.{Folder, IsErrorOf, Reads, first, files_in, files_shown};
+ghost use Rattle.cacache_walks.specs.Reading.{Folder, IsErrorOf, ReadsFolders, top_folder, file_paths, files_shown};
 ghost use Rattle.cacache_walks.specs.Listing.{StopsAt, StopsBelow};
-ghost use Rattle.cacache_walks.specs.WalkSteps.{AnswerShows, Answered, GoesFrom, Stands, StopsIn, StopsVisit, steps_left};
+ghost use Rattle.cacache_walks.specs.WalkSteps.{AnswerShows, Answered, GoesFrom, WalkStands, StopsIn, StopsVisit, steps_left};
 
 use crate::walk::Walk;
 use cacache_core::errors::{Error, Fault, Result};
@@ -63,7 +63,7 @@ fn push_files(
     folder: &str,
     names: &[Name],
 ) -> std::result::Result<(), AllocError>
-    ensures { OnOk result (files.new.items ≡ files.old.items ++ files_in folder.now names.now) }
+    ensures { OnOk result (files.new.items ≡ files.old.items ++ file_paths folder.now names.now) }
 {
     for name in names {
         match name.kind {
@@ -76,7 +76,7 @@ fn push_files(
 
 /// What a visit is answered; the files that it shows are added. A visit to a file takes no step: it
 /// counts as a bucket that isn't there, which lists nothing.
-fn visited<S: Store>(
+fn answer_visit<S: Store>(
     store: &mut S,
     alloc: Global,
     top: &str,
@@ -108,15 +108,15 @@ fn make<S: Store>(
     files: &mut Vec<Text>,
     visit: Visit,
 ) -> Result<Option<Visit>>
-    ensures goes { IfOk result (λ next. (fs : List Folder) → Stands (Some visit) walk.old fs
+    ensures goes { IfOk result (λ next. (fs : List Folder) → WalkStands (Some visit) walk.old fs
         → GoesFrom walk.old.left fs next walk.new (S.log store.old) (S.log store.new)
         files.old.items files.new.items) }
-    ensures smaller { IfOk result (λ next. (fs : List Folder) → Stands (Some visit) walk.old fs
+    ensures smaller { IfOk result (λ next. (fs : List Folder) → WalkStands (Some visit) walk.old fs
         → steps_left next walk.new < steps_left (Some visit) walk.old) }
-    ensures stops { IfErr result (λ e. (fs : List Folder) → Stands (Some visit) walk.old fs
+    ensures stops { IfErr result (λ e. (fs : List Folder) → WalkStands (Some visit) walk.old fs
         → StopsAt walk.old.left fs e (S.log store.old) (S.log store.new)) }
 {
-    let answer = visited(store, alloc, top, files, &visit)?;
+    let answer = answer_visit(store, alloc, top, files, &visit)?;
     // It reads no bucket, so its items are `TooDeep` alone, and its only error is out of memory.
     let Ok(next) = walk.resume(alloc, visit, answer) else {
         return Err(Error::OutOfMemory);
@@ -131,7 +131,7 @@ fn make<S: Store>(
 pub(crate) fn files_below<S: Store>(store: &mut S, alloc: Global, top: &str) -> Result<Vec<Text>>
     ensures reads { IfOk result
         (λ files. (moves : Moves) × Gains (S.log store.old) (S.log store.new) moves
-        × Reads (first top.now ∷ []) moves × (files.items ≡ files_shown moves)) }
+        × ReadsFolders (top_folder top.now ∷ []) moves × (files.items ≡ files_shown moves)) }
     ensures stops { IfErr result
         (λ e. StopsBelow top.now e (S.log store.old) (S.log store.new)) }
 {

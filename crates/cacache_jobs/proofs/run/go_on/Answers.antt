@@ -23,7 +23,7 @@ steps-smaller g c =
     let t : PlainAnswer = plain_answer file temp c.ask-answer.result in
     let now = c.steps.invariant.stands.1 in
     let at : IsAt temp c.in-Wanting.stage a s = subst (λ p. PhaseAt file temp p s) c.in-Wanting.is now in
-    phase_shrinks file temp c.steps.phase c.settled-phase.result s a t now at.wanted c.ask-answer.ensures.fits (c.settled-phase.ensures (after s t) (c.resume.ensures s at.state))
+    phase_shrinks file temp c.steps.phase c.over_on_error-phase.result s a t now at.wanted c.ask-answer.ensures.fits (c.over_on_error-phase.ensures (after s t) (c.resume.ensures s at.state))
 
 pub steps-preserved : goal.steps-preserved
 steps-preserved g c =
@@ -34,11 +34,11 @@ steps-preserved g c =
     let s : State = c.steps.invariant.stands.0 in
     let at : IsAt temp c.in-Wanting.stage a s = subst (λ p. PhaseAt file temp p s) c.in-Wanting.is c.steps.invariant.stands.1 in
     record {
-      stands = phase_stands file temp c.settled-phase.result (after s t) (c.settled-phase.ensures (after s t) (c.resume.ensures s at.state));
+      stands = phase_stands file temp c.over_on_error-phase.result (after s t) (c.over_on_error-phase.ensures (after s t) (c.resume.ensures s at.state));
       reached = λ s0 h.
           let r = c.steps.invariant.reached s0 h in
           let o : IsAt temp c.in-Wanting.stage a r.0 = subst (λ p. PhaseAt file temp p r.0) c.in-Wanting.is r.1 in
-          phase_reached file temp s0 r.0 (g.S.Store.log c.args.store.now) (g.S.Store.log c.steps.store) (g.S.Store.log c.ask-answer.new.store) c.settled-phase.result a t r.2 o.wanted c.ask-answer.ensures.fits c.ask-answer.ensures.logged (c.settled-phase.ensures (after r.0 t) (c.resume.ensures r.0 o.state));
+          phase_reached file temp s0 r.0 (g.S.Store.log c.args.store.now) (g.S.Store.log c.steps.store) (g.S.Store.log c.ask-answer.new.store) c.over_on_error-phase.result a t r.2 o.wanted c.ask-answer.ensures.fits c.ask-answer.ensures.logged (c.over_on_error-phase.ensures (after r.0 t) (c.resume.ensures r.0 o.state));
     }
 
 pub steps-init : goal.steps-init

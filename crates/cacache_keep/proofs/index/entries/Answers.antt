@@ -1,7 +1,7 @@
 use Rattle.std.proofs.Common.{rules}
 use Rattle.cacache_jobs.specs.Sites.{site_of}
 use Rattle.cacache_table.specs.declared.command.Command.TheVariants.{Ls}
-use Rattle.cacache_keep.specs.Calls.{IsMissing, StopsReading}
+use Rattle.cacache_keep.specs.Calls.{HasNoIndex, StopsReading}
 use Rattle.cacache_keep.proofs.Stopped.{error_as, error_so, item_stops, stops_at}
 use Rattle.cacache_keep.proofs.Asked.{entries_listed, value_so}
 use Rattle.cacache_keep.proofs.index.entries.Goals as goal
@@ -13,7 +13,7 @@ returns-clause-lists g c =
 pub returns-clause-stops : goal.returns-clause-stops
 returns-clause-stops g c =
     let items = c.in_ok-items.items.items in
-    let there : IsMissing items → ⊥ = search (rules, c.is_missing.ensures.no c.if-is_missing.false) in
+    let there : HasNoIndex items → ⊥ = search (rules, c.has_no_index.ensures.no c.if-has_no_index.false) in
     error_so c.entries_of.result (λ e why. item_stops (site_of c.args.cache.now c.args.env.now.base 0) items e _ _ c.in_ok-items.ensures.0.0 there why) c.entries_of.ensures.err
 
 pub returns-in_err-items-clause-stops : goal.returns-in_err-items-clause-stops

@@ -21,5 +21,5 @@ returns-in-Ok c = λ s stands.
     let wanted = wanted_out c.next.new.self s step out in
     let heard = plain_answer_same c.in-Ok.copy ∙ c.in-Ok.ensures.copy in
     let goes = subst (λ a. GoesInto c.take.new.self (after s a)) heard (c.take.ensures.goes_on s step out) in
-    let ends = c.looked.ensures (after s c.in-Ok.answer) goes in
+    let ends = c.after_step.ensures (after s c.in-Ok.answer) goes in
     ((wanted ∙ ap Some (plain_step_same c.in-Step.step), sym (ap (λ r. r.0) c.in-Ok.ensures.ok), c.in-Ok.ensures.fits, ends.0), sym (ap (λ r. r.1) c.in-Ok.ensures.ok), ends.1)

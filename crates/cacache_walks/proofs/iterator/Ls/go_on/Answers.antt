@@ -2,13 +2,13 @@ use Rattle.std.proofs.Common.{◌∙◌, Ok, Err, length, refl, ap}
 use Rattle.std.proofs.lemmas.List.{length-reverse}
 use Rattle.cacache_store.specs.Plain.{PlainStep, PlainAnswer, plain_step, plain_answer}
 use Rattle.cacache_table.proofs.Going.{gone_lost}
-use Rattle.cacache_walks.specs.Iterating.{listing}
+use Rattle.cacache_walks.specs.Iterating.{listing_state}
 use Rattle.cacache_walks.proofs.VisitAnswers.{visited, fewer_steps, no_more_items}
 use Rattle.cacache_walks.proofs.Filling.{readied, fewer_steps_as, fewer_items_as}
 use Rattle.cacache_walks.proofs.iterator.Ls.go_on.Goals as goal
 
 pub returns-in_default-clause-went : goal.returns-in_default-clause-went
-returns-in_default-clause-went g c = λ cache old items h. (refl, gone_lost (listing cache) h.0 old _ h.1)
+returns-in_default-clause-went g c = λ cache old items h. (refl, gone_lost (listing_state cache) h.0 old _ h.1)
 
 pub returns-in_err-resume-clause-went : goal.returns-in_err-resume-clause-went
 returns-in_err-resume-clause-went g c = λ cache old items h.

@@ -1,6 +1,6 @@
 use Rattle.std.proofs.Common.{◌∙◌, ◌++◌, ◌∷◌, [], Err, refl, sym, append-nil}
 use Rattle.cacache_core.specs.declared.errors.Error.TheVariants.{OutOfMemory}
-use Rattle.cacache_walks.specs.Iterating.{IsListing, item_of}
+use Rattle.cacache_walks.specs.Iterating.{IsListing, item_view}
 use Rattle.cacache_walks.proofs.Filling.{given_one, given_last, given_fewer, all_given, same_gave, nothing_in}
 use Rattle.cacache_walks.proofs.iterator.LsIterator.next.Goals as goal
 
@@ -19,7 +19,7 @@ pub returns-in-Some-clause-steps : goal.returns-in-Some-clause-steps
 returns-in-Some-clause-steps g c = (
   λ cache old given h.
       let f = c.in_default.ensures.filled cache old given h in
-      rw c.taken.ensures (given_one g.S.Store.log cache old c.fill.new.self (record c.fill.new.self { ready = c.pop.new.self }) given c.in-Some.item refl refl refl c.in-Some.ensures.items f.0),
+      rw c.metadata_of.ensures (given_one g.S.Store.log cache old c.fill.new.self (record c.fill.new.self { ready = c.pop.new.self }) given c.in-Some.item refl refl refl c.in-Some.ensures.items f.0),
   c.in_default.ensures.keeps,
 )
 
@@ -27,7 +27,7 @@ pub returns-in-Some-clause-goes : goal.returns-in-Some-clause-goes
 returns-in-Some-clause-goes g c =
     let r = c.requires in
     let f = c.in_default.ensures.filled r.0 r.1 r.2 r.3 in
-    let can : IsListing g.S.Store.log (record c.fill.new.self { ready = c.pop.new.self }) = (r.0, r.1, r.2 ++ item_of c.taken.result ∷ [], rw c.taken.ensures (given_one g.S.Store.log r.0 r.1 c.fill.new.self (record c.fill.new.self { ready = c.pop.new.self }) r.2 c.in-Some.item refl refl refl c.in-Some.ensures.items f.0)) in
+    let can : IsListing g.S.Store.log (record c.fill.new.self { ready = c.pop.new.self }) = (r.0, r.1, r.2 ++ item_view c.metadata_of.result ∷ [], rw c.metadata_of.ensures (given_one g.S.Store.log r.0 r.1 c.fill.new.self (record c.fill.new.self { ready = c.pop.new.self }) r.2 c.in-Some.item refl refl refl c.in-Some.ensures.items f.0)) in
     record {
       on = λ finite. (can, tt, given_fewer c.fill.new.self (record c.fill.new.self { ready = c.pop.new.self }) c.in-Some.item _ refl refl c.in-Some.ensures.items c.in_default.ensures.fewer);
       keeps = can;

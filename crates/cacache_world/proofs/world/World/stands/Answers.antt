@@ -5,9 +5,9 @@ use Rattle.cacache_world.proofs.world.World.stands.Goals as goal
 
 pub returns : goal.returns
 returns c = record {
-  headline = headline c.args.self.now c.begun-count.ensures.legal;
-  durable = histories_outlive c.args.self.now c.begun-count.ensures.legal;
+  headline = headline c.args.self.now c.calls_begun-count.ensures.legal;
+  durable = histories_outlive c.args.self.now c.calls_begun-count.ensures.legal;
   few =
-      let below = c.begun-count.type_inv in
-      subst (λ (n : ℕ). n ≤ 2 ^ 64) c.begun-count.ensures.count (omega arith);
+      let below = c.calls_begun-count.type_inv in
+      subst (λ (n : ℕ). n ≤ 2 ^ 64) c.calls_begun-count.ensures.count (omega arith);
 }

@@ -1,8 +1,0 @@
-use Rattle.std.proofs.Common.{◌≡◌, ℕ, List, false, take}
-use Rattle.std.specs.Prelude.{Ok}
-use Rattle.cacache_core.specs.PathNames.{names_of}
-use Rattle.cacache_history.specs.Setup.{is_among}
-use Rattle.cacache_world.proofs.names.is_among.Given as goal
-
-abbrev pub invariant-loop-file : goal.invariant-loop-file
-invariant-loop-file l = (text : List ℕ) → names_of text ≡ Ok l.path → is_among (take l.file-index l.files) text ≡ false
