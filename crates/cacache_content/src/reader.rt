@@ -105,12 +105,13 @@ impl<F: OpenedFile> SyncReader<F> {
         ensures base { env.new.base ≡ env.old.base }
     {
         let named = Text::from_str(env.alloc, key)?;
-        match call(env, cache, Command::Find(named), 0).looked_up()? {
-            Some(found) => open(env, cache, integrity_of(found)),
-            None => {
+        match call(env, cache, Command::Find(named), 0).looked_up() {
+            Ok(Some(found)) => open(env, cache, integrity_of(found)),
+            Ok(None) => {
                 let cache = Text::from_str(env.alloc, cache)?;
                 Err(Error::EntryNotFound(cache, Text::from_str(env.alloc, key)?))
             }
+            Err(error) => Err(error),
         }
     }
 

@@ -63,16 +63,17 @@ fn gives_good<S: Store>(
     let mut checker = IntegrityChecker::new(sri.clone()?);
     let mut file = file;
     'pieces: loop {
-        let got = match got_of(store.step(Step::Read(file, PIECE))) {
-            Ok(got) => got,
+        match got_of(store.step(Step::Read(file, PIECE))) {
+            Ok(got) => {
+                let Got { file: next, bytes } = got;
+                if bytes.is_empty() {
+                    return is_met(alloc, checker);
+                }
+                checker.input(bytes.as_slice());
+                file = next;
+            }
             Err(refusal) => return Err(refused(refusal, unread(alloc, cache, sri))),
-        };
-        let Got { file: next, bytes } = got;
-        if bytes.is_empty() {
-            return is_met(alloc, checker);
         }
-        checker.input(bytes.as_slice());
-        file = next;
     }
 }
 

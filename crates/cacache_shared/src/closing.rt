@@ -40,7 +40,10 @@ fn began_these<L: Ledger>(alloc: Global, later: &[Record], seat: &Seat<L>) -> bo
     ensures { IsTrue result → map said_command seat.now.commands
         ≡ map said_command (commands_of seat.now.caller later.now) }
 {
-    commands_agree(alloc, later, seat.caller(), seat.commands()).unwrap_or(false)
+    match commands_agree(alloc, later, seat.caller(), seat.commands()) {
+        Ok(agree) => agree,
+        Err(_) => false,
+    }
 }
 
 /// Whether the seat's replies are those that its caller was given in these records.
@@ -48,7 +51,10 @@ fn got_these<L: Ledger>(alloc: Global, later: &[Record], seat: &Seat<L>) -> bool
     ensures { IsTrue result → map said_reply seat.now.replies
         ≡ map said_reply (replies_of seat.now.caller later.now) }
 {
-    replies_agree(alloc, later, seat.caller(), seat.replies()).unwrap_or(false)
+    match replies_agree(alloc, later, seat.caller(), seat.replies()) {
+        Ok(agree) => agree,
+        Err(_) => false,
+    }
 }
 
 /// All parts of the seats in one share, which counts all their moves. None of no seats.

@@ -38,7 +38,10 @@ pub struct Ls<'a, S, C, N> {
 fn metadata_of(item: Result<Found, Error>) -> errors::Result<Metadata>
     ensures { item_view result ≡ plain_item item }
 {
-    Ok(item?.into_metadata())
+    match item {
+        Ok(found) => Ok(found.into_metadata()),
+        Err(error) => Err(error),
+    }
 }
 
 impl<'a, S: Store, C, N> Ls<'a, S, C, N> {
@@ -93,7 +96,10 @@ impl<'a, S: Store, C, N> Ls<'a, S, C, N> {
             return Err(Error::OutOfMemory);
         };
         let answer = self.env.store.step(step);
-        self.visit = self.walk.resume(self.env.alloc, visit, answer)?;
+        match self.walk.resume(self.env.alloc, visit, answer) {
+            Ok(next) => self.visit = next,
+            Err(error) => return Err(error),
+        }
         swap(&mut self.ready, &mut self.walk.items);
         self.ready.reverse();
         Ok(())
@@ -111,7 +117,10 @@ impl<'a, S: Store, C, N> Ls<'a, S, C, N> {
     {
         'visits: while self.ready.is_empty() {
             match self.visit.take() {
-                Some(visit) => self.go_on(visit)?,
+                Some(visit) => match self.go_on(visit) {
+                    Ok(()) => {}
+                    Err(error) => return Err(error),
+                },
                 None => return Ok(()),
             }
         }

@@ -57,7 +57,10 @@ pub(crate) fn plant_all(
     };
     let mut disk = disk;
     for i in 0..outside.len() {
-        plant(alloc, &mut disk, cache, &outside[..i], &outside[i])?;
+        match plant(alloc, &mut disk, cache, &outside[..i], &outside[i]) {
+            Ok(()) => {}
+            Err(fault) => return Err(fault),
+        }
     }
     Ok(disk)
 }

@@ -53,7 +53,10 @@ impl World {
         ensures until { IfErr result (λ fault. StopAt events.now self.old self.new fault) }
     {
         for event in events {
-            self.happen(event)?;
+            match self.happen(event) {
+                Ok(()) => {}
+                Err(fault) => return Err(fault),
+            }
         }
         Ok(())
     }

@@ -52,8 +52,14 @@ pub(crate) fn prepare(
     ensures why { IfErr result (λ fault. (callers : ℕ) → IsUnready (vec_len calls.now)
         calls.now.items caller (setup_of cache.now outside.now callers) command.now fault) }
 {
-    check_has_none(calls, caller)?;
-    admit(alloc, cache.as_str(), outside, command)?;
+    match check_has_none(calls, caller) {
+        Ok(()) => {}
+        Err(fault) => return Err(fault),
+    }
+    match admit(alloc, cache.as_str(), outside, command) {
+        Ok(()) => {}
+        Err(fault) => return Err(fault),
+    }
     if number == u64::MAX {
         return Err(WorldFault::OutOfMemory);
     }

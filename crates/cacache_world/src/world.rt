@@ -73,7 +73,10 @@ impl World {
         ensures apart { OnOk result (FilesAreApart cache outside.items) }
         ensures why { IfErr result (λ fault. CantOpen cache outside.items fault) }
     {
-        let disk = plant_all(alloc, cache.as_str(), outside.as_slice())?;
+        let disk = match plant_all(alloc, cache.as_str(), outside.as_slice()) {
+            Ok(disk) => disk,
+            Err(fault) => return Err(fault),
+        };
         let Ok(calls) = idle(alloc, callers) else {
             return Err(WorldFault::OutOfMemory);
         };
