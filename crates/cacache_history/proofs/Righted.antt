@@ -76,7 +76,7 @@ OwnRight folder (own_bytes bytes place) = (names : Names) → names_of place ≡
 OwnRight folder (own_link target) = Unit {0}
 
 -- the names of a content's path are those of its address alone
-one_address : (cache : List ℕ) (folder : Option Names) (g h : Hash) (names : Names) → IsHash g → IsHash h → names_below folder (content_names g) ≡ Ok names
+pub one_address : (cache : List ℕ) (folder : Option Names) (g h : Hash) (names : Names) → IsHash g → IsHash h → names_below folder (content_names g) ≡ Ok names
     → is_path_of folder (content_names h) names ≡ true → h ≡ g
 one_address cache None g h names p q e is = absurd cc
 one_address cache (Some folder) g h names p q e is =
