@@ -49,8 +49,8 @@ pub enum Named<'a> {
 
 /// The same as the source of a command.
 fn source_of(alloc: Global, named: Named<'_>) -> std::result::Result<Source, AllocError>
-    ensures source { IfOk result (λ source. source ≡ named_source named) }
-    ensures formed { IsFormed named }
+    ensures source { IfOk result (λ source. source ≡ named_source named.entry) }
+    ensures formed { IsFormed named.entry }
 {
     match named {
         Named::Key(key) => Ok(Source::Key(Text::from_str(alloc, key)?)),
@@ -69,11 +69,11 @@ pub fn copy_content<S: Store, C, N>(
     checked: bool,
     to: &str,
 ) -> Result<u64>
-    ensures formed { IsFormed named }
-    ensures verified { checked ≡ true → IfOk result (λ count. Verified cache.now (named_source named)
+    ensures formed { IsFormed named.entry }
+    ensures verified { checked ≡ true → IfOk result (λ count. Verified cache.now (named_source named.entry)
         (Copied count) (S.log env.old.store) (S.log env.new.store)) }
     ensures ran { Calls S.log env.old env.new cache.now
-        (exporting Copy checked (named_source named) to.now) (reply_of Copied result) }
+        (exporting Copy checked (named_source named.entry) to.now) (reply_of Copied result) }
 {
     let source = source_of(env.alloc, named)?;
     let to = Text::from_str(env.alloc, to)?;
@@ -92,11 +92,11 @@ pub fn link_content<S: Store, C, N>(
     to: &str,
 ) -> Result<()>
     requires { how ≢ Copy }
-    ensures formed { IsFormed named }
-    ensures verified { checked ≡ true → IfOk result (λ _. Verified cache.now (named_source named)
+    ensures formed { IsFormed named.entry }
+    ensures verified { checked ≡ true → IfOk result (λ _. Verified cache.now (named_source named.entry)
         Done (S.log env.old.store) (S.log env.new.store)) }
     ensures ran { Calls S.log env.old env.new cache.now
-        (exporting how checked (named_source named) to.now) (reply_of says_done result) }
+        (exporting how checked (named_source named.entry) to.now) (reply_of says_done result) }
 {
     let source = source_of(env.alloc, named)?;
     let to = Text::from_str(env.alloc, to)?;
