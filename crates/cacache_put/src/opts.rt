@@ -78,62 +78,69 @@ impl WriteOpts {
     }
 
     /// With the algorithm of the content's digest.
-    pub fn algorithm(mut self, algo: Algorithm) -> WriteOpts
-        ensures { result ≡ record self.entry { algorithm = algo } }
+    pub fn algorithm(self, algo: Algorithm) -> WriteOpts
+        ensures { result ≡ record self { algorithm = algo } }
     {
-        self.algorithm = algo;
-        self
+        let mut opts = self;
+        opts.algorithm = algo;
+        opts
     }
 
     /// With the size that the content is to have. An inserted entry has it as its own, and 0 without it; the entry of a
     /// content that was written has the count of its bytes.
-    pub fn size(mut self, size: usize) -> WriteOpts
-        ensures { result ≡ record self.entry { size = Some size } }
+    pub fn size(self, size: usize) -> WriteOpts
+        ensures { result ≡ record self { size = Some size } }
     {
-        self.size = Some(size);
-        self
+        let mut opts = self;
+        opts.size = Some(size);
+        opts
     }
 
     /// With any data for the entry.
-    pub fn metadata(mut self, metadata: Value) -> WriteOpts
-        ensures { result ≡ record self.entry { metadata = view metadata } }
+    pub fn metadata(self, metadata: Value) -> WriteOpts
+        ensures { result ≡ record self { metadata = view metadata } }
     {
-        self.metadata = Json::new(metadata);
-        self
+        let mut opts = self;
+        opts.metadata = Json::new(metadata);
+        opts
     }
 
     /// With any bytes for the entry.
-    pub fn raw_metadata(mut self, metadata: Vec<u8>) -> WriteOpts
-        ensures { result ≡ record self.entry { raw_metadata = Some metadata.items } }
+    pub fn raw_metadata(self, metadata: Vec<u8>) -> WriteOpts
+        ensures { result ≡ record self { raw_metadata = Some metadata.items } }
     {
-        self.raw_metadata = Some(metadata);
-        self
+        let mut opts = self;
+        opts.raw_metadata = Some(metadata);
+        opts
     }
 
     /// Whether the commit, or the insertion, waits until a loss of power would leave it whole: it syncs the content, the
     /// bucket and the folders that lead to them, and answers only then. Linkers ignore it. Blank options say no.
-    pub fn durable(mut self, yes: bool) -> WriteOpts
-        ensures { result ≡ record self.entry { durable = yes } }
+    pub fn durable(self, yes: bool) -> WriteOpts
+        ensures { result ≡ record self { durable = yes } }
     {
-        self.durable = yes;
-        self
+        let mut opts = self;
+        opts.durable = yes;
+        opts
     }
 
     /// With the entry's time, in milliseconds since 1970, in place of the clock's.
-    pub fn time(mut self, time: u128) -> WriteOpts
-        ensures { result ≡ record self.entry { time = Some time } }
+    pub fn time(self, time: u128) -> WriteOpts
+        ensures { result ≡ record self { time = Some time } }
     {
-        self.time = Some(time);
-        self
+        let mut opts = self;
+        opts.time = Some(time);
+        opts
     }
 
     /// With the integrity that the content is to meet. An inserted entry has it as its own, and is a tombstone without
     /// it.
-    pub fn integrity(mut self, sri: Integrity) -> WriteOpts
-        ensures { result ≡ record self.entry { integrity = Some sri } }
+    pub fn integrity(self, sri: Integrity) -> WriteOpts
+        ensures { result ≡ record self { integrity = Some sri } }
     {
-        self.integrity = Some(sri);
-        self
+        let mut opts = self;
+        opts.integrity = Some(sri);
+        opts
     }
 
     /// The time that was set, in milliseconds since 1970.
