@@ -70,7 +70,7 @@ cause_later own xs ys (replies.Refused (IoError fault message)) none (inr h) = i
 cause_later own xs ys other none h = tt
 
 -- what is known of a commit: all steps of its writer are a run of a put, and its own steps answer as a put does
-record Ended (cache : List ℕ) (p : Put) (number : ℕ) (r : Reply) (old new : List LogItem) : Type 0 where
+pub record Ended (cache : List ℕ) (p : Put) (number : ℕ) (r : Reply) (old new : List LogItem) : Type 0 where
   pub whole : Moves
   pub run : Runs (opening (call_site (setup_at cache []) number) (commands.Put p)) whole r
   pub moves : Moves
@@ -108,7 +108,7 @@ module _ (cache : List ℕ) (p : Put) (number : ℕ) (may : (key : List ℕ) →
       (parts_go_on s started (opening (call_site s number) (commands.Put p)) (write_rest (put_commit cache p) (made_temp (temp_path cache number)) p.data) (tree_of o.old) opened_by tt way o.sound
       (refl, tt, (refl, refl, refl)) lead.0).0
 
-  ended : (r : Reply) (old new : List LogItem) → IsCache cache old → CommitsBytes cache p number r old new → Ended cache p number r old new
+  pub ended : (r : Reply) (old new : List LogItem) → IsCache cache old → CommitsBytes cache p number r old new → Ended cache p number r old new
   ended r old new sound c =
       let s = setup_at cache [] in
       let w = writes_are_parts s opened (put_commit cache p) (made_temp (temp_path cache number)) c.file p.data (tree_of old) is_opened sound refl c.path_is c.bytes_are in

@@ -21,9 +21,9 @@ use Rattle.cacache_sequence.proofs.Known.{known}
 use Rattle.cacache_sequence.proofs.ExportEffects.{exports_apart}
 
 module _ (cache base bytes to : List ℕ) (i : List Hash) (old : List LogItem) (has : HasContent cache i bytes old) where
-  counted : (moves : Moves) (n : ℕ) → VerifiesHeld (setup_at cache base) i (turns_on (tree_of old) moves) (replies.Copied n) → n ≡ length bytes
-  counted [] n h = absurd cc
-  counted (m ∷ moves) n h =
+  pub counts_held : (moves : Moves) (n : ℕ) → VerifiesHeld (setup_at cache base) i (turns_on (tree_of old) moves) (replies.Copied n) → n ≡ length bytes
+  counts_held [] n h = absurd cc
+  counts_held (m ∷ moves) n h =
       let first : turn_of (tree_of old) Plain m ≡ h.0 = cc in
       let same : Ok bytes ≡ Ok h.4
       = ap (blob_bytes (tree_of old)) (sym has.content) ∙ ap (λ (turn : Turn). blob_bytes turn.place (content_at (setup_at cache base) i turn)) first ∙ h.5 in
@@ -32,7 +32,7 @@ module _ (cache base bytes to : List ℕ) (i : List Hash) (old : List LogItem) (
 
   counts : (moves : Moves) (r : Reply) → (r ≡ replies.Refused OutOfMemory) ⊎ ReadsValue (setup_at cache base) (copy_of i to) (turns_on (tree_of old) moves) (plain_reply r) → CountsAs bytes r
   counts moves (replies.Copied n) (inl e) = absurd cc
-  counts moves (replies.Copied n) (inr h) = counted moves n h
+  counts moves (replies.Copied n) (inr h) = counts_held moves n h
   counts moves other reads = tt
 
 pub copies_count : CopiesCount

@@ -10,7 +10,6 @@ use Rattle.cacache_disk.specs.declared.luck.Luck.TheVariants.{Plain}
 use Rattle.cacache_disk.specs.Tree.{Tree, bare}
 use Rattle.cacache_disk.specs.Apply.{apply}
 use Rattle.cacache_memory.specs.Replay.{replay, tree_of}
-use Rattle.cacache_table.specs.declared.command.Command.{Command}
 use Rattle.cacache_table.specs.declared.reply.Reply.{Reply}
 use Rattle.cacache_table.specs.Runs.{Moves, Runs}
 use Rattle.cacache_table.specs.State.{State, Site}
@@ -20,8 +19,7 @@ use Rattle.cacache_history.specs.Setup.{Setup, home}
 use Rattle.cacache_history.specs.Turns.{EachTurn}
 use Rattle.cacache_history.proofs.Holding.{TurnsHold}
 use Rattle.cacache_sequence.specs.Sequence.{tree_on, turns_on, AreAnswered, IsSound}
-use Rattle.cacache_sequence.specs.Caches.{Called}
-use Rattle.cacache_sequence.specs.Looks.{OnlyLooks, LooksKeep}
+use Rattle.cacache_sequence.specs.Looks.{LooksKeep, LooksLeave}
 use Rattle.cacache_sequence.proofs.ReadsStay.{reading_keeps, listing_keeps, asking_keeps, opening_keeps, piece_keeps, sizing_keeps}
 use Rattle.cacache_sequence.proofs.Logs.{some_same}
 use Rattle.cacache_sequence.proofs.Replays.{replay_more, moves_lead}
@@ -57,7 +55,7 @@ run_turns x t s (m ∷ moves) r sound may run answered = (
   run_turns x (apply t m.0 Plain).1 (after s m.1) moves r (subst (IsSound (home x)) (sym (step_leaves t m.0 may.0)) sound) may.1 run.2 answered.1,
 )
 
-pub tree_stays : (cache : List ℕ) (command : Command) (r : Reply) (old new : List LogItem) → OnlyLooks command → Called cache command r old new → tree_of new ≡ tree_of old
+pub tree_stays : LooksLeave
 unfolding tree_of
 tree_stays cache command r old new looks c =
     let site : Site = record { cache = cache; base = c.base; number = c.number } in

@@ -45,9 +45,14 @@ new_blob : (b : Bool) (blob old : Option Blob) → b ≡ true → cond b blob ol
 new_blob true blob old e = refl
 new_blob false blob old e = absurd cc
 
+-- deeds are done one after another
+pub first_deed : (folder : Option Names) (d : Deed) (more : List Deed) (w : Value) → after_deeds folder (d ∷ more) w ≡ after_deeds folder more (after_deeds folder (d ∷ []) w)
+first_deed folder (does act) more w = refl
+first_deed folder (finds path) more w = refl
+
 module _ (s : Setup) where
   -- an entry that is added
-  adds_entry : (i : Insertion) (d : Deed) (v : Value) → i.cache ≡ s.cache → IsAdded i d
+  pub adds_entry : (i : Insertion) (d : Deed) (v : Value) → i.cache ≡ s.cache → IsAdded i d
       → list_of ((after_deeds (home s) (d ∷ []) v).buckets (sha1 i.entry.key)) ≡ list_of (v.buckets (sha1 i.entry.key)) ++ i.entry ∷ []
   adds_entry i (finds path) v here is = absurd is
   adds_entry i (does act) v here is =
@@ -61,12 +66,12 @@ module _ (s : Setup) where
   keeps_blob i (does act) v a is = ap (λ x. (change (home s) x v).contents a) is.2
 
   -- a content that is put, or was there already
-  keeps_entries : (c : Commit) (bytes : List ℕ) (d : Deed) (v : Value) (digest : List ℕ) → PutsContent c (λ names. PutBytes names bytes) d
+  pub keeps_entries : (c : Commit) (bytes : List ℕ) (d : Deed) (v : Value) (digest : List ℕ) → PutsContent c (λ names. PutBytes names bytes) d
       → (after_deeds (home s) (d ∷ []) v).buckets digest ≡ v.buckets digest
   keeps_entries c bytes (finds path) v digest is = refl
   keeps_entries c bytes (does act) v digest is = ap (λ x. (change (home s) x v).buckets digest) is.2
 
-  puts_blob : (c : Commit) (bytes : List ℕ) (a : Hash) (d : Deed) (more ds : List Deed) (v : Value) → c.cache ≡ s.cache → c.computed ≡ a ∷ [] → IsHash a
+  pub puts_blob : (c : Commit) (bytes : List ℕ) (a : Hash) (d : Deed) (more ds : List Deed) (v : Value) → c.cache ≡ s.cache → c.computed ≡ a ∷ [] → IsHash a
       → ((path : List ℕ) (more : List Deed) → ds ≡ finds path ∷ more → path ≡ content_path c.cache c.computed → v.contents a ≡ Some (InFile bytes)) → ds ≡ d ∷ more
       → PutsContent c (λ names. PutBytes names bytes) d → (after_deeds (home s) (d ∷ []) v).contents a ≡ Some (InFile bytes)
   puts_blob c bytes a (finds path) more ds v here of hash found e is = found path more e is
@@ -89,10 +94,6 @@ module _ (s : Setup) where
         ∙ ap (λ ds. list_of ((after_deeds (home s) ds (value_of_tree (home s) t)).buckets (sha1 i.entry.key))) e.2
         ∙ adds_entry i e.0 (value_of_tree (home s) t) here e.1
 
-    first : (d : Deed) (more : List Deed) (w : Value) → after_deeds (home s) (d ∷ more) w ≡ after_deeds (home s) more (after_deeds (home s) (d ∷ []) w)
-    first (does act) more w = refl
-    first (finds path) more w = refl
-
     -- a put that is done, where a content that it finds has its bytes
     pub stores : (p : Put) (key : List ℕ) (r : Reply)
         → ((path : List ℕ) (more : List Deed) → ds ≡ finds path ∷ more → path ≡ content_path s.cache (own_hash p ∷ []) → (value_of_tree (home s) t).contents (own_hash p) ≡ Some (InFile p.data))
@@ -104,7 +105,7 @@ module _ (s : Setup) where
         let v = value_of_tree (home s) t in
         let e = entry_after (insertion_of (put_commit s.cache p) key) h.1 r (subst (λ k. AddsAfter (put_commit s.cache p) k h.1 (Some r)) is h.4) ok in
         let all : ds ≡ h.0 ∷ e.0 ∷ [] = h.3 ∙ ap (λ more. h.0 ∷ more) e.2 in
-        let two : (w : Value) → after_deeds (home s) (h.0 ∷ e.0 ∷ []) w ≡ after_deeds (home s) (e.0 ∷ []) (after_deeds (home s) (h.0 ∷ []) w) = λ w. first h.0 (e.0 ∷ []) w in
+        let two : (w : Value) → after_deeds (home s) (h.0 ∷ e.0 ∷ []) w ≡ after_deeds (home s) (e.0 ∷ []) (after_deeds (home s) (h.0 ∷ []) w) = λ w. first_deed (home s) h.0 (e.0 ∷ []) w in
         record {
           entries =
               follows.lists (sha1 key)

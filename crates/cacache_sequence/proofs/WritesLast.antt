@@ -45,7 +45,7 @@ own_ordered Sha256 d = refl
 own_ordered Sha384 d = refl
 own_ordered Sha512 d = refl
 
-own_integrity : (a : Algorithm) (bytes : List ℕ) → IsIntegrity (integrity_under a bytes)
+pub own_integrity : (a : Algorithm) (bytes : List ℕ) → IsIntegrity (integrity_under a bytes)
 own_integrity a bytes = record {
   nonempty = omega arith;
   ordered = own_ordered a (digest a bytes);

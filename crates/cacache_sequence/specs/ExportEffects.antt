@@ -1,19 +1,21 @@
 -- What an export leaves of a cache in a store in memory, and what a checked copy answers.
-use Rattle.std.specs.Prelude.{ℕ, List, true}
+use Rattle.std.specs.Prelude.{◌≡◌, ℕ, Bool, true, List, Some, length}
 use Rattle.cacache_core.specs.declared.integrity.digest.Hash.{Hash}
 use Rattle.cacache_core.specs.PathNames.{home_of}
 use Rattle.cacache_store.specs.declared.store.log.LogItem.{LogItem}
+use Rattle.cacache_memory.specs.Replay.{shown, tree_of}
 use Rattle.cacache_table.specs.declared.command.Command.{Command}
 use Rattle.cacache_table.specs.declared.command.Command.TheVariants as commands
 use Rattle.cacache_table.specs.declared.command.Export.{Export}
 use Rattle.cacache_table.specs.declared.command.How.TheVariants.{Copy}
 use Rattle.cacache_table.specs.declared.command.Source.{Source}
-use Rattle.cacache_table.specs.declared.command.Source.TheVariants.{Hash as OfHash}
+use Rattle.cacache_table.specs.declared.command.Source.TheVariants.{Hash as OfHash, Key as OfKey}
 use Rattle.cacache_table.specs.declared.reply.Reply.{Reply}
+use Rattle.cacache_table.specs.declared.reply.Reply.TheVariants.{Copied}
 use Rattle.cacache_table.specs.Verifying.{CountsAs}
 use Rattle.cacache_value.specs.Kinds.{Elsewhere, IsFor}
 use Rattle.cacache_history.specs.History.{NamesIntegrity}
-use Rattle.cacache_sequence.specs.Caches.{IsCache, HasContent, Called}
+use Rattle.cacache_sequence.specs.Caches.{IsCache, HasContent, HasKey, Called}
 use Rattle.cacache_sequence.specs.Keeping.{StaysKnown}
 
 -- the path is apart from the cache: neither lies in the other
@@ -39,3 +41,21 @@ CopiesCount =
     → IsApart cache to → IsCache cache old → HasContent cache i bytes old
     → Called cache (copy_of i to) r old new
     → CountsAs bytes r
+
+-- a copy of what the source names goes to the path, verified first or not
+abbrev pub copy_from : Source → Bool → List ℕ → Command
+copy_from source checked to =
+    commands.Export source (record { how = Copy; checked = checked; to = to })
+
+-- the source leads to these bytes
+abbrev pub NamesBytes : List ℕ → Source → List ℕ → List LogItem → Type 0
+NamesBytes cache (OfHash i) bytes log = HasContent cache i bytes log
+NamesBytes cache (OfKey key) bytes log = (i : List Hash) × HasKey cache key i bytes log
+
+-- after a copy that answered a count the bytes stand where the path leads, and the count is theirs
+abbrev pub CopiesArrive : Type 0
+CopiesArrive =
+    (cache bytes to : List ℕ) (source : Source) (checked : Bool) (n : ℕ) (old new : List LogItem)
+    → IsApart cache to → IsCache cache old → NamesBytes cache source bytes old
+    → Called cache (copy_from source checked to) (Copied n) old new
+    → (shown (tree_of new) to ≡ Some bytes) × (n ≡ length bytes)

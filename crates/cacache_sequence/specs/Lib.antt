@@ -7,7 +7,10 @@ pub mod Looks
 pub mod ListedKeys
 pub mod InParts
 pub mod Keeping
+pub mod Beside
 pub mod Inserts
+pub mod Removed
 pub mod OpenWriters
+pub mod Puts
 pub mod OpenReaders
 pub mod ExportEffects

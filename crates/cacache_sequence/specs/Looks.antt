@@ -1,19 +1,23 @@
 -- Calls that only look: what they leave, and what they answer in any cache.
-use Rattle.std.specs.Prelude.{◌≡◌, ℕ, false, List, Option, None}
-use Rattle.cacache_core.specs.declared.errors.Error.TheVariants.{OutOfMemory}
+use Rattle.std.specs.Prelude.{◌≡◌, ℕ, false, List, Option, None, Some, Result, Ok}
+use Rattle.cacache_core.specs.declared.errors.Error.TheVariants.{EntryNotFound, IoError, IntegrityError, OutOfMemory}
+use Rattle.cacache_core.specs.declared.errors.Fault.{Fault}
+use Rattle.cacache_core.specs.declared.errors.IntegrityFault.{IntegrityFault}
+use Rattle.cacache_core.specs.declared.errors.IntegrityFault.TheVariants.{Check}
 use Rattle.cacache_core.specs.declared.integrity.digest.Hash.{Hash}
-use Rattle.cacache_core.specs.Integrity.{IsIntegrity}
+use Rattle.cacache_core.specs.Integrity.{IsIntegrity, Meets, actual}
 use Rattle.cacache_core.specs.PathNames.{home_of}
 use Rattle.cacache_store.specs.declared.store.log.LogItem.{LogItem}
-use Rattle.cacache_memory.specs.Replay.{tree_of}
+use Rattle.cacache_memory.specs.Replay.{shown, tree_of}
 use Rattle.cacache_entry.specs.Latest.{Found}
 use Rattle.cacache_table.specs.declared.command.Command.{Command}
 use Rattle.cacache_table.specs.declared.command.Command.TheVariants as commands
 use Rattle.cacache_table.specs.Licence.{looking_on, KeepsTo}
 use Rattle.cacache_table.specs.declared.reply.Reply.{Reply}
-use Rattle.cacache_table.specs.declared.reply.Reply.TheVariants.{LookedUp, Exists, Refused}
-use Rattle.cacache_value.specs.Value.{value_of_tree}
-use Rattle.cacache_sequence.specs.Caches.{IsCache, lies_under, Called, IsExcused}
+use Rattle.cacache_table.specs.declared.reply.Reply.TheVariants.{LookedUp, Read, Exists, Refused}
+use Rattle.cacache_value.specs.Shows.{blob_bytes}
+use Rattle.cacache_value.specs.Value.{AtLink, value_of_tree}
+use Rattle.cacache_sequence.specs.Caches.{IsCache, LacksKey, lies_under, Called, IsExcused}
 use Rattle.cacache_sequence.specs.Keeping.{found_under, StaysKnown}
 
 -- ---- what they leave
@@ -32,6 +36,12 @@ abbrev pub LooksKeep : Type 0
 LooksKeep =
     (cache : List ℕ) (command : Command) (r : Reply) (old new : List LogItem)
     → OnlyLooks command → Called cache command r old new → HoldsSame cache old new
+
+-- it leaves all else in the store too: other caches, and files apart from them
+abbrev pub LooksLeave : Type 0
+LooksLeave =
+    (cache : List ℕ) (command : Command) (r : Reply) (old new : List LogItem)
+    → OnlyLooks command → Called cache command r old new → tree_of new ≡ tree_of old
 
 -- so it is where the cache holds what it held
 abbrev pub SameStaysKnown : Type 0
@@ -65,3 +75,60 @@ AsksAbsent =
     (cache : List ℕ) (i : List Hash) (r : Reply) (old new : List LogItem)
     → IsCache cache old → IsIntegrity i → lies_under cache i old ≡ None
     → Called cache (commands.Exists i) r old new → SaysAbsent r
+
+-- ---- what reads answer
+
+-- the bytes that lie under the integrity, or where a link there leads; or why there are none
+abbrev pub bytes_under : List ℕ → List Hash → List LogItem → Result (List ℕ) Fault
+bytes_under cache i log = blob_bytes (tree_of log) (lies_under cache i log)
+
+-- bytes lie there that don't meet the integrity, as the fault says
+abbrev pub IsDamaged : List ℕ → List Hash → IntegrityFault → List LogItem → Type 0
+IsDamaged cache i fault log =
+    (bytes : List ℕ) × (bytes_under cache i log ≡ Ok bytes) × (Meets i bytes → ⊥)
+    × (fault ≡ Check i (actual i bytes))
+
+-- the bytes that lie there, which meet the integrity; or that those which lie there don't. Any other error is
+-- excused: that nothing lies there too, since the step that reads it fails
+abbrev pub GivesHeld : List ℕ → List Hash → Reply → List LogItem → List LogItem → Type 0
+GivesHeld cache i (Read bytes) old new = (bytes_under cache i old ≡ Ok bytes) × Meets i bytes
+GivesHeld cache i (Refused (IntegrityError fault)) old new = IsDamaged cache i fault old
+GivesHeld cache i (Refused (IoError fault message)) old new =
+    IsExcused (IoError fault message) old new
+GivesHeld cache i (Refused OutOfMemory) old new = Unit {0}
+GivesHeld cache i r old new = ⊥
+
+-- so answers each read by integrity, whatever the cache holds
+abbrev pub ContentReadsGive : Type 0
+ContentReadsGive =
+    (cache : List ℕ) (i : List Hash) (r : Reply) (old new : List LogItem)
+    → IsIntegrity i → IsCache cache old → Called cache (commands.GetHash i) r old new
+    → GivesHeld cache i r old new
+
+-- what a read of the integrity gives that the key leads to
+abbrev pub GivesLed : List ℕ → List ℕ → Reply → List LogItem → List LogItem → Type 0
+GivesLed cache key r old new =
+    (found : Found) × (found_under cache key old ≡ Some found)
+    × GivesHeld cache found.integrity r old new
+
+-- that, or that the key leads to nothing
+abbrev pub GivesOfKey : List ℕ → List ℕ → Reply → List LogItem → List LogItem → Type 0
+GivesOfKey cache key (Refused (EntryNotFound c k)) old new =
+    (c ≡ cache) × (k ≡ key) × LacksKey cache key old
+GivesOfKey cache key (Refused (IoError fault message)) old new =
+    IsExcused (IoError fault message) old new
+GivesOfKey cache key (Refused OutOfMemory) old new = Unit {0}
+GivesOfKey cache key r old new = GivesLed cache key r old new
+
+-- so answers each read by key
+abbrev pub KeyReadsGive : Type 0
+KeyReadsGive =
+    (cache key : List ℕ) (r : Reply) (old new : List LogItem)
+    → IsCache cache old → Called cache (commands.Get key) r old new → GivesOfKey cache key r old new
+
+-- where a link lies, the bytes that are read are those that its target shows
+abbrev pub LinksShow : Type 0
+LinksShow =
+    (cache target bytes held : List ℕ) (i : List Hash) (log : List LogItem)
+    → lies_under cache i log ≡ Some (AtLink target) → shown (tree_of log) target ≡ Some held
+    → bytes_under cache i log ≡ Ok bytes → bytes ≡ held

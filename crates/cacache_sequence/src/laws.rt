@@ -6,11 +6,14 @@ ghost use Rattle.cacache_sequence.specs.Stored.{PutsStore, InsertsAdd, DeletesAd
 ghost use Rattle.cacache_sequence.specs.CallErrors.{CallsFailOnly};
 ghost use Rattle.cacache_sequence.specs.Caches.{FreshIsEmpty, CachesLast, WritesLast, ReadsKey, ReadsContent, FindsKey, AsksWhetherHeld, RemovalsLast, ReadsNone, ClearingsEmpty, PlantsLast, CallsGrow, GrowthsJoin, ExcusesLast};
 ghost use Rattle.cacache_sequence.specs.ListedKeys.{ListingsGive};
-ghost use Rattle.cacache_sequence.specs.Looks.{LooksKeep, SameStaysKnown, FindsFound, AsksAbsent};
-ghost use Rattle.cacache_sequence.specs.ExportEffects.{CopiesCount, ExportsKeep};
+ghost use Rattle.cacache_sequence.specs.Looks.{LooksKeep, LooksLeave, SameStaysKnown, FindsFound, AsksAbsent, KeyReadsGive, ContentReadsGive, LinksShow};
+ghost use Rattle.cacache_sequence.specs.ExportEffects.{CopiesArrive, CopiesCount, ExportsKeep};
 ghost use Rattle.cacache_sequence.specs.Inserts.{InsertsLast, PlainInsertsFit, KeysJoin, NoneLacks};
+ghost use Rattle.cacache_sequence.specs.Removed.{ContentsGo, KeysGo};
+ghost use Rattle.cacache_sequence.specs.Beside.{WritesKeep, PlainWritesFit, RemovalsKeep};
 ghost use Rattle.cacache_sequence.specs.InParts.{LogsLead, CallsBegin, PartsGoOn, LeftAreCases, PartsAnswer, ReadsAreParts, WritesAreParts};
 ghost use Rattle.cacache_sequence.specs.OpenWriters.{WritersOpen, CommitsLast, CommitsStore};
+ghost use Rattle.cacache_sequence.specs.Puts.{PutsLeave, PutsMayLead, CommitsLeave, CommitsKeep};
 ghost use Rattle.cacache_sequence.specs.OpenReaders.{ReadersOpen, ReadersOpenKey};
 
 use cacache_memory::MemStore;
@@ -38,18 +41,25 @@ pub fn sequence_laws()
 {}
 
 /// The same in words of somebody who uses a cache in a store in memory, call by call: what he wrote is
-/// there, what he removed isn't, and a call fails for a step of its own or for memory. Of the store that it is
+/// there, what he removed isn't, all else stays, and a call fails for a step of its own or for memory. Of the store that it is
 /// handed it says that its log is a disk's, which the laws ask of the log behind a call.
 pub fn cache_laws(store: &MemStore)
     ensures logged { IsLog store.now }
     ensures fresh { FreshIsEmpty }
     ensures last { CachesLast }
     ensures writes { WritesLast }
+    ensures writes_keep { WritesKeep }
+    ensures plain_writes { PlainWritesFit }
+    ensures stores { PutsLeave }
+    ensures may_lead { PutsMayLead }
     ensures reads { ReadsKey }
     ensures reads_content { ReadsContent }
     ensures finds { FindsKey }
     ensures asks { AsksWhetherHeld }
     ensures removes { RemovalsLast }
+    ensures removes_keep { RemovalsKeep }
+    ensures removes_content { ContentsGo }
+    ensures removes_fully { KeysGo }
     ensures reads_none { ReadsNone }
     ensures clears { ClearingsEmpty }
     ensures plants { PlantsLast }
@@ -58,6 +68,7 @@ pub fn cache_laws(store: &MemStore)
     ensures excuses { ExcusesLast }
     ensures exports { ExportsKeep }
     ensures copies_count { CopiesCount }
+    ensures copies_arrive { CopiesArrive }
     ensures inserts { InsertsLast }
     ensures plain_inserts { PlainInsertsFit }
     ensures joins_keys { KeysJoin }
@@ -67,23 +78,29 @@ pub fn cache_laws(store: &MemStore)
 }
 
 /// The same of calls that only look: they leave what the cache holds, so that all that was known of it
-/// stays; and they find nothing where nothing is. A listing answers entries that keys lead to, no key
+/// stays; they find nothing where nothing is, and a read answers by what lies there, whole or damaged. A listing answers entries that keys lead to, no key
 /// twice, and all of them unless one of its items is an error.
 pub fn look_laws()
     ensures keeps { LooksKeep }
+    ensures leaves { LooksLeave }
     ensures known { SameStaysKnown }
     ensures finds { FindsFound }
+    ensures reads { KeyReadsGive }
+    ensures reads_content { ContentReadsGive }
+    ensures linked { LinksShow }
     ensures asks_absent { AsksAbsent }
     ensures lists { ListingsGive }
 {}
 
 /// What handles do to a cache in a store in memory, in words of their user. A writer opens and commits later, and in
 /// between any calls may be made that leave a cache: after a commit that stored, the key leads to the bytes that the writer
-/// took. A reader has the bytes to give that lay in the cache when it opened, whatever becomes of the content since.
+/// took, and whatever it answers, all else stays. A reader has the bytes to give that lay in the cache when it opened, whatever becomes of the content since.
 pub fn handle_laws()
     ensures opens { WritersOpen }
     ensures commits { CommitsLast }
     ensures stores { CommitsStore }
+    ensures leaves { CommitsLeave }
+    ensures commits_keep { CommitsKeep }
     ensures reads { ReadersOpen }
     ensures reads_key { ReadersOpenKey }
 {}

@@ -5,7 +5,8 @@
 //! |---|---|
 //! | `Sequence`, `ReadAnswers`, `Stored`, `CallErrors` | calls on a tree: what each leaves, answers, stores, and why it fails |
 //! | `Caches`, `Looks`, `ListedKeys`, `Inserts`, `ExportEffects` | the same in words of a cache's user: keys, contents, listings |
-//! | `InParts`, `Keeping` | a call in parts, with other calls in between |
+//! | `Keeping`, `Beside`, `Removed`, `Puts` | what each call leaves, and what it keeps |
+//! | `InParts` | a call in parts, with other calls in between |
 //! | `OpenWriters`, `OpenReaders` | open handles, by their parts |
 #![tactic(auto)]
 

@@ -9,6 +9,11 @@ use Rattle.cacache_sequence.proofs.PlantedFiles.{plants_last}
 use Rattle.cacache_sequence.proofs.Copying.{copies_count}
 use Rattle.cacache_sequence.proofs.ExportEffects.{exports_keep}
 use Rattle.cacache_sequence.proofs.Inserting.{inserts_last, plain_inserts_fit, keys_join, none_lacks}
+use Rattle.cacache_sequence.proofs.Beside.{writes_keep, plain_writes_fit, removals_keep}
+use Rattle.cacache_sequence.proofs.Removed.{contents_go}
+use Rattle.cacache_sequence.proofs.RemovedKeys.{keys_go}
+use Rattle.cacache_sequence.proofs.Puts.{puts_leave, puts_may_lead}
+use Rattle.cacache_sequence.proofs.Arriving.{copies_arrive}
 use Rattle.cacache_sequence.proofs.laws.cache_laws.Goals as goal
 
 pub returns-clause-fresh : goal.returns-clause-fresh
@@ -70,3 +75,27 @@ returns-clause-exports c = exports_keep
 
 pub returns-clause-copies_count : goal.returns-clause-copies_count
 returns-clause-copies_count c = copies_count
+
+pub returns-clause-writes_keep : goal.returns-clause-writes_keep
+returns-clause-writes_keep c = writes_keep
+
+pub returns-clause-plain_writes : goal.returns-clause-plain_writes
+returns-clause-plain_writes c = plain_writes_fit
+
+pub returns-clause-removes_keep : goal.returns-clause-removes_keep
+returns-clause-removes_keep c = removals_keep
+
+pub returns-clause-removes_content : goal.returns-clause-removes_content
+returns-clause-removes_content c = contents_go
+
+pub returns-clause-removes_fully : goal.returns-clause-removes_fully
+returns-clause-removes_fully c = keys_go
+
+pub returns-clause-stores : goal.returns-clause-stores
+returns-clause-stores c = puts_leave
+
+pub returns-clause-may_lead : goal.returns-clause-may_lead
+returns-clause-may_lead c = puts_may_lead
+
+pub returns-clause-copies_arrive : goal.returns-clause-copies_arrive
+returns-clause-copies_arrive c = copies_arrive

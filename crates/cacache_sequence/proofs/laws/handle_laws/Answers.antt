@@ -1,6 +1,7 @@
 use Rattle.cacache_sequence.proofs.OpenWriters.{writers_open}
 use Rattle.cacache_sequence.proofs.Committing.{commits_last, commits_store}
 use Rattle.cacache_sequence.proofs.OpenReaders.{readers_open, readers_open_key}
+use Rattle.cacache_sequence.proofs.Puts.{commits_leave, commits_keep}
 use Rattle.cacache_sequence.proofs.laws.handle_laws.Goals as goal
 
 pub returns-clause-opens : goal.returns-clause-opens
@@ -17,3 +18,9 @@ returns-clause-reads c = readers_open
 
 pub returns-clause-reads_key : goal.returns-clause-reads_key
 returns-clause-reads_key c = readers_open_key
+
+pub returns-clause-leaves : goal.returns-clause-leaves
+returns-clause-leaves c = commits_leave
+
+pub returns-clause-commits_keep : goal.returns-clause-commits_keep
+returns-clause-commits_keep c = commits_keep

@@ -1,7 +1,9 @@
-use Rattle.cacache_sequence.proofs.Looks.{looks_keep}
+use Rattle.cacache_sequence.proofs.Looks.{looks_keep, tree_stays}
 use Rattle.cacache_sequence.proofs.Looked.{same_stays_known, finds_found}
 use Rattle.cacache_sequence.proofs.AskedContents.{asks_absent}
 use Rattle.cacache_sequence.proofs.ListedKeys.{listings_give}
+use Rattle.cacache_sequence.proofs.GivenReads.{key_reads_give, content_reads_give}
+use Rattle.cacache_sequence.proofs.LinkedReads.{links_show}
 use Rattle.cacache_sequence.proofs.laws.look_laws.Goals as goal
 
 pub returns-clause-keeps : goal.returns-clause-keeps
@@ -18,3 +20,15 @@ returns-clause-asks_absent c = asks_absent
 
 pub returns-clause-lists : goal.returns-clause-lists
 returns-clause-lists c = listings_give
+
+pub returns-clause-leaves : goal.returns-clause-leaves
+returns-clause-leaves c = tree_stays
+
+pub returns-clause-reads : goal.returns-clause-reads
+returns-clause-reads c = key_reads_give
+
+pub returns-clause-reads_content : goal.returns-clause-reads_content
+returns-clause-reads_content c = content_reads_give
+
+pub returns-clause-linked : goal.returns-clause-linked
+returns-clause-linked c = links_show
