@@ -16,7 +16,7 @@ use std::alloc::{AllocError, Global};
 
 /// The key as a text of its own, if there is one.
 fn owned(alloc: Global, key: Option<&str>) -> std::result::Result<Option<Text>, AllocError>
-    ensures { IfOk result (λ owned. owned ≡ option_map (λ key. key.now) key) }
+    ensures { IfOk result (λ owned. owned ≡ option_map (λ key. key.now) key.entry) }
 {
     match key {
         Some(key) => Ok(Some(Text::from_str(alloc, key)?)),
