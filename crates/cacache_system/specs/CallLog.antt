@@ -1,0 +1,25 @@
+-- What a log of system calls gains.
+use Rattle.std.specs.Prelude.{◌≡◌, List, [], ◌∷◌, ◌++◌, Option, option_map, Result, Ok, Err}
+use Rattle.std_io.specs.declared.io.error.Error.{Error}
+use Rattle.std_io.specs.IoError.{error_kind}
+use Rattle.cacache_system.specs.declared.call.SystemCall.{SystemCall}
+use Rattle.cacache_system.specs.declared.call.CallResult.{CallResult}
+use Rattle.cacache_system.specs.declared.call.CallResult.TheVariants.{Failed}
+use Rattle.cacache_system.specs.declared.call.CallItem.{CallItem}
+
+-- what the system said, where a method gives this
+abbrev pub said : {A : Type 0} → (A → CallResult) → Result A Error → CallResult
+said say (Ok value) = say value
+said say (Err error) = Failed (error_kind error)
+
+-- a call and what the system said as an item of a log
+abbrev pub item : SystemCall → CallResult → CallItem
+item call result = record { call = call; result = result }
+
+-- a log that is kept gains just these items
+abbrev pub GainsCalls : Option (List CallItem) → Option (List CallItem) → List CallItem → Type 0
+GainsCalls old new items = new ≡ option_map (λ log. log ++ items) old
+
+-- a log that is kept gains this call and what the system said
+abbrev pub MakesCall : Option (List CallItem) → Option (List CallItem) → SystemCall → CallResult → Type 0
+MakesCall old new call result = GainsCalls old new (item call result ∷ [])

@@ -1,0 +1,205 @@
+-- The system calls of each kind of step as one table: the call that each stage wants, where what the system says takes it,
+-- and what the calls may end with.
+use Rattle.std.specs.Prelude.{◌≡◌, ◌⊎◌, ◌==◌, ◌&&◌, ◌||◌, not, ℕ, zero, suc, get_or, take, length, min, Bool, true, false, if◌then◌else◌, List, [], ◌∷◌, ◌++◌, Option, None, Some, option_map}
+use Rattle.std.specs.Bool.{nat_eq}
+use Rattle.std.specs.Cmp.Lexicographic.{pointwise}
+use Rattle.std_io.specs.declared.io.kind.ErrorKind.{ErrorKind}
+use Rattle.std_io.specs.declared.io.kind.ErrorKind.TheVariants as kind
+use Rattle.cacache_store.specs.declared.store.answer.Kind.TheVariants as kinds
+use Rattle.cacache_store.specs.declared.store.answer.Kind.{Kind}
+use Rattle.cacache_system.specs.declared.call.SystemCall.{SystemCall}
+use Rattle.cacache_system.specs.declared.call.SystemCall.TheVariants.{OpenToRead, OpenToAppend, Read, ReadRest, Write, Sync, StatFile, Stat, StatLink, MakeFolder, CopyFile}
+use Rattle.cacache_system.specs.declared.call.FileInfo.{FileInfo}
+use Rattle.cacache_system.specs.declared.call.CallResult.{CallResult}
+use Rattle.cacache_system.specs.declared.call.CallResult.TheVariants.{Done, Opened, Count, Bytes, Info, Failed}
+use Rattle.cacache_system.specs.declared.call.CallItem.{CallItem}
+use Rattle.cacache_system.specs.CallLog.{GainsCalls}
+
+-- what a file is opened for: to be handed out, to be synced, to be synced as a folder, or to be read whole
+pub data Purpose : Type 0 where
+  to_give : Purpose
+  to_sync : Purpose
+  to_sync_folder : Purpose
+  to_read : Purpose
+
+-- Where the calls of a step are. A truth value says whether a signal interrupted the call before; of a folder that is made,
+-- whether the one above it was made just now, and the list says which ones below it are to be made then.
+pub data Stage : Type 0 where
+  over : CallResult → Stage
+  only : SystemCall → Stage
+  trying : Bool → SystemCall → Stage
+  taking_memory : Stage → Stage
+  opening : Purpose → List ℕ → Stage
+  checking : Purpose → ℕ → Stage
+  reading_front : Bool → ℕ → ℕ → Stage
+  reading_rest : List ℕ → ℕ → Stage
+  appending : List ℕ → List ℕ → Stage
+  sizing : List ℕ → Stage
+  asking_source : List ℕ → List ℕ → Stage
+  asking_target : FileInfo → List ℕ → List ℕ → Stage
+  standing : List ℕ → Stage
+  making : Bool → List ℕ → List (List ℕ) → Stage
+  confirming : ErrorKind → List ℕ → List (List ℕ) → Stage
+  comparing : FileInfo → List ℕ → List (List ℕ) → SystemCall → Stage
+  descending : List ℕ → List (List ℕ) → SystemCall → Stage
+
+-- the call that a stage wants, and none where the step is over
+abbrev pub wants : Stage → Option SystemCall
+wants (over result) = None
+wants (only call) = Some call
+wants (trying again call) = Some call
+wants (taking_memory s) = wants s
+wants (opening purpose path) = Some (OpenToRead path)
+wants (checking purpose file) = Some (StatFile file)
+wants (reading_front again size file) = Some (Read file size)
+wants (reading_rest front file) = Some (ReadRest file)
+wants (appending path bytes) = Some (OpenToAppend path)
+wants (sizing path) = Some (Stat path)
+wants (asking_source from to) = Some (Stat from)
+wants (asking_target source from to) = Some (Stat to)
+wants (standing path) = Some (Stat path)
+wants (making again path todo) = Some (MakeFolder path)
+wants (confirming why path todo) = Some (Stat path)
+wants (comparing node path entered call) = Some (StatLink path)
+wants (descending path entered call) = Some (StatLink path)
+
+-- a signal interrupted the call
+abbrev pub interrupts : ErrorKind → Bool
+interrupts kind.Interrupted = true
+interrupts _ = false
+
+-- the same of what the system said
+abbrev pub was_interrupted : CallResult → Bool
+was_interrupted (Failed why) = interrupts why
+was_interrupted _ = false
+
+-- a folder is refused
+abbrev pub unless_folder : Kind → Stage → Stage
+unless_folder kinds.Folder s = over (Failed kind.IsADirectory)
+unless_folder other s = s
+
+-- what is no folder is refused with this error
+abbrev pub if_folder : Kind → ErrorKind → Stage → Stage
+if_folder kinds.Folder why s = s
+if_folder other why s = over (Failed why)
+
+-- a file that says it has no bytes is read to its end all the same
+abbrev pub read_whole : ℕ → ℕ → Stage
+read_whole size file =
+    if size == 0 then reading_rest [] file else reading_front false (min size 131072) file
+
+-- what is done with a file that was opened
+abbrev pub opened : Purpose → ℕ → FileInfo → Stage
+opened to_give file info = unless_folder info.kind (over (Opened file))
+opened to_sync file info = unless_folder info.kind (only (Sync file))
+opened to_sync_folder file info = if_folder info.kind kind.NotADirectory (only (Sync file))
+opened to_read file info = taking_memory (read_whole info.size file)
+
+-- both are of one file or folder: a system that gives no numbers tells none from another
+abbrev pub is_same_node : FileInfo → FileInfo → Bool
+is_same_node one other =
+    (not (one.inode == 0) && one.inode == other.inode) && one.device == other.device
+
+-- a file is copied, but not onto itself
+abbrev pub copied : FileInfo → FileInfo → List ℕ → List ℕ → Stage
+copied source target from to =
+    if source.regular && (pointwise nat_eq from to || is_same_node source target)
+    then over (Count source.size)
+    else only (CopyFile from to)
+
+-- nothing stands there
+abbrev pub is_absent : ErrorKind → Bool
+is_absent kind.NotFound = true
+is_absent _ = false
+
+-- where the last `/` of the first so many bytes is
+abbrev pub last_slash : List ℕ → ℕ → Option ℕ
+last_slash path zero = None
+last_slash path (suc n) = if get_or path n 0 == 47 then Some n else last_slash path n
+
+-- the path of the folder above: all that stands before the last `/`
+abbrev pub above_of : List ℕ → Option (List ℕ)
+above_of path = option_map (λ i. take i path) (last_slash path (length path))
+
+-- a folder stands, and those below it are made
+abbrev pub below : List (List ℕ) → Stage
+below [] = over Done
+below (path ∷ todo) = making true path todo
+
+-- the folder above is made first, if there is one
+abbrev pub climb : Option (List ℕ) → ErrorKind → List ℕ → List (List ℕ) → Stage
+climb None why path todo = over (Failed why)
+climb (Some above) why path todo = making false above (path ∷ todo)
+
+-- the folder above is missing
+abbrev pub unmade : Bool → ErrorKind → List ℕ → List (List ℕ) → Stage
+unmade true why path todo = over (Failed why)
+unmade false why path todo = climb (above_of path) why path todo
+
+-- the folders of a walk are looked at one by one before the removal
+abbrev pub descend : List (List ℕ) → SystemCall → Stage
+descend [] call = only call
+descend (path ∷ entered) call = descending path entered call
+
+-- where the last folder of a walk is the one that was listed, no other is looked at
+abbrev pub compared : Bool → Kind → List (List ℕ) → SystemCall → Stage
+compared true kinds.Folder entered call = only call
+compared same kind entered call = descend entered call
+
+-- where what the system says takes a stage. A failure ends the step, but for a signal's, a folder that may be made or
+-- stands after all, and a target that can't be asked for.
+abbrev pub after : Stage → CallResult → Stage
+after (trying again call) result =
+    if was_interrupted result then trying true call else over result
+after (taking_memory s) result = after s result
+after (opening purpose path) (Opened file) = checking purpose file
+after (checking purpose file) (Info info) = opened purpose file info
+after (reading_front again size file) (Bytes front) = reading_rest front file
+after (reading_front again size file) (Failed why) =
+    if interrupts why then reading_front true size file else over (Failed why)
+after (reading_rest front file) (Bytes rest) = taking_memory (over (Bytes (front ++ rest)))
+after (appending path bytes) (Opened file) = trying false (Write file bytes)
+after (sizing path) (Info info) = unless_folder info.kind (over (Info info))
+after (asking_source from to) (Info source) = asking_target source from to
+after (asking_target source from to) (Info target) = copied source target from to
+after (asking_target source from to) result = only (CopyFile from to)
+after (standing path) (Info info) = if_folder info.kind kind.AlreadyExists (over Done)
+after (standing path) (Failed why) =
+    if is_absent why then making false path [] else over (Failed why)
+after (making again path todo) Done = below todo
+after (making again path todo) (Failed why) =
+    if is_absent why then unmade again why path todo else confirming why path todo
+after (confirming why path todo) (Info info) = if_folder info.kind kind.AlreadyExists (below todo)
+after (confirming why path todo) (Failed other) =
+    over (Failed (if is_absent other then why else other))
+after (comparing node path entered call) (Info info) = compared (is_same_node info node) info.kind entered call
+after (descending path entered call) (Info info) =
+    if_folder info.kind kind.NotADirectory (descend entered call)
+after s result = over result
+
+-- What the calls may end with. A call that signals interrupt again and again may be given up, and memory may be refused
+-- where some is taken.
+abbrev pub Ends : Stage → CallResult → Type 0
+Ends (over result) end = result ≡ end
+Ends (trying true call) end = end ≡ Failed kind.Interrupted
+Ends (reading_front true size file) end = end ≡ Failed kind.Interrupted
+Ends (taking_memory s) end = (end ≡ Failed kind.OutOfMemory) ⊎ Ends s end
+Ends s end = ⊥
+
+-- the calls are a run from this stage with this end
+abbrev pub Runs : Stage → List CallItem → CallResult → Type 0
+Runs s [] end = Ends s end
+Runs s (item ∷ items) end = (wants s ≡ Some item.call) × Runs (after s item.result) items end
+
+-- the calls take the first stage to the second
+abbrev pub Goes : Stage → List CallItem → Stage → Type 0
+Goes s [] t = s ≡ t
+Goes s (item ∷ items) t = (wants s ≡ Some item.call) × Goes (after s item.result) items t
+
+-- the log gained a run from this stage with this end
+abbrev pub RunLogged : Stage → CallResult → Option (List CallItem) → Option (List CallItem) → Type 0
+RunLogged s end old new = (items : List CallItem) × Runs s items end × GainsCalls old new items
+
+-- the log gained calls from the first stage to the second
+abbrev pub CallsLogged : Stage → Stage → Option (List CallItem) → Option (List CallItem) → Type 0
+CallsLogged s t old new = (items : List CallItem) × Goes s items t × GainsCalls old new items

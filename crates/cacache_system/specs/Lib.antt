@@ -1,0 +1,4 @@
+pub mod CallLog
+pub mod Seen
+pub mod CallsOf
+pub mod AnswersOf

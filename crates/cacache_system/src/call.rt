@@ -1,0 +1,89 @@
+//! Calls to the system, and what it says.
+use cacache_core::bytes::Bytes;
+use cacache_core::text::Text;
+use cacache_store::store::Kind;
+use std::io::ErrorKind;
+
+/// What the system is asked. An open file goes by its number.
+#[derive(Drop)]
+pub enum SystemCall {
+    /// Opens a file to read it, or a folder to sync it.
+    OpenToRead(Text),
+    /// Makes a file with this mode where nothing stands, and opens it to write it.
+    CreateNew(Text, u32),
+    /// Opens a file so that each write goes to its end. A missing one is made.
+    OpenToAppend(Text),
+    /// Opens a folder to list it. A link isn't followed, unless the path ends in a `/`.
+    OpenFolder(Text),
+    /// Reads at most so many bytes.
+    Read(u64, usize),
+    /// Reads all that is left, in as many reads as that takes.
+    ReadRest(u64),
+    /// Writes some of the bytes.
+    Write(u64, Bytes),
+    /// Reads at most so many bytes of names, each ended by a NUL.
+    ReadNames(u64, usize),
+    /// Waits until the file or folder would outlast a loss of power.
+    Sync(u64),
+    /// Asks what the open file is.
+    StatFile(u64),
+    /// Asks what a path leads to.
+    Stat(Text),
+    /// Asks what stands at a path, be it a link.
+    StatLink(Text),
+    /// Moves what stands at the first path to the second.
+    Rename(Text, Text),
+    /// Makes one folder.
+    MakeFolder(Text),
+    /// Removes a file or a link.
+    RemoveFile(Text),
+    /// Removes an empty folder.
+    RemoveFolder(Text),
+    /// Makes a symbolic link: first its target, then its path.
+    Symlink(Text, Text),
+    /// Gives the file at the first path a second name.
+    HardLink(Text, Text),
+    /// Copies the file at the first path to the second.
+    CopyFile(Text, Text),
+}
+
+/// What the system says of a file or folder.
+#[derive(Clone, Copy)]
+pub struct FileInfo {
+    /// What kind of thing it is. All but folders and links count as files.
+    pub kind: Kind,
+    /// Whether it is a regular file.
+    pub regular: bool,
+    /// Its size in bytes.
+    pub size: u64,
+    /// Its number on its device.
+    pub inode: u64,
+    /// The number of its device.
+    pub device: u64,
+}
+
+/// What the system says to a call.
+#[derive(Drop)]
+pub enum CallResult {
+    /// It is done.
+    Done,
+    /// The number of the file that was opened.
+    Opened(u64),
+    /// How many bytes were written or copied.
+    Count(u64),
+    /// The bytes that were read.
+    Bytes(Bytes),
+    /// What was asked for.
+    Info(FileInfo),
+    /// It failed, with an error of this kind.
+    Failed(ErrorKind),
+}
+
+/// A call, and what the system said.
+#[derive(Drop)]
+pub struct CallItem {
+    /// The call.
+    pub call: SystemCall,
+    /// What the system said.
+    pub result: CallResult,
+}

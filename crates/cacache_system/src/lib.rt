@@ -1,0 +1,10 @@
+//! The system calls that a store of real folders makes: one method a call, with a log of them.
+#![tactic(auto)]
+
+mod call;
+mod host;
+mod system;
+
+pub use call::{CallItem, CallResult, FileInfo, SystemCall};
+pub use host::Host;
+pub use system::System;
