@@ -16,7 +16,8 @@ use Rattle.cacache_system.specs.Seen.{NumberedFile, NumberedTemp, NumberedStep, 
 use Rattle.cacache_system.specs.CallsOf.{Stage, over, only, trying, taking_memory, opening, to_give, to_sync, to_sync_folder, to_read, appending, sizing, asking_source, standing, making, comparing, RunLogged}
 
 -- What a store remembers of its steps chooses no more than how the calls of a step begin: nothing that matters, that the
--- folder is guessed to be missing, or the folders of a walk, which are looked at before a removal.
+-- folder is guessed to be missing, or a walk whose folders are looked at before a removal. It has what the last of them
+-- was, its path, and the paths of those between the first and the last.
 pub data Hint : Type 0 where
   no_hint : Hint
   is_missing : Hint
@@ -116,11 +117,15 @@ answer_of (steps.SyncTemp t) Done = answers.Synced t
 answer_of step Done = answers.Done
 answer_of step result = answers.Failed Device
 
--- A log that is kept gained a run of the step's calls, and the answer is that run's. What a listing (`ReadDir`) calls and
--- answers is the one kind of which nothing is said.
+-- a log that is kept gained a run of the step's calls, and the answer is that run's
+abbrev pub RunAnswers : NumberedStep → NumberedAnswer → Option (List CallItem)
+    → Option (List CallItem) → Type 0
+RunAnswers step answer old new =
+    (hint : Hint) × (end : CallResult) × RunLogged (first hint step) end old new
+    × (answer ≡ answer_of step end)
+
+-- the same of all kinds of step but one: of what a listing (`ReadDir`) calls and answers nothing is said
 abbrev pub StepRuns : NumberedStep → NumberedAnswer → Option (List CallItem)
     → Option (List CallItem) → Type 0
 StepRuns (steps.ReadDir p) answer old new = Unit {0}
-StepRuns step answer old new =
-    (hint : Hint) × (end : CallResult) × RunLogged (first hint step) end old new
-    × (answer ≡ answer_of step end)
+StepRuns step answer old new = RunAnswers step answer old new

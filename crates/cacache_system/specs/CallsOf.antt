@@ -136,12 +136,12 @@ abbrev pub unmade : Bool → ErrorKind → List ℕ → List (List ℕ) → Stag
 unmade true why path todo = over (Failed why)
 unmade false why path todo = climb (above_of path) why path todo
 
--- the folders of a walk are looked at one by one before the removal
+-- the folders of a walk are looked at one by one before a removal
 abbrev pub descend : List (List ℕ) → SystemCall → Stage
 descend [] call = only call
 descend (path ∷ entered) call = descending path entered call
 
--- where the last folder of a walk is the one that was listed, no other is looked at
+-- where the last folder of a walk is the one that was listed, no other is looked at, nor it again
 abbrev pub compared : Bool → Kind → List (List ℕ) → SystemCall → Stage
 compared true kinds.Folder entered call = only call
 compared same kind entered call = descend entered call
@@ -172,7 +172,8 @@ after (making again path todo) (Failed why) =
 after (confirming why path todo) (Info info) = if_folder info.kind kind.AlreadyExists (below todo)
 after (confirming why path todo) (Failed other) =
     over (Failed (if is_absent other then why else other))
-after (comparing node path entered call) (Info info) = compared (is_same_node info node) info.kind entered call
+after (comparing node path entered call) (Info info) = 
+    compared (is_same_node info node) info.kind (entered ++ path ∷ []) call
 after (descending path entered call) (Info info) =
     if_folder info.kind kind.NotADirectory (descend entered call)
 after s result = over result
