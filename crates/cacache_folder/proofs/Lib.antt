@@ -1,2 +1,10 @@
 mod FolderNames
 pub mod Escapes
+pub mod CallRuns
+pub mod MakingFolders
+pub mod Slashes
+pub mod Looking
+pub mod Answering
+pub mod Copying
+pub mod Reading
+pub mod ByPath

@@ -3,12 +3,12 @@ use Rattle.std.specs.Prelude.{None}
 use Rattle.cacache_store.specs.declared.store.plain.PlainFile.{PlainFile}
 use Rattle.cacache_store.specs.declared.store.plain.PlainTemp.{PlainTemp}
 use Rattle.cacache_folder.specs.declared.folder.opened.FolderFile.{FolderFile}
-use Rattle.cacache_folder.specs.declared.folder.temp.FolderTemp.{FolderTemp}
+use Rattle.cacache_folder.specs.declared.folder.temp.SystemTemp.{SystemTemp}
 
 -- an open file
 abbrev pub seen_file : {F : Type 0} → FolderFile F → PlainFile
 seen_file f = record { left = f.left; bytes = None }
 
 -- a temporary file
-abbrev pub seen_temp : {R F D : Type 0} → FolderTemp R F D → PlainTemp
+abbrev pub seen_temp : {Y F D : Type 0} → SystemTemp Y F D → PlainTemp
 seen_temp t = record { path = t.path; bytes = None }

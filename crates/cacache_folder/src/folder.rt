@@ -1,13 +1,18 @@
 //! Real folders as a store.
-ghost use Rattle.std.specs.Prelude.{◌≡◌, false, None, IfOk};
+ghost use Rattle.std.specs.Prelude.{◌≡◌, true, false, None, IfOk};
+ghost use Rattle.cacache_store.specs.declared.store.step.Step.TheVariants as steps;
+ghost use Rattle.cacache_store.specs.declared.store.answer.Answer.TheVariants as answers;
 ghost use Rattle.cacache_store.specs.Plain.{plain_step, plain_answer};
 ghost use Rattle.cacache_store.specs.Fits.{Fits, is_no_memory};
+ghost use Rattle.cacache_system.specs.AnswersOf.{StepRuns};
 ghost use Rattle.cacache_folder.specs.FolderHandles.{seen_file, seen_temp};
+ghost use Rattle.cacache_folder.specs.FolderNumbers.{numbered, answered, answered_or, value_or, goes_by_path};
 ghost use Rattle.cacache_folder.specs.PartialSteps.{HandsBackWhole};
 ghost use Rattle.cacache_folder.specs.Reasons.{Explains};
 
 mod again;
 mod answers;
+mod copying;
 mod descent;
 mod escaped;
 mod faults;
@@ -18,43 +23,72 @@ mod listing;
 mod node;
 mod opened;
 mod paths;
+mod refusing;
 mod removing;
 mod syncing;
 mod temp;
+mod values;
 mod whole;
 
-use answers::{created, moved, read_piece, readable, sync_temp, write_temp};
-use cacache_store::store::{Answer, FileHandle, Step, Store, TempHandle};
+use answers::{created, moved, readable, synced};
+use again::ask_to_write;
+use cacache_core::bytes::Bytes;
+use cacache_store::store::{Answer, Step, Store};
+use cacache_system::{Host, System};
+use copying::copy;
 use descent::Descent;
 use faults::failed_answer;
+use files::{append, create_temp, exists, open, size};
 use guess::Guess;
 pub use opened::FolderFile;
+use paths::make_dirs;
+use std::io;
 use std::io::ErrorKind;
 use std::rt::Files;
-use std::{fs, io};
-pub use temp::FolderTemp;
+use syncing::{sync_dir, sync_file};
+pub use temp::{FolderTemp, SystemTemp};
+use values::{done, length_of, listed, there, took, whole};
+use whole::{read_all, read_piece};
 
-/// The folders and files of a runtime's file system, by the system's own rules. It keeps no log. Each `Reflink` fails
-/// with `Unsupported`.
+/// The folders and files of a runtime's file system.
+pub type FolderStore<R> = SystemStore<Host<R>>;
+
+/// A step on the files of a system.
+type StepOf<Y> = Step<FolderFile<<Y as System>::File>, SystemTemp<Y>>;
+
+/// An answer with files of a system.
+type AnswerOf<Y> = Answer<FolderFile<<Y as System>::File>, SystemTemp<Y>>;
+
+/// The folders and files of a system, by the system's own rules. As a store it keeps no log. Each `Reflink` fails with
+/// `Unsupported`.
 ///
 /// A name that isn't UTF-8 is listed as an escaped name, so that it hides no other one. No step reaches what stands
 /// under it.
 #[derive(Drop)]
-pub struct FolderStore<R> {
-    rt: R,
+pub struct SystemStore<Y> {
+    system: Y,
     guess: Guess,
     descent: Descent,
     reason: Option<ErrorKind>,
 }
 
-impl<R: Files + AllocGlobal + Clone + Drop> FolderStore<R> {
+impl<R: Files + AllocGlobal + Clone + Drop> SystemStore<Host<R>> {
     /// The store over the runtime's file system.
     pub fn new(rt: R) -> FolderStore<R>
-        ensures { result.rt ≡ rt }
+        ensures { result.system.rt ≡ rt }
     {
-        let descent = Descent::new(rt.alloc());
-        FolderStore {
-            rt,
+        SystemStore::over(Host::new(rt))
+    }
+}
+
+impl<Y: System + AllocGlobal + Clone + Drop> SystemStore<Y> {
+    /// The store over a system.
+    pub fn over(system: Y) -> SystemStore<Y>
+        ensures { result.system ≡ system }
+    {
+        let descent = Descent::new(system.alloc());
+        SystemStore {
+            system,
             guess: Guess::new(),
             descent,
             reason: None,
@@ -77,84 +111,136 @@ impl<R: Files + AllocGlobal + Clone + Drop> FolderStore<R> {
         self.reason
     }
 
-    /// Does a step that says nothing but that it is done. A reflink is not supported.
-    fn change<F: FileHandle, T: TempHandle>(&mut self, step: &Step<F, T>) -> io::Result<()>
-        ensures fits { IfOk result (λ _. Fits (plain_step F.seen T.seen step.now) Answer.Done) }
+    /// Makes every missing folder of the path.
+    fn make_dirs(&mut self, path: &str) -> io::Result<()>
         ensures kept { self.new.reason ≡ self.old.reason }
+        ensures ran { StepRuns (steps.MakeDirs path.now)
+            (value_or (λ _. answers.Done) (steps.MakeDirs path.now) result)
+            (Y.calls self.old.system) (Y.calls self.new.system) }
     {
-        match step {
-            Step::MakeDirs(path) => self.make_dirs(path.as_str()),
-            Step::Symlink(target, path) => self.rt.symlink(target.as_str(), path.as_str()),
-            Step::HardLink(from, to) => self.rt.hard_link(from.as_str(), to.as_str()),
-            Step::RemoveFile(path) => self.remove_file(path.as_str()),
-            Step::RemoveDir(path) => self.remove_dir(path.as_str()),
-            Step::SyncFile(path) => self.sync_file(path.as_str()),
-            Step::SyncDir(path) => self.sync_dir(path.as_str()),
-            _ => Err(io::Error::from(ErrorKind::Unsupported)),
+        let is_guessed = self.guess.is_missing(path);
+        match make_dirs(&mut self.system, path, is_guessed) {
+            Ok(was_missing) => {
+                self.guess.keep(path, was_missing);
+                Ok(())
+            }
+            Err(error) => Err(error),
         }
     }
 
-    /// Does a step that takes no file and gives none.
-    fn do_by_path<F: FileHandle, T: TempHandle>(
-        &mut self,
-        step: &Step<F, T>,
-    ) -> io::Result<Answer<F, T>>
-        ensures fits { IfOk result (λ answer.
-            Fits (plain_step F.seen T.seen step.now) (plain_answer F.seen T.seen answer)) }
+    /// Does a step that takes no file and gives none. A reflink is not supported.
+    fn do_by_path(&mut self, step: &StepOf<Y>) -> io::Result<AnswerOf<Y>>
+        ensures fits { IfOk result (λ answer. Fits (plain_step seen_file seen_temp step.now)
+            (plain_answer seen_file seen_temp answer)) }
         ensures done { IfOk result (λ answer.
-            is_no_memory (plain_answer F.seen T.seen answer) ≡ false) }
+            is_no_memory (plain_answer seen_file seen_temp answer) ≡ false) }
         ensures explains { IfOk result (λ answer. Explains self.old.reason self.new.reason
-            (plain_answer F.seen T.seen answer)) }
+            (plain_answer seen_file seen_temp answer)) }
         ensures kept { self.new.reason ≡ self.old.reason }
+        ensures ran { goes_by_path (numbered Y.number step.now) ≡ true
+            → StepRuns (numbered Y.number step.now)
+                (answered_or Y.number (numbered Y.number step.now) result)
+                (Y.calls self.old.system) (Y.calls self.new.system) }
     {
-        Ok(match step {
-            Step::Append(path, bytes) => {
-                Answer::Took(self.append(path.as_str(), bytes.as_slice())?)
-            }
-            Step::Copy(from, to) => Answer::Took(self.copy(from.as_str(), to.as_str())?),
-            Step::ReadAll(path) => Answer::Bytes(self.read_all(path.as_str())?),
-            Step::Exists(path) => Answer::There(self.exists(path.as_str())?),
-            Step::Size(path) => Answer::Length(self.size(path.as_str())?),
-            Step::ReadDir(path) => Answer::Names(self.read_dir(path.as_str())?),
-            step => {
-                self.change(step)?;
-                Answer::Done
-            }
-        })
+        match step {
+            Step::MakeDirs(path) => done(self.make_dirs(path.as_str())),
+            Step::Append(path, bytes) => took(append(
+                &mut self.system,
+                path.as_str(),
+                bytes.as_slice(),
+            )),
+            Step::ReadAll(path) => whole(read_all(&mut self.system, path.as_str())),
+            Step::Exists(path) => there(exists(&mut self.system, path.as_str())),
+            Step::Size(path) => length_of(size(&mut self.system, path.as_str())),
+            Step::Symlink(target, path) => done(self.system.symlink(target.as_str(), path.as_str())),
+            Step::Copy(from, to) => took(copy(&mut self.system, from.as_str(), to.as_str())),
+            Step::HardLink(from, to) => done(self.system.hard_link(from.as_str(), to.as_str())),
+            Step::ReadDir(path) => listed(self.read_dir(path.as_str())),
+            Step::RemoveFile(path) => done(self.remove_file(path.as_str())),
+            Step::RemoveDir(path) => done(self.remove_dir(path.as_str())),
+            Step::SyncFile(path) => done(sync_file(&mut self.system, path.as_str())),
+            Step::SyncDir(path) => done(sync_dir(&mut self.system, path.as_str())),
+            Step::Reflink(_, _) => Err(io::Error::from(ErrorKind::Unsupported)),
+            _ => Err(io::Error::from(ErrorKind::InvalidInput)),
+        }
+    }
+
+    /// Does a `Write` and answers it.
+    fn write_temp(&mut self, temp: SystemTemp<Y>, bytes: Bytes) -> AnswerOf<Y>
+        ensures fits { Fits (plain_step (seen_file {F = Y.File}) seen_temp (Step.Write temp bytes))
+            (plain_answer seen_file seen_temp result) }
+        ensures whole { HandsBackWhole
+            (plain_step (seen_file {F = Y.File}) seen_temp (Step.Write temp bytes))
+            (plain_answer seen_file seen_temp result) }
+        ensures explains { Explains self.old.reason self.new.reason
+            (plain_answer seen_file seen_temp result) }
+        ensures ran { StepRuns (numbered Y.number (Step.Write temp bytes))
+            (answered Y.number result) (Y.calls self.old.system) (Y.calls self.new.system) }
+    {
+        let mut temp = temp;
+        match ask_to_write(&mut self.system, &mut temp.file, bytes.as_slice()) {
+            Ok(count) => Answer::Wrote(temp, count),
+            Err(error) => failed_answer(error, Step::Write(temp, bytes), &mut self.reason),
+        }
+    }
+
+    /// Does a `Read` and answers it.
+    fn read_file(&mut self, file: FolderFile<Y::File>, max: usize) -> AnswerOf<Y>
+        ensures fits { Fits (plain_step seen_file (seen_temp {Y = Y} {F = Y.File} {D = Y.Folder})
+            (Step.Read file max)) (plain_answer seen_file seen_temp result) }
+        ensures whole { HandsBackWhole
+            (plain_step seen_file (seen_temp {Y = Y} {F = Y.File} {D = Y.Folder}) (Step.Read file max))
+            (plain_answer seen_file seen_temp result) }
+        ensures explains { Explains self.old.reason self.new.reason
+            (plain_answer seen_file seen_temp result) }
+        ensures ran { StepRuns
+            (numbered {Y = Y} {F = Y.File} {D = Y.Folder} Y.number (Step.Read file max))
+            (answered Y.number result) (Y.calls self.old.system) (Y.calls self.new.system) }
+    {
+        let mut file = file;
+        match read_piece(&mut self.system, &mut file, max) {
+            Ok(bytes) => Answer::Got(file, bytes),
+            Err(error) => failed_answer(error, Step::Read(file, max), &mut self.reason),
+        }
     }
 }
 
-impl<R: Files + AllocGlobal + Clone + Drop> Store for FolderStore<R> {
-    type File = FolderFile<R::File>;
+impl<Y: System + AllocGlobal + Clone + Drop> Store for SystemStore<Y> {
+    type File = FolderFile<Y::File>;
 
-    type Temp = FolderTemp<R>;
+    type Temp = SystemTemp<Y>;
 
     ghost log = { λ _. None };
 
-    fn step(&mut self, step: Step<Self::File, Self::Temp>) -> Answer<Self::File, Self::Temp>
+    fn step(&mut self, step: StepOf<Y>) -> AnswerOf<Y>
         ensures fits { Fits (plain_step seen_file seen_temp step)
             (plain_answer seen_file seen_temp result) }
         ensures whole { HandsBackWhole (plain_step seen_file seen_temp step)
             (plain_answer seen_file seen_temp result) }
         ensures explains { Explains self.old.reason self.new.reason
             (plain_answer seen_file seen_temp result) }
+        ensures ran { StepRuns (numbered Y.number step) (answered Y.number result)
+            (Y.calls self.old.system) (Y.calls self.new.system) }
     {
         match step {
             Step::CreateTemp(path) => {
-                let file = self.create_temp(path.as_str());
-                created(file, path, &mut self.reason)
+                let made = create_temp(&mut self.system, path.as_str());
+                created(made, path, &mut self.reason)
             }
-            Step::Write(temp, bytes) => write_temp(temp, bytes, &mut self.reason),
-            Step::SyncTemp(temp) => sync_temp(temp, &mut self.reason),
+            Step::Write(temp, bytes) => self.write_temp(temp, bytes),
+            Step::SyncTemp(temp) => {
+                let done = self.system.sync(&temp.file);
+                synced(done, temp, &mut self.reason)
+            }
             Step::Persist(temp, path) => {
-                let done = fs::rename(&self.rt, temp.path(), path.as_str());
+                let done = self.system.rename(temp.path.as_str(), path.as_str());
                 moved(done, temp, path, &mut self.reason)
             }
             Step::Open(path) => {
-                let file = self.open(path.as_str());
+                let file = open(&mut self.system, path.as_str());
                 readable(file, path, &mut self.reason)
             }
-            Step::Read(file, max) => read_piece(self.rt.alloc(), file, max, &mut self.reason),
+            Step::Read(file, max) => self.read_file(file, max),
             step => match self.do_by_path(&step) {
                 Ok(answer) => answer,
                 Err(error) => failed_answer(error, step, &mut self.reason),

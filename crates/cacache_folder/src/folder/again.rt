@@ -1,37 +1,112 @@
 //! Reads and writes that a signal interrupts.
+ghost use Rattle.std.specs.Prelude.{◌≡◌, take, length};
 ghost use Rattle.std.specs.Io.{ReadsAtMost, WritesAtMost};
 ghost use Rattle.std.specs.Io.KnownBytes.{ReadConsumes, WriteAppends};
+ghost use Rattle.std_io.specs.IoError.{error_kind};
+ghost use Rattle.cacache_system.specs.declared.call.SystemCall.TheVariants as asks;
+ghost use Rattle.cacache_system.specs.declared.call.CallResult.TheVariants as says;
+ghost use Rattle.cacache_system.specs.CallLog.{said};
+ghost use Rattle.cacache_system.specs.CallsOf.{interrupts};
+ghost use Rattle.cacache_folder.specs.Interruptions.{Insists};
 
+use cacache_system::System;
 use std::io;
 use std::io::{ErrorKind, Read, Write};
 
-/// How often a call is tried that a signal interrupts each time.
+/// How often a call is made that a signal interrupts each time.
 const TRIES: u64 = u64::MAX;
 
-/// One read. If a signal interrupts it before it gives a byte, it is tried again.
+/// Whether a signal interrupted the call.
+fn is_interrupted(error: &io::Error) -> bool
+    ensures { result ≡ interrupts (error_kind error.now) }
+{
+    matches!(error.kind(), ErrorKind::Interrupted)
+}
+
+/// One read of a file by its handle. If a signal interrupts it before it gives a byte, it is tried again.
 pub(crate) fn read_again<F: Read>(file: &mut F, buf: &mut [u8]) -> io::Result<usize>
     ensures bound { ReadsAtMost result buf.new }
     ensures bytes { ReadConsumes (F.remaining file.old) (F.remaining file.new) result buf.new }
 {
     for _ in 0..TRIES {
         match file.read(buf) {
-            Err(e) if e.kind() == ErrorKind::Interrupted => {}
+            Err(e) if is_interrupted(&e) => {}
             read => return read,
         }
     }
     Err(io::Error::from(ErrorKind::Interrupted))
 }
 
-/// One write. If a signal interrupts it before it takes a byte, it is tried again.
+/// One write to a file by its handle. If a signal interrupts it before it takes a byte, it is tried again.
 pub(crate) fn write_again<F: Write>(file: &mut F, buf: &[u8]) -> io::Result<usize>
     ensures bound { WritesAtMost result buf.now }
     ensures bytes { WriteAppends (F.contents file.old) (F.contents file.new) result buf.now }
 {
     for _ in 0..TRIES {
         match file.write(buf) {
-            Err(e) if e.kind() == ErrorKind::Interrupted => {}
+            Err(e) if is_interrupted(&e) => {}
             written => return written,
         }
     }
     Err(io::Error::from(ErrorKind::Interrupted))
+}
+
+/// The same read as a call of the system.
+pub(crate) fn ask_to_read<Y: System>(
+    system: &mut Y,
+    file: &mut Y::File,
+    buf: &mut [u8],
+) -> io::Result<usize>
+    ensures bound { ReadsAtMost result buf.new }
+    ensures same { Y.number file.new ≡ Y.number file.old }
+    ensures made { Insists (asks.Read (Y.number file.old) (length buf.old))
+        (said (λ n. says.Bytes (take n buf.new)) result) (Y.calls system.old) (Y.calls system.new) }
+{
+    for _ in 1..TRIES {
+        match system.read(file, buf) {
+            Err(e) if is_interrupted(&e) => {}
+            read => return read,
+        }
+    }
+    system.read(file, buf)
+}
+
+/// The same write as a call of the system.
+pub(crate) fn ask_to_write<Y: System>(
+    system: &mut Y,
+    file: &mut Y::File,
+    buf: &[u8],
+) -> io::Result<usize>
+    ensures bound { WritesAtMost result buf.now }
+    ensures same { Y.number file.new ≡ Y.number file.old }
+    ensures made { Insists (asks.Write (Y.number file.old) buf.now) (said says.Count result)
+        (Y.calls system.old) (Y.calls system.new) }
+{
+    for _ in 1..TRIES {
+        match system.write(file, buf) {
+            Err(e) if is_interrupted(&e) => {}
+            written => return written,
+        }
+    }
+    system.write(file, buf)
+}
+
+/// The same read of an open folder's names.
+pub(crate) fn ask_for_names<Y: System>(
+    system: &mut Y,
+    folder: &mut Y::Folder,
+    buf: &mut [u8],
+) -> io::Result<usize>
+    ensures bound { ReadsAtMost result buf.new }
+    ensures same { Y.folder_number folder.new ≡ Y.folder_number folder.old }
+    ensures made { Insists (asks.ReadNames (Y.folder_number folder.old) (length buf.old))
+        (said (λ n. says.Bytes (take n buf.new)) result) (Y.calls system.old) (Y.calls system.new) }
+{
+    for _ in 1..TRIES {
+        match system.read_names(folder, buf) {
+            Err(e) if is_interrupted(&e) => {}
+            read => return read,
+        }
+    }
+    system.read_names(folder, buf)
 }

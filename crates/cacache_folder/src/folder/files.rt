@@ -1,95 +1,118 @@
 //! Steps on the files of real folders.
-ghost use Rattle.std.specs.Prelude.{◌≤◌, IfOk, length};
+ghost use Rattle.std.specs.Prelude.{◌≡◌, ◌≤◌, IfOk, length};
+ghost use Rattle.cacache_system.specs.declared.call.SystemCall.TheVariants as asks;
+ghost use Rattle.cacache_system.specs.declared.call.CallResult.TheVariants as says;
+ghost use Rattle.cacache_system.specs.CallLog.{said};
+ghost use Rattle.cacache_system.specs.CallsOf as calls;
+ghost use Rattle.cacache_system.specs.CallsOf.{Purpose, RunLogged, CallsLogged};
+ghost use Rattle.cacache_store.specs.declared.store.step.Step.TheVariants as steps;
+ghost use Rattle.cacache_store.specs.declared.store.answer.Answer.TheVariants as answers;
+ghost use Rattle.cacache_system.specs.AnswersOf.{StepRuns, misses as is_missing};
+ghost use Rattle.cacache_folder.specs.FolderNumbers.{value_or};
+ghost use Rattle.cacache_folder.specs.Goings.{onward};
 
-use crate::folder::FolderStore;
-use crate::folder::again::write_again;
-use crate::folder::node::Node;
-use crate::folder::whole::read_whole;
-use cacache_core::bytes::Bytes;
-use std::fs::{File, Metadata, OpenFile};
+use crate::folder::again::ask_to_write;
+use crate::folder::refusing::unless_folder;
+use cacache_system::{FileInfo, System};
 use std::io;
 use std::io::ErrorKind;
-use std::os::unix::fs::OpenOptionsExt;
-use std::rt::Files;
 
 /// The mode of a temporary file: its owner alone may read and write it.
 const PRIVATE: u32 = 0o600;
 
-/// Whether both are of one file.
-fn is_same(one: &Metadata, other: &Metadata) -> bool {
-    Node::of(one).is_same(Node::of(other))
+/// A new empty file that only its owner may read and write, with a system that can remove it.
+pub(crate) fn create_temp<Y: System + Clone>(
+    system: &mut Y,
+    path: &str,
+) -> io::Result<(Y, Y::File)>
+    ensures { RunLogged (calls.taking_memory (calls.only (asks.CreateNew path.now 384)))
+        (said (λ made. says.Opened (Y.number made.1)) result) (Y.calls system.old) (Y.calls system.new) }
+{
+    let Ok(own) = system.clone() else {
+        return Err(io::Error::from(ErrorKind::OutOfMemory));
+    };
+    match system.create_new(path, PRIVATE) {
+        Ok(file) => Ok((own, file)),
+        Err(error) => Err(error),
+    }
 }
 
-impl<R: Files + AllocGlobal + Clone + Drop> FolderStore<R> {
-    /// A new empty file that only its owner may read and write, with a runtime that can remove it.
-    pub(crate) fn create_temp(&self, path: &str) -> io::Result<(R, R::File)> {
-        let rt = self.rt.clone()?;
-        let file = File::options()
-            .write(true)
-            .create_new(true)
-            .mode(PRIVATE)
-            .open(&self.rt, path)?;
-        Ok((rt, file))
-    }
-
-    /// Appends to the file at the path in one write.
-    pub(crate) fn append(&self, path: &str, bytes: &[u8]) -> io::Result<usize>
-        ensures { IfOk result (λ count. count ≤ length bytes.now) }
-    {
-        let mut file = File::options()
-            .append(true)
-            .create(true)
-            .open(&self.rt, path)?;
-        write_again(&mut file, bytes)
-    }
-
-    /// The whole file.
-    pub(crate) fn read_all(&self, path: &str) -> io::Result<Bytes> {
-        let alloc = self.rt.alloc();
-        let mut file = File::open(&self.rt, path)?;
-        let size = usize::try_from(file.metadata()?.len()).unwrap_or(usize::MAX);
-        Ok(Bytes::new(alloc, read_whole(alloc, &mut file, size)?)?)
-    }
-
-    /// The file at the path, open for reading. The system would open a folder too, and fail its first read.
-    pub(crate) fn open(&self, path: &str) -> io::Result<R::File> {
-        let file = File::open(&self.rt, path)?;
-        if file.metadata()?.is_dir() {
-            return Err(io::Error::from(ErrorKind::IsADirectory));
+/// Appends to the file at the path in one write.
+pub(crate) fn append<Y: System>(system: &mut Y, path: &str, bytes: &[u8]) -> io::Result<usize>
+    ensures count { IfOk result (λ count. count ≤ length bytes.now) }
+    ensures ran { RunLogged (calls.appending path.now bytes.now) (said says.Count result)
+        (Y.calls system.old) (Y.calls system.new) }
+{
+    match system.open_to_append(path) {
+        Ok(file) => {
+            let mut file = file;
+            ask_to_write(system, &mut file, bytes)
         }
-        Ok(file)
+        Err(error) => Err(error),
     }
+}
 
-    /// The size of the file at the path in bytes.
-    pub(crate) fn size(&self, path: &str) -> io::Result<u64> {
-        let found = self.rt.metadata(path)?;
-        if found.is_dir() {
-            return Err(io::Error::from(ErrorKind::IsADirectory));
-        }
-        Ok(found.len())
+/// The file or folder at the path, opened to read, and what the system says of it.
+pub(crate) fn opened<Y: System>(system: &mut Y, path: &str) -> io::Result<(Y::File, FileInfo)>
+    ensures { (purpose : Purpose) → CallsLogged (calls.opening purpose path.now)
+        (onward (λ found. calls.opened purpose (Y.number found.0) found.1) result)
+        (Y.calls system.old) (Y.calls system.new) }
+{
+    match system.open_to_read(path) {
+        Ok(file) => match system.stat_file(&file) {
+            Ok(info) => Ok((file, info)),
+            Err(error) => Err(error),
+        },
+        Err(error) => Err(error),
     }
+}
 
-    /// Whether there is a file or folder at the path.
-    pub(crate) fn exists(&self, path: &str) -> io::Result<bool> {
-        match self.rt.metadata(path) {
-            Ok(_) => Ok(true),
-            Err(e) => match e.kind() {
-                ErrorKind::NotFound | ErrorKind::NotADirectory => Ok(false),
-                _ => Err(e),
-            },
-        }
+/// The file at the path, open for reading. The system would open a folder too, and fail its first read.
+pub(crate) fn open<Y: System>(system: &mut Y, path: &str) -> io::Result<Y::File>
+    ensures { RunLogged (calls.opening calls.to_give path.now)
+        (said (λ file. says.Opened (Y.number file)) result) (Y.calls system.old) (Y.calls system.new) }
+{
+    match opened(system, path) {
+        Ok((file, info)) => match unless_folder(info.kind) {
+            None => Ok(file),
+            Some(why) => Err(io::Error::from(why)),
+        },
+        Err(error) => Err(error),
     }
+}
 
-    /// Copies the file and returns its size in bytes. A file that is copied onto itself stays as it is: the system
-    /// would empty it first.
-    pub(crate) fn copy(&self, from: &str, to: &str) -> io::Result<usize> {
-        let source = self.rt.metadata(from)?;
-        let count = match self.rt.metadata(to) {
-            Ok(target) if source.is_file() && (from == to || is_same(&source, &target)) => {
-                source.len()
-            }
-            _ => self.rt.copy(from, to)?,
-        };
-        Ok(usize::try_from(count).unwrap_or(usize::MAX))
+/// What the system says of the file at the path.
+pub(crate) fn size<Y: System>(system: &mut Y, path: &str) -> io::Result<FileInfo>
+    ensures { RunLogged (calls.sizing path.now) (said says.Info result)
+        (Y.calls system.old) (Y.calls system.new) }
+{
+    match system.stat(path) {
+        Ok(info) => match unless_folder(info.kind) {
+            None => Ok(info),
+            Some(why) => Err(io::Error::from(why)),
+        },
+        Err(error) => Err(error),
+    }
+}
+
+/// Whether nothing is there, or no folder leads there.
+fn misses(kind: ErrorKind) -> bool
+    ensures { result ≡ is_missing kind }
+{
+    matches!(kind, ErrorKind::NotFound | ErrorKind::NotADirectory)
+}
+
+/// Whether there is a file or folder at the path.
+pub(crate) fn exists<Y: System>(system: &mut Y, path: &str) -> io::Result<bool>
+    ensures { StepRuns (steps.Exists path.now) (value_or answers.There (steps.Exists path.now) result)
+        (Y.calls system.old) (Y.calls system.new) }
+{
+    match system.stat(path) {
+        Ok(_) => Ok(true),
+        Err(error) => if misses(error.kind()) {
+            Ok(false)
+        } else {
+            Err(error)
+        },
     }
 }

@@ -1,6 +1,7 @@
 //! What the system tells one file or folder from another by.
-use std::fs::Metadata;
-use std::os::unix::fs::MetadataExt;
+ghost use Rattle.std.specs.Prelude.{◌≡◌, ◌==◌, ◌&&◌, not};
+
+use cacache_system::FileInfo;
 
 /// The number of a file or folder, and of its device.
 #[derive(Clone, Copy)]
@@ -11,10 +12,13 @@ pub(crate) struct Node {
 
 impl Node {
     /// What the system says of a file or folder.
-    pub(crate) fn of(found: &Metadata) -> Node {
+    pub(crate) fn of(info: &FileInfo) -> Node
+        ensures number { result.number ≡ info.now.inode }
+        ensures device { result.device ≡ info.now.device }
+    {
         Node {
-            number: found.ino(),
-            device: found.dev(),
+            number: info.inode,
+            device: info.device,
         }
     }
 
@@ -26,8 +30,11 @@ impl Node {
         }
     }
 
-    /// Whether both are of one file or folder. A runtime that isn't the system's may number none.
-    pub(crate) fn is_same(self, other: Node) -> bool {
+    /// Whether both are of one file or folder. A system may number none.
+    pub(crate) fn is_same(self, other: Node) -> bool
+        ensures { result ≡ ((not (self.number == 0) && self.number == other.number)
+            && self.device == other.device) }
+    {
         self.number != 0 && self.number == other.number && self.device == other.device
     }
 }

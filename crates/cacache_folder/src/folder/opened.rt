@@ -1,53 +1,32 @@
 //! Open files of real folders.
-ghost use Rattle.std.specs.Prelude.{◌≡◌, ◌+◌, ◌-◌, ◌^◌, ◌≤◌, ◌<◌, None, IfOk, IsErr, OnErr, length};
+ghost use Rattle.std.specs.Prelude.{◌≡◌, ◌-◌, ◌^◌, ◌<◌, None, IsErr, length};
 ghost use Rattle.std.specs.Io.{ReadsAtMost};
 ghost use Rattle.std.specs.Io.KnownBytes.{ReadConsumes};
 ghost use Rattle.cacache_store.specs.Handles.{LeftFalls};
 
 use crate::folder::again::read_again;
-use cacache_core::bytes::Bytes;
 use cacache_store::store::{FileHandle, OpenedFile};
-use std::alloc::Global;
 use std::io;
 use std::io::{ErrorKind, Read};
-use std::sync::Arc;
-
-/// The most bytes that one read asks for. The buffer of a read is filled with zeros first.
-const PIECE: usize = 128 * 1024;
 
 /// An open file of real folders. It gives at most 2^64 - 1 bytes. A read behind them fails, and never says that the
 /// file ended.
 #[derive(Drop)]
 pub struct FolderFile<F> {
-    file: F,
-    left: usize,
+    pub(crate) file: F,
+    pub(crate) left: usize,
 }
 
 impl<F: Read + Drop> FolderFile<F> {
     /// The open file over this reader, of which nothing was read yet.
     pub(crate) fn new(file: F) -> FolderFile<F>
-        ensures { result.left ≡ 2 ^ 64 - 1 }
+        ensures file { result.file ≡ file }
+        ensures left { result.left ≡ 2 ^ 64 - 1 }
     {
         FolderFile {
             file,
             left: usize::MAX,
         }
-    }
-
-    /// At most `max` bytes and at most `PIECE`: none only at the end of the file, or if `max` is 0. Memory is taken
-    /// before anything is read.
-    pub(crate) fn read_piece(&mut self, alloc: Global, max: usize) -> io::Result<Bytes>
-        ensures count { IfOk result (λ bytes. length bytes ≤ max) }
-        ensures left { IfOk result (λ bytes. self.new.left + length bytes ≡ self.old.left) }
-        ensures same { OnErr result (self.new.left ≡ self.old.left) }
-    {
-        let buf = vec![in alloc; 0; max.min(PIECE)]?;
-        let mut shared = Arc::new(alloc, buf)?;
-        let Some(buf) = Arc::get_mut(&mut shared) else {
-            return Err(io::Error::from(ErrorKind::OutOfMemory));
-        };
-        let count = self.read_some(buf)?;
-        Ok(Bytes::front_of(shared, count))
     }
 }
 

@@ -1,0 +1,142 @@
+-- Files that are read whole, and pieces of open files.
+use Rattle.std.proofs.Common.{◌≡◌, ◌≢◌, ◌==◌, ◌&&◌, not, ◌⊎◌, ◌<◌, ◌≤◌, ℕ, Bool, true, false, if◌then◌else◌, List, [], ◌∷◌, ◌++◌, take, drop, length, min, refl, sym, ap, subst, ◌∙◌, inl, inr, arith, take-append-drop, ◌+◌, ◌-◌, length-take-le}
+use Rattle.std.specs.Prelude.{Option, Result, Ok, Err}
+use Rattle.std.proofs.lemmas.Bool.Decides.{eqb_tells}
+use Rattle.std.proofs.lemmas.List.{take-append-le, take-take}
+use Rattle.std.specs.Io.{StartsWith, appended_bytes}
+use Rattle.std_io.specs.declared.io.kind.ErrorKind.{ErrorKind}
+use Rattle.std_io.specs.declared.io.kind.ErrorKind.TheVariants as kind
+use Rattle.cacache_system.specs.declared.call.SystemCall.TheVariants.{Read, ReadRest}
+use Rattle.cacache_system.specs.declared.call.CallResult.{CallResult}
+use Rattle.cacache_system.specs.declared.call.CallResult.TheVariants.{Bytes, Failed}
+use Rattle.cacache_system.specs.declared.call.CallItem.{CallItem}
+use Rattle.cacache_system.specs.CallLog.{MakesCall}
+use Rattle.cacache_system.specs.CallsOf.{Stage, over, trying, taking_memory, reading_front, reading_rest, read_whole, interrupts, after, Ends, RunLogged, CallsLogged}
+use Rattle.cacache_system.specs.Seen.{NumberedFile}
+use Rattle.cacache_system.specs.AnswersOf.{read_piece}
+use Rattle.cacache_folder.specs.Interruptions.{Insists}
+use Rattle.cacache_folder.proofs.CallRuns.{run_call, run_none, run_took, run_refused, run_as, calls_end, calls_run, insists_run, insists_front, interrupted_only}
+
+abbrev Log : Type 0
+Log = Option (List CallItem)
+
+whole_is : (front whole : List ℕ) → StartsWith whole front → whole ≡ front ++ appended_bytes front whole
+whole_is front whole starts = sym (take-append-drop (length front) whole) ∙ ap (λ (xs : List ℕ). xs ++ drop (length front) whole) starts
+
+-- all that was left is read, and memory is found for its owner
+pub rest_run : (front whole bytes : List ℕ) (file : ℕ) (old new : Log) → MakesCall old new (ReadRest file) (Bytes (appended_bytes front whole))
+    → StartsWith whole front → bytes ≡ whole → RunLogged (reading_rest front file) (Bytes bytes) old new
+rest_run front whole bytes file old new makes starts is =
+    run_call (reading_rest front file) (ReadRest file) (Bytes (appended_bytes front whole)) (Bytes bytes) old new new makes refl
+    (run_none (taking_memory (over (Bytes (front ++ appended_bytes front whole)))) (Bytes bytes) new (inr (ap Bytes (sym (is ∙ whole_is front whole starts)))))
+
+-- or none is
+pub rest_refused : (front whole : List ℕ) (file : ℕ) (why : ErrorKind) (old new : Log) → MakesCall old new (ReadRest file) (Bytes (appended_bytes front whole))
+    → why ≡ kind.OutOfMemory → RunLogged (reading_rest front file) (Failed why) old new
+rest_refused front whole file why old new makes is =
+    run_call (reading_rest front file) (ReadRest file) (Bytes (appended_bytes front whole)) (Failed why) old new new makes refl
+    (run_none (taking_memory (over (Bytes (front ++ appended_bytes front whole)))) (Failed why) new (inl (ap Failed is)))
+
+-- a first read, and then the rest
+pub front_run : (file same size : ℕ) (front : List ℕ) (end : CallResult) (old mid new : Log) → Insists (Read file size) (Bytes front) old mid → same ≡ file
+    → RunLogged (reading_rest front same) end mid new → RunLogged (reading_front false size file) end old new
+front_run file same size front end old mid new insists is run =
+    calls_run (reading_front false size file) (reading_rest front file) end old mid new (insists_front file size (Bytes front) old mid insists)
+    (run_as (reading_rest front same) (reading_rest front file) end mid new run (ap (reading_rest front) is))
+
+front_ends : (file size : ℕ) (why : ErrorKind) (b : Bool) → interrupts why ≡ b → Ends (if b then reading_front true size file else over (Failed why)) (Failed why)
+front_ends file size why true is = ap Failed (interrupted_only why is)
+front_ends file size why false is = refl
+
+-- a first read that fails
+pub front_fails : (file size : ℕ) (why : ErrorKind) (old new : Log) → Insists (Read file size) (Failed why) old new
+    → RunLogged (reading_front false size file) (Failed why) old new
+front_fails file size why old new insists =
+    calls_end (reading_front false size file) (after (reading_front true size file) (Failed why)) (Failed why) old new
+    (insists_front file size (Failed why) old new insists) (front_ends file size why (interrupts why) refl)
+
+empty_is : (xs : List ℕ) → length xs ≡ 0 → xs ≡ []
+empty_is [] is = refl
+empty_is (x ∷ xs) is = absurd (omega (arith, is))
+
+-- a file that says it has no bytes
+pub whole_empty : (size file : ℕ) (room : List ℕ) (end : CallResult) (old new : Log) → length room ≡ min size 131072 → size ≡ 0
+    → RunLogged (reading_rest room file) end old new → RunLogged (taking_memory (read_whole size file)) end old new
+whole_empty size file room end old new fits is run =
+    let none : room ≡ [] = empty_is room (fits ∙ ap (λ (n : ℕ). min n 131072) is) in
+    run_took (read_whole size file) end old new
+    (run_as (reading_rest room file) (read_whole size file) end old new run
+      (ap (λ (xs : List ℕ). reading_rest xs file) none ∙ ap (λ (n : ℕ). read_whole n file) (sym is)))
+
+front_so : (size file : ℕ) → size ≢ 0 → (((size == 0) ≡ true) × (size ≡ 0)) ⊎ (((size == 0) ≡ false) × (size ≢ 0))
+    → reading_front false (min size 131072) file ≡ read_whole size file
+front_so size file some (inl none) = absurd (some none.1)
+front_so size file some (inr is) = sym (ap (λ (b : Bool). if b then reading_rest [] file else reading_front false (min size 131072) file) is.0)
+
+front_is : (size file : ℕ) → size ≢ 0 → reading_front false (min size 131072) file ≡ read_whole size file
+front_is size file some = front_so size file some (eqb_tells size 0)
+
+-- one that says it has some
+pub whole_front : (size file : ℕ) (room : List ℕ) (end : CallResult) (old new : Log) → length room ≡ min size 131072 → size ≢ 0
+    → RunLogged (reading_front false (length room) file) end old new → RunLogged (taking_memory (read_whole size file)) end old new
+whole_front size file room end old new fits some run =
+    run_took (read_whole size file) end old new
+    (run_as (reading_front false (length room) file) (read_whole size file) end old new run
+      (ap (λ (n : ℕ). reading_front false n file) fits ∙ front_is size file some))
+
+-- memory is refused before
+pub took_refused : (s : Stage) (why : ErrorKind) (log : Log) → why ≡ kind.OutOfMemory → RunLogged (taking_memory s) (Failed why) log log
+took_refused s why log is = subst (λ (k : ErrorKind). RunLogged (taking_memory s) (Failed k) log log) (sym is) (run_refused s log)
+
+-- a read for which memory was found
+pub took_insists : (file size : ℕ) (end : CallResult) (old new : Log) → Insists (Read file size) end old new → RunLogged (taking_memory (trying false (Read file size))) end old new
+took_insists file size end old new insists = run_took (trying false (Read file size)) end old new (insists_run (Read file size) end old new insists)
+
+-- whether a file gave all that it may
+abbrev pub gives_over : ℕ → ℕ → Bool
+gives_over left size = left == 0 && not (size == 0)
+
+abbrev piece_if : Bool → NumberedFile → ℕ → Stage
+piece_if b file size = if b then over (Failed kind.FileTooLarge) else taking_memory (trying false (Read file.number (min size file.left)))
+
+-- a file that gives no more
+pub piece_over : (file : NumberedFile) (size : ℕ) (b : Bool) (why : ErrorKind) (log : Log) → b ≡ (file.left == 0 && not (size == 0)) → b ≡ true → why ≡ kind.FileTooLarge
+    → RunLogged (read_piece file size) (Failed why) log log
+piece_over file size b why log is said so =
+    run_none (read_piece file size) (Failed why) log
+    (subst (λ (x : Bool). Ends (piece_if x file size) (Failed why)) (sym said ∙ is) (ap Failed (sym so)))
+
+-- one that does
+pub piece_run : (file : NumberedFile) (size : ℕ) (b : Bool) (end : CallResult) (old new : Log) → b ≡ (file.left == 0 && not (size == 0)) → b ≡ false
+    → RunLogged (taking_memory (trying false (Read file.number (min size file.left)))) end old new → RunLogged (read_piece file size) end old new
+piece_run file size b end old new is said run =
+    subst (λ (x : Bool). RunLogged (piece_if x file size) end old new) (sym said ∙ is) run
+
+-- what was read stands in front
+pub cut_front : (count len : ℕ) (front rest : List ℕ) → count ≤ length front → count ≤ len → take count front ≡ take count (take len (front ++ rest))
+cut_front count len front rest fits within =
+    sym (take-take count len (front ++ rest) within ∙ take-append-le count front rest fits)
+
+-- a read is told by the bytes that it gave
+pub insists_as : (file size same : ℕ) (given bytes : List ℕ) (old new : Log) → Insists (Read file size) (Bytes given) old new → size ≡ same → given ≡ bytes
+    → Insists (Read file same) (Bytes bytes) old new
+insists_as file size same given bytes old new insists sized is =
+    subst (λ (n : ℕ). Insists (Read file n) (Bytes bytes) old new) sized
+    (subst (λ (b : List ℕ). Insists (Read file size) (Bytes b) old new) is insists)
+
+-- a failed one by its error
+pub insists_fails : (file size same : ℕ) (why : ErrorKind) (old new : Log) → Insists (Read file size) (Failed why) old new → size ≡ same
+    → Insists (Read file same) (Failed why) old new
+insists_fails file size same why old new insists sized = subst (λ (n : ℕ). Insists (Read file n) (Failed why) old new) sized insists
+
+-- a read of at most as many bytes as there is room for
+pub took_read : (file size : ℕ) (given bytes : List ℕ) (old new : Log) → Insists (Read file size) (Bytes given) old new → bytes ≡ given
+    → RunLogged (taking_memory (trying false (Read file size))) (Bytes bytes) old new
+took_read file size given bytes old new insists is =
+    took_insists file size (Bytes bytes) old new (insists_as file size size given bytes old new insists refl (sym is))
+
+-- what is left of a file of which so many bytes were read
+pub taken_left : (left count : ℕ) (bytes items : List ℕ) → bytes ≡ take count items → count ≤ length items → count ≤ left → (left - count) + length bytes ≡ left
+taken_left left count bytes items is fits within =
+    let size : length bytes ≡ count = ap (λ (xs : List ℕ). length xs) is ∙ length-take-le count items fits in
+    omega (arith, size, within)

@@ -1,6 +1,0 @@
-use Rattle.std.proofs.Common.{length}
-use Rattle.cacache_folder.proofs.folder.FolderStore.+make_missing.Given as goal
-
--- the path above is shorter
-abbrev pub decreases-make_missing : goal.decreases-make_missing
-decreases-make_missing g l = length l.path.now

@@ -1,1 +1,0 @@
--- No answers are needed: the one write takes at most the bytes that it is given.

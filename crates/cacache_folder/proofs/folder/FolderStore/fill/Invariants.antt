@@ -1,5 +1,0 @@
-use Rattle.cacache_store.specs.Fits.{AreProperNames}
-use Rattle.cacache_folder.proofs.folder.FolderStore.fill.Given as goal
-
-abbrev pub invariant-loop : goal.invariant-loop
-invariant-loop g l = AreProperNames l.initial.listed.names.items → AreProperNames l.listed.names.items

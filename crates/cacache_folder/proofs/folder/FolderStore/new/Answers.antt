@@ -1,1 +1,0 @@
--- No answers are needed: the store keeps the runtime that it is given.

@@ -1,0 +1,13 @@
+use Rattle.std.proofs.Common.{length, ap, sym, ◌∙◌}
+use Rattle.std_io.specs.IoError.{error_kind}
+use Rattle.cacache_system.specs.declared.call.SystemCall.TheVariants as asks
+use Rattle.cacache_folder.proofs.CallRuns.{waits_more}
+use Rattle.cacache_folder.proofs.folder.again.ask_to_read.Goals as goal
+
+pub loop-preserved : goal.loop-preserved
+loop-preserved g c = record {
+  same = c.read.ensures.same ∙ c.loop.invariant.same;
+  waits = waits_more (asks.Read (g.Y.System.number c.args.file.now) (length c.args.buf.now)) (asks.Read (g.Y.System.number c.loop.file) (length c.loop.buf))
+    (error_kind c.in-Err.e) (g.Y.System.calls c.args.system.now) (g.Y.System.calls c.loop.system) (g.Y.System.calls c.read.new.self)
+    c.loop.invariant.waits c.in-Err.ensures.logged (ap (λ number. asks.Read number (length c.loop.buf)) c.loop.invariant.same ∙ ap (λ size. asks.Read (g.Y.System.number c.args.file.now) size) c.loop.auto.buf) (sym c.is_interrupted.ensures ∙ c.if-is_interrupted.true);
+}

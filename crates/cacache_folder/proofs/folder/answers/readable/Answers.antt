@@ -1,1 +1,0 @@
--- No answers are needed: a refused step is handed back as it was asked.

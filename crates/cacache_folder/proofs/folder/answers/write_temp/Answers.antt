@@ -1,1 +1,0 @@
--- No answers are needed: the write says how many bytes it took.

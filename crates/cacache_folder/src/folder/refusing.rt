@@ -1,0 +1,27 @@
+//! What isn't done to a file or folder of this kind.
+ghost use Rattle.std.specs.Prelude.{◌≡◌};
+ghost use Rattle.cacache_system.specs.CallsOf.{Stage, unless_folder as no_folder_goes, if_folder as folders_go};
+ghost use Rattle.cacache_folder.specs.Goings.{unless};
+
+use cacache_store::store::Kind;
+use std::io::ErrorKind;
+
+/// Why a folder is refused.
+pub(crate) fn unless_folder(kind: Kind) -> Option<ErrorKind>
+    ensures { (s : Stage) → no_folder_goes kind s ≡ unless result s }
+{
+    match kind {
+        Kind::Folder => Some(ErrorKind::IsADirectory),
+        _ => None,
+    }
+}
+
+/// Why what is no folder is refused, which is the kind that is given.
+pub(crate) fn if_folder(kind: Kind, why: ErrorKind) -> Option<ErrorKind>
+    ensures { (s : Stage) → folders_go kind why s ≡ unless result s }
+{
+    match kind {
+        Kind::Folder => None,
+        _ => Some(why),
+    }
+}
