@@ -165,4 +165,4 @@ pub arm_run : {A Y F D : Type 0} (number : F → ℕ) (step : NumberedStep) (s :
 arm_run number step s say give r told old new run begins gives fails is =
     arm_as number step give r told old new
     (answers_run step (value_or (λ value. answered number (give value)) step r) s (said say r) old new run begins
-      (value_is step say (λ value. answered number (give value)) r gives fails)) is
+    (value_is step say (λ value. answered number (give value)) r gives fails)) is

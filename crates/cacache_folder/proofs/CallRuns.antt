@@ -112,10 +112,12 @@ pub waits_more : (call made : SystemCall) (why : ErrorKind) (old mid new : Log) 
     → made ≡ call → interrupts why ≡ true → Waits call old new
 waits_more call made why old mid new (n, gains) makes same is =
     let item_is : item made (Failed why) ∷ [] ≡ item call (Failed kind.Interrupted) ∷ [] =
-      ap (λ (c : SystemCall). item c (Failed why) ∷ []) same ∙ ap (λ (k : ErrorKind). item call (Failed k) ∷ []) (interrupted_only why is) in
-    (suc n, subst (λ (items : List CallItem). GainsCalls old new items)
-      (ap (λ (items : List CallItem). interrupted call n ++ items) item_is ∙ interrupted-more call n)
-      (gains_more old mid new (interrupted call n) _ gains makes))
+    ap (λ (c : SystemCall). item c (Failed why) ∷ []) same ∙ ap (λ (k : ErrorKind). item call (Failed k) ∷ []) (interrupted_only why is) in (
+      suc n,
+      subst (λ (items : List CallItem). GainsCalls old new items)
+          (ap (λ (items : List CallItem). interrupted call n ++ items) item_is ∙ interrupted-more call n)
+          (gains_more old mid new (interrupted call n) _ gains makes),
+    )
 
 -- the last call
 pub insists_last : (call made : SystemCall) (result : CallResult) (old mid new : Log) → Waits call old mid → MakesCall mid new made result

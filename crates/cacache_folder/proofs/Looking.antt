@@ -45,7 +45,7 @@ then_at : (done : Paths) (path : List ℕ) (r : Result (Unit {0}) Error) (old mi
 then_at done path r old mid new before looks rest call =
     subst (λ (paths : Paths). CallsLogged (descend paths call) (onward (λ _. descend rest call) r) old new) (sym (append-path done path rest))
     (calls_on (descend (done ++ path ∷ rest) call) (descending path rest call) (onward (λ _. descend rest call) r) old mid new
-      (before (path ∷ rest) call) (looks rest call))
+    (before (path ∷ rest) call) (looks rest call))
 
 -- one more
 pub descended_more : (path : List ℕ) (value : Unit {0}) (old mid new : Log) → Descended old mid → LooksAt path (Ok value) mid new → Descended old new
@@ -80,8 +80,11 @@ looks_none log = λ call. (no_hint, calls_none (only call) log)
 pub looks_same : (info node : FileInfo) (b : Bool) (last : List ℕ) (old new : Log) → MakesCall old new (StatLink last) (Info info) → Decides info node b → b ≡ true
     → LooksFirst {A = Unit {0}} (Ok tt) old new
 looks_same info node b last old new makes decides is =
-    λ call. (in_walk node last [], calls_one (comparing node last [] call) (only call) (StatLink last) (Info info) old new makes refl
-      (decides (last ∷ []) call ∙ ap (λ (x : Bool). if x then only call else descend (last ∷ []) call) is))
+    λ call. (
+      in_walk node last [],
+      calls_one (comparing node last [] call) (only call) (StatLink last) (Info info) old new makes refl
+          (decides (last ∷ []) call ∙ ap (λ (x : Bool). if x then only call else descend (last ∷ []) call) is),
+    )
 
 -- it isn't, and all are looked at
 pub looks_all : (info node : FileInfo) (b : Bool) (last : List ℕ) (r : Result (Unit {0}) Error) (old mid new : Log)
@@ -90,10 +93,12 @@ pub looks_all : (info node : FileInfo) (b : Bool) (last : List ℕ) (r : Result 
     → LooksFirst r old new
 looks_all info node b last r old mid new makes decides is looks =
     λ call.
-    let (between, calls) = looks call in
-    (in_walk node last between, calls_on (comparing node last between call) (descend (between ++ last ∷ []) call) (onward (λ _. only call) r) old mid new
-      (calls_one (comparing node last between call) (descend (between ++ last ∷ []) call) (StatLink last) (Info info) old mid makes refl
-        (decides (between ++ last ∷ []) call ∙ ap (λ (x : Bool). if x then only call else descend (between ++ last ∷ []) call) is)) calls)
+    let (between, calls) = looks call in (
+      in_walk node last between,
+      calls_on (comparing node last between call) (descend (between ++ last ∷ []) call) (onward (λ _. only call) r) old mid new
+          (calls_one (comparing node last between call) (descend (between ++ last ∷ []) call) (StatLink last) (Info info) old mid makes refl
+          (decides (between ++ last ∷ []) call ∙ ap (λ (x : Bool). if x then only call else descend (between ++ last ∷ []) call) is)) calls,
+    )
 
 -- it can't be looked at
 pub looks_fails : (node : FileInfo) (error : Error) (last : List ℕ) (old new : Log) → MakesCall old new (StatLink last) (Failed (error_kind error))

@@ -66,7 +66,7 @@ whole_empty size file room end old new fits is run =
     let none : room ≡ [] = empty_is room (fits ∙ ap (λ (n : ℕ). min n 131072) is) in
     run_took (read_whole size file) end old new
     (run_as (reading_rest room file) (read_whole size file) end old new run
-      (ap (λ (xs : List ℕ). reading_rest xs file) none ∙ ap (λ (n : ℕ). read_whole n file) (sym is)))
+    (ap (λ (xs : List ℕ). reading_rest xs file) none ∙ ap (λ (n : ℕ). read_whole n file) (sym is)))
 
 front_so : (size file : ℕ) → size ≢ 0 → (((size == 0) ≡ true) × (size ≡ 0)) ⊎ (((size == 0) ≡ false) × (size ≢ 0))
     → reading_front false (min size 131072) file ≡ read_whole size file
@@ -82,7 +82,7 @@ pub whole_front : (size file : ℕ) (room : List ℕ) (end : CallResult) (old ne
 whole_front size file room end old new fits some run =
     run_took (read_whole size file) end old new
     (run_as (reading_front false (length room) file) (read_whole size file) end old new run
-      (ap (λ (n : ℕ). reading_front false n file) fits ∙ front_is size file some))
+    (ap (λ (n : ℕ). reading_front false n file) fits ∙ front_is size file some))
 
 -- memory is refused before
 pub took_refused : (s : Stage) (why : ErrorKind) (log : Log) → why ≡ kind.OutOfMemory → RunLogged (taking_memory s) (Failed why) log log

@@ -13,7 +13,11 @@ use Rattle.cacache_folder.specs.Goings.{onward}
 -- what the system said of a folder that was listed, as far as it was kept
 abbrev pub info_of : Node → FileInfo
 info_of node = record {
-  kind = Folder; regular = false; size = 0; inode = node.number; device = node.device;
+  kind = Folder;
+  regular = false;
+  size = 0;
+  inode = node.number;
+  device = node.device;
 }
 
 -- some folders were looked at, and then come the others, or one is none

@@ -30,8 +30,8 @@ mod temp;
 mod values;
 mod whole;
 
-use answers::{created, moved, readable, synced};
 use again::ask_to_write;
+use answers::{created, moved, readable, synced};
 use cacache_core::bytes::Bytes;
 use cacache_store::store::{Answer, Step, Store};
 use cacache_system::{Host, System};
@@ -139,8 +139,8 @@ impl<Y: System + AllocGlobal + Clone + Drop> SystemStore<Y> {
         ensures kept { self.new.reason ≡ self.old.reason }
         ensures ran { goes_by_path (numbered Y.number step.now) ≡ true
             → StepRuns (numbered Y.number step.now)
-                (answered_or Y.number (numbered Y.number step.now) result)
-                (Y.calls self.old.system) (Y.calls self.new.system) }
+            (answered_or Y.number (numbered Y.number step.now) result)
+            (Y.calls self.old.system) (Y.calls self.new.system) }
     {
         match step {
             Step::MakeDirs(path) => done(self.make_dirs(path.as_str())),
@@ -152,7 +152,9 @@ impl<Y: System + AllocGlobal + Clone + Drop> SystemStore<Y> {
             Step::ReadAll(path) => whole(read_all(&mut self.system, path.as_str())),
             Step::Exists(path) => there(exists(&mut self.system, path.as_str())),
             Step::Size(path) => length_of(size(&mut self.system, path.as_str())),
-            Step::Symlink(target, path) => done(self.system.symlink(target.as_str(), path.as_str())),
+            Step::Symlink(target, path) => done(
+                self.system.symlink(target.as_str(), path.as_str()),
+            ),
             Step::Copy(from, to) => took(copy(&mut self.system, from.as_str(), to.as_str())),
             Step::HardLink(from, to) => done(self.system.hard_link(from.as_str(), to.as_str())),
             Step::ReadDir(path) => listed(self.read_dir(path.as_str())),

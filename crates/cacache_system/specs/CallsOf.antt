@@ -172,7 +172,7 @@ after (making again path todo) (Failed why) =
 after (confirming why path todo) (Info info) = if_folder info.kind kind.AlreadyExists (below todo)
 after (confirming why path todo) (Failed other) =
     over (Failed (if is_absent other then why else other))
-after (comparing node path entered call) (Info info) = 
+after (comparing node path entered call) (Info info) =
     compared (is_same_node info node) info.kind (entered ++ path ∷ []) call
 after (descending path entered call) (Info info) =
     if_folder info.kind kind.NotADirectory (descend entered call)

@@ -25,13 +25,16 @@ pub(crate) fn created<Y: System + Drop>(
     path: Text,
     reason: &mut Option<ErrorKind>,
 ) -> Answer<FolderFile<Y::File>, SystemTemp<Y>>
-    ensures fits { Fits (plain_step (seen_file {F = Y.File}) (seen_temp {Y = Y} {F = Y.File} {D = Y.Folder})
-        (Step.CreateTemp path)) (plain_answer seen_file seen_temp result) }
-    ensures whole { HandsBackWhole (plain_step (seen_file {F = Y.File}) (seen_temp {Y = Y} {F = Y.File} {D = Y.Folder})
-        (Step.CreateTemp path)) (plain_answer seen_file seen_temp result) }
+    ensures fits { Fits (plain_step (seen_file {F = Y.File})
+        (seen_temp {Y = Y} {F = Y.File} {D = Y.Folder}) (Step.CreateTemp path))
+        (plain_answer seen_file seen_temp result) }
+    ensures whole { HandsBackWhole (plain_step (seen_file {F = Y.File})
+        (seen_temp {Y = Y} {F = Y.File} {D = Y.Folder}) (Step.CreateTemp path))
+        (plain_answer seen_file seen_temp result) }
     ensures explains { Explains reason.old reason.new (plain_answer seen_file seen_temp result) }
     ensures answer { answered Y.number result ≡ answer_of
-        (numbered {Y = Y} {F = Y.File} {D = Y.Folder} Y.number (Step.CreateTemp path)) (said (λ made. says.Opened (Y.number made.1)) created) }
+        (numbered {Y = Y} {F = Y.File} {D = Y.Folder} Y.number (Step.CreateTemp path))
+        (said (λ made. says.Opened (Y.number made.1)) created) }
 {
     match created {
         Ok((system, file)) => Answer::Temp(SystemTemp { system, file, path }),
@@ -45,13 +48,16 @@ pub(crate) fn synced<Y: System + Drop>(
     temp: SystemTemp<Y>,
     reason: &mut Option<ErrorKind>,
 ) -> Answer<FolderFile<Y::File>, SystemTemp<Y>>
-    ensures fits { Fits (plain_step (seen_file {F = Y.File}) (seen_temp {Y = Y} {F = Y.File} {D = Y.Folder})
-        (Step.SyncTemp temp)) (plain_answer seen_file seen_temp result) }
-    ensures whole { HandsBackWhole (plain_step (seen_file {F = Y.File}) (seen_temp {Y = Y} {F = Y.File} {D = Y.Folder})
-        (Step.SyncTemp temp)) (plain_answer seen_file seen_temp result) }
+    ensures fits { Fits (plain_step (seen_file {F = Y.File})
+        (seen_temp {Y = Y} {F = Y.File} {D = Y.Folder}) (Step.SyncTemp temp))
+        (plain_answer seen_file seen_temp result) }
+    ensures whole { HandsBackWhole (plain_step (seen_file {F = Y.File})
+        (seen_temp {Y = Y} {F = Y.File} {D = Y.Folder}) (Step.SyncTemp temp))
+        (plain_answer seen_file seen_temp result) }
     ensures explains { Explains reason.old reason.new (plain_answer seen_file seen_temp result) }
     ensures answer { answered Y.number result ≡ answer_of
-        (numbered {Y = Y} {F = Y.File} {D = Y.Folder} Y.number (Step.SyncTemp temp)) (said (λ _. says.Done) synced) }
+        (numbered {Y = Y} {F = Y.File} {D = Y.Folder} Y.number (Step.SyncTemp temp))
+        (said (λ _. says.Done) synced) }
 {
     match synced {
         Ok(()) => Answer::Synced(temp),
@@ -66,13 +72,16 @@ pub(crate) fn moved<Y: System + Drop>(
     path: Text,
     reason: &mut Option<ErrorKind>,
 ) -> Answer<FolderFile<Y::File>, SystemTemp<Y>>
-    ensures fits { Fits (plain_step (seen_file {F = Y.File}) (seen_temp {Y = Y} {F = Y.File} {D = Y.Folder})
-        (Step.Persist temp path)) (plain_answer seen_file seen_temp result) }
-    ensures whole { HandsBackWhole (plain_step (seen_file {F = Y.File}) (seen_temp {Y = Y} {F = Y.File} {D = Y.Folder})
-        (Step.Persist temp path)) (plain_answer seen_file seen_temp result) }
+    ensures fits { Fits (plain_step (seen_file {F = Y.File})
+        (seen_temp {Y = Y} {F = Y.File} {D = Y.Folder}) (Step.Persist temp path))
+        (plain_answer seen_file seen_temp result) }
+    ensures whole { HandsBackWhole (plain_step (seen_file {F = Y.File})
+        (seen_temp {Y = Y} {F = Y.File} {D = Y.Folder}) (Step.Persist temp path))
+        (plain_answer seen_file seen_temp result) }
     ensures explains { Explains reason.old reason.new (plain_answer seen_file seen_temp result) }
     ensures answer { answered Y.number result ≡ answer_of
-        (numbered {Y = Y} {F = Y.File} {D = Y.Folder} Y.number (Step.Persist temp path)) (said (λ _. says.Done) moved) }
+        (numbered {Y = Y} {F = Y.File} {D = Y.Folder} Y.number (Step.Persist temp path))
+        (said (λ _. says.Done) moved) }
 {
     match moved {
         Ok(()) => {
@@ -89,13 +98,16 @@ pub(crate) fn readable<Y: System + Drop>(
     path: Text,
     reason: &mut Option<ErrorKind>,
 ) -> Answer<FolderFile<Y::File>, SystemTemp<Y>>
-    ensures fits { Fits (plain_step (seen_file {F = Y.File}) (seen_temp {Y = Y} {F = Y.File} {D = Y.Folder})
-        (Step.Open path)) (plain_answer seen_file seen_temp result) }
-    ensures whole { HandsBackWhole (plain_step (seen_file {F = Y.File}) (seen_temp {Y = Y} {F = Y.File} {D = Y.Folder})
-        (Step.Open path)) (plain_answer seen_file seen_temp result) }
+    ensures fits { Fits (plain_step (seen_file {F = Y.File})
+        (seen_temp {Y = Y} {F = Y.File} {D = Y.Folder}) (Step.Open path))
+        (plain_answer seen_file seen_temp result) }
+    ensures whole { HandsBackWhole (plain_step (seen_file {F = Y.File})
+        (seen_temp {Y = Y} {F = Y.File} {D = Y.Folder}) (Step.Open path))
+        (plain_answer seen_file seen_temp result) }
     ensures explains { Explains reason.old reason.new (plain_answer seen_file seen_temp result) }
     ensures answer { answered Y.number result ≡ answer_of
-        (numbered {Y = Y} {F = Y.File} {D = Y.Folder} Y.number (Step.Open path)) (said (λ file. says.Opened (Y.number file)) opened) }
+        (numbered {Y = Y} {F = Y.File} {D = Y.Folder} Y.number (Step.Open path))
+        (said (λ file. says.Opened (Y.number file)) opened) }
 {
     match opened {
         Ok(file) => Answer::File(FolderFile::new(file)),

@@ -21,10 +21,7 @@ use std::io::ErrorKind;
 const PRIVATE: u32 = 0o600;
 
 /// A new empty file that only its owner may read and write, with a system that can remove it.
-pub(crate) fn create_temp<Y: System + Clone>(
-    system: &mut Y,
-    path: &str,
-) -> io::Result<(Y, Y::File)>
+pub(crate) fn create_temp<Y: System + Clone>(system: &mut Y, path: &str) -> io::Result<(Y, Y::File)>
     ensures { RunLogged (calls.taking_memory (calls.only (asks.CreateNew path.now 384)))
         (said (λ made. says.Opened (Y.number made.1)) result) (Y.calls system.old) (Y.calls system.new) }
 {

@@ -114,9 +114,7 @@ struct Listed {
 }
 
 /// What kind of thing stands at the path; None if it was removed since the folder was read. A folder is noted.
-fn kind_at<Y: System>(
-    system: &mut Y,
-    folders: &mut Folders, path: &str) -> Looked<Option<Kind>> {
+fn kind_at<Y: System>(system: &mut Y, folders: &mut Folders, path: &str) -> Looked<Option<Kind>> {
     let found = match system.stat_link(path) {
         Ok(found) => found,
         Err(error) => match error.kind() {
@@ -156,7 +154,10 @@ fn kind_below<Y: System>(
 /// read.
 fn add<Y: System + AllocGlobal>(
     system: &mut Y,
-    listed: &mut Listed, folder: &mut Vec<u8>, name: &[u8]) -> Looked<()>
+    listed: &mut Listed,
+    folder: &mut Vec<u8>,
+    name: &[u8],
+) -> Looked<()>
     ensures { AreProperNames listed.old.names.items → AreProperNames listed.new.names.items }
 {
     if matches!(name, b"" | b"." | b"..") {
@@ -171,7 +172,10 @@ fn add<Y: System + AllocGlobal>(
 /// Adds what stands under some names, each of which is ended by a NUL.
 fn add_all<Y: System + AllocGlobal>(
     system: &mut Y,
-    listed: &mut Listed, folder: &mut Vec<u8>, read: &[u8]) -> Looked<()>
+    listed: &mut Listed,
+    folder: &mut Vec<u8>,
+    read: &[u8],
+) -> Looked<()>
     ensures { AreProperNames listed.old.names.items → AreProperNames listed.new.names.items }
 {
     let mut rest = read;
@@ -206,7 +210,9 @@ fn fill<Y: System + AllocGlobal>(
 /// The names that an open folder gives, whose path ends in a `/`.
 fn names_from<Y: System + AllocGlobal>(
     system: &mut Y,
-    open: Y::Folder, folder: String) -> Looked<Listed>
+    open: Y::Folder,
+    folder: String,
+) -> Looked<Listed>
     ensures { IfOk result (λ listed. AreProperNames listed.names.items) }
 {
     let alloc = system.alloc();
@@ -226,7 +232,10 @@ fn names_from<Y: System + AllocGlobal>(
 /// and one that leads to nothing is no folder. `folder` is the path with a `/` behind it.
 fn open_folder<Y: System>(
     system: &mut Y,
-    path: &str, folder: &str, was_named: bool) -> Looked<Y::Folder> {
+    path: &str,
+    folder: &str,
+    was_named: bool,
+) -> Looked<Y::Folder> {
     match with_error_kind(system.open_folder(path)) {
         Err(ErrorKind::NotADirectory | ErrorKind::FilesystemLoop) if was_named => {
             Err(ErrorKind::NotADirectory)
@@ -242,9 +251,7 @@ fn open_folder<Y: System>(
 }
 
 /// The names in the folder.
-fn names_in<Y: System + AllocGlobal>(
-    system: &mut Y,
-    path: &str, was_named: bool) -> Looked<Listed>
+fn names_in<Y: System + AllocGlobal>(system: &mut Y, path: &str, was_named: bool) -> Looked<Listed>
     ensures { IfOk result (λ listed. AreProperNames listed.names.items) }
 {
     if path.is_empty() {

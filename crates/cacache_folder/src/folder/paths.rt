@@ -116,11 +116,7 @@ fn ask_first<Y: System>(system: &mut Y, path: &str) -> io::Result<bool>
 /// Makes every missing folder of the path, and returns whether the last one was missing. A folder that stands costs one
 /// question to the system, and one that alone is missing costs one call that makes it. A wrong guess which of them it is
 /// costs one more.
-pub(crate) fn make_dirs<Y: System>(
-    system: &mut Y,
-    path: &str,
-    is_guessed: bool,
-) -> io::Result<bool>
+pub(crate) fn make_dirs<Y: System>(system: &mut Y, path: &str, is_guessed: bool) -> io::Result<bool>
     ensures { RunLogged
         (if is_guessed then calls.making false path.now [] else calls.standing path.now)
         (said (λ _. says.Done) result) (Y.calls system.old) (Y.calls system.new) }

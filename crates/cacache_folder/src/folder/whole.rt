@@ -53,11 +53,7 @@ fn with_rest<Y: System + AllocGlobal>(
 }
 
 /// One read to the front of a vector, which keeps its length.
-fn read_to<Y: System>(
-    system: &mut Y,
-    file: &mut Y::File,
-    bytes: &mut Vec<u8>,
-) -> io::Result<usize>
+fn read_to<Y: System>(system: &mut Y, file: &mut Y::File, bytes: &mut Vec<u8>) -> io::Result<usize>
     ensures size { length bytes.new.items ≡ length bytes.old.items }
     ensures bound { IfOk result (λ n. n ≤ length bytes.old.items) }
     ensures same { Y.number file.new ≡ Y.number file.old }
@@ -72,11 +68,7 @@ fn read_to<Y: System>(
 }
 
 /// The bytes of one read of the file, for which there is room.
-fn read_front<Y: System>(
-    system: &mut Y,
-    file: &mut Y::File,
-    room: Vec<u8>,
-) -> io::Result<Vec<u8>>
+fn read_front<Y: System>(system: &mut Y, file: &mut Y::File, room: Vec<u8>) -> io::Result<Vec<u8>>
     ensures same { Y.number file.new ≡ Y.number file.old }
     ensures made { Insists (asks.Read (Y.number file.old) (length room.items))
         (said (λ front. says.Bytes front.items) result) (Y.calls system.old) (Y.calls system.new) }

@@ -21,4 +21,4 @@ returns-in-Err-clause-ran g c =
     answers_run (reads file c.args.file.left c.args.max) _ _ (says.Failed why)
     (g.Y.System.calls c.args.self.now.system) (g.Y.System.calls c.read_piece.new.system) c.in-Err.ensures.ran refl
     (read_failed file (g.Y.System.number c.read_piece.new.file.file) c.args.file.left c.read_piece.new.file.left c.args.max why _
-      c.in-Err.ensures.number c.in-Err.ensures.same c.failed_answer.ensures.answer)
+    c.in-Err.ensures.number c.in-Err.ensures.same c.failed_answer.ensures.answer)

@@ -17,7 +17,7 @@ pub returns-in-CreateTemp-clause-ran : goal.returns-in-CreateTemp-clause-ran
 returns-in-CreateTemp-clause-ran g c =
     subst (λ step. StepRuns (numbered g.Y.System.number step) (answered g.Y.System.number c.created.result) (g.Y.System.calls c.args.self.now.system) (g.Y.System.calls c.create_temp-made.new.system)) (sym c.in-CreateTemp.is)
     (answers_run (steps.CreateTemp c.in-CreateTemp.path) _ (calls.taking_memory (calls.only (asks.CreateNew c.as_str.result.now 384))) (said (λ made. says.Opened (g.Y.System.number made.1)) c.create_temp-made.result)
-      (g.Y.System.calls c.args.self.now.system) (g.Y.System.calls c.create_temp-made.new.system) c.create_temp-made.ensures (ap (λ p. calls.taking_memory (calls.only (asks.CreateNew p 384))) c.as_str.ensures.same) c.created.ensures.answer)
+    (g.Y.System.calls c.args.self.now.system) (g.Y.System.calls c.create_temp-made.new.system) c.create_temp-made.ensures (ap (λ p. calls.taking_memory (calls.only (asks.CreateNew p 384))) c.as_str.ensures.same) c.created.ensures.answer)
 
 pub returns-in-Write-clause-ran : goal.returns-in-Write-clause-ran
 returns-in-Write-clause-ran g c =
@@ -28,19 +28,19 @@ pub returns-in-SyncTemp-clause-ran : goal.returns-in-SyncTemp-clause-ran
 returns-in-SyncTemp-clause-ran g c =
     subst (λ step. StepRuns (numbered g.Y.System.number step) (answered g.Y.System.number c.synced.result) (g.Y.System.calls c.args.self.now.system) (g.Y.System.calls c.sync-done.new.self)) (sym c.in-SyncTemp.is)
     (answers_call (steps.SyncTemp (temp_of (g.Y.System.number c.in-SyncTemp.temp.file) c.in-SyncTemp.temp.path)) _ (asks.Sync (g.Y.System.number c.in-SyncTemp.temp.file)) (said (λ _. says.Done) c.sync-done.result)
-      (g.Y.System.calls c.args.self.now.system) (g.Y.System.calls c.sync-done.new.self) c.sync-done.ensures refl c.synced.ensures.answer)
+    (g.Y.System.calls c.args.self.now.system) (g.Y.System.calls c.sync-done.new.self) c.sync-done.ensures refl c.synced.ensures.answer)
 
 pub returns-in-Persist-clause-ran : goal.returns-in-Persist-clause-ran
 returns-in-Persist-clause-ran g c =
     subst (λ step. StepRuns (numbered g.Y.System.number step) (answered g.Y.System.number c.moved.result) (g.Y.System.calls c.args.self.now.system) (g.Y.System.calls c.rename-done.new.self)) (sym c.in-Persist.is)
     (answers_call (steps.Persist (temp_of (g.Y.System.number c.in-Persist.temp.file) c.in-Persist.temp.path) c.in-Persist.path) _ (asks.Rename c.as_str-in-Persist.result.now c.as_str-in-Persist-2.result.now) (said (λ _. says.Done) c.rename-done.result)
-      (g.Y.System.calls c.args.self.now.system) (g.Y.System.calls c.rename-done.new.self) c.rename-done.ensures (ap (λ p. calls.only (asks.Rename p c.as_str-in-Persist-2.result.now)) c.as_str-in-Persist.ensures.same ∙ ap (λ p. calls.only (asks.Rename c.in-Persist.temp.path p)) c.as_str-in-Persist-2.ensures.same) c.moved.ensures.answer)
+    (g.Y.System.calls c.args.self.now.system) (g.Y.System.calls c.rename-done.new.self) c.rename-done.ensures (ap (λ p. calls.only (asks.Rename p c.as_str-in-Persist-2.result.now)) c.as_str-in-Persist.ensures.same ∙ ap (λ p. calls.only (asks.Rename c.in-Persist.temp.path p)) c.as_str-in-Persist-2.ensures.same) c.moved.ensures.answer)
 
 pub returns-in-Open-clause-ran : goal.returns-in-Open-clause-ran
 returns-in-Open-clause-ran g c =
     subst (λ step. StepRuns (numbered g.Y.System.number step) (answered g.Y.System.number c.readable.result) (g.Y.System.calls c.args.self.now.system) (g.Y.System.calls c.open-file.new.system)) (sym c.in-Open.is)
     (answers_run (steps.Open c.in-Open.path) _ (calls.opening calls.to_give c.as_str-in-Open.result.now) (said (λ file. says.Opened (g.Y.System.number file)) c.open-file.result)
-      (g.Y.System.calls c.args.self.now.system) (g.Y.System.calls c.open-file.new.system) c.open-file.ensures (ap (λ p. calls.opening calls.to_give p) c.as_str-in-Open.ensures.same) c.readable.ensures.answer)
+    (g.Y.System.calls c.args.self.now.system) (g.Y.System.calls c.open-file.new.system) c.open-file.ensures (ap (λ p. calls.opening calls.to_give p) c.as_str-in-Open.ensures.same) c.readable.ensures.answer)
 
 pub returns-in-Read-clause-ran : goal.returns-in-Read-clause-ran
 returns-in-Read-clause-ran g c =

@@ -8,6 +8,6 @@ pub loop-preserved : goal.loop-preserved
 loop-preserved g c = record {
   same = c.read_names.ensures.same ∙ c.loop.invariant.same;
   waits = waits_more (asks.ReadNames (g.Y.System.folder_number c.args.folder.now) (length c.args.buf.now)) (asks.ReadNames (g.Y.System.folder_number c.loop.folder) (length c.loop.buf))
-    (error_kind c.in-Err.e) (g.Y.System.calls c.args.system.now) (g.Y.System.calls c.loop.system) (g.Y.System.calls c.read_names.new.self)
-    c.loop.invariant.waits c.in-Err.ensures.logged (ap (λ number. asks.ReadNames number (length c.loop.buf)) c.loop.invariant.same ∙ ap (λ size. asks.ReadNames (g.Y.System.folder_number c.args.folder.now) size) c.loop.auto.buf) (sym c.is_interrupted.ensures ∙ c.if-is_interrupted.true);
+      (error_kind c.in-Err.e) (g.Y.System.calls c.args.system.now) (g.Y.System.calls c.loop.system) (g.Y.System.calls c.read_names.new.self)
+      c.loop.invariant.waits c.in-Err.ensures.logged (ap (λ number. asks.ReadNames number (length c.loop.buf)) c.loop.invariant.same ∙ ap (λ size. asks.ReadNames (g.Y.System.folder_number c.args.folder.now) size) c.loop.auto.buf) (sym c.is_interrupted.ensures ∙ c.if-is_interrupted.true);
 }

@@ -8,5 +8,5 @@ abbrev pub invariant-loop : goal.invariant-loop
 invariant-loop g l = record {
   same : g.Y.System.folder_number l.folder ≡ g.Y.System.folder_number l.fn.folder;
   waits : Waits (ReadNames (g.Y.System.folder_number l.fn.folder) (length l.fn.buf))
-    (g.Y.System.calls l.fn.system) (g.Y.System.calls l.system)
+      (g.Y.System.calls l.fn.system) (g.Y.System.calls l.system);
 }

@@ -8,6 +8,6 @@ pub loop-preserved : goal.loop-preserved
 loop-preserved g c = record {
   same = c.read.ensures.same ∙ c.loop.invariant.same;
   waits = waits_more (asks.Read (g.Y.System.number c.args.file.now) (length c.args.buf.now)) (asks.Read (g.Y.System.number c.loop.file) (length c.loop.buf))
-    (error_kind c.in-Err.e) (g.Y.System.calls c.args.system.now) (g.Y.System.calls c.loop.system) (g.Y.System.calls c.read.new.self)
-    c.loop.invariant.waits c.in-Err.ensures.logged (ap (λ number. asks.Read number (length c.loop.buf)) c.loop.invariant.same ∙ ap (λ size. asks.Read (g.Y.System.number c.args.file.now) size) c.loop.auto.buf) (sym c.is_interrupted.ensures ∙ c.if-is_interrupted.true);
+      (error_kind c.in-Err.e) (g.Y.System.calls c.args.system.now) (g.Y.System.calls c.loop.system) (g.Y.System.calls c.read.new.self)
+      c.loop.invariant.waits c.in-Err.ensures.logged (ap (λ number. asks.Read number (length c.loop.buf)) c.loop.invariant.same ∙ ap (λ size. asks.Read (g.Y.System.number c.args.file.now) size) c.loop.auto.buf) (sym c.is_interrupted.ensures ∙ c.if-is_interrupted.true);
 }

@@ -8,5 +8,5 @@ abbrev pub invariant-loop : goal.invariant-loop
 invariant-loop g l = record {
   same : g.Y.System.number l.file ≡ g.Y.System.number l.fn.file;
   waits : Waits (Read (g.Y.System.number l.fn.file) (length l.fn.buf))
-    (g.Y.System.calls l.fn.system) (g.Y.System.calls l.system)
+      (g.Y.System.calls l.fn.system) (g.Y.System.calls l.system);
 }

@@ -8,6 +8,6 @@ pub loop-preserved : goal.loop-preserved
 loop-preserved g c = record {
   same = c.write.ensures.same ∙ c.loop.invariant.same;
   waits = waits_more (asks.Write (g.Y.System.number c.args.file.now) c.args.buf.now) (asks.Write (g.Y.System.number c.loop.file) c.args.buf.now)
-    (error_kind c.in-Err.e) (g.Y.System.calls c.args.system.now) (g.Y.System.calls c.loop.system) (g.Y.System.calls c.write.new.self)
-    c.loop.invariant.waits c.in-Err.ensures.logged (ap (λ number. asks.Write number c.args.buf.now) c.loop.invariant.same) (sym c.is_interrupted.ensures ∙ c.if-is_interrupted.true);
+      (error_kind c.in-Err.e) (g.Y.System.calls c.args.system.now) (g.Y.System.calls c.loop.system) (g.Y.System.calls c.write.new.self)
+      c.loop.invariant.waits c.in-Err.ensures.logged (ap (λ number. asks.Write number c.args.buf.now) c.loop.invariant.same) (sym c.is_interrupted.ensures ∙ c.if-is_interrupted.true);
 }

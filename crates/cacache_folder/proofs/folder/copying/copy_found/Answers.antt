@@ -20,7 +20,7 @@ returns-else-is_onto_itself g c =
     let new = g.Y.System.calls c.copied.new.system in
     run_call (calls.asking_target source from to) (asks.Stat to) (says.Info target) end old mid new c.in-Ok.ensures refl
     (run_as (calls.only (asks.CopyFile from to)) (calls.copied source target from to) end mid new c.copied.ensures
-      (copied_out source target from to c.is_onto_itself.result c.is_onto_itself.ensures c.if-is_onto_itself.false))
+    (copied_out source target from to c.is_onto_itself.result c.is_onto_itself.ensures c.if-is_onto_itself.false))
 
 pub returns-in-Err : goal.returns-in-Err
 returns-in-Err g c =

@@ -31,7 +31,7 @@ returns-in-Ok-make_missing g t c =
     let new = g.Y.System.calls c.make_dir-in-Ok-make_missing.new.system in
     let absent : is_absent why ≡ true = sym (ap is_absent c.kind.ensures) ∙ sym c.is_absent.ensures ∙ c.if-is_absent.true in
     let climbs = calls_as (making false path todo) _ (making false upper (path ∷ todo)) old mid
-      (c.in-Err.ensures false todo) (made_climbs path todo why (Some upper) absent c.in-Some.ensures.value) in
+    (c.in-Err.ensures false todo) (made_climbs path todo why (Some upper) absent c.in-Some.ensures.value) in
     let above = calls_on (making false path todo) (making false upper (path ∷ todo)) (making true path todo) old mid next climbs (c.in-Ok-make_missing.ensures (path ∷ todo)) in
     calls_as (making false path todo) (made true path todo last) (onward (λ _. below todo) last) old new
     (calls_on (making false path todo) (making true path todo) (made true path todo last) old next new above (c.make_dir-in-Ok-make_missing.ensures true todo))
@@ -48,7 +48,7 @@ returns-in-Err-make_missing g t c =
     let new = g.Y.System.calls c.make_missing.new.system in
     let absent : is_absent why ≡ true = sym (ap is_absent c.kind.ensures) ∙ sym c.is_absent.ensures ∙ c.if-is_absent.true in
     let climbs = calls_as (making false path todo) _ (making false upper (path ∷ todo)) old mid
-      (c.in-Err.ensures false todo) (made_climbs path todo why (Some upper) absent c.in-Some.ensures.value) in
+    (c.in-Err.ensures false todo) (made_climbs path todo why (Some upper) absent c.in-Some.ensures.value) in
     calls_on (making false path todo) (making false upper (path ∷ todo)) (over (says.Failed (error_kind c.in-Err-make_missing.other))) old mid new
     climbs (c.in-Err-make_missing.ensures (path ∷ todo))
 

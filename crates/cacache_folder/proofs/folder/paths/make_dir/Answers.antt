@@ -20,7 +20,7 @@ returns-else-is_absent g c =
     let sure = onward (λ _. below todo) c.confirm.result in
     calls_as (making again path todo) sure (made again path todo c.confirm.result) old new
     (calls_on (making again path todo) (confirming why path todo) sure old mid new
-      (calls_one (making again path todo) (confirming why path todo) (asks.MakeFolder path) (says.Failed why) old mid c.in-Err.ensures refl
-        (making_confirms again path todo why never))
-      (c.confirm.ensures.gone todo))
+    (calls_one (making again path todo) (confirming why path todo) (asks.MakeFolder path) (says.Failed why) old mid c.in-Err.ensures refl
+    (making_confirms again path todo why never))
+    (c.confirm.ensures.gone todo))
     (sure_made again path todo c.confirm.result c.confirm.ensures.kinds)

@@ -16,7 +16,7 @@ returns-in-None g c =
     let new = g.Y.System.calls c.sync.new.self in
     calls_run (calls.opening calls.to_sync_folder c.args.path.now) (calls.only call) end old mid new
     (calls_as (calls.opening calls.to_sync_folder c.args.path.now) _ (calls.only call) old mid
-      (c.in-Ok.ensures calls.to_sync_folder) (c.in-None.ensures (calls.only call)))
+    (c.in-Ok.ensures calls.to_sync_folder) (c.in-None.ensures (calls.only call)))
     (run_one (calls.only call) call end end mid new c.sync.ensures refl refl)
 
 pub returns-in-Ok : goal.returns-in-Ok

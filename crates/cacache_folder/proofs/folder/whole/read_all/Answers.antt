@@ -14,7 +14,7 @@ returns-in-Ok g c =
     calls_run (calls.opening calls.to_read c.args.path.now) (calls.taking_memory (calls.read_whole c.in-Ok.info.size file)) end
     (g.Y.System.calls c.args.system.now) (g.Y.System.calls c.opened.new.system) (g.Y.System.calls c.read_whole.new.system) (c.in-Ok.ensures calls.to_read)
     (run_as (calls.taking_memory (calls.read_whole c.count_of.result file)) _ end (g.Y.System.calls c.opened.new.system) (g.Y.System.calls c.read_whole.new.system) c.read_whole.ensures
-      (ap (λ size. calls.taking_memory (calls.read_whole size file)) c.count_of.ensures))
+    (ap (λ size. calls.taking_memory (calls.read_whole size file)) c.count_of.ensures))
 
 pub returns-in-Err : goal.returns-in-Err
 returns-in-Err g c =

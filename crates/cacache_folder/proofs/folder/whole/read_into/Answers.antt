@@ -25,7 +25,7 @@ returns-in-Ok-clause-ran g c =
     run_as (calls.taking_memory (calls.trying false (asks.Read (g.Y.System.number c.args.file.now.file) (length c.in-Some.buf.now.items)))) _
     (says.Bytes c.front_of.result) (g.Y.System.calls c.args.system.now) (g.Y.System.calls c.read_to.new.system)
     (took_read (g.Y.System.number c.args.file.now.file) _ (take c.in-Ok.count c.read_to.new.bytes.items) c.front_of.result (g.Y.System.calls c.args.system.now) (g.Y.System.calls c.read_to.new.system)
-      c.in-Ok.ensures.made c.front_of.ensures)
+    c.in-Ok.ensures.made c.front_of.ensures)
     (ap (λ buf. calls.taking_memory (calls.trying false (asks.Read (g.Y.System.number c.args.file.now.file) (length buf.items)))) c.in-Some.ensures.value)
 
 pub returns-in-Err-clause-ran : goal.returns-in-Err-clause-ran

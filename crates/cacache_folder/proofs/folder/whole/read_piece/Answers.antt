@@ -23,8 +23,8 @@ returns-in-Ok-clause-ran g c =
     piece_run file (min c.args.max 131072) c.gives_no_more.result end (g.Y.System.calls c.args.system.now) (g.Y.System.calls c.read_into.new.system)
     (subst (λ size. c.gives_no_more.result ≡ gives_over c.args.file.now.left size) c.min-size.ensures c.gives_no_more.ensures) c.if-gives_no_more.false
     (run_as (calls.taking_memory (calls.trying false (asks.Read file.number (length (arc_value c.in-Ok.room).items)))) _ end (g.Y.System.calls c.args.system.now) (g.Y.System.calls c.read_into.new.system)
-      c.read_into.ensures.ran
-      (ap (λ size. calls.taking_memory (calls.trying false (asks.Read file.number size))) (c.in-Ok.ensures ∙ c.min-most.ensures ∙ ap (λ size. min size file.left) c.min-size.ensures)))
+    c.read_into.ensures.ran
+    (ap (λ size. calls.taking_memory (calls.trying false (asks.Read file.number size))) (c.in-Ok.ensures ∙ c.min-most.ensures ∙ ap (λ size. min size file.left) c.min-size.ensures)))
 
 pub returns-in-Err-clause-ran : goal.returns-in-Err-clause-ran
 returns-in-Err-clause-ran g c =
