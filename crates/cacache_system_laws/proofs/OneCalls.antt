@@ -1,0 +1,64 @@
+-- Steps that make one call.
+use Rattle.std.proofs.Common.{◌≡◌, ℕ, Bool, true, false, List, refl, sym, ap, subst, ◌∙◌, inl}
+use Rattle.std.specs.Prelude.{Option, None, Some}
+use Rattle.std_io.specs.declared.io.kind.ErrorKind.{ErrorKind}
+use Rattle.std_io.specs.declared.io.kind.ErrorKind.TheVariants as kind
+use Rattle.cacache_disk.specs.declared.luck.Luck.{Luck}
+use Rattle.cacache_disk.specs.declared.luck.Luck.TheVariants.{Plain, Fail, Take}
+use Rattle.cacache_disk.specs.Apply.{apply}
+use Rattle.cacache_system.specs.declared.call.SystemCall.{SystemCall}
+use Rattle.cacache_system.specs.declared.call.CallResult.{CallResult}
+use Rattle.cacache_system.specs.declared.call.CallResult.TheVariants as says
+use Rattle.cacache_system.specs.CallsOf.{Stage, over, wants, after, interrupts, Ends}
+use Rattle.cacache_system.specs.Seen.{NumberedStep}
+use Rattle.cacache_system.specs.AnswersOf.{Hint, first, answer_of, failed_with, misses}
+use Rattle.cacache_system_laws.specs.Machine.{Machine}
+use Rattle.cacache_system_laws.specs.Calls.{GoesWell, Occurs, OccursSomehow, LeavesPart, LeavesSome}
+use Rattle.cacache_system_laws.specs.Laws.{step_on, led_to, Leads, IsPlain, IsDone, IsLucky, Agrees}
+use Rattle.cacache_system_laws.proofs.Leading.{over_leads, call_leads}
+use Rattle.cacache_system_laws.proofs.Refused.{broken_agrees}
+
+-- a call that leaves no part
+pub left_whole : (b : Bool) (m : Machine) (call : SystemCall) (part : Option ℕ) (n : Machine) → (LeavesPart m call part n → n ≡ m) → LeavesSome b m call part n → n ≡ m
+left_whole true m call part n whole left = left
+left_whole false m call part n whole left = whole left
+
+-- A stage with one call. It moves no bytes, and a failure gets the usual answer.
+pub record OneCall (m : Machine) (step : NumberedStep) (s : Stage) (call : SystemCall) : Type 0 where
+  pub wanted : wants s ≡ Some call
+  pub leads : (said : CallResult) → after s said ≡ over said
+  pub memory : (end : CallResult) → Ends s end → end ≡ says.Failed kind.OutOfMemory
+  pub answers : (why : ErrorKind) → misses why ≡ false → answer_of step (says.Failed why) ≡ failed_with step why
+  pub whole : (part : Option ℕ) (n : Machine) → LeavesPart m call part n → n ≡ m
+  pub agrees : (most : Option ℕ) (said : CallResult) (n : Machine) → GoesWell most m call said n → apply m.tree (step_on m step) Plain ≡ led_to step said n
+
+module _ (m : Machine) (step : NumberedStep) (s : Stage) (call : SystemCall) (is : OneCall m step s call) where
+  -- a failure without cause that changed nothing
+  fails_so : (why : ErrorKind) (said : CallResult) (n : Machine) → said ≡ says.Failed why → misses why ≡ false → n ≡ m → IsDone m step → IsLucky m step said n
+  fails_so why said n same fine stays done =
+      broken_agrees step why said m n (ap (answer_of step) same ∙ is.answers why fine) fine (ap (λ (x : Machine). x.tree) stays) done
+
+  lucky_so : (luck : Luck) (said : CallResult) (n : Machine) → Occurs luck m call said n → IsDone m step → IsLucky m step said n
+  lucky_so Plain said n occurs done = inl (Plain, is.agrees None said n occurs)
+  lucky_so (Take most) said n occurs done = inl (Plain, is.agrees (Some most) said n occurs)
+  lucky_so (Fail fault part) said n (why, same, of, fine, left) done =
+      fails_so why said n same fine (left_whole (interrupts why) m call part n (is.whole part n) left) done
+
+  pub one_plainly : Leads (GoesWell None) s m (IsPlain m step)
+  one_plainly =
+      call_leads (GoesWell None) s call m (IsPlain m step) is.wanted (λ end ends enough. absurd (enough (is.memory end ends)))
+      (λ said n well. subst (λ (t : Stage). Leads (GoesWell None) t n (IsPlain m step)) (sym (is.leads said))
+        (over_leads (GoesWell None) said n (IsPlain m step) (λ enough. is.agrees None said n well)))
+
+  pub one_breaking : IsDone m step → Leads OccursSomehow s m (IsLucky m step)
+  one_breaking done =
+      call_leads OccursSomehow s call m (IsLucky m step) is.wanted (λ end ends. fails_so kind.OutOfMemory end m (is.memory end ends) refl refl done)
+      (λ said n somehow. subst (λ (t : Stage). Leads OccursSomehow t n (IsLucky m step)) (sym (is.leads said))
+        (over_leads OccursSomehow said n (IsLucky m step) (lucky_so somehow.0 said n somehow.1 done)))
+
+-- both laws of a step that makes one call
+pub one_agrees : (m : Machine) (hint : Hint) (step : NumberedStep) (call : SystemCall) → OneCall m step (first hint step) call → Agrees m hint step
+one_agrees m hint step call is = record {
+  plainly = one_plainly m step (first hint step) call is;
+  breaking = one_breaking m step (first hint step) call is;
+}

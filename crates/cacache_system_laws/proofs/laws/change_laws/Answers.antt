@@ -1,0 +1,11 @@
+use Rattle.cacache_system_laws.proofs.Changing.{create_agrees, persist_agrees, symlink_agrees, hard_link_agrees, reflink_breaks}
+use Rattle.cacache_system_laws.proofs.laws.change_laws.Goals as goal
+
+pub returns : goal.returns
+returns c = record {
+  create = create_agrees;
+  persist = persist_agrees;
+  symlink = symlink_agrees;
+  hard_link = hard_link_agrees;
+  reflink = reflink_breaks;
+}

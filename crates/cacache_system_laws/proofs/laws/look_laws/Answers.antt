@@ -1,0 +1,5 @@
+use Rattle.cacache_system_laws.proofs.Changing.{exists_agrees}
+use Rattle.cacache_system_laws.proofs.laws.look_laws.Goals as goal
+
+pub returns : goal.returns
+returns c = record { exists = exists_agrees }

@@ -1,0 +1,99 @@
+-- That the calls of a step answer and leave what the disk's table of steps says.
+use Rattle.std.specs.Prelude.{◌≡◌, ◌⊎◌, ℕ, List, [], ◌∷◌, Option, None, Some, Result, Ok, option_map, length, drop}
+use Rattle.std.specs.Option.{unwrap_or}
+use Rattle.std_io.specs.declared.io.kind.ErrorKind.TheVariants as kind
+use Rattle.cacache_store.specs.declared.store.plain.PlainTemp.{PlainTemp}
+use Rattle.cacache_store.specs.declared.store.plain.PlainFile.{PlainFile}
+use Rattle.cacache_store.specs.declared.store.answer.Answer.TheVariants as answers
+use Rattle.cacache_store.specs.Plain.{PlainStep, PlainAnswer}
+use Rattle.cacache_disk.specs.declared.luck.Luck.{Luck}
+use Rattle.cacache_disk.specs.declared.luck.Luck.TheVariants.{Plain}
+use Rattle.cacache_disk.specs.Tree.{Tree, look, bytes_of}
+use Rattle.cacache_disk.specs.Apply.{apply, fault_told}
+use Rattle.cacache_system.specs.declared.call.SystemCall.{SystemCall}
+use Rattle.cacache_system.specs.declared.call.CallItem.{CallItem}
+use Rattle.cacache_system.specs.declared.call.CallResult.{CallResult}
+use Rattle.cacache_system.specs.declared.call.CallResult.TheVariants.{Failed}
+use Rattle.cacache_system.specs.Seen.{NumberedFile, NumberedTemp, NumberedStep, NumberedAnswer, step_as, answer_as}
+use Rattle.cacache_system.specs.CallsOf.{Stage, Runs}
+use Rattle.cacache_system.specs.AnswersOf.{Hint, first, answer_of}
+use Rattle.cacache_system_laws.specs.Machine.{OpenFile, Machine}
+use Rattle.cacache_system_laws.specs.Calls.{GoesWell, OccursSomehow, EachCall}
+
+-- ---- handles on a machine
+
+-- the bytes that stand where a file was opened
+abbrev pub bytes_in : Machine → OpenFile → List ℕ
+bytes_in m file = bytes_of (look m.tree file.names)
+
+-- a temporary file has the bytes that stand where it was made
+abbrev pub temp_on : Machine → NumberedTemp → PlainTemp
+temp_on m temp = record {
+  path = temp.path;
+  bytes = option_map (bytes_in m) (m.files temp.number);
+}
+
+-- the bytes that an open file has left to read
+abbrev pub left_in : Machine → OpenFile → List ℕ
+left_in m file = drop file.read (bytes_in m file)
+
+-- an open file has those bytes left
+abbrev pub file_on : Machine → NumberedFile → PlainFile
+file_on m file = record {
+  left = length (unwrap_or (option_map (left_in m) (m.files file.number)) []);
+  bytes = option_map (left_in m) (m.files file.number);
+}
+
+-- a step with its handles as they are on a machine
+abbrev pub step_on : Machine → NumberedStep → PlainStep
+step_on m step = step_as (file_on m) (temp_on m) step
+
+-- an answer with its handles as they are on a machine
+abbrev pub answer_on : Machine → NumberedAnswer → PlainAnswer
+answer_on m answer = answer_as (file_on m) (temp_on m) answer
+
+-- an answer and a tree
+abbrev pub outcome : PlainAnswer → Tree → PlainAnswer × Tree
+outcome answer t = (answer, t)
+
+-- what a step answers and leaves, where its calls end so on a machine
+abbrev pub led_to : NumberedStep → CallResult → Machine → PlainAnswer × Tree
+led_to step end m = outcome (answer_on m (answer_of step end)) m.tree
+
+-- ---- runs
+
+-- this holds wherever calls from a stage lead that happen in this way
+abbrev pub Leads : (Machine → SystemCall → CallResult → Machine → Type 0) → Stage → Machine
+    → (CallResult → Machine → Type 0) → Type 0
+Leads Happens s m Holds =
+    (items : List CallItem) (end : CallResult) (after : Machine) → Runs s items end
+    → EachCall Happens m items after → Holds end after
+
+-- where memory isn't refused, it is as under plain luck
+abbrev pub IsPlain : Machine → NumberedStep → CallResult → Machine → Type 0
+IsPlain m step end after =
+    (end ≡ Failed kind.OutOfMemory → ⊥) → apply m.tree (step_on m step) Plain ≡ led_to step end after
+
+-- it is as under some luck, or the step comes back for want of memory and nothing changed
+abbrev pub IsLucky : Machine → NumberedStep → CallResult → Machine → Type 0
+IsLucky m step end after =
+    ((luck : Luck) × (apply m.tree (step_on m step) luck ≡ led_to step end after))
+    ⊎ ((answer_of step end ≡ answers.NoMemory step) × (after.tree ≡ m.tree))
+
+-- the disk's table does the step
+abbrev pub IsDone : Machine → NumberedStep → Type 0
+IsDone m step = fault_told (apply m.tree (step_on m step) Plain).0 ≡ None
+
+-- where no call fails without cause or moves only a part, a step is as under plain luck
+abbrev pub GoesPlainly : Machine → Hint → NumberedStep → Type 0
+GoesPlainly m hint step = Leads (GoesWell None) (first hint step) m (IsPlain m step)
+
+-- where the disk's table does a step, any of its calls may fail without cause
+abbrev pub MayBreak : Machine → Hint → NumberedStep → Type 0
+MayBreak m hint step =
+    IsDone m step → Leads OccursSomehow (first hint step) m (IsLucky m step)
+
+-- both
+pub record Agrees (m : Machine) (hint : Hint) (step : NumberedStep) : Type 0 where
+  pub plainly : GoesPlainly m hint step
+  pub breaking : MayBreak m hint step

@@ -1,0 +1,5 @@
+pub mod Machine
+pub mod Calls
+pub mod Laws
+pub mod OneCall
+pub mod Removing

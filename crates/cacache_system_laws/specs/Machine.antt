@@ -1,0 +1,191 @@
+-- A model of the system: what stands, which files are open, and what a call may say and leave.
+use Rattle.std.specs.Prelude.{◌≡◌, ◌+◌, ◌==◌, ℕ, Bool, true, false, if◌then◌else◌, List, [], ◌∷◌, Option, None, Some, Result, MatchResult, IfSome, length, take, drop}
+use Rattle.std_io.specs.declared.io.kind.ErrorKind.{ErrorKind}
+use Rattle.cacache_core.specs.Contexts.{fault_of}
+use Rattle.cacache_core.specs.declared.errors.Fault.{Fault}
+use Rattle.cacache_core.specs.declared.errors.Fault.TheVariants.{IsADirectory, Device}
+use Rattle.cacache_core.specs.PathNames.{Names}
+use Rattle.cacache_disk.specs.declared.node.Node.{Node}
+use Rattle.cacache_disk.specs.declared.node.Node.TheVariants.{Folder, File, Link}
+use Rattle.cacache_disk.specs.Tree.{Tree, look, put, cut, kind_of}
+use Rattle.cacache_disk.specs.Apply.{if_missing, taken, readable, lengthened}
+use Rattle.cacache_system.specs.declared.call.FileInfo.{FileInfo}
+use Rattle.cacache_system.specs.declared.call.CallResult.{CallResult}
+use Rattle.cacache_system.specs.declared.call.CallResult.TheVariants as says
+use Rattle.cacache_system.specs.AnswersOf.{refuses_memory}
+
+-- an open file: the names at which it was found, and how many bytes were read from it
+pub record OpenFile : Type 0 where
+  pub names : Names
+  pub read : ℕ
+
+-- the names of a file or folder that was synced, and what stood there
+abbrev pub SyncedNode : Type 0
+SyncedNode = Names × Option Node
+
+-- what stands, the open file of each number, what was synced, latest first, and the number and device of what stands
+pub record Machine : Type 0 where
+  pub tree : Tree
+  pub files : ℕ → Option OpenFile
+  pub synced : List SyncedNode
+  pub inodes : Names → ℕ × ℕ
+
+-- ---- what a call leaves
+
+-- these stand, are open and were synced; the numbers of what stands may be others
+abbrev pub Became : Tree → (ℕ → Option OpenFile) → List SyncedNode → Machine → Type 0
+Became t files synced after =
+    (after.tree ≡ t) × (after.files ≡ files) × (after.synced ≡ synced)
+
+-- another tree stands
+abbrev pub HasTree : Machine → Tree → Machine → Type 0
+HasTree m t after = Became t m.files m.synced after
+
+-- the open files with this one under a number
+abbrev pub with_file : (ℕ → Option OpenFile) → ℕ → OpenFile → ℕ → Option OpenFile
+with_file files number file other = if other == number then Some file else files other
+
+-- the tree refuses the call: an error of its fault's kind is said, and nothing changed
+abbrev pub IsRefused : Fault → Machine → CallResult → Machine → Type 0
+IsRefused fault m said after =
+    (why : ErrorKind) × (said ≡ says.Failed why) × (fault_of why ≡ fault)
+    × (refuses_memory why ≡ false) × (after ≡ m)
+
+-- the call changes the tree at these names, or is refused
+abbrev pub ChangesTree : Result Names Fault → (Names → Tree) → Machine → CallResult → Machine
+    → Type 0
+ChangesTree ends new m said after =
+    MatchResult ends (λ names. (said ≡ says.Done) × HasTree m (new names) after)
+    (λ fault. IsRefused fault m said after)
+
+-- an open file of which nothing was read
+abbrev pub unread : Names → OpenFile
+unread names = record { names = names; read = 0 }
+
+-- a file is opened under a number that no other has, where this tree stands then
+abbrev pub OpensAt : Names → Tree → Machine → CallResult → Machine → Type 0
+OpensAt names t m said after =
+    (number : ℕ) × (said ≡ says.Opened number) × (m.files number ≡ None)
+    × Became t (with_file m.files number (unread names)) m.synced after
+
+-- a file is opened at these names, or it is refused
+abbrev pub OpensIf : Result Names Fault → (Names → Tree) → Machine → CallResult → Machine → Type 0
+OpensIf ends new m said after =
+    MatchResult ends (λ names. OpensAt names (new names) m said after)
+    (λ fault. IsRefused fault m said after)
+
+-- the tree with an empty file where nothing stood
+abbrev pub with_empty : Tree → Names → Tree
+with_empty t names = if_missing (look t names) (put t names (File [])) t
+
+-- ---- what is said
+
+-- whether a node is a file indeed
+abbrev pub is_regular : Node → Bool
+is_regular Folder = false
+is_regular (File bytes) = true
+is_regular (Link target) = false
+
+-- a file's size; of anything else it may be any
+abbrev pub HasSize : Node → ℕ → Type 0
+HasSize Folder size = Unit {0}
+HasSize (File bytes) size = size ≡ length bytes
+HasSize (Link target) size = Unit {0}
+
+-- what the system says of a node with this number on its device
+pub record Describes (node : Node) (inode : ℕ × ℕ) (info : FileInfo) : Type 0 where
+  pub kind : info.kind ≡ kind_of node
+  pub regular : info.regular ≡ is_regular node
+  pub size : HasSize node info.size
+  pub number : (info.inode, info.device) ≡ inode
+
+-- it is said what stands at these names, and nothing changed
+abbrev pub ShowsNode : Names → Machine → CallResult → Machine → Type 0
+ShowsNode names m said after =
+    (info : FileInfo) × (said ≡ says.Info info)
+    × IfSome (look m.tree names) (λ node. Describes node (m.inodes names) info) × (after ≡ m)
+
+-- it is said what stands where a path leads, or why it leads nowhere
+abbrev pub ShowsEnd : Result Names Fault → Machine → CallResult → Machine → Type 0
+ShowsEnd ends m said after =
+    MatchResult ends (λ names. ShowsNode names m said after) (λ fault. IsRefused fault m said after)
+
+
+-- of an open file it is said what it is; where none has the number nothing is said
+abbrev pub ShowsOpen : ℕ → Machine → CallResult → Machine → Type 0
+ShowsOpen number m said after =
+    IfSome (m.files number) (λ file. ShowsNode file.names m said after)
+
+-- ---- reads, writes and syncs
+
+-- an open file gives the next of its bytes
+abbrev pub Gives : ℕ → OpenFile → List ℕ → Machine → CallResult → Machine → Type 0
+Gives number file next m said after =
+    (said ≡ says.Bytes next)
+    × Became m.tree
+        (with_file m.files number (record { names = file.names; read = file.read + length next }))
+        m.synced after
+
+-- of the bytes that it has left an open file gives those that are picked; a folder can't be read
+abbrev pub ReadsFile : (List ℕ → List ℕ) → ℕ → OpenFile → Option Node → Machine → CallResult
+    → Machine → Type 0
+ReadsFile pick number file (Some (File bytes)) m said after =
+    Gives number file (pick (drop file.read bytes)) m said after
+ReadsFile pick number file (Some Folder) m said after = IsRefused IsADirectory m said after
+ReadsFile pick number file here m said after = Unit {0}
+
+-- an open file is read
+abbrev pub ReadsOpen : (List ℕ → List ℕ) → ℕ → Machine → CallResult → Machine → Type 0
+ReadsOpen pick number m said after =
+    IfSome (m.files number) (λ file.
+    ReadsFile pick number file (look m.tree file.names) m said after)
+
+-- an open file takes all the bytes at its end, or at most so many
+abbrev pub WritesOpen : Option ℕ → List ℕ → ℕ → Machine → CallResult → Machine → Type 0
+WritesOpen most bytes number m said after =
+    IfSome (m.files number) (λ file.
+    (said ≡ says.Count (taken most bytes))
+    × HasTree m (lengthened m.tree file.names (take (taken most bytes) bytes)) after)
+
+-- an open file or folder is synced
+abbrev pub SyncsOpen : ℕ → Machine → CallResult → Machine → Type 0
+SyncsOpen number m said after =
+    IfSome (m.files number) (λ file.
+    (said ≡ says.Done)
+    × Became m.tree m.files ((file.names, look m.tree file.names) ∷ m.synced) after)
+
+-- ---- two paths
+
+-- a folder can't be linked: that isn't permitted
+abbrev pub link_fault : Fault → Fault
+link_fault IsADirectory = Device
+link_fault fault = fault
+
+-- a file or link gets a second name; what is linked is looked at first
+abbrev pub LinksNode : Result Node Fault → Result Names Fault → Machine → CallResult → Machine
+    → Type 0
+LinksNode source ends m said after =
+    MatchResult source (λ node. ChangesTree ends (λ names. put m.tree names node) m said after)
+    (λ fault. IsRefused (link_fault fault) m said after)
+
+-- a file is copied to these names, or it is refused
+abbrev pub CopiesTo : List ℕ → Result Names Fault → Machine → CallResult → Machine → Type 0
+CopiesTo bytes ends m said after =
+    MatchResult ends (λ names.
+    (said ≡ says.Count (length bytes)) × HasTree m (put m.tree names (File bytes)) after)
+    (λ fault. IsRefused fault m said after)
+
+-- a file is copied; the source is looked at first
+abbrev pub CopiesBytes : Result (List ℕ) Fault → Result Names Fault → Machine → CallResult
+    → Machine → Type 0
+CopiesBytes source ends m said after =
+    MatchResult source (λ bytes. CopiesTo bytes ends m said after)
+    (λ fault. IsRefused fault m said after)
+
+-- a file or link is moved from these names; of a folder nothing is said
+abbrev pub MovesNode : Names → Option Node → Result Names Fault → Machine → CallResult → Machine
+    → Type 0
+MovesNode old None ends m said after = Unit {0}
+MovesNode old (Some Folder) ends m said after = Unit {0}
+MovesNode old (Some node) ends m said after =
+    ChangesTree ends (λ new. put (cut m.tree old) new node) m said after

@@ -1,0 +1,33 @@
+-- Laws on removals, which may be part of a walk.
+use Rattle.std.specs.Prelude.{◌≡◌, ℕ, List, ◌∷◌, Some, Ok}
+use Rattle.std.specs.List.{AllByRecursion}
+use Rattle.cacache_core.specs.PathNames.{Names}
+use Rattle.cacache_store.specs.declared.store.step.Step.TheVariants as steps
+use Rattle.cacache_disk.specs.declared.node.Node.TheVariants.{Folder}
+use Rattle.cacache_disk.specs.Tree.{Tree, look}
+use Rattle.cacache_disk.specs.LedTo.{folder}
+use Rattle.cacache_system.specs.AnswersOf.{Hint, no_hint, is_missing, in_walk}
+use Rattle.cacache_system_laws.specs.Machine.{Machine}
+use Rattle.cacache_system_laws.specs.Laws.{Agrees}
+
+-- a folder stands at a path
+abbrev pub IsFolderAt : Tree → List ℕ → Type 0
+IsFolderAt t path = (names : Names) × (folder t path ≡ Ok names)
+
+-- the folders of a walk stand
+abbrev pub WalkStands : Machine → Hint → Type 0
+WalkStands m no_hint = Unit {0}
+WalkStands m is_missing = Unit {0}
+WalkStands m (in_walk node last entered) = AllByRecursion (IsFolderAt m.tree) (last ∷ entered)
+
+-- a file or link is removed
+abbrev pub RemoveFileAgrees : Type 0
+RemoveFileAgrees =
+    (m : Machine) (hint : Hint) (path : List ℕ) → WalkStands m hint
+    → Agrees m hint (steps.RemoveFile path)
+
+-- an empty folder is removed
+abbrev pub RemoveDirAgrees : Type 0
+RemoveDirAgrees =
+    (m : Machine) (hint : Hint) (path : List ℕ) → WalkStands m hint
+    → Agrees m hint (steps.RemoveDir path)

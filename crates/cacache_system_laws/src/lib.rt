@@ -1,0 +1,6 @@
+//! What the system's calls mean, and that a run of a step's calls does what the disk's table of steps says.
+#![tactic(auto)]
+
+mod laws;
+
+pub use laws::{change_laws, look_laws};
