@@ -32,7 +32,7 @@ use Rattle.cacache_system_laws.proofs.OneCalls.{OneCall, one_agrees}
 use Rattle.cacache_system_laws.proofs.Leading.{over_leads}
 
 -- a step that answers that it is done, where its call changed the tree
-changed : (ends : Result Names Fault) (new : Names → Tree) (step : NumberedStep) (m n : Machine) (end : CallResult) → answer_of step says.Done ≡ answers.Done
+pub changed : (ends : Result Names Fault) (new : Names → Tree) (step : NumberedStep) (m n : Machine) (end : CallResult) → answer_of step says.Done ≡ answers.Done
     → ((why : ErrorKind) → answer_of step (says.Failed why) ≡ failed_with step why)
     → ChangesTree ends new m end n
     → unless ends m.tree (λ names. outcome answers.Done (new names)) ≡ led_to step end n

@@ -5,3 +5,6 @@ mod Changing
 mod Views
 mod Claims
 mod Opening
+mod Looking
+mod Syncing
+mod Removing

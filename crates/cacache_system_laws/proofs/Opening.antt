@@ -35,10 +35,10 @@ pub newly_open : (files : ℕ → Option OpenFile) (number : ℕ) (file : OpenFi
 newly_open files number file = ap (λ (b : Bool). cond b (Some file) (files number)) (same_number number)
 
 -- what becomes of a stage that says what the system said
-said_leads : (b : Bool) (s : Stage) (said is : CallResult) (n : Machine) (P : Claim) → said ≡ is → Leads (way_of b) (after s is) n P → Leads (way_of b) (after s said) n P
+pub said_leads : (b : Bool) (s : Stage) (said is : CallResult) (n : Machine) (P : Claim) → said ≡ is → Leads (way_of b) (after s is) n P → Leads (way_of b) (after s said) n P
 said_leads b s said is n P same leads = subst (λ (r : CallResult). Leads (way_of b) (after s r) n P) (sym same) leads
 
-of_some : {A : Type 0} (o : Option A) (a : A) (Q : A → Type 0) → o ≡ Some a → IfSome o Q → Q a
+pub of_some : {A : Type 0} (o : Option A) (a : A) (Q : A → Type 0) → o ≡ Some a → IfSome o Q → Q a
 of_some o a Q is holds = subst (λ (x : Option _). IfSome x Q) is holds
 
 -- What follows where a path's file is opened: it is refused, it breaks, or it is open and what stands there is known.

@@ -3,3 +3,5 @@ pub mod Calls
 pub mod Laws
 pub mod OneCall
 pub mod Removing
+pub mod Opening
+pub mod Syncing

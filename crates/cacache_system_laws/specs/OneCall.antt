@@ -47,9 +47,3 @@ abbrev pub PersistAgrees : Type 0
 PersistAgrees =
     (m : Machine) (hint : Hint) (temp : NumberedTemp) (path : List ℕ) (names : Names)
     (bytes : List ℕ) → StillStands m temp names bytes → Agrees m hint (steps.Persist temp path)
-
--- a temporary file is synced
-abbrev pub SyncTempAgrees : Type 0
-SyncTempAgrees =
-    (m : Machine) (hint : Hint) (temp : NumberedTemp) (names : Names) (bytes : List ℕ)
-    → StillStands m temp names bytes → Agrees m hint (steps.SyncTemp temp)

@@ -3,4 +3,4 @@
 
 mod laws;
 
-pub use laws::{change_laws, look_laws};
+pub use laws::{change_laws, look_laws, removal_laws, sync_laws};
