@@ -75,7 +75,7 @@ create_agrees m hint path = one_agrees m hint (steps.CreateTemp path) (asks.Crea
   leads = λ said. refl;
   memory = λ end ends. ⊎_elim (λ e. e) (λ never. absurd never) ends;
   answers = λ why fine. refl;
-  whole = λ part n left. left;
+  whole = λ why part n left. left;
   agrees = λ most said n well. created (free m.tree path) m n path said well;
 })
 
@@ -107,7 +107,7 @@ exists_agrees m hint path = one_agrees m hint (steps.Exists path) (asks.Stat pat
   leads = λ said. refl;
   memory = λ end never. absurd never;
   answers = not_missing path;
-  whole = λ part n left. left;
+  whole = λ why part n left. left;
   agrees = λ most said n well. there (found m.tree path) m n path said well;
 })
 
@@ -152,7 +152,7 @@ persist_agrees m hint temp path names bytes ready = one_agrees m hint (steps.Per
   leads = λ said. refl;
   memory = λ end never. absurd never;
   answers = λ why fine. refl;
-  whole = λ part n left. left;
+  whole = λ why part n left. left;
   agrees = put_away m temp path names bytes ready;
 })
 
@@ -165,7 +165,7 @@ symlink_agrees m hint target path = one_agrees m hint (steps.Symlink target path
   leads = λ said. refl;
   memory = λ end never. absurd never;
   answers = λ why fine. refl;
-  whole = λ part n left. left;
+  whole = λ why part n left. left;
   agrees = λ most said n well. changed (free m.tree path) (λ names. put m.tree names (Link target)) (steps.Symlink target path) m n said refl (λ why. refl) well;
 })
 
@@ -183,7 +183,7 @@ hard_link_agrees m hint from to node is = one_agrees m hint (steps.HardLink from
   leads = λ said. refl;
   memory = λ end never. absurd never;
   answers = λ why fine. refl;
-  whole = λ part n left. left;
+  whole = λ why part n left. left;
   agrees = linked_so m from to node is;
 })
 

@@ -16,7 +16,7 @@ use Rattle.cacache_system.specs.CallsOf.{Stage, over, only, taking_memory, wants
 use Rattle.cacache_system.specs.Seen.{NumberedStep}
 use Rattle.cacache_system.specs.AnswersOf.{Hint, first, answer_of, failed_with, misses, leaves_a_part}
 use Rattle.cacache_system_laws.specs.Machine.{Machine}
-use Rattle.cacache_system_laws.specs.Calls.{GoesWell, Occurs, OccursSomehow, LeavesPart, LeavesSome, EachCall}
+use Rattle.cacache_system_laws.specs.Calls.{GoesWell, Occurs, OccursSomehow, LeavesPart, EachCall}
 use Rattle.cacache_system_laws.specs.Laws.{step_on, led_to, Leads, IsPlain, IsDone, IsLucky, Agrees}
 use Rattle.cacache_system_laws.proofs.Leading.{Way, Claim, over_leads, call_leads}
 use Rattle.cacache_system_laws.proofs.Refused.{broken_agrees, broken_part}
@@ -43,7 +43,7 @@ Well b m call said n = (most : Option ℕ) × (b ≡ true → most ≡ None) × 
 -- a call fails without cause where it may
 abbrev pub Broke : Bool → Machine → SystemCall → CallResult → Machine → Type 0
 Broke b m call said n =
-    (b ≡ false) × (why : ErrorKind) × (said ≡ says.Failed why) × (misses why ≡ false) × (part : Option ℕ) × LeavesSome (interrupts why) m call part n
+    (b ≡ false) × (why : ErrorKind) × (said ≡ says.Failed why) × (misses why ≡ false) × (part : Option ℕ) × LeavesPart m call why part n
 
 lucky_cases : (luck : Luck) (m : Machine) (call : SystemCall) (said : CallResult) (n : Machine) → Occurs luck m call said n → Well false m call said n ⊎ Broke false m call said n
 lucky_cases Plain m call said n occurs = inl (None, (λ e. refl), occurs)

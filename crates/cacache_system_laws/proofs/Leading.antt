@@ -38,28 +38,33 @@ pub only_leads : (R : Way) (call : SystemCall) (m : Machine) (P : Claim) → ((s
 only_leads R call m P holds =
     call_leads R (only call) call m P refl (λ end never. absurd never) (λ said n happens. over_leads R said n P (holds said n happens))
 
--- what becomes of a call that is tried until no signal interrupts it
+-- What becomes of a call that is tried until no signal interrupts it: it is over, or it may be given up.
 abbrev pub Tried : Claim → Machine → CallResult → Machine → Type 0
-Tried P m said n = ((was_interrupted said ≡ true) × (n ≡ m)) ⊎ ((was_interrupted said ≡ false) × P said n)
+Tried P m said n =
+    ((was_interrupted said ≡ true) × (n ≡ m) × P (says.Failed kind.Interrupted) m)
+    ⊎ ((was_interrupted said ≡ false) × P said n)
 
 tried_on : (R : Way) (call : SystemCall) (m n : Machine) (P : Claim) (items : List CallItem) (said end : CallResult) (last : Machine) → Tried P m said n
-    → (n ≡ m → Runs (trying true call) items end → EachCall R m items last → P end last)
+    → (n ≡ m → P (says.Failed kind.Interrupted) m → Runs (trying true call) items end → EachCall R m items last → P end last)
     → Runs (if was_interrupted said then trying true call else over said) items end → EachCall R n items last → P end last
-tried_on R call m n P items said end last (inl (is, same)) again runs each =
-    again same (subst (λ (b : Bool). Runs (if b then trying true call else over said) items end) is runs) (subst (λ (x : Machine). EachCall R x items last) same each)
+tried_on R call m n P items said end last (inl (is, same, gives_up)) again runs each =
+    again same gives_up (subst (λ (b : Bool). Runs (if b then trying true call else over said) items end) is runs) (subst (λ (x : Machine). EachCall R x items last) same each)
 tried_on R call m n P items said end last (inr (is, holds)) again runs each =
     over_leads R said n P holds items end last (subst (λ (b : Bool). Runs (if b then trying true call else over said) items end) is runs) each
 
-ends_trying : (again : Bool) (call : SystemCall) (end : CallResult) (m n : Machine) (P : Claim) → Ends (trying again call) end → m ≡ n → P (says.Failed kind.Interrupted) m → P end n
-ends_trying true call end m n P ends same holds = subst (λ (x : Machine). P end x) same (subst (λ (e : CallResult). P e m) (sym ends) holds)
+ends_trying : (again : Bool) (call : SystemCall) (end : CallResult) (m n : Machine) (P : Claim) → Ends (trying again call) end → m ≡ n → (again ≡ true → P (says.Failed kind.Interrupted) m) → P end n
+ends_trying true call end m n P ends same holds = subst (λ (x : Machine). P end x) same (subst (λ (e : CallResult). P e m) (sym ends) (holds refl))
 ends_trying false call end m n P ends same holds = absurd ends
 
--- a call that is tried again where a signal interrupts it
-pub trying_leads : (R : Way) (again : Bool) (call : SystemCall) (m : Machine) (P : Claim) → P (says.Failed kind.Interrupted) m
+trying_on : (R : Way) (again : Bool) (call : SystemCall) (m : Machine) (P : Claim) → (again ≡ true → P (says.Failed kind.Interrupted) m)
     → ((said : CallResult) (n : Machine) → R m call said n → Tried P m said n) → Leads R (trying again call) m P
-trying_leads R again call m P gives_up tries [] end n runs each = ends_trying again call end m n P runs each gives_up
-trying_leads R again call m P gives_up tries (item ∷ items) end n runs (next, happens, others) =
+trying_on R again call m P gives_up tries [] end n runs each = ends_trying again call end m n P runs each gives_up
+trying_on R again call m P gives_up tries (item ∷ items) end n runs (next, happens, others) =
     let asked : Some call ≡ Some item.call = runs.0 in
     let same : item.call ≡ call = cc in
     tried_on R call m next P items item.result end n (tries item.result next (subst (λ (c : SystemCall). R m c item.result next) same happens))
-    (λ stays more each. trying_leads R true call m P gives_up tries items end n more each) runs.1 others
+    (λ stays given_up more each. trying_on R true call m P (λ e. given_up) tries items end n more each) runs.1 others
+
+-- a call that is tried again where a signal interrupts it
+pub trying_leads : (R : Way) (call : SystemCall) (m : Machine) (P : Claim) → ((said : CallResult) (n : Machine) → R m call said n → Tried P m said n) → Leads R (trying false call) m P
+trying_leads R call m P tries = trying_on R false call m P (λ e. absurd cc) tries

@@ -8,3 +8,7 @@ mod Opening
 mod Looking
 mod Syncing
 mod Removing
+mod Trying
+mod Reading
+mod Writing
+mod Copying

@@ -33,7 +33,6 @@ use Rattle.cacache_system_laws.specs.Opening.{OpenAgrees, SizeAgrees}
 use Rattle.cacache_system_laws.proofs.Refused.{same_outcome, failed, refused_on}
 use Rattle.cacache_system_laws.proofs.Leading.{Claim, over_leads, call_leads}
 use Rattle.cacache_system_laws.proofs.Claims.{way_of, claim_of, cases_of, agrees_of, claim_plain, claim_broken}
-use Rattle.cacache_system_laws.proofs.OneCalls.{left_whole}
 use Rattle.cacache_system_laws.proofs.Opening.{OpenedOn, Openings, opening_leads, said_leads, of_some}
 use Rattle.cacache_system_laws.proofs.Views.{View, nowhere, a_folder, a_file, view}
 
@@ -168,7 +167,7 @@ module _ (b : Bool) (m : Machine) (path : List ℕ) (done : b ≡ false → IsDo
       (λ (broke, why, same, fine, part, left).
         said_leads b (sizing path) said (says.Failed why) n (claim_of b m (steps.Size path)) same
         (over_leads (way_of b) (says.Failed why) n (claim_of b m (steps.Size path))
-          (claim_broken b m (steps.Size path) done why n broke refl fine (ap (λ (x : Machine). x.tree) (left_whole (interrupts why) m (asks.Stat path) part n (λ x. x) left)))))
+          (claim_broken b m (steps.Size path) done why n broke refl fine (ap (λ (x : Machine). x.tree) left))))
       (cases_of b m (asks.Stat path) said n happens))
 
 pub size_agrees : SizeAgrees

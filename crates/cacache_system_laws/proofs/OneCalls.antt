@@ -13,15 +13,10 @@ use Rattle.cacache_system.specs.CallsOf.{Stage, over, wants, after, interrupts, 
 use Rattle.cacache_system.specs.Seen.{NumberedStep}
 use Rattle.cacache_system.specs.AnswersOf.{Hint, first, answer_of, failed_with, misses}
 use Rattle.cacache_system_laws.specs.Machine.{Machine}
-use Rattle.cacache_system_laws.specs.Calls.{GoesWell, Occurs, OccursSomehow, LeavesPart, LeavesSome}
+use Rattle.cacache_system_laws.specs.Calls.{GoesWell, Occurs, OccursSomehow, LeavesPart}
 use Rattle.cacache_system_laws.specs.Laws.{step_on, led_to, Leads, IsPlain, IsDone, IsLucky, Agrees}
 use Rattle.cacache_system_laws.proofs.Leading.{over_leads, call_leads}
 use Rattle.cacache_system_laws.proofs.Refused.{broken_agrees}
-
--- a call that leaves no part
-pub left_whole : (b : Bool) (m : Machine) (call : SystemCall) (part : Option ℕ) (n : Machine) → (LeavesPart m call part n → n ≡ m) → LeavesSome b m call part n → n ≡ m
-left_whole true m call part n whole left = left
-left_whole false m call part n whole left = whole left
 
 -- A stage with one call. It moves no bytes, and a failure gets the usual answer.
 pub record OneCall (m : Machine) (step : NumberedStep) (s : Stage) (call : SystemCall) : Type 0 where
@@ -29,7 +24,7 @@ pub record OneCall (m : Machine) (step : NumberedStep) (s : Stage) (call : Syste
   pub leads : (said : CallResult) → after s said ≡ over said
   pub memory : (end : CallResult) → Ends s end → end ≡ says.Failed kind.OutOfMemory
   pub answers : (why : ErrorKind) → misses why ≡ false → answer_of step (says.Failed why) ≡ failed_with step why
-  pub whole : (part : Option ℕ) (n : Machine) → LeavesPart m call part n → n ≡ m
+  pub whole : (why : ErrorKind) (part : Option ℕ) (n : Machine) → LeavesPart m call why part n → n ≡ m
   pub agrees : (most : Option ℕ) (said : CallResult) (n : Machine) → GoesWell most m call said n → apply m.tree (step_on m step) Plain ≡ led_to step said n
 
 module _ (m : Machine) (step : NumberedStep) (s : Stage) (call : SystemCall) (is : OneCall m step s call) where
@@ -42,7 +37,7 @@ module _ (m : Machine) (step : NumberedStep) (s : Stage) (call : SystemCall) (is
   lucky_so Plain said n occurs done = inl (Plain, is.agrees None said n occurs)
   lucky_so (Take most) said n occurs done = inl (Plain, is.agrees (Some most) said n occurs)
   lucky_so (Fail fault part) said n (why, same, of, fine, left) done =
-      fails_so why said n same fine (left_whole (interrupts why) m call part n (is.whole part n) left) done
+      fails_so why said n same fine (is.whole why part n left) done
 
   pub one_plainly : Leads (GoesWell None) s m (IsPlain m step)
   one_plainly =

@@ -19,7 +19,6 @@ use Rattle.cacache_system_laws.specs.Machine.{OpenFile, Machine, SyncedNode, Des
 use Rattle.cacache_system_laws.specs.Laws.{Leads}
 use Rattle.cacache_system_laws.proofs.Leading.{Way, Claim, over_leads, call_leads}
 use Rattle.cacache_system_laws.proofs.Claims.{way_of, cases_of}
-use Rattle.cacache_system_laws.proofs.OneCalls.{left_whole}
 use Rattle.cacache_system_laws.proofs.Views.{View, nowhere, a_folder, a_file, view}
 
 pub same_number : (number : ℕ) → (number == number) ≡ true
@@ -62,7 +61,7 @@ module _ (b : Bool) (m : Machine) (purpose : Purpose) (path : List ℕ) (P : Cla
         (subst (λ (x : Machine). Leads (way_of b) (opened purpose number shown.0) x P) (sym shown.3)
           (next.opens number names node shown.0 n (n.inodes names) is stands open_on described)))
       (λ (broke, why, same, fine, part, left).
-        let stays : l ≡ n = left_whole (interrupts why) n (asks.StatFile number) part l (λ x. x) left in
+        let stays : l ≡ n = left in
         said_leads b (checking purpose number) said (says.Failed why) l P same
         (over_leads (way_of b) (says.Failed why) l P (next.breaks why l broke fine (ap (λ (x : Machine). x.tree) stays ∙ open_on.tree))))
       (cases_of b n (asks.StatFile number) said l happens))
@@ -97,7 +96,7 @@ module _ (b : Bool) (m : Machine) (purpose : Purpose) (path : List ℕ) (P : Cla
       ⊎_elim
       (λ (most, all, well). found_on (view m.tree path) said n well)
       (λ (broke, why, same, fine, part, left).
-        let stays : n ≡ m = left_whole (interrupts why) m (asks.OpenToRead path) part n (λ x. x) left in
+        let stays : n ≡ m = left in
         said_leads b (opening purpose path) said (says.Failed why) n P same
         (over_leads (way_of b) (says.Failed why) n P (next.breaks why n broke fine (ap (λ (x : Machine). x.tree) stays))))
       (cases_of b m (asks.OpenToRead path) said n happens))

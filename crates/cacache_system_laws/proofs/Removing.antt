@@ -29,7 +29,6 @@ use Rattle.cacache_system_laws.specs.Calls.{GoesWell, LeavesPart}
 use Rattle.cacache_system_laws.specs.Removing.{IsFolderAt, WalkStands, RemoveFileAgrees, RemoveDirAgrees}
 use Rattle.cacache_system_laws.proofs.Leading.{Claim, over_leads, call_leads, only_leads}
 use Rattle.cacache_system_laws.proofs.Claims.{way_of, claim_of, cases_of, agrees_of, claim_plain, claim_broken}
-use Rattle.cacache_system_laws.proofs.OneCalls.{left_whole}
 use Rattle.cacache_system_laws.proofs.Opening.{said_leads, of_some}
 use Rattle.cacache_system_laws.proofs.Changing.{changed}
 
@@ -68,7 +67,7 @@ module _ (b : Bool) (m : Machine) (P : Claim) (breaks : (why : ErrorKind) (n : M
       (λ (broke, why, same, fine, part, left).
         said_leads b s said (says.Failed why) n P same
         (subst (λ (t : Stage). Leads (way_of b) t n P) (sym (failing why))
-          (over_leads (way_of b) (says.Failed why) n P (breaks why n broke fine (left_whole (interrupts why) m (asks.StatLink path) part n (λ x. x) left)))))
+          (over_leads (way_of b) (says.Failed why) n P (breaks why n broke fine left))))
       (cases_of b m (asks.StatLink path) said n happens)
 
   -- the folders of a walk are looked at one by one
@@ -96,7 +95,7 @@ module _ (b : Bool) (m : Machine) (P : Claim) (breaks : (why : ErrorKind) (n : M
 -- a removal of this kind
 removal : (m : Machine) (hint : Hint) (step : NumberedStep) (call : SystemCall) → first hint step ≡ remove hint call → WalkStands m hint
     → ((why : ErrorKind) → answer_of step (says.Failed why) ≡ failed_with step why)
-    → ((part : Option ℕ) (n : Machine) → LeavesPart m call part n → n ≡ m)
+    → ((why : ErrorKind) (part : Option ℕ) (n : Machine) → LeavesPart m call why part n → n ≡ m)
     → ((most : Option ℕ) (said : CallResult) (n : Machine) → GoesWell most m call said n → apply m.tree (step_on m step) Plain ≡ led_to step said n)
     → Agrees m hint step
 removal m hint step call begins walk usual whole agrees = agrees_of m hint step (λ b done.
@@ -107,17 +106,17 @@ removal m hint step call begins walk usual whole agrees = agrees_of m hint step 
         (λ (most, all, well). claim_plain b m step done said n (agrees most said n well))
         (λ (broke, why, same, fine, part, left).
           subst (λ (r : CallResult). claim_of b m step r n) (sym same)
-          (claim_broken b m step done why n broke (usual why) fine (ap (λ (x : Machine). x.tree) (left_whole (interrupts why) m call part n (whole part n) left))))
+          (claim_broken b m step done why n broke (usual why) fine (ap (λ (x : Machine). x.tree) (whole why part n left))))
         (cases_of b m call said n happens)))))
 
 pub remove_file_agrees : RemoveFileAgrees
 unfolding apply
 remove_file_agrees m hint path walk =
-    removal m hint (steps.RemoveFile path) (asks.RemoveFile path) refl walk (λ why. refl) (λ part n left. left)
+    removal m hint (steps.RemoveFile path) (asks.RemoveFile path) refl walk (λ why. refl) (λ why part n left. left)
     (λ most said n well. changed (removable m.tree path) (cut m.tree) (steps.RemoveFile path) m n said refl (λ why. refl) well)
 
 pub remove_dir_agrees : RemoveDirAgrees
 unfolding apply
 remove_dir_agrees m hint path walk =
-    removal m hint (steps.RemoveDir path) (asks.RemoveFolder path) refl walk (λ why. refl) (λ part n left. left)
+    removal m hint (steps.RemoveDir path) (asks.RemoveFolder path) refl walk (λ why. refl) (λ why part n left. left)
     (λ most said n well. changed (emptied m.tree path) (cut m.tree) (steps.RemoveDir path) m n said refl (λ why. refl) well)

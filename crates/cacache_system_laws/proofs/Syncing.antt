@@ -32,7 +32,6 @@ use Rattle.cacache_system_laws.specs.Syncing.{EndsInNoLink, SyncTempAgrees, Sync
 use Rattle.cacache_system_laws.proofs.Refused.{same_outcome}
 use Rattle.cacache_system_laws.proofs.Leading.{Claim, over_leads, only_leads}
 use Rattle.cacache_system_laws.proofs.Claims.{way_of, claim_of, cases_of, agrees_of, claim_plain, claim_broken}
-use Rattle.cacache_system_laws.proofs.OneCalls.{left_whole}
 use Rattle.cacache_system_laws.proofs.Opening.{OpenedOn, Openings, opening_leads, of_some}
 use Rattle.cacache_system_laws.proofs.Views.{folder_found}
 use Rattle.cacache_system_laws.proofs.Looking.{table_fails, no_file, file_there, folder_there, link_there, refused_folder, wanted_file}
@@ -54,7 +53,7 @@ sync_leads b n number file P is done breaks =
       let syncs = of_some (n.files number) file (λ f. (said ≡ says.Done) × Became n.tree n.files ((f.names, look n.tree f.names) ∷ n.synced) l) is well in
       subst (λ (r : CallResult). P r l) (sym syncs.0) (done l (record { tree = syncs.1.0; files = syncs.1.1; synced = syncs.1.2 })))
     (λ (broke, why, same, fine, part, left).
-      subst (λ (r : CallResult). P r l) (sym same) (breaks why l broke fine (left_whole (interrupts why) n (asks.Sync number) part l (λ x. x) left)))
+      subst (λ (r : CallResult). P r l) (sym same) (breaks why l broke fine left))
     (cases_of b n (asks.Sync number) said l happens))
 
 -- ---- a file

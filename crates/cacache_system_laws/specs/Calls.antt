@@ -1,5 +1,5 @@
 -- What each call says and leaves, as POSIX has it where no folder on the way is a link.
-use Rattle.std.specs.Prelude.{◌≡◌, ℕ, Bool, true, false, List, [], ◌∷◌, Option, None, Some, Result, Ok, Err, MatchResult, take}
+use Rattle.std.specs.Prelude.{◌≡◌, ◌||◌, ℕ, Bool, true, false, List, [], ◌∷◌, Option, None, Some, Result, Ok, Err, MatchResult, take}
 use Rattle.std_io.specs.declared.io.kind.ErrorKind.{ErrorKind}
 use Rattle.cacache_core.specs.Contexts.{fault_of}
 use Rattle.cacache_core.specs.declared.errors.Fault.{Fault}
@@ -17,7 +17,7 @@ use Rattle.cacache_system.specs.declared.call.CallItem.{CallItem}
 use Rattle.cacache_system.specs.declared.call.CallResult.{CallResult}
 use Rattle.cacache_system.specs.declared.call.CallResult.TheVariants as says
 use Rattle.cacache_system.specs.CallsOf.{interrupts}
-use Rattle.cacache_system.specs.AnswersOf.{misses}
+use Rattle.cacache_system.specs.AnswersOf.{misses, refuses_memory}
 use Rattle.cacache_system_laws.specs.Machine.{OpenFile, Machine, HasTree, IsRefused, ChangesTree, OpensIf, with_empty, ShowsEnd, ShowsOpen, ReadsOpen, WritesOpen, SyncsOpen, LinksNode, CopiesBytes, MovesNode}
 
 -- What a call says and leaves where it doesn't fail without cause. A read or a write moves all the bytes that it may, or at
@@ -69,25 +69,30 @@ part_copied (Ok bytes) (Ok names) (Some part) t =
     put t names (File (take (taken (Some part) bytes) bytes))
 part_copied source ends part t = t
 
--- what a call leaves that fails without cause, where so many bytes were moved
-abbrev pub LeavesPart : Machine → SystemCall → Option ℕ → Machine → Type 0
-LeavesPart m (asks.Write number bytes) part after =
+-- an error that a call says before it moved a byte: a signal came, or memory was refused
+abbrev pub did_nothing : ErrorKind → Bool
+did_nothing why = interrupts why || refuses_memory why
+
+-- what a write leaves that fails without cause, where so many bytes were taken
+abbrev pub LeavesWritten : Bool → ℕ → List ℕ → Option ℕ → Machine → Machine → Type 0
+LeavesWritten true number bytes part m after = after ≡ m
+LeavesWritten false number bytes part m after =
     HasTree m (part_written (m.files number) bytes part m.tree) after
-LeavesPart m (asks.CopyFile from to) part after =
+
+-- what a call leaves that fails without cause, where so many bytes were moved
+abbrev pub LeavesPart : Machine → SystemCall → ErrorKind → Option ℕ → Machine → Type 0
+LeavesPart m (asks.Write number bytes) why part after =
+    LeavesWritten (did_nothing why) number bytes part m after
+LeavesPart m (asks.CopyFile from to) why part after =
     HasTree m (part_copied (file_at m.tree from InvalidInput) (writable m.tree to) part m.tree)
     after
-LeavesPart m call part after = after ≡ m
-
--- nothing, where a signal interrupted it
-abbrev pub LeavesSome : Bool → Machine → SystemCall → Option ℕ → Machine → Type 0
-LeavesSome true m call part after = after ≡ m
-LeavesSome false m call part after = LeavesPart m call part after
+LeavesPart m call why part after = after ≡ m
 
 -- A call fails without cause, with any error. That nothing is there is never made up.
 abbrev pub Breaks : Fault → Option ℕ → Machine → SystemCall → CallResult → Machine → Type 0
 Breaks fault part m call said after =
     (why : ErrorKind) × (said ≡ says.Failed why) × (fault_of why ≡ fault)
-    × (misses why ≡ false) × LeavesSome (interrupts why) m call part after
+    × (misses why ≡ false) × LeavesPart m call why part after
 
 -- ---- calls
 

@@ -5,3 +5,5 @@ pub mod OneCall
 pub mod Removing
 pub mod Opening
 pub mod Syncing
+pub mod Reading
+pub mod Writing

@@ -13,6 +13,3 @@ OpenAgrees = (m : Machine) (hint : Hint) (path : List ℕ) → Agrees m hint (st
 abbrev pub SizeAgrees : Type 0
 SizeAgrees = (m : Machine) (hint : Hint) (path : List ℕ) → Agrees m hint (steps.Size path)
 
--- a file is read whole
-abbrev pub ReadAllAgrees : Type 0
-ReadAllAgrees = (m : Machine) (hint : Hint) (path : List ℕ) → Agrees m hint (steps.ReadAll path)
