@@ -1,5 +1,5 @@
 -- Steps whose one call changes the tree.
-use Rattle.std.proofs.Common.{◌≡◌, ℕ, Bool, true, false, cond, List, [], ◌∷◌, ◌==◌, refl, sym, ap, subst, ◌∙◌, ⊎_elim, eq-eqb}
+use Rattle.std.proofs.Common.{◌≡◌, ℕ, Bool, true, false, cond, List, [], ◌==◌, refl, sym, ap, subst, ◌∙◌, ⊎_elim, eq-eqb}
 use Rattle.std.specs.Prelude.{Option, None, Some, Result, Ok, Err, MatchResult, option_map}
 use Rattle.std_io.specs.declared.io.kind.ErrorKind.{ErrorKind}
 use Rattle.std_io.specs.declared.io.kind.ErrorKind.TheVariants as kind
@@ -11,8 +11,8 @@ use Rattle.cacache_store.specs.declared.store.answer.Answer.TheVariants as answe
 use Rattle.cacache_store.specs.Plain.{PlainAnswer}
 use Rattle.cacache_disk.specs.declared.luck.Luck.TheVariants.{Plain}
 use Rattle.cacache_disk.specs.declared.node.Node.{Node}
-use Rattle.cacache_disk.specs.declared.node.Node.TheVariants.{Folder, File, Link}
-use Rattle.cacache_disk.specs.Tree.{Tree, look, put, cut, bytes_of, same_path}
+use Rattle.cacache_disk.specs.declared.node.Node.TheVariants.{File, Link}
+use Rattle.cacache_disk.specs.Tree.{Tree, look, put, cut, bytes_of}
 use Rattle.cacache_disk.specs.LedTo.{and_then, or_fault, where_file, way_fault, place, kept, known, free, replaceable, found, linked}
 use Rattle.cacache_disk.specs.Apply.{apply, unless, made_temp, is_there}
 use Rattle.cacache_disk.proofs.PutNodes.{look-put}
@@ -21,14 +21,13 @@ use Rattle.cacache_system.specs.declared.call.SystemCall.TheVariants as asks
 use Rattle.cacache_system.specs.declared.call.CallResult.{CallResult}
 use Rattle.cacache_system.specs.declared.call.CallResult.TheVariants as says
 use Rattle.cacache_system.specs.Seen.{NumberedTemp, NumberedStep}
-use Rattle.cacache_system.specs.CallsOf.{only}
-use Rattle.cacache_system.specs.AnswersOf.{Hint, first, answer_of, failed_with, refuses_memory, misses}
-use Rattle.cacache_system_laws.specs.Machine.{OpenFile, Machine, IsRefused, ChangesTree, OpensIf, ShowsEnd, LinksNode, MovesNode, unread, with_file}
+use Rattle.cacache_system.specs.AnswersOf.{answer_of, failed_with, refuses_memory, misses}
+use Rattle.cacache_system_laws.specs.Machine.{OpenFile, Machine, IsRefused, ChangesTree, OpensIf, ShowsEnd, LinksNode, MovesNode, unread}
 use Rattle.cacache_system_laws.specs.Calls.{GoesWell, OccursSomehow}
 use Rattle.cacache_system_laws.specs.Laws.{answer_on, step_on, outcome, led_to, IsLucky}
 use Rattle.cacache_system_laws.specs.OneCall.{StillStands, CreateAgrees, ExistsAgrees, SymlinkAgrees, HardLinkAgrees, ReflinkBreaks, PersistAgrees}
 use Rattle.cacache_system_laws.proofs.Refused.{same_outcome, refused_agrees, plainly_refused, broken_agrees}
-use Rattle.cacache_system_laws.proofs.OneCalls.{OneCall, one_agrees}
+use Rattle.cacache_system_laws.proofs.OneCalls.{one_agrees}
 use Rattle.cacache_system_laws.proofs.Leading.{over_leads}
 
 -- a step that answers that it is done, where its call changed the tree

@@ -12,3 +12,13 @@ mod Trying
 mod Reading
 mod Writing
 mod Copying
+mod Whole
+mod Slashes
+mod Growing
+mod Making
+mod Dirs
+mod Refusing
+mod Fixing
+mod Mirroring
+mod Keeping
+mod Chaining

@@ -1,6 +1,6 @@
 -- Steps that open a file or ask for its size.
-use Rattle.std.proofs.Common.{◌≡◌, ℕ, Bool, true, false, List, [], refl, sym, ap, subst, ◌∙◌, ⊎_elim, length, drop}
-use Rattle.std.specs.Prelude.{Option, None, Some, Result, Ok, Err, IfSome, option_map}
+use Rattle.std.proofs.Common.{◌≡◌, ℕ, Bool, false, List, [], refl, sym, ap, subst, ◌∙◌, ⊎_elim, length, drop}
+use Rattle.std.specs.Prelude.{Option, Some, Result, Ok, Err, option_map}
 use Rattle.std.specs.Option.{unwrap_or}
 use Rattle.std_io.specs.declared.io.kind.ErrorKind.{ErrorKind}
 use Rattle.std_io.specs.declared.io.kind.ErrorKind.TheVariants as kind
@@ -10,7 +10,6 @@ use Rattle.cacache_core.specs.declared.errors.Fault.TheVariants.{IsADirectory}
 use Rattle.cacache_core.specs.PathNames.{Names}
 use Rattle.cacache_store.specs.declared.store.answer.Kind.{Kind}
 use Rattle.cacache_store.specs.declared.store.answer.Kind.TheVariants as kinds
-use Rattle.cacache_store.specs.declared.store.plain.PlainFile.{PlainFile}
 use Rattle.cacache_store.specs.declared.store.step.Step.TheVariants as steps
 use Rattle.cacache_store.specs.declared.store.answer.Answer.TheVariants as answers
 use Rattle.cacache_store.specs.Plain.{PlainAnswer}
@@ -24,11 +23,11 @@ use Rattle.cacache_system.specs.declared.call.FileInfo.{FileInfo}
 use Rattle.cacache_system.specs.declared.call.SystemCall.TheVariants as asks
 use Rattle.cacache_system.specs.declared.call.CallResult.{CallResult}
 use Rattle.cacache_system.specs.declared.call.CallResult.TheVariants as says
-use Rattle.cacache_system.specs.CallsOf.{Stage, Purpose, to_give, over, sizing, unless_folder, opened, interrupts, after}
+use Rattle.cacache_system.specs.CallsOf.{Stage, to_give, over, sizing, unless_folder, opened, after}
 use Rattle.cacache_system.specs.Seen.{NumberedStep}
-use Rattle.cacache_system.specs.AnswersOf.{Hint, first, answer_of, failed_with, misses, refuses_memory}
-use Rattle.cacache_system_laws.specs.Machine.{OpenFile, Machine, IsRefused, ShowsEnd, ShowsNode, Describes, unread}
-use Rattle.cacache_system_laws.specs.Laws.{step_on, answer_on, left_in, outcome, led_to, Leads, IsDone, Agrees}
+use Rattle.cacache_system.specs.AnswersOf.{answer_of, failed_with, refuses_memory}
+use Rattle.cacache_system_laws.specs.Machine.{Machine, IsRefused, ShowsEnd, ShowsNode, Describes}
+use Rattle.cacache_system_laws.specs.Laws.{answer_on, left_in, outcome, led_to, Leads, IsDone}
 use Rattle.cacache_system_laws.specs.Opening.{OpenAgrees, SizeAgrees}
 use Rattle.cacache_system_laws.proofs.Refused.{same_outcome, failed, refused_on}
 use Rattle.cacache_system_laws.proofs.Leading.{Claim, over_leads, call_leads}
@@ -114,7 +113,7 @@ open_openings : (b : Bool) (m : Machine) (path : List ℕ) → (b ≡ false → 
 open_openings b m path done = record {
   refuses = λ fault why is of memory. claim_plain b m (steps.Open path) done (says.Failed why) m
     (apply_open m.tree path (Err fault) (no_file m.tree path IsADirectory fault is) ∙ table_fails (steps.Open path) fault why m m refl of memory refl);
-  breaks = λ why n broke fine stays. claim_broken b m (steps.Open path) done why n broke refl fine stays;
+  breaks = λ why n broke fine stays synced. claim_broken b m (steps.Open path) done why n broke refl fine stays;
   opens = λ number names node info n inode is stands open_on described. opened_so b m path done number names node info n inode is stands open_on described;
 }
 

@@ -1,5 +1,5 @@
 -- Steps that make one call.
-use Rattle.std.proofs.Common.{◌≡◌, ℕ, Bool, true, false, List, refl, sym, ap, subst, ◌∙◌, inl}
+use Rattle.std.proofs.Common.{◌≡◌, ℕ, false, refl, sym, ap, subst, ◌∙◌, inl}
 use Rattle.std.specs.Prelude.{Option, None, Some}
 use Rattle.std_io.specs.declared.io.kind.ErrorKind.{ErrorKind}
 use Rattle.std_io.specs.declared.io.kind.ErrorKind.TheVariants as kind
@@ -9,7 +9,7 @@ use Rattle.cacache_disk.specs.Apply.{apply}
 use Rattle.cacache_system.specs.declared.call.SystemCall.{SystemCall}
 use Rattle.cacache_system.specs.declared.call.CallResult.{CallResult}
 use Rattle.cacache_system.specs.declared.call.CallResult.TheVariants as says
-use Rattle.cacache_system.specs.CallsOf.{Stage, over, wants, after, interrupts, Ends}
+use Rattle.cacache_system.specs.CallsOf.{Stage, over, wants, after, Ends}
 use Rattle.cacache_system.specs.Seen.{NumberedStep}
 use Rattle.cacache_system.specs.AnswersOf.{Hint, first, answer_of, failed_with, misses}
 use Rattle.cacache_system_laws.specs.Machine.{Machine}

@@ -1,23 +1,23 @@
 -- Files that are opened, and what is said of them.
-use Rattle.std.proofs.Common.{◌≡◌, ◌==◌, ℕ, Bool, true, false, cond, List, [], ◌∷◌, refl, sym, ap, subst, ◌∙◌, ⊎_elim, eq-eqb}
-use Rattle.std.specs.Prelude.{Option, None, Some, Result, Ok, Err, IfSome}
+use Rattle.std.proofs.Common.{◌≡◌, ◌==◌, ℕ, Bool, true, false, cond, List, refl, sym, ap, subst, ◌∙◌, ⊎_elim, eq-eqb}
+use Rattle.std.specs.Prelude.{Option, Some, Result, Ok, Err, IfSome}
 use Rattle.std_io.specs.declared.io.kind.ErrorKind.{ErrorKind}
 use Rattle.cacache_core.specs.Contexts.{fault_of}
 use Rattle.cacache_core.specs.declared.errors.Fault.{Fault}
 use Rattle.cacache_core.specs.PathNames.{Names}
 use Rattle.cacache_disk.specs.declared.node.Node.{Node}
-use Rattle.cacache_disk.specs.declared.node.Node.TheVariants.{Folder, File, Link}
+use Rattle.cacache_disk.specs.declared.node.Node.TheVariants.{Folder, File}
 use Rattle.cacache_disk.specs.Tree.{Tree, look}
 use Rattle.cacache_disk.specs.LedTo.{found}
 use Rattle.cacache_system.specs.declared.call.FileInfo.{FileInfo}
 use Rattle.cacache_system.specs.declared.call.SystemCall.TheVariants as asks
 use Rattle.cacache_system.specs.declared.call.CallResult.{CallResult}
 use Rattle.cacache_system.specs.declared.call.CallResult.TheVariants as says
-use Rattle.cacache_system.specs.CallsOf.{Stage, Purpose, opening, checking, opened, interrupts, after, over}
+use Rattle.cacache_system.specs.CallsOf.{Stage, Purpose, opening, checking, opened, after}
 use Rattle.cacache_system.specs.AnswersOf.{misses, refuses_memory}
-use Rattle.cacache_system_laws.specs.Machine.{OpenFile, Machine, SyncedNode, Describes, IsRefused, OpensIf, ShowsNode, unread, with_file}
+use Rattle.cacache_system_laws.specs.Machine.{OpenFile, Machine, Describes, IsRefused, OpensIf, ShowsNode, unread, with_file}
 use Rattle.cacache_system_laws.specs.Laws.{Leads}
-use Rattle.cacache_system_laws.proofs.Leading.{Way, Claim, over_leads, call_leads}
+use Rattle.cacache_system_laws.proofs.Leading.{Claim, over_leads, call_leads}
 use Rattle.cacache_system_laws.proofs.Claims.{way_of, cases_of}
 use Rattle.cacache_system_laws.proofs.Views.{View, nowhere, a_folder, a_file, view}
 
@@ -43,7 +43,7 @@ of_some o a Q is holds = subst (λ (x : Option _). IfSome x Q) is holds
 -- What follows where a path's file is opened: it is refused, it breaks, or it is open and what stands there is known.
 pub record Openings (b : Bool) (m : Machine) (purpose : Purpose) (path : List ℕ) (P : Claim) : Type 0 where
   pub refuses : (fault : Fault) (why : ErrorKind) → found m.tree path ≡ Err fault → fault_of why ≡ fault → refuses_memory why ≡ false → P (says.Failed why) m
-  pub breaks : (why : ErrorKind) (n : Machine) → b ≡ false → misses why ≡ false → n.tree ≡ m.tree → P (says.Failed why) n
+  pub breaks : (why : ErrorKind) (n : Machine) → b ≡ false → misses why ≡ false → n.tree ≡ m.tree → n.synced ≡ m.synced → P (says.Failed why) n
   pub opens : (number : ℕ) (names : Names) (node : Node) (info : FileInfo) (n : Machine) (inode : ℕ × ℕ) → found m.tree path ≡ Ok names → look m.tree names ≡ Some node
       → OpenedOn m n number names → Describes node inode info → Leads (way_of b) (opened purpose number info) n P
 
@@ -63,7 +63,7 @@ module _ (b : Bool) (m : Machine) (purpose : Purpose) (path : List ℕ) (P : Cla
       (λ (broke, why, same, fine, part, left).
         let stays : l ≡ n = left in
         said_leads b (checking purpose number) said (says.Failed why) l P same
-        (over_leads (way_of b) (says.Failed why) l P (next.breaks why l broke fine (ap (λ (x : Machine). x.tree) stays ∙ open_on.tree))))
+        (over_leads (way_of b) (says.Failed why) l P (next.breaks why l broke fine (ap (λ (x : Machine). x.tree) stays ∙ open_on.tree) (ap (λ (x : Machine). x.synced) stays ∙ open_on.synced))))
       (cases_of b n (asks.StatFile number) said l happens))
 
   opened_on : (names : Names) (node : Node) (said : CallResult) (n : Machine) → found m.tree path ≡ Ok names → look m.tree names ≡ Some node
@@ -98,5 +98,5 @@ module _ (b : Bool) (m : Machine) (purpose : Purpose) (path : List ℕ) (P : Cla
       (λ (broke, why, same, fine, part, left).
         let stays : n ≡ m = left in
         said_leads b (opening purpose path) said (says.Failed why) n P same
-        (over_leads (way_of b) (says.Failed why) n P (next.breaks why n broke fine (ap (λ (x : Machine). x.tree) stays))))
+        (over_leads (way_of b) (says.Failed why) n P (next.breaks why n broke fine (ap (λ (x : Machine). x.tree) stays) (ap (λ (x : Machine). x.synced) stays))))
       (cases_of b m (asks.OpenToRead path) said n happens))

@@ -1,6 +1,6 @@
 -- Removals, which may be part of a walk.
-use Rattle.std.proofs.Common.{◌≡◌, ℕ, Bool, true, false, List, [], ◌∷◌, refl, sym, ap, subst, ◌∙◌, ⊎_elim}
-use Rattle.std.specs.Prelude.{Option, None, Some, Result, Ok, Err, IfSome}
+use Rattle.std.proofs.Common.{◌≡◌, ℕ, Bool, true, false, List, [], ◌∷◌, ◌++◌, refl, sym, ap, subst, ◌∙◌, ⊎_elim}
+use Rattle.std.specs.Prelude.{Option, None, Some, Result, Ok, Err}
 use Rattle.std.specs.List.{AllByRecursion}
 use Rattle.std_io.specs.declared.io.kind.ErrorKind.{ErrorKind}
 use Rattle.std_io.specs.declared.io.kind.ErrorKind.TheVariants as kind
@@ -13,18 +13,18 @@ use Rattle.cacache_disk.specs.declared.luck.Luck.TheVariants.{Plain}
 use Rattle.cacache_disk.specs.declared.node.Node.{Node}
 use Rattle.cacache_disk.specs.declared.node.Node.TheVariants.{Folder, File, Link}
 use Rattle.cacache_disk.specs.Tree.{Tree, look, cut}
-use Rattle.cacache_disk.specs.LedTo.{and_then, place, folder, standing, suited, where_there, where_folder, removable, emptied}
+use Rattle.cacache_disk.specs.LedTo.{and_then, place, folder, standing, where_there, where_folder, removable, emptied}
 use Rattle.cacache_disk.specs.Apply.{apply}
 use Rattle.cacache_system.specs.declared.call.FileInfo.{FileInfo}
 use Rattle.cacache_system.specs.declared.call.SystemCall.{SystemCall}
 use Rattle.cacache_system.specs.declared.call.SystemCall.TheVariants as asks
 use Rattle.cacache_system.specs.declared.call.CallResult.{CallResult}
 use Rattle.cacache_system.specs.declared.call.CallResult.TheVariants as says
-use Rattle.cacache_system.specs.CallsOf.{Stage, over, only, comparing, descending, descend, compared, is_same_node, if_folder, interrupts, after}
+use Rattle.cacache_system.specs.CallsOf.{Stage, over, only, comparing, descending, descend, compared, is_same_node, if_folder, after}
 use Rattle.cacache_system.specs.Seen.{NumberedStep}
 use Rattle.cacache_system.specs.AnswersOf.{Hint, no_hint, is_missing, in_walk, remove, first, answer_of, failed_with, misses}
-use Rattle.cacache_system_laws.specs.Machine.{Machine, Describes, ShowsEnd, ShowsNode, ChangesTree}
-use Rattle.cacache_system_laws.specs.Laws.{step_on, led_to, Leads, IsDone, Agrees}
+use Rattle.cacache_system_laws.specs.Machine.{Machine, Describes, ShowsEnd, ShowsNode}
+use Rattle.cacache_system_laws.specs.Laws.{step_on, led_to, Leads, Agrees}
 use Rattle.cacache_system_laws.specs.Calls.{GoesWell, LeavesPart}
 use Rattle.cacache_system_laws.specs.Removing.{IsFolderAt, WalkStands, RemoveFileAgrees, RemoveDirAgrees}
 use Rattle.cacache_system_laws.proofs.Leading.{Claim, over_leads, call_leads, only_leads}
@@ -49,6 +49,10 @@ stands_from t (Err fault) n is = absurd cc
 folder_stands : (t : Tree) (path : List ℕ) (names : Names) → folder t path ≡ Ok names → (standing t path ≡ Ok names) × (look t names ≡ Some Folder)
 unfolding folder standing
 folder_stands t path names is = stands_from t (place t path) names is
+
+all_behind : (t : Tree) (last : List ℕ) (entered : List (List ℕ)) → IsFolderAt t last → AllByRecursion (IsFolderAt t) entered → AllByRecursion (IsFolderAt t) (entered ++ last ∷ [])
+all_behind t last [] is all = (is, tt)
+all_behind t last (path ∷ entered) is all = (all.0, all_behind t last entered is all.1)
 
 module _ (b : Bool) (m : Machine) (P : Claim) (breaks : (why : ErrorKind) (n : Machine) → b ≡ false → misses why ≡ false → n ≡ m → P (says.Failed why) n) where
   -- a folder of a walk is looked at
@@ -89,8 +93,8 @@ module _ (b : Bool) (m : Machine) (P : Claim) (breaks : (why : ErrorKind) (n : M
   removes_so is_missing call all removes = removes
   removes_so (in_walk node last entered) call all removes =
       call_leads (way_of b) (comparing node last entered call) (asks.StatLink last) m P refl (λ end never. absurd never) (λ said n happens.
-      looked (comparing node last entered call) (λ info. compared (is_same_node info node) info.kind entered call) last all.0 said n happens (λ info. refl) (λ why. refl)
-      (λ info is. compares (is_same_node info node) info.kind entered call is all.1 removes))
+      looked (comparing node last entered call) (λ info. compared (is_same_node info node) info.kind (entered ++ last ∷ []) call) last all.0 said n happens (λ info. refl) (λ why. refl)
+      (λ info is. compares (is_same_node info node) info.kind (entered ++ last ∷ []) call is (all_behind m.tree last entered all.0 all.1) removes))
 
 -- a removal of this kind
 removal : (m : Machine) (hint : Hint) (step : NumberedStep) (call : SystemCall) → first hint step ≡ remove hint call → WalkStands m hint

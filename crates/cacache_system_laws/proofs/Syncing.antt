@@ -1,9 +1,8 @@
 -- Steps that sync a file or a folder.
-use Rattle.std.proofs.Common.{◌≡◌, ℕ, Bool, true, false, List, [], ◌∷◌, refl, sym, ap, subst, ◌∙◌, ⊎_elim}
-use Rattle.std.specs.Prelude.{Option, None, Some, Result, Ok, Err, IfSome, option_map}
+use Rattle.std.proofs.Common.{◌≡◌, ℕ, Bool, false, List, ◌∷◌, refl, sym, ap, subst, ◌∙◌, ⊎_elim}
+use Rattle.std.specs.Prelude.{Option, None, Some, Result, Ok, Err, option_map}
 use Rattle.std_io.specs.declared.io.kind.ErrorKind.{ErrorKind}
 use Rattle.std_io.specs.declared.io.kind.ErrorKind.TheVariants as kind
-use Rattle.cacache_core.specs.Contexts.{fault_of}
 use Rattle.cacache_core.specs.declared.errors.Fault.{Fault}
 use Rattle.cacache_core.specs.declared.errors.Fault.TheVariants.{IsADirectory, NotADirectory}
 use Rattle.cacache_core.specs.PathNames.{Names}
@@ -22,12 +21,11 @@ use Rattle.cacache_system.specs.declared.call.FileInfo.{FileInfo}
 use Rattle.cacache_system.specs.declared.call.SystemCall.TheVariants as asks
 use Rattle.cacache_system.specs.declared.call.CallResult.{CallResult}
 use Rattle.cacache_system.specs.declared.call.CallResult.TheVariants as says
-use Rattle.cacache_system.specs.CallsOf.{Stage, to_sync, to_sync_folder, over, only, if_folder, opened, interrupts}
-use Rattle.cacache_system.specs.Seen.{NumberedTemp, NumberedStep}
-use Rattle.cacache_system.specs.AnswersOf.{Hint, answer_of, failed_with, misses, refuses_memory}
-use Rattle.cacache_system_laws.specs.Machine.{OpenFile, Machine, SyncedNode, Describes, SyncsOpen, Became}
-use Rattle.cacache_system_laws.specs.Laws.{bytes_in, temp_on, answer_on, step_on, outcome, led_to, Leads, IsDone}
-use Rattle.cacache_system_laws.specs.OneCall.{StillStands}
+use Rattle.cacache_system.specs.CallsOf.{Stage, to_sync, to_sync_folder, only, if_folder, opened}
+use Rattle.cacache_system.specs.Seen.{NumberedTemp}
+use Rattle.cacache_system.specs.AnswersOf.{misses}
+use Rattle.cacache_system_laws.specs.Machine.{OpenFile, Machine, Describes, Became}
+use Rattle.cacache_system_laws.specs.Laws.{bytes_in, temp_on, step_on, outcome, Leads, IsDone}
 use Rattle.cacache_system_laws.specs.Syncing.{EndsInNoLink, SyncTempAgrees, SyncFileAgrees, SyncDirAgrees}
 use Rattle.cacache_system_laws.proofs.Refused.{same_outcome}
 use Rattle.cacache_system_laws.proofs.Leading.{Claim, over_leads, only_leads}
@@ -81,7 +79,7 @@ module _ (b : Bool) (m : Machine) (path : List ℕ) (done : b ≡ false → IsDo
   file_openings = record {
     refuses = λ fault why is of memory. claim_plain b m (steps.SyncFile path) done (says.Failed why) m
       (apply_sync m.tree path (Err fault) (no_file m.tree path IsADirectory fault is) ∙ table_fails (steps.SyncFile path) fault why m m refl of memory refl);
-    breaks = λ why n broke fine stays. claim_broken b m (steps.SyncFile path) done why n broke refl fine stays;
+    breaks = λ why n broke fine stays synced. claim_broken b m (steps.SyncFile path) done why n broke refl fine stays;
     opens = file_synced_so;
   }
 
@@ -94,12 +92,12 @@ apply_sync_dir : (t : Tree) (path : List ℕ) (r : Result Names Fault) → folde
 unfolding apply
 apply_sync_dir t path r is = ap (λ (x : Result Names Fault). unless x t (λ names. outcome answers.Done t)) is
 
-folder_of : (t : Tree) (path : List ℕ) (names : Names) (node : Node) → EndsInNoLink t path → found t path ≡ Ok names → look t names ≡ Some node → folder t path ≡ where_folder (Some node) names
+pub folder_of : (t : Tree) (path : List ℕ) (names : Names) (node : Node) → EndsInNoLink t path → found t path ≡ Ok names → look t names ≡ Some node → folder t path ≡ where_folder (Some node) names
 folder_of t path names node none is stands =
     folder_found t path none ∙ ap (λ (r : Result Names Fault). and_then r (λ n. where_folder (look t n) n)) is ∙ ap (λ (o : Option Node). where_folder o names) stands
 
 -- what is no folder
-refused_other : (b : Bool) (k : Kind) (why : ErrorKind) (s : Stage) (n : Machine) (P : Claim) → k ≡ kinds.File → P (says.Failed why) n → Leads (way_of b) (if_folder k why s) n P
+pub refused_other : (b : Bool) (k : Kind) (why : ErrorKind) (s : Stage) (n : Machine) (P : Claim) → k ≡ kinds.File → P (says.Failed why) n → Leads (way_of b) (if_folder k why s) n P
 refused_other b k why s n P is holds = subst (λ (x : Kind). Leads (way_of b) (if_folder x why s) n P) (sym is) (over_leads (way_of b) (says.Failed why) n P holds)
 
 module _ (b : Bool) (m : Machine) (path : List ℕ) (none : EndsInNoLink m.tree path) (done : b ≡ false → IsDone m (steps.SyncDir path)) where
@@ -122,7 +120,7 @@ module _ (b : Bool) (m : Machine) (path : List ℕ) (none : EndsInNoLink m.tree 
     refuses = λ fault why is of memory. claim_plain b m (steps.SyncDir path) done (says.Failed why) m
       (apply_sync_dir m.tree path (Err fault) (folder_found m.tree path none ∙ ap (λ (r : Result Names Fault). and_then r (λ n. where_folder (look m.tree n) n)) is)
         ∙ table_fails (steps.SyncDir path) fault why m m refl of memory refl);
-    breaks = λ why n broke fine stays. claim_broken b m (steps.SyncDir path) done why n broke refl fine stays;
+    breaks = λ why n broke fine stays synced. claim_broken b m (steps.SyncDir path) done why n broke refl fine stays;
     opens = folder_synced_so;
   }
 
@@ -138,7 +136,7 @@ apply_sync_temp m temp = refl
 abbrev synced_temp : NumberedTemp → Option (List ℕ) → PlainAnswer
 synced_temp temp bytes = answers.Synced (record { path = temp.path; bytes = bytes })
 
-open_under : (file : Option OpenFile) (names : Names) → option_map (λ (f : OpenFile). f.names) file ≡ Some names → (f : OpenFile) × (file ≡ Some f)
+pub open_under : (file : Option OpenFile) (names : Names) → option_map (λ (f : OpenFile). f.names) file ≡ Some names → (f : OpenFile) × (file ≡ Some f)
 open_under None names is = absurd cc
 open_under (Some file) names is = (file, refl)
 

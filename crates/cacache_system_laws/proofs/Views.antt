@@ -1,13 +1,13 @@
 -- What stands where a path leads.
-use Rattle.std.proofs.Common.{◌≡◌, ℕ, zero, suc, List, refl, sym, ap, subst, ◌∙◌}
+use Rattle.std.proofs.Common.{◌≡◌, ℕ, zero, suc, List, refl, sym, ap, ◌∙◌}
 use Rattle.std.specs.Prelude.{Option, None, Some, Result, Ok, Err}
 use Rattle.cacache_core.specs.declared.errors.Fault.{Fault}
-use Rattle.cacache_core.specs.declared.errors.Fault.TheVariants.{NotFound, NotADirectory, TooDeep}
+use Rattle.cacache_core.specs.declared.errors.Fault.TheVariants.{NotFound, TooDeep}
 use Rattle.cacache_core.specs.PathNames.{Names}
 use Rattle.cacache_disk.specs.declared.node.Node.{Node}
 use Rattle.cacache_disk.specs.declared.node.Node.TheVariants.{Folder, File, Link}
 use Rattle.cacache_disk.specs.Tree.{Tree, look}
-use Rattle.cacache_disk.specs.LedTo.{and_then, on_link, followed, standing, leads, found, file_at, folder, place, bytes_there, suited, where_there, where_folder}
+use Rattle.cacache_disk.specs.LedTo.{and_then, on_link, followed, standing, leads, found, file_at, folder, place, bytes_there, where_there, where_folder}
 
 -- no link stands there
 abbrev pub NoLink : Option Node → Type 0
@@ -42,7 +42,7 @@ pub data View (t : Tree) (path : List ℕ) : Type 0 where
   a_folder : (names : Names) → leads t path ≡ Ok names → found t path ≡ Ok names → look t names ≡ Some Folder → ((what : Fault) → file_at t path what ≡ Err what) → View t path
   a_file : (names : Names) (bytes : List ℕ) → leads t path ≡ Ok names → found t path ≡ Ok names → look t names ≡ Some (File bytes) → ((what : Fault) → file_at t path what ≡ Ok bytes) → View t path
 
-found_at : (t : Tree) (path : List ℕ) (r : Result Names Fault) → leads t path ≡ r → found t path ≡ and_then r (λ names. where_there (look t names) names)
+pub found_at : (t : Tree) (path : List ℕ) (r : Result Names Fault) → leads t path ≡ r → found t path ≡ and_then r (λ names. where_there (look t names) names)
 unfolding found
 found_at t path r is = ap (λ (x : Result Names Fault). and_then x (λ names. where_there (look t names) names)) is
 

@@ -1,23 +1,21 @@
 -- Lines that are appended, and temporary files that are written.
-use Rattle.std.proofs.Common.{◌≡◌, ◌⊎◌, ◌==◌, ◌||◌, ℕ, min, Bool, true, false, cond, List, [], ◌∷◌, ◌++◌, length, take, refl, sym, ap, subst, ◌∙◌, ⊎_elim, inl, inr, arith, append-nil, zero-le, true≢false}
-use Rattle.std.specs.Prelude.{Option, None, Some, Result, Ok, Err, IfSome, option_map}
+use Rattle.std.proofs.Common.{◌≡◌, ◌⊎◌, ◌||◌, ◌&&◌, not, if◌then◌else◌, ℕ, min, Bool, true, false, cond, List, [], ◌++◌, length, take, refl, sym, ap, subst, ◌∙◌, ⊎_elim, inl, inr, arith, append-nil, true≢false, take_all}
+use Rattle.std.specs.Prelude.{Option, None, Some, Result, Ok, Err, option_map}
 use Rattle.std.specs.FinMap as map
 use Rattle.std_io.specs.declared.io.kind.ErrorKind.{ErrorKind}
 use Rattle.std_io.specs.declared.io.kind.ErrorKind.TheVariants as kind
 use Rattle.cacache_core.specs.Contexts.{fault_of}
 use Rattle.cacache_core.specs.declared.errors.Fault.{Fault}
 use Rattle.cacache_core.specs.PathNames.{Names}
-use Rattle.cacache_store.specs.declared.store.plain.PlainTemp.{PlainTemp}
 use Rattle.cacache_store.specs.declared.store.step.Step.TheVariants as steps
 use Rattle.cacache_store.specs.declared.store.answer.Answer.TheVariants as answers
 use Rattle.cacache_store.specs.Plain.{PlainAnswer}
-use Rattle.cacache_disk.specs.declared.luck.Luck.{Luck}
-use Rattle.cacache_disk.specs.declared.luck.Luck.TheVariants.{Plain, Fail, Take}
+use Rattle.cacache_disk.specs.declared.luck.Luck.TheVariants.{Plain, Fail}
 use Rattle.cacache_disk.specs.declared.node.Node.{Node}
 use Rattle.cacache_disk.specs.declared.node.Node.TheVariants.{Folder, File, Link}
 use Rattle.cacache_disk.specs.Tree.{Tree, look, put, bytes_of, same_path}
-use Rattle.cacache_disk.specs.LedTo.{and_then, leads, writable, where_no_folder}
-use Rattle.cacache_disk.specs.Apply.{apply, unless, if_missing, taken, lengthened, grown, left_by}
+use Rattle.cacache_disk.specs.LedTo.{leads, writable, where_no_folder}
+use Rattle.cacache_disk.specs.Apply.{apply, unless, if_missing, taken, lengthened, grown, left_by, fault_told}
 use Rattle.cacache_disk.proofs.Maps.{total, only, put_same}
 use Rattle.cacache_disk.proofs.PutNodes.{look-put}
 use Rattle.cacache_disk.proofs.Roots.{same_self}
@@ -25,15 +23,16 @@ use Rattle.cacache_disk.proofs.FoundNodes.{and_then_ok}
 use Rattle.cacache_system.specs.declared.call.SystemCall.TheVariants as asks
 use Rattle.cacache_system.specs.declared.call.CallResult.{CallResult}
 use Rattle.cacache_system.specs.declared.call.CallResult.TheVariants as says
-use Rattle.cacache_system.specs.CallsOf.{Stage, over, trying, appending, interrupts, after}
-use Rattle.cacache_system.specs.Seen.{NumberedTemp, NumberedStep}
-use Rattle.cacache_system.specs.AnswersOf.{Hint, answer_of, failed_with, misses, refuses_memory}
-use Rattle.cacache_system_laws.specs.Machine.{OpenFile, Machine, HasTree, OpensIf, OpensAt, IsRefused, unread, with_empty}
-use Rattle.cacache_system_laws.specs.Calls.{did_nothing, part_written, LeavesWritten, LeavesPart}
-use Rattle.cacache_system_laws.specs.Laws.{bytes_in, temp_on, answer_on, step_on, outcome, led_to, Leads, IsDone, IsLucky}
-use Rattle.cacache_system_laws.specs.Writing.{AppendAgrees}
-use Rattle.cacache_system_laws.proofs.Refused.{same_outcome, failed, refused_on, broken_part}
-use Rattle.cacache_system_laws.proofs.Leading.{Claim, over_leads, call_leads, trying_leads}
+use Rattle.cacache_system.specs.CallsOf.{trying, appending, interrupts, was_interrupted, after}
+use Rattle.cacache_system.specs.Seen.{NumberedTemp}
+use Rattle.cacache_system.specs.AnswersOf.{misses, refuses_memory, leaves_a_part}
+use Rattle.cacache_system_laws.specs.Machine.{OpenFile, Machine, HasTree, OpensIf, unread, with_empty}
+use Rattle.cacache_system_laws.specs.Calls.{GoesWell, OccursSomehow, did_nothing, part_written, LeavesWritten, LeavesPart}
+use Rattle.cacache_system_laws.specs.Laws.{bytes_in, step_on, outcome, led_to, Leads, IsDone}
+use Rattle.cacache_system_laws.specs.Writing.{AppendAgrees, WritesAll, WritesSome, WriteAgrees}
+use Rattle.cacache_system_laws.specs.OneCall.{StillStands}
+use Rattle.cacache_system_laws.proofs.Refused.{same_outcome, failed, refused_on, never_missing, failing_apply, broken_part}
+use Rattle.cacache_system_laws.proofs.Leading.{over_leads, call_leads, trying_leads}
 use Rattle.cacache_system_laws.proofs.Claims.{way_of, claim_of, luck_of, Well, cases_of, agrees_of, claim_plain, claim_taken, claim_lucky, claim_broken}
 use Rattle.cacache_system_laws.proofs.Trying.{SaidWell, tried_so}
 use Rattle.cacache_system_laws.proofs.Opening.{newly_open, said_leads, of_some}
@@ -195,3 +194,106 @@ module _ (b : Bool) (m : Machine) (path bytes : List ℕ) (done : b ≡ false �
 
 pub append_agrees : AppendAgrees
 append_agrees m hint path bytes = agrees_of m hint (steps.Append path bytes) (λ b done. append_leads b m path bytes done)
+
+-- ---- a temporary file is written
+
+abbrev wrote : NumberedTemp → Option (List ℕ) → ℕ → PlainAnswer
+wrote temp bytes count = answers.Wrote (record { path = temp.path; bytes = bytes }) count
+
+apply_write : (most : Option ℕ) (t : Tree) (temp : NumberedTemp) (held : Option (List ℕ)) (old more : List ℕ) → held ≡ Some old
+    → (apply t (steps.Write (record { path = temp.path; bytes = held }) more) (luck_of most)).0 ≡ wrote temp (Some (old ++ take (taken most more) more)) (taken most more)
+unfolding apply
+apply_write None t temp held old more is = ap (grown (record { path = temp.path; bytes = held }) more (length more)) is
+apply_write (Some most) t temp held old more is = ap (grown (record { path = temp.path; bytes = held }) more (taken (Some most) more)) is
+
+-- the file that is open under a number
+file_under : (file : Option OpenFile) (names : Names) → option_map (λ (f : OpenFile). f.names) file ≡ Some names → (f : OpenFile) × (file ≡ Some f) × (f.names ≡ names)
+file_under None names is = absurd cc
+file_under (Some file) names is = (file, refl, cc)
+
+module _ (m : Machine) (temp : NumberedTemp) (names : Names) (bytes more : List ℕ) (ready : StillStands m temp names bytes) where
+  temp_file : (f : OpenFile) × (m.files temp.number ≡ Some f) × (f.names ≡ names)
+  temp_file = file_under (m.files temp.number) names ready.opened
+
+  held : option_map (bytes_in m) (m.files temp.number) ≡ Some bytes
+  held =
+      ap (option_map (bytes_in m)) temp_file.1 ∙ ap (λ (n : Names). Some (bytes_of (look m.tree n))) temp_file.2 ∙ ap (λ (o : Option Node). Some (bytes_of o)) ready.stands
+
+  held_after : (l : Machine) (part : List ℕ) → l.tree ≡ lengthened m.tree names part → l.files ≡ m.files → option_map (bytes_in l) (l.files temp.number) ≡ Some (bytes ++ part)
+  held_after l part tree files =
+      ap (λ (g : ℕ → Option OpenFile). option_map (bytes_in l) (g temp.number)) files ∙ ap (option_map (bytes_in l)) temp_file.1
+      ∙ ap (λ (n : Names). Some (bytes_of (look l.tree n))) temp_file.2
+      ∙ ap (λ (t : Tree). Some (bytes_of (look t names))) tree
+      ∙ ap (λ (o : Option Node). Some (bytes_of o)) (look_same m.tree names (File (bytes_of (look m.tree names) ++ part)))
+      ∙ ap (λ (o : Option Node). Some (bytes_of o ++ part)) ready.stands
+
+  -- a write that went well
+  wrote_so : (most : Option ℕ) (l : Machine) → l.tree ≡ lengthened m.tree names (take (taken most more) more) → l.files ≡ m.files
+      → outcome (apply m.tree (step_on m (steps.Write temp more)) (luck_of most)).0 (lengthened m.tree names (take (taken most more) more)) ≡ led_to (steps.Write temp more) (says.Count (taken most more)) l
+  wrote_so most l tree files =
+      same_outcome (apply m.tree (step_on m (steps.Write temp more)) (luck_of most)).0 (wrote temp (option_map (bytes_in l) (l.files temp.number)) (taken most more)) (lengthened m.tree names (take (taken most more) more)) l.tree
+      (apply_write most m.tree temp (option_map (bytes_in m) (m.files temp.number)) bytes more held
+        ∙ ap (λ (o : Option (List ℕ)). wrote temp o (taken most more)) (sym (held_after l (take (taken most more) more) tree files))) (sym tree)
+
+  write_done : IsDone m (steps.Write temp more)
+  write_done = ap fault_told (apply_write None m.tree temp (option_map (bytes_in m) (m.files temp.number)) bytes more held)
+
+  well_written : (most : Option ℕ) (said : CallResult) (l : Machine) → GoesWell most m (asks.Write temp.number more) said l
+      → (said ≡ says.Count (taken most more)) × HasTree m (lengthened m.tree names (take (taken most more) more)) l
+  well_written most said l well =
+      subst (λ (n : Names). (said ≡ says.Count (taken most more)) × HasTree m (lengthened m.tree n (take (taken most more) more)) l) temp_file.2
+      (of_some (m.files temp.number) temp_file.0 (λ f. (said ≡ says.Count (taken most more)) × HasTree m (lengthened m.tree f.names (take (taken most more) more)) l) temp_file.1 well)
+
+  write_plainly : Leads (GoesWell None) (trying false (asks.Write temp.number more)) m (WritesAll m temp names more)
+  write_plainly =
+      trying_leads (GoesWell None) (asks.Write temp.number more) m (WritesAll m temp names more) (λ said l well.
+      let w = well_written None said l well in
+      inr (ap was_interrupted w.0, subst (λ (r : CallResult). WritesAll m temp names more r l) (sym w.0)
+        (ap (λ (x : List ℕ). outcome (apply m.tree (step_on m (steps.Write temp more)) Plain).0 (lengthened m.tree names x)) (sym (take_all (length more) more (omega arith)))
+          ∙ wrote_so None l w.1.0 w.1.1)))
+
+  -- a write that failed, where a part of it is left
+  failed_write : (why : ErrorKind) (part : ℕ) (l : Machine) → misses why ≡ false → refuses_memory why ≡ false → l.tree ≡ lengthened m.tree names (take part more) → WritesSome m temp names more (says.Failed why) l
+  failed_write why part l fine memory tree =
+      inl (Fail (fault_of why) None, part,
+      same_outcome (apply m.tree (step_on m (steps.Write temp more)) (Fail (fault_of why) None)).0 (failed (fault_of why)) (lengthened m.tree names (take part more)) l.tree
+        (ap (λ (r : PlainAnswer × Tree). r.0) (failing_apply m.tree (step_on m (steps.Write temp more)) (fault_of why) None write_done) ∙ ap failed (never_missing why fine)) (sym tree)
+      ∙ ap (λ (a : PlainAnswer). outcome a l.tree) (sym (refused_on (steps.Write temp more) why l memory)))
+
+  nothing_written : (why : ErrorKind) (c : Bool) (l : Machine) → misses why ≡ false → refuses_memory why ≡ c → l.tree ≡ m.tree → WritesSome m temp names more (says.Failed why) l
+  nothing_written why false l fine memory stays = failed_write why 0 l fine memory (stays ∙ sym (lengthened_none m.tree names bytes ready.stands))
+  nothing_written why true l fine memory stays = inr (ap (λ (c : Bool). if c && not (leaves_a_part (steps.Write temp more)) then answers.NoMemory (steps.Write temp more) else answers.Failed (fault_of why)) memory, stays)
+
+  part_failed : (why : ErrorKind) (part : Option ℕ) (l : Machine) → misses why ≡ false → refuses_memory why ≡ false → LeavesWritten false temp.number more part m l → WritesSome m temp names more (says.Failed why) l
+  part_failed why None l fine memory left = nothing_written why false l fine memory (left.0 ∙ ap (λ (o : Option OpenFile). part_written o more None m.tree) temp_file.1)
+  part_failed why (Some part) l fine memory left =
+      failed_write why (taken (Some part) more) l fine memory
+      (left.0 ∙ ap (λ (o : Option OpenFile). part_written o more (Some part) m.tree) temp_file.1 ∙ ap (λ (n : Names). lengthened m.tree n (take (taken (Some part) more) more)) temp_file.2)
+
+  broke_write : (why : ErrorKind) (i c : Bool) (part : Option ℕ) (l : Machine) → misses why ≡ false → interrupts why ≡ i → refuses_memory why ≡ c → LeavesWritten (i || c) temp.number more part m l
+      → WritesSome m temp names more (says.Failed why) l
+  broke_write why false false part l fine interrupted memory left = part_failed why part l fine memory left
+  broke_write why false true part l fine interrupted memory left = nothing_written why true l fine memory (ap (λ (x : Machine). x.tree) left)
+  broke_write why true c part l fine interrupted memory left = nothing_written why c l fine memory (ap (λ (x : Machine). x.tree) left)
+
+  write_lucky : Leads OccursSomehow (trying false (asks.Write temp.number more)) m (WritesSome m temp names more)
+  write_lucky =
+      trying_leads OccursSomehow (asks.Write temp.number more) m (WritesSome m temp names more)
+      (tried_so false m (asks.Write temp.number more) (WritesSome m temp names more)
+        (λ said l (most, all, well).
+          let w = well_written most said l well in
+          record {
+            is = says.Count (taken most more);
+            same = w.0;
+            goes_on = refl;
+            holds = inl (luck_of most, taken most more, wrote_so most l w.1.0 w.1.1);
+          })
+        (λ broke. nothing_written kind.Interrupted false m refl refl refl)
+        (λ why part l interrupted left. stopped why part temp.number more m l interrupted left)
+        (λ why part l broke fine left. broke_write why (interrupts why) (refuses_memory why) part l fine refl refl left))
+
+pub write_agrees : WriteAgrees
+write_agrees m hint temp names bytes more ready = record {
+  plainly = write_plainly m temp names bytes more ready;
+  breaking = write_lucky m temp names bytes more ready;
+}

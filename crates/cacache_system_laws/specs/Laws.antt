@@ -1,5 +1,5 @@
 -- That the calls of a step answer and leave what the disk's table of steps says.
-use Rattle.std.specs.Prelude.{◌≡◌, ◌⊎◌, ℕ, List, [], ◌∷◌, Option, None, Some, Result, Ok, option_map, length, drop}
+use Rattle.std.specs.Prelude.{◌≡◌, ◌⊎◌, ℕ, List, [], None, option_map, length, drop}
 use Rattle.std.specs.Option.{unwrap_or}
 use Rattle.std_io.specs.declared.io.kind.ErrorKind.TheVariants as kind
 use Rattle.cacache_store.specs.declared.store.plain.PlainTemp.{PlainTemp}

@@ -7,3 +7,8 @@ pub mod Opening
 pub mod Syncing
 pub mod Reading
 pub mod Writing
+pub mod Making
+pub mod Refusals
+pub mod Fixing
+pub mod Mirrors
+pub mod Chains

@@ -8,7 +8,7 @@ use Rattle.cacache_core.specs.PathNames.{Names}
 use Rattle.cacache_disk.specs.declared.node.Node.{Node}
 use Rattle.cacache_disk.specs.declared.node.Node.TheVariants.{Folder, File, Link}
 use Rattle.cacache_disk.specs.Tree.{Tree, look, put, cut, kind_of}
-use Rattle.cacache_disk.specs.Apply.{if_missing, taken, readable, lengthened}
+use Rattle.cacache_disk.specs.Apply.{if_missing, taken, lengthened}
 use Rattle.cacache_system.specs.declared.call.FileInfo.{FileInfo}
 use Rattle.cacache_system.specs.declared.call.CallResult.{CallResult}
 use Rattle.cacache_system.specs.declared.call.CallResult.TheVariants as says

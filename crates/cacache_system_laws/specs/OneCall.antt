@@ -1,5 +1,5 @@
 -- Laws on steps that make one call.
-use Rattle.std.specs.Prelude.{◌≡◌, ℕ, List, [], Option, None, Some, Ok, option_map}
+use Rattle.std.specs.Prelude.{◌≡◌, ℕ, List, [], None, Some, Ok, option_map}
 use Rattle.cacache_core.specs.PathNames.{Names, names_of}
 use Rattle.cacache_store.specs.declared.store.step.Step.TheVariants as steps
 use Rattle.cacache_disk.specs.declared.node.Node.{Node}

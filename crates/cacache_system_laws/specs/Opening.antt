@@ -1,5 +1,5 @@
 -- Laws on steps that open a file or ask for its size.
-use Rattle.std.specs.Prelude.{◌≡◌, ℕ, List}
+use Rattle.std.specs.Prelude.{ℕ, List}
 use Rattle.cacache_store.specs.declared.store.step.Step.TheVariants as steps
 use Rattle.cacache_system.specs.AnswersOf.{Hint}
 use Rattle.cacache_system_laws.specs.Machine.{Machine}

@@ -1,10 +1,9 @@
 -- Laws on removals, which may be part of a walk.
-use Rattle.std.specs.Prelude.{◌≡◌, ℕ, List, ◌∷◌, Some, Ok}
+use Rattle.std.specs.Prelude.{◌≡◌, ℕ, List, ◌∷◌, Ok}
 use Rattle.std.specs.List.{AllByRecursion}
 use Rattle.cacache_core.specs.PathNames.{Names}
 use Rattle.cacache_store.specs.declared.store.step.Step.TheVariants as steps
-use Rattle.cacache_disk.specs.declared.node.Node.TheVariants.{Folder}
-use Rattle.cacache_disk.specs.Tree.{Tree, look}
+use Rattle.cacache_disk.specs.Tree.{Tree}
 use Rattle.cacache_disk.specs.LedTo.{folder}
 use Rattle.cacache_system.specs.AnswersOf.{Hint, no_hint, is_missing, in_walk}
 use Rattle.cacache_system_laws.specs.Machine.{Machine}

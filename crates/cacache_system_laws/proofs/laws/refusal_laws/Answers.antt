@@ -1,0 +1,13 @@
+use Rattle.cacache_system_laws.proofs.Refusing.{no_second_write, no_removal_before_put, no_other_mode, no_other_sync, no_file_for_folder, no_copy_onto_itself, no_removal_through_link}
+use Rattle.cacache_system_laws.proofs.laws.refusal_laws.Goals as goal
+
+pub returns : goal.returns
+returns c = record {
+  second_write = no_second_write;
+  removal_first = no_removal_before_put;
+  mode = no_other_mode;
+  sync = no_other_sync;
+  folder = no_file_for_folder;
+  copy = no_copy_onto_itself;
+  link = no_removal_through_link;
+}

@@ -1,0 +1,6 @@
+use Rattle.cacache_system_laws.proofs.Copying.{copy_agrees}
+use Rattle.cacache_system_laws.proofs.Writing.{append_agrees, write_agrees}
+use Rattle.cacache_system_laws.proofs.laws.write_laws.Goals as goal
+
+pub returns : goal.returns
+returns c = record { append = append_agrees; write = write_agrees; copy = copy_agrees }

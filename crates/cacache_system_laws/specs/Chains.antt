@@ -1,0 +1,69 @@
+-- Steps one after the other on a system, and on a disk in memory that mirrors it.
+use Rattle.std.specs.Prelude.{◌≡◌, ◌⊎◌, ℕ, Bool, true, List, [], ◌∷◌}
+use Rattle.cacache_core.specs.PathNames.{Names}
+use Rattle.cacache_store.specs.declared.store.step.Step.TheVariants as steps
+use Rattle.cacache_store.specs.declared.store.answer.Answer.TheVariants as answers
+use Rattle.cacache_disk.specs.declared.luck.Luck.{Luck}
+use Rattle.cacache_disk.specs.Tree.{Tree}
+use Rattle.cacache_disk.specs.Apply.{apply}
+use Rattle.cacache_system.specs.declared.call.CallItem.{CallItem}
+use Rattle.cacache_system.specs.declared.call.CallResult.{CallResult}
+use Rattle.cacache_system.specs.Seen.{NumberedStep}
+use Rattle.cacache_system.specs.CallsOf.{Runs}
+use Rattle.cacache_system.specs.AnswersOf.{Hint, first, answer_of}
+use Rattle.cacache_system_laws.specs.Machine.{Machine}
+use Rattle.cacache_system_laws.specs.Calls.{OccursSomehow, EachCall}
+use Rattle.cacache_system_laws.specs.Laws.{step_on, answer_on, outcome, IsDone, MayBreak}
+use Rattle.cacache_system_laws.specs.OneCall.{StillStands}
+use Rattle.cacache_system_laws.specs.Mirrors.{Mirrors, temps_after, SparesOpen}
+
+-- a step that was made: the machine before and after it, how its calls began, what they were, and their end
+pub record StepMade : Type 0 where
+  pub before : Machine
+  pub after : Machine
+  pub step : NumberedStep
+  pub hint : Hint
+  pub items : List CallItem
+  pub end : CallResult
+
+-- the open temporary files after it
+abbrev pub temps_left : (Names → Bool) → StepMade → Names → Bool
+temps_left temps s =
+    temps_after temps (step_on s.before s.step) (answer_on s.after (answer_of s.step s.end))
+
+-- a law says what the step's calls do, the disk's table does the step, and it spares the open temporary files
+pub record HasLaw (temps : Names → Bool) (m : Machine) (hint : Hint) (step : NumberedStep) : Type 0 where
+  pub law : MayBreak m hint step
+  pub done : IsDone m step
+  pub spares : SparesOpen temps m.tree (step_on m step)
+
+-- an open temporary file is written, which still stands at its path
+abbrev pub WritesTemp : (Names → Bool) → Machine → NumberedStep → Type 0
+WritesTemp temps m (steps.Write temp more) =
+    (names : Names) × (bytes : List ℕ) × StillStands m temp names bytes × (temps names ≡ true)
+WritesTemp temps m step = ⊥
+
+-- each step is made where the one before it led, by a run of its calls, whether or not some fail without cause
+abbrev pub AreMade : (Names → Bool) → Machine → List StepMade → Type 0
+AreMade temps m [] = Unit {0}
+AreMade temps m (s ∷ made) =
+    (s.before ≡ m) × Runs (first s.hint s.step) s.items s.end
+    × EachCall OccursSomehow s.before s.items s.after
+    × (HasLaw temps s.before s.hint s.step ⊎ WritesTemp temps s.before s.step)
+    × AreMade (temps_left temps s) s.after made
+
+-- a disk does each of these steps under some luck with the same answer, but those that came back for want of memory
+abbrev pub DiskDoes : Tree → List StepMade → Type 0
+DiskDoes d [] = Unit {0}
+DiskDoes d (s ∷ made) =
+    ((luck : Luck) × (new : Tree)
+        × (apply d (step_on s.before s.step) luck
+            ≡ outcome (answer_on s.after (answer_of s.step s.end)) new)
+        × DiskDoes new made)
+    ⊎ ((answer_of s.step s.end ≡ answers.NoMemory s.step) × DiskDoes d made)
+
+-- what many steps do on a system a disk that mirrors it does
+abbrev pub RunsMirror : Type 0
+RunsMirror =
+    (temps : Names → Bool) (d : Tree) (m : Machine) (made : List StepMade) → Mirrors temps m.tree d
+    → AreMade temps m made → DiskDoes d made

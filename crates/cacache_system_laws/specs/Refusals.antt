@@ -1,0 +1,72 @@
+-- Calls that are no run of a step.
+use Rattle.std.specs.Prelude.{◌≡◌, ℕ, List, [], ◌∷◌, true}
+use Rattle.cacache_store.specs.declared.store.answer.Kind.TheVariants as kinds
+use Rattle.cacache_store.specs.declared.store.step.Step.TheVariants as steps
+use Rattle.cacache_system.specs.declared.call.SystemCall.TheVariants as asks
+use Rattle.cacache_system.specs.declared.call.FileInfo.{FileInfo}
+use Rattle.cacache_system.specs.declared.call.CallItem.{CallItem}
+use Rattle.cacache_system.specs.declared.call.CallResult.{CallResult}
+use Rattle.cacache_system.specs.declared.call.CallResult.TheVariants.{Opened, Count, Info}
+use Rattle.cacache_system.specs.CallLog.{item}
+use Rattle.cacache_system.specs.Seen.{NumberedTemp, NumberedStep}
+use Rattle.cacache_system.specs.CallsOf.{Runs}
+use Rattle.cacache_system.specs.AnswersOf.{Hint, in_walk, first}
+
+-- the calls are no run of the step, however it begins and whatever they end with
+abbrev pub IsNoRun : NumberedStep → List CallItem → Type 0
+IsNoRun step items = (hint : Hint) (end : CallResult) → Runs (first hint step) items end → ⊥
+
+-- after a write that took bytes of a line there is no other
+abbrev pub NoSecondWrite : Type 0
+NoSecondWrite =
+    (path bytes : List ℕ) (file k j : ℕ)
+    → IsNoRun (steps.Append path bytes)
+        (item (asks.OpenToAppend path) (Opened file) ∷ item (asks.Write file bytes) (Count k)
+        ∷ item (asks.Write file bytes) (Count j) ∷ [])
+
+-- what stands where a file is put isn't removed first
+abbrev pub NoRemovalBeforePut : Type 0
+NoRemovalBeforePut =
+    (temp : NumberedTemp) (path : List ℕ) (said : CallResult) (rest : List CallItem)
+    → IsNoRun (steps.Persist temp path) (item (asks.RemoveFile path) said ∷ rest)
+
+-- a temporary file has no other mode than that its owner alone may read and write it
+abbrev pub NoOtherMode : Type 0
+NoOtherMode =
+    (path : List ℕ) (mode : ℕ) (said : CallResult) (rest : List CallItem) → (mode ≡ 384 → ⊥)
+    → IsNoRun (steps.CreateTemp path) (item (asks.CreateNew path mode) said ∷ rest)
+
+-- no other file is synced than the temporary one
+abbrev pub NoOtherSync : Type 0
+NoOtherSync =
+    (temp : NumberedTemp) (file : ℕ) (said : CallResult) (rest : List CallItem)
+    → (file ≡ temp.number → ⊥)
+    → IsNoRun (steps.SyncTemp temp) (item (asks.Sync file) said ∷ rest)
+
+-- a file isn't synced in place of a folder
+abbrev pub NoFileForFolder : Type 0
+NoFileForFolder =
+    (path : List ℕ) (file : ℕ) (info : FileInfo) (said : CallResult) (rest : List CallItem)
+    → info.kind ≡ kinds.File
+    → IsNoRun (steps.SyncDir path)
+        (item (asks.OpenToRead path) (Opened file) ∷ item (asks.StatFile file) (Info info)
+        ∷ item (asks.Sync file) said ∷ rest)
+
+-- a file isn't copied onto itself, which would empty it
+abbrev pub NoCopyOntoItself : Type 0
+NoCopyOntoItself =
+    (path : List ℕ) (source target : FileInfo) (said : CallResult) (rest : List CallItem)
+    → source.regular ≡ true
+    → IsNoRun (steps.Copy path path)
+        (item (asks.Stat path) (Info source) ∷ item (asks.Stat path) (Info target)
+        ∷ item (asks.CopyFile path path) said ∷ rest)
+
+-- where a link took the place of a folder that a walk is in, nothing is removed
+abbrev pub NoRemovalThroughLink : Type 0
+NoRemovalThroughLink =
+    (node last : FileInfo) (above path gone : List ℕ) (entered : List (List ℕ)) (link : FileInfo)
+    (said end : CallResult) (rest : List CallItem) → last.kind ≡ kinds.Link → link.kind ≡ kinds.Link
+    → Runs (first (in_walk node above (path ∷ entered)) (steps.RemoveFile gone))
+        (item (asks.StatLink above) (Info last) ∷ item (asks.StatLink path) (Info link)
+        ∷ item (asks.RemoveFile gone) said ∷ rest) end
+    → ⊥
