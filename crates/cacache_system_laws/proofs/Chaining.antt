@@ -28,6 +28,7 @@ use Rattle.cacache_system_laws.specs.Mirrors.{hollow, Mirrors, temps_after, Spar
 use Rattle.cacache_system_laws.specs.Chains.{StepMade, temps_left, HasLaw, WritesTemp, DiskDoes, RunsMirror}
 use Rattle.cacache_system_laws.proofs.Refused.{same_outcome}
 use Rattle.cacache_system_laws.proofs.Writing.{write_agrees}
+use Rattle.cacache_system_laws.proofs.Covered.{each_may_break}
 use Rattle.cacache_system_laws.proofs.Keeping.{steps_mirror}
 
 -- ---- steps that came back
@@ -42,7 +43,7 @@ memory_stay temps _ other = refl
 abbrev OnDisk : (Names → Bool) → Tree → Machine → NumberedStep → CallResult → Machine → Type 0
 OnDisk temps d m step end n =
     ((luck : Luck) × (new : Tree) × (apply d (step_on m step) luck ≡ outcome (answer_on n (answer_of step end)) new)
-      × Mirrors (temps_after temps (step_on m step) (answer_on n (answer_of step end))) n.tree new)
+    × Mirrors (temps_after temps (step_on m step) (answer_on n (answer_of step end))) n.tree new)
     ⊎ ((answer_of step end ≡ answers.NoMemory step) × Mirrors (temps_after temps (step_on m step) (answer_on n (answer_of step end))) n.tree d)
 
 came_back : (temps : Names → Bool) (d : Tree) (m n : Machine) (step : NumberedStep) (end : CallResult) → Mirrors temps m.tree d → answer_of step end ≡ answers.NoMemory step → n.tree ≡ m.tree
@@ -57,10 +58,13 @@ lucky_on temps d m n step end mirrors spares (inl (luck, is)) =
     let s = steps_mirror temps m.tree d (step_on m step) luck mirrors spares in
     let answer : (apply m.tree (step_on m step) luck).0 ≡ answer_on n (answer_of step end) = ap (λ (r : PlainAnswer × Tree). r.0) is in
     let tree : (apply m.tree (step_on m step) luck).1 ≡ n.tree = ap (λ (r : PlainAnswer × Tree). r.1) is in
-    inl (luck, (apply d (step_on m step) luck).1,
-    same_outcome (apply d (step_on m step) luck).0 (answer_on n (answer_of step end)) (apply d (step_on m step) luck).1 (apply d (step_on m step) luck).1 (s.answers ∙ answer) refl,
-    subst (λ (t : Tree). Mirrors (temps_after temps (step_on m step) (answer_on n (answer_of step end))) t (apply d (step_on m step) luck).1) tree
-    (subst (λ (a : PlainAnswer). Mirrors (temps_after temps (step_on m step) a) (apply m.tree (step_on m step) luck).1 (apply d (step_on m step) luck).1) answer s.mirrors))
+    inl (
+      luck,
+      (apply d (step_on m step) luck).1,
+      same_outcome (apply d (step_on m step) luck).0 (answer_on n (answer_of step end)) (apply d (step_on m step) luck).1 (apply d (step_on m step) luck).1 (s.answers ∙ answer) refl,
+      subst (λ (t : Tree). Mirrors (temps_after temps (step_on m step) (answer_on n (answer_of step end))) t (apply d (step_on m step) luck).1) tree
+          (subst (λ (a : PlainAnswer). Mirrors (temps_after temps (step_on m step) a) (apply m.tree (step_on m step) luck).1 (apply d (step_on m step) luck).1) answer s.mirrors),
+    )
 lucky_on temps d m n step end mirrors spares (inr (is, tree)) = inr (is, came_back temps d m n step end mirrors is tree)
 
 -- ---- temporary files that are written
@@ -91,13 +95,13 @@ written_mirrors : (temps : Names → Bool) (t d : Tree) (names : Names) (bytes :
 written_mirrors temps t d names bytes m open_file = record {
   files = λ q is. ap hollow (look-put t names (File bytes) q) ∙ still_file (same_path q names) bytes (look t q) (m.files q is);
   same = λ q.
-    shown_file (same_path q names) (temps q) bytes (look t q) (look d q)
-    (λ same.
+      shown_file (same_path q names) (temps q) bytes (look t q) (look d q)
+      (λ same.
       let at : q ≡ names = same_path-true q names same in
       let is : temps q ≡ true = ap temps at ∙ open_file in
       (is, m.same q ∙ ap (λ (b : Bool). if b then hollow (look t q) else look t q) is ∙ m.files q is))
-    (m.same q)
-    ∙ ap (λ (o : Option Node). if temps q then hollow o else o) (sym (look-put t names (File bytes) q));
+      (m.same q)
+      ∙ ap (λ (o : Option Node). if temps q then hollow o else o) (sym (look-put t names (File bytes) q));
 }
 
 write_on : (temps : Names → Bool) (d : Tree) (m n : Machine) (temp : NumberedTemp) (more : List ℕ) (names : Names) (end : CallResult) → Mirrors temps m.tree d → temps names ≡ true → WritesSome m temp names more end n
@@ -106,10 +110,13 @@ write_on temps d m n temp more names end mirrors is_open (inl (luck, part, is)) 
     let s = steps_mirror temps m.tree d (step_on m (steps.Write temp more)) luck mirrors tt in
     let answer : (apply m.tree (step_on m (steps.Write temp more)) luck).0 ≡ answer_on n (answer_of (steps.Write temp more) end) = ap (λ (r : PlainAnswer × Tree). r.0) is in
     let tree : lengthened m.tree names (take part more) ≡ n.tree = ap (λ (r : PlainAnswer × Tree). r.1) is in
-    inl (luck, d,
-    same_outcome (apply d (step_on m (steps.Write temp more)) luck).0 (answer_on n (answer_of (steps.Write temp more) end)) (apply d (step_on m (steps.Write temp more)) luck).1 d (s.answers ∙ answer)
-      (write_keeps d (temp_on m temp) more luck),
-    subst (λ (t : Tree). Mirrors temps t d) tree (written_mirrors temps m.tree d names (bytes_of (look m.tree names) ++ take part more) mirrors is_open))
+    inl (
+      luck,
+      d,
+      same_outcome (apply d (step_on m (steps.Write temp more)) luck).0 (answer_on n (answer_of (steps.Write temp more) end)) (apply d (step_on m (steps.Write temp more)) luck).1 d (s.answers ∙ answer)
+          (write_keeps d (temp_on m temp) more luck),
+      subst (λ (t : Tree). Mirrors temps t d) tree (written_mirrors temps m.tree d names (bytes_of (look m.tree names) ++ take part more) mirrors is_open),
+    )
 write_on temps d m n temp more names end mirrors is_open (inr (is, tree)) = inr (is, came_back temps d m n (steps.Write temp more) end mirrors is tree)
 
 -- ---- many steps
@@ -136,6 +143,6 @@ runs_mirror temps d m [] mirrors chain = tt
 runs_mirror temps d m (s ∷ made) mirrors (begins, runs, each, covered, rest) =
     let here : Mirrors temps s.before.tree d = subst (λ (x : Machine). Mirrors temps x.tree d) (sym begins) mirrors in
     goes_on temps d s made
-    (one_on temps d s here covered (λ law. law.law law.done s.items s.end s.after runs each)
-      (λ writing. step_written temps d s.before s.after s.hint s.step s.items s.end here runs each writing))
+    (one_on temps d s here covered (λ law. each_may_break s.before s.hint s.step law.premise law.done s.items s.end s.after runs each)
+    (λ writing. step_written temps d s.before s.after s.hint s.step s.items s.end here runs each writing))
     (λ new later. runs_mirror (temps_left temps s) new s.after made later rest)

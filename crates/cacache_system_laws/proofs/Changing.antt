@@ -138,7 +138,7 @@ put_away : (m : Machine) (temp : NumberedTemp) (path : List ℕ) (names : Names)
     → apply m.tree (step_on m (steps.Persist temp path)) Plain ≡ led_to (steps.Persist temp path) said n
 put_away m temp path names bytes ready most said n well =
     let moved = subst (λ (r : Result Names Fault). MatchResult r (λ old. MovesNode old (look m.tree old) (replaceable m.tree path) m said n) (λ fault. IsRefused fault m said n))
-      (placed m.tree temp.path names ready.named ready.way) well in
+    (placed m.tree temp.path names ready.named ready.way) well in
     let moves = subst (λ (o : Option Node). MovesNode names o (replaceable m.tree path) m said n) ready.stands moved in
     apply_persist m.tree temp.path path _ names bytes
     (held_names m.tree (m.files temp.number) names ready.opened ∙ ap (λ (o : Option Node). Some (bytes_of o)) ready.stands)
@@ -174,7 +174,7 @@ unfolding apply
 linked_so m from to node is most said n well =
     ap (λ (r : Result Node Fault). unless (free m.tree to) m.tree (λ names. unless r m.tree (λ x. outcome answers.Done (put m.tree names x)))) is
     ∙ changed (free m.tree to) (λ names. put m.tree names node) (steps.HardLink from to) m n said refl (λ why. refl)
-      (subst (λ (r : Result Node Fault). LinksNode r (free m.tree to) m said n) is well)
+    (subst (λ (r : Result Node Fault). LinksNode r (free m.tree to) m said n) is well)
 
 pub hard_link_agrees : HardLinkAgrees
 hard_link_agrees m hint from to node is = one_agrees m hint (steps.HardLink from to) (asks.HardLink from to) (record {

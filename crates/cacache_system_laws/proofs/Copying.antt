@@ -91,9 +91,9 @@ writable_found t path names bytes is at = elim (view t path) as (λ v. and_then 
   | nowhere f e file ↦ absurd cc
   | a_folder other l e stands file ↦ let same : other ≡ names = cc in let differ : look t names ≡ Some Folder = ap (look t) (sym same) ∙ stands in absurd cc
   | a_file other more l e stands file ↦
-    let same : other ≡ names = cc in
-    ap (λ (r : Result Names Fault). and_then r (λ n. where_no_folder (look t n) n)) (l ∙ ap (λ (n : Names). let r : Result Names Fault = Ok n in r) same)
-    ∙ ap (λ (o : Option Node). where_no_folder o names) at
+      let same : other ≡ names = cc in
+      ap (λ (r : Result Names Fault). and_then r (λ n. where_no_folder (look t n) n)) (l ∙ ap (λ (n : Names). let r : Result Names Fault = Ok n in r) same)
+      ∙ ap (λ (o : Option Node). where_no_folder o names) at
 ]
 
 -- what a source is: no file, or a file whose number and size are known
@@ -124,9 +124,9 @@ module _ (b : Bool) (m : Machine) (from to : List ℕ) (apart : TellsFilesApart 
       only_leads (way_of b) (asks.CopyFile from to) m (claim_of b m (steps.Copy from to)) (λ said n happens.
       ⊎_elim
       (λ (most, all, well). claim_plain b m (steps.Copy from to) done said n
-        (apply_copy m.tree from to (file_at m.tree from InvalidInput) (writable m.tree to) refl refl ∙ copied_well (file_at m.tree from InvalidInput) (writable m.tree to) said n well))
+      (apply_copy m.tree from to (file_at m.tree from InvalidInput) (writable m.tree to) refl refl ∙ copied_well (file_at m.tree from InvalidInput) (writable m.tree to) said n well))
       (λ (broke, why, same, fine, part, left). claim_lucky b m (steps.Copy from to) done said n broke (λ d.
-        broken_part (steps.Copy from to) why said m n part (ap (answer_of (steps.Copy from to)) same) fine (left.0 ∙ part_left m.tree from to part) (λ whole. absurd cc) d))
+      broken_part (steps.Copy from to) why said m n part (ap (answer_of (steps.Copy from to)) same) fine (left.0 ∙ part_left m.tree from to part) (λ whole. absurd cc) d))
       (cases_of b m (asks.CopyFile from to) said n happens))
 
   -- a file that is copied onto itself stays
@@ -135,10 +135,10 @@ module _ (b : Bool) (m : Machine) (from to : List ℕ) (apart : TellsFilesApart 
   stays_same names bytes info source target stands size =
       over_leads (way_of b) (says.Count info.size) m (claim_of b m (steps.Copy from to))
       (claim_plain b m (steps.Copy from to) done (says.Count info.size) m
-        (apply_copy m.tree from to (Ok bytes) (Ok names) source target
-          ∙ same_outcome (answers.Took (length bytes)) (answers.Took info.size) (put m.tree names (File (take (length bytes) bytes))) m.tree
-            (ap (λ (k : ℕ). let a : PlainAnswer = answers.Took k in a) (sym size))
-            (ap (λ (l : List ℕ). put m.tree names (File l)) (whole_file bytes) ∙ put_same m.tree names (File bytes) (sym stands))))
+      (apply_copy m.tree from to (Ok bytes) (Ok names) source target
+      ∙ same_outcome (answers.Took (length bytes)) (answers.Took info.size) (put m.tree names (File (take (length bytes) bytes))) m.tree
+      (ap (λ (k : ℕ). let a : PlainAnswer = answers.Took k in a) (sym size))
+      (ap (λ (l : List ℕ). put m.tree names (File l)) (whole_file bytes) ∙ put_same m.tree names (File bytes) (sym stands))))
 
   one_file : (source target : FileInfo) (names other : Names) (node : Node) (bytes : List ℕ) → found m.tree from ≡ Ok names → look m.tree names ≡ Some (File bytes) → Describes (File bytes) (m.inodes names) source
       → found m.tree to ≡ Ok other → look m.tree other ≡ Some node → Describes node (m.inodes other) target → (pointwise nat_eq from to ≡ true) ⊎ (is_same_node source target ≡ true)
@@ -169,8 +169,8 @@ module _ (b : Bool) (m : Machine) (from to : List ℕ) (apart : TellsFilesApart 
   target_shown source other node what said n at there (info, same, fits, stays) =
       said_leads b (asking_target source from to) said (says.Info info) n (claim_of b m (steps.Copy from to)) same
       (subst (λ (x : Machine). Leads (way_of b) (copied source info from to) x (claim_of b m (steps.Copy from to))) (sym stays)
-        (copied_so source info other node (source.regular && (pointwise nat_eq from to || is_same_node source info)) what at there
-          (of_some (look m.tree other) node (λ x. Describes x (m.inodes other) info) there fits) refl))
+      (copied_so source info other node (source.regular && (pointwise nat_eq from to || is_same_node source info)) what at there
+      (of_some (look m.tree other) node (λ x. Describes x (m.inodes other) info) there fits) refl))
 
   target_failed : (source : FileInfo) (why : ErrorKind) (said : CallResult) (n : Machine) → said ≡ says.Failed why → n ≡ m → Leads (way_of b) (after (asking_target source from to) said) n (claim_of b m (steps.Copy from to))
   target_failed source why said n same stays =
@@ -205,9 +205,9 @@ module _ (b : Bool) (m : Machine) (from to : List ℕ) (apart : TellsFilesApart 
       let refused : IsRefused fault m said n = subst (λ (r : Result Names Fault). ShowsEnd r m said n) is shows in
       said_leads b (asking_source from to) said (says.Failed refused.0) n (claim_of b m (steps.Copy from to)) refused.1
       (over_leads (way_of b) (says.Failed refused.0) n (claim_of b m (steps.Copy from to))
-        (claim_plain b m (steps.Copy from to) done (says.Failed refused.0) n
-          (apply_copy m.tree from to (Err fault) (writable m.tree to) (file InvalidInput) refl
-            ∙ table_fails (steps.Copy from to) fault refused.0 m n refl refused.2 refused.3 (ap (λ (x : Machine). x.tree) refused.4))))
+      (claim_plain b m (steps.Copy from to) done (says.Failed refused.0) n
+      (apply_copy m.tree from to (Err fault) (writable m.tree to) (file InvalidInput) refl
+      ∙ table_fails (steps.Copy from to) fault refused.0 m n refl refused.2 refused.3 (ap (λ (x : Machine). x.tree) refused.4))))
   source_found (a_folder names l is stands file) said n shows =
       let shown : ShowsNode names m said n = subst (λ (r : Result Names Fault). ShowsEnd r m said n) is shows in
       let described : Describes Folder (m.inodes names) shown.0 = of_some (look m.tree names) Folder (λ x. Describes x (m.inodes names) shown.0) stands shown.2 in
@@ -223,9 +223,9 @@ module _ (b : Bool) (m : Machine) (from to : List ℕ) (apart : TellsFilesApart 
       ⊎_elim
       (λ (most, all, well). source_found (view m.tree from) said n well)
       (λ (broke, why, same, fine, part, left).
-        said_leads b (asking_source from to) said (says.Failed why) n (claim_of b m (steps.Copy from to)) same
-        (over_leads (way_of b) (says.Failed why) n (claim_of b m (steps.Copy from to))
-          (claim_broken b m (steps.Copy from to) done why n broke refl fine (ap (λ (x : Machine). x.tree) left))))
+      said_leads b (asking_source from to) said (says.Failed why) n (claim_of b m (steps.Copy from to)) same
+      (over_leads (way_of b) (says.Failed why) n (claim_of b m (steps.Copy from to))
+      (claim_broken b m (steps.Copy from to) done why n broke refl fine (ap (λ (x : Machine). x.tree) left))))
       (cases_of b m (asks.Stat from) said n happens))
 
 pub copy_agrees : CopyAgrees

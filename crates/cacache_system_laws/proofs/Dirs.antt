@@ -72,11 +72,11 @@ module _ (b : Bool) (m : Machine) (path : List ℕ) (names : Names) (rooted : Ro
   ends : DirsEnd b m.tree names (claim_of b m (steps.MakeDirs path))
   ends = record {
     succeeds = λ n new count grown stands tree. claim_plain b m (steps.MakeDirs path) done says.Done n
-      (apply_dirs m.tree path (Ok names) (dirs_so m.tree path names None named fine)
+        (apply_dirs m.tree path (Ok names) (dirs_so m.tree path names None named fine)
         ∙ ap (outcome answers.Done) (grown_whole m.tree new names count grown stands ∙ sym tree));
     breaks = λ why n new count grown tree broke missed. claim_lucky b m (steps.MakeDirs path) done (says.Failed why) n broke (λ d.
-      broken_part (steps.MakeDirs path) why (says.Failed why) m n (Some count) refl missed
-      (tree ∙ sym (grown_left m.tree new names count grown) ∙ sym (part_of_dirs m.tree path names count (dirs_so m.tree path names None named fine))) (λ whole. absurd cc) d);
+        broken_part (steps.MakeDirs path) why (says.Failed why) m n (Some count) refl missed
+        (tree ∙ sym (grown_left m.tree new names count grown) ∙ sym (part_of_dirs m.tree path names count (dirs_so m.tree path names None named fine))) (λ whole. absurd cc) d);
   }
 
   can_leads : (hint : Hint) → Leads (way_of b) (make_dirs hint path) m (claim_of b m (steps.MakeDirs path))
@@ -108,8 +108,8 @@ module _ (m : Machine) (path : List ℕ) (fault : Fault) (is : dirs m.tree path 
       let described = of_some (look n.tree names) (File bytes) (λ x. Describes x (n.inodes names) info) (ap (λ (x : Tree). look x names) tree ∙ stands) fits in
       said_leads true s said (says.Info info) l (IsPlain m (steps.MakeDirs path)) same
       (subst (λ (t : Stage). Leads (GoesWell None) t l (IsPlain m (steps.MakeDirs path))) (sym (shown info))
-        (subst (λ (k : Kind). Leads (GoesWell None) (if_folder k kind.AlreadyExists next) l (IsPlain m (steps.MakeDirs path))) (sym described.kind)
-          (over_fault kind.AlreadyExists l (sym exists) refl (ap (λ (x : Machine). x.tree) stays ∙ tree))))
+      (subst (λ (k : Kind). Leads (GoesWell None) (if_folder k kind.AlreadyExists next) l (IsPlain m (steps.MakeDirs path))) (sym described.kind)
+      (over_fault kind.AlreadyExists l (sym exists) refl (ap (λ (x : Machine). x.tree) stays ∙ tree))))
 
   confirm_said : (bar : Bar m.tree path fault) (why : ErrorKind) (n : Machine) → (path ≡ [] → fault ≡ NotFound → ⊥) → n.tree ≡ m.tree → (said : CallResult) (l : Machine) → ShowsEnd (found m.tree path) n said l
       → Leads (GoesWell None) (after (confirming why path []) said) l (IsPlain m (steps.MakeDirs path))
@@ -118,7 +118,7 @@ module _ (m : Machine) (path : List ℕ) (fault : Fault) (is : dirs m.tree path 
       let refused : IsRefused fault n said l = subst (λ (r : Result Names Fault). ShowsEnd r n said l) finds shows in
       said_leads true (confirming why path []) said (says.Failed refused.0) l (IsPlain m (steps.MakeDirs path)) refused.1
       (subst (λ (c : Bool). Leads (GoesWell None) (over (says.Failed (if c then why else refused.0))) l (IsPlain m (steps.MakeDirs path))) (sym (never_absent refused.0 fault refused.2 other))
-        (over_fault refused.0 l refused.2 refused.3 (ap (λ (x : Machine). x.tree) refused.4 ∙ tree)))
+      (over_fault refused.0 l refused.2 refused.3 (ap (λ (x : Machine). x.tree) refused.4 ∙ tree)))
   confirm_said (a_file names bytes exists frees finds stands) why n some tree said l shows =
       file_shown names bytes (confirming why path []) (below []) said n l tree exists stands (λ info. refl) (subst (λ (r : Result Names Fault). ShowsEnd r n said l) finds shows)
 
@@ -139,7 +139,7 @@ module _ (m : Machine) (path : List ℕ) (fault : Fault) (is : dirs m.tree path 
       let refused : IsRefused NotFound n said l = subst (λ (r : Result Names Fault). ChangesTree r (λ y. put m.tree y Folder) n said l) frees changes in
       making_said refused.0 true said l refused.1 (absent_fault refused.0 refused.2)
       (subst (λ (p : List ℕ). Leads (GoesWell None) (climb (above_of p) refused.0 path []) l (IsPlain m (steps.MakeDirs path))) (sym none)
-        (over_fault refused.0 l (refused.2 ∙ sym missing) refused.3 (ap (λ (x : Machine). x.tree) refused.4 ∙ tree)))
+      (over_fault refused.0 l (refused.2 ∙ sym missing) refused.3 (ap (λ (x : Machine). x.tree) refused.4 ∙ tree)))
   make_said (nowhere other frees finds) n tree said l changes =
       let refused : IsRefused fault n said l = subst (λ (r : Result Names Fault). ChangesTree r (λ y. put m.tree y Folder) n said l) frees changes in
       making_said refused.0 false said l refused.1 (never_absent refused.0 fault refused.2 other)
@@ -185,7 +185,7 @@ pub not_done : (b : Bool) (m : Machine) (path : List ℕ) (fault : Fault) → di
 not_done true m path fault is done = refl
 not_done false m path fault is done =
     absurd (let none : fault_told (apply m.tree (steps.MakeDirs path) Plain).0 ≡ None = done refl in
-      let some : fault_told (apply m.tree (steps.MakeDirs path) Plain).0 ≡ Some fault = ap (λ r. fault_told r.0) (apply_dirs m.tree path (Err fault) is) in cc)
+    let some : fault_told (apply m.tree (steps.MakeDirs path) Plain).0 ≡ Some fault = ap (λ r. fault_told r.0) (apply_dirs m.tree path (Err fault) is) in cc)
 
 -- ---- why a path has no names
 
@@ -218,7 +218,7 @@ bar_blocked t path names fault named (at_last bytes exists way stands) =
     let placed : place t path ≡ Ok names = place_so t path names None named way in
     a_file names bytes exists (free_so t path (Ok names) placed ∙ ap (λ (o : Option Node). where_free o names) stands)
     (found_at t path (Ok names) (leads_straight t path (λ n at target link. let same : names ≡ n = cc in let here : look t n ≡ Some (File bytes) = ap (look t) (sym same) ∙ stands in cc) ∙ placed)
-      ∙ ap (λ (o : Option Node). where_there o names) stands) stands
+    ∙ ap (λ (o : Option Node). where_there o names) stands) stands
 
 -- ---- the whole step
 

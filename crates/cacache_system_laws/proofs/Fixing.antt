@@ -75,7 +75,7 @@ file_fixed : (fixed : Fixed) (t : Tree) (path : List ℕ) (names : Names) (bytes
 file_fixed fixed t path names bytes is stands =
     ap (λ (r : Result Names Fault). with_bytes fixed (is_at r) (λ q. bytes_of (look t q))) is
     ∙ same_bytes fixed (λ q. same_path q names) (λ q. bytes_of (look t q)) (λ q. bytes)
-      (λ q same. ap (λ (n : Names). bytes_of (look t n)) (same_path-true q names same) ∙ ap bytes_of stands)
+    (λ q same. ap (λ (n : Names). bytes_of (look t n)) (same_path-true q names same) ∙ ap bytes_of stands)
 
 synced_more : (m n l : Machine) (names : Names) (node : Node) → WasSynced n l names → n.synced ≡ m.synced → n.tree ≡ m.tree → look m.tree names ≡ Some node
     → l.synced ≡ (names, Some node) ∷ m.synced
@@ -93,8 +93,8 @@ module _ (m : Machine) (path : List ℕ) where
   file_opens number names (File bytes) info n inode is stands open_on described =
       wanted_file false info.kind (only (asks.Sync number)) n (FixesSynced m (steps.SyncFile path)) described.kind
       (sync_leads false n number _ (FixesSynced m (steps.SyncFile path)) open_on.file
-        (λ l was. ((names, Some (File bytes)) ∷ [], synced_more m n l names (File bytes) was open_on.synced open_on.tree stands, λ fixed. file_fixed fixed m.tree path names bytes (leads_found m.tree path names is) stands))
-        (λ why l broke fine stays. file_failed m l path why (ap (λ (x : Machine). x.synced) stays ∙ open_on.synced)))
+      (λ l was. ((names, Some (File bytes)) ∷ [], synced_more m n l names (File bytes) was open_on.synced open_on.tree stands, λ fixed. file_fixed fixed m.tree path names bytes (leads_found m.tree path names is) stands))
+      (λ why l broke fine stays. file_failed m l path why (ap (λ (x : Machine). x.synced) stays ∙ open_on.synced)))
   file_opens number names (Link target) info n inode is stands open_on described = absurd (link_there m.tree path names target is stands)
 
   file_fixes : Openings false m to_sync path (FixesSynced m (steps.SyncFile path))
@@ -118,9 +118,12 @@ module _ (m : Machine) (path : List ℕ) (none : EndsInNoLink m.tree path) where
   folder_opens number names Folder info n inode is stands open_on described =
       subst (λ (k : Kind). Leads (way_of false) (if_folder k kind.NotADirectory (only (asks.Sync number))) n (FixesSynced m (steps.SyncDir path))) (sym described.kind)
       (sync_leads false n number _ (FixesSynced m (steps.SyncDir path)) open_on.file
-        (λ l was. ((names, Some Folder) ∷ [], synced_more m n l names Folder was open_on.synced open_on.tree stands,
-          λ fixed. folder_fixed fixed path names (place_ok m.tree path names (sym (leads_straight m.tree path none) ∙ leads_found m.tree path names is))))
-        (λ why l broke fine stays. folder_failed m l path why (ap (λ (x : Machine). x.synced) stays ∙ open_on.synced)))
+      (λ l was. (
+        (names, Some Folder) ∷ [],
+        synced_more m n l names Folder was open_on.synced open_on.tree stands,
+        λ fixed. folder_fixed fixed path names (place_ok m.tree path names (sym (leads_straight m.tree path none) ∙ leads_found m.tree path names is)),
+      ))
+      (λ why l broke fine stays. folder_failed m l path why (ap (λ (x : Machine). x.synced) stays ∙ open_on.synced)))
   folder_opens number names (File bytes) info n inode is stands open_on described =
       refused_other false info.kind kind.NotADirectory (only (asks.Sync number)) n (FixesSynced m (steps.SyncDir path)) described.kind (folder_failed m n path kind.NotADirectory open_on.synced)
   folder_opens number names (Link target) info n inode is stands open_on described = absurd (link_there m.tree path names target is stands)
@@ -157,7 +160,9 @@ sync_temp_fixes m hint temp names bytes ready =
     let held : option_map (bytes_in m) (m.files temp.number) ≡ Some bytes
     = ap (option_map (bytes_in m)) file.1 ∙ ap (λ (n : Names). Some (bytes_of (look m.tree n))) at ∙ ap (λ (o : Option Node). Some (bytes_of o)) ready.stands in
     sync_leads false m temp.number file.0 (FixesSynced m (steps.SyncTemp temp)) file.1
-    (λ l was. ((names, Some (File bytes)) ∷ [],
+    (λ l was. (
+      (names, Some (File bytes)) ∷ [],
       synced_more m m l names (File bytes) (subst (λ (n : Names). WasSynced m l n) at was) refl refl ready.stands,
-      λ fixed. temp_fixed fixed temp.path (option_map (bytes_in m) (m.files temp.number)) names bytes ready.named held))
+      λ fixed. temp_fixed fixed temp.path (option_map (bytes_in m) (m.files temp.number)) names bytes ready.named held,
+    ))
     (λ why l broke fine stays. temp_failed m l temp why (ap (λ (x : Machine). x.synced) stays))

@@ -100,7 +100,7 @@ make_enough t p [] n l more enough = refl
 make_enough t p (name ∷ rest) zero l more enough = absurd (omega arith)
 make_enough t p (name ∷ rest) n zero more enough = absurd (omega arith)
 make_enough t p (name ∷ rest) (suc n) (suc l) more enough = make_enough_at t p rest name n l (look t (p ++ name ∷ [])) refl (omega arith) (omega arith)
-  (λ u. make_enough u (p ++ name ∷ []) rest n l (omega arith) (omega arith)) (make_enough t (p ++ name ∷ []) rest (suc n) (suc l) (omega arith) (omega arith))
+    (λ u. make_enough u (p ++ name ∷ []) rest n l (omega arith) (omega arith)) (make_enough t (p ++ name ∷ []) rest (suc n) (suc l) (omega arith) (omega arith))
 
 -- a tree where so many folders of a path were made
 pub record Grown (t : Tree) (all : Names) (count : ℕ) (new : Tree) : Type 0 where
@@ -131,23 +131,23 @@ grown_more t new base rest all name count grown proper cut stands missing =
     let next = base ++ name ∷ [] in
     let same : look (put new next Folder) next ≡ Some Folder = look-put new next Folder next ∙ ap (λ (b : Bool). cond b (Some Folder) (look new next)) (same_self next) in
     let rooted : Rooted (put new next Folder) = put_rooted new next Folder grown.rooted
-      (record {
-        parent = λ above other is. ap (look new) (sym (same_folder base above name other is)) ∙ stands;
-        proper = front_proper next rest (subst AreProper cut proper);
-      })
-      (ap is_folder missing) in
+    (record {
+      parent = λ above other is. ap (look new) (sym (same_folder base above name other is)) ∙ stands;
+      proper = front_proper next rest (subst AreProper cut proper);
+    })
+    (ap is_folder missing) in
     let split : all ≡ base ++ name ∷ rest = cut ∙ append_assoc base (name ∷ []) rest in
     record {
       rooted = rooted;
       clear = dirs_fault-put new next [] all (ap is_in_way missing) ∙ grown.clear;
       made = λ more.
-        ap (make_some t [] all) (let e : suc count + more ≡ count + suc more = omega arith in e)
-        ∙ grown.made (suc more)
-        ∙ ap (λ (q : Names). make_some new [] q (suc more)) split
-        ∙ make_to new [] base (name ∷ rest) Folder (suc more) grown.rooted stands
-        ∙ make_here new base rest name more missing
-        ∙ sym (make_to (put new next Folder) [] next rest Folder more rooted same)
-        ∙ ap (λ (q : Names). make_some (put new next Folder) [] q more) (sym cut);
+          ap (make_some t [] all) (let e : suc count + more ≡ count + suc more = omega arith in e)
+          ∙ grown.made (suc more)
+          ∙ ap (λ (q : Names). make_some new [] q (suc more)) split
+          ∙ make_to new [] base (name ∷ rest) Folder (suc more) grown.rooted stands
+          ∙ make_here new base rest name more missing
+          ∙ sym (make_to (put new next Folder) [] next rest Folder more rooted same)
+          ∙ ap (λ (q : Names). make_some (put new next Folder) [] q more) (sym cut);
     }
 
 -- ---- why none can be made

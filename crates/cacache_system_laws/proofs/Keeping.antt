@@ -40,8 +40,8 @@ pub put_mirrors : (temps : Names → Bool) (t d : Tree) (names : Names) (node : 
 put_mirrors temps t d names node m = record {
   files = λ q is. ap hollow (look-put t names node q) ∙ put_file (same_path q names) (temps q) node (look t q) (m.files q) is;
   same = λ q.
-    look-put d names node q ∙ put_at (same_path q names) (temps q) node (look t q) (look d q) (m.same q)
-    ∙ ap (shown (all_but temps names q)) (sym (look-put t names node q));
+      look-put d names node q ∙ put_at (same_path q names) (temps q) node (look t q) (look d q) (m.same q)
+      ∙ ap (shown (all_but temps names q)) (sym (look-put t names node q));
 }
 
 cut_at : (c temp : Bool) (a b : Option Node) → b ≡ shown temp a → cond c None b ≡ shown (if c then false else temp) (cond c None a)
@@ -56,8 +56,8 @@ pub cut_mirrors : (temps : Names → Bool) (t d : Tree) (names : Names) → Mirr
 cut_mirrors temps t d names m = record {
   files = λ q is. ap hollow (look-cut t names q) ∙ cut_file (same_path q names) (temps q) (look t q) (m.files q) is;
   same = λ q.
-    look-cut d names q ∙ cut_at (same_path q names) (temps q) (look t q) (look d q) (m.same q)
-    ∙ ap (shown (all_but temps names q)) (sym (look-cut t names q));
+      look-cut d names q ∙ cut_at (same_path q names) (temps q) (look t q) (look d q) (m.same q)
+      ∙ ap (shown (all_but temps names q)) (sym (look-cut t names q));
 }
 
 -- the same files are open
@@ -93,8 +93,8 @@ new_mirrors : (temps : Names → Bool) (t d : Tree) (names : Names) → Mirrors 
 new_mirrors temps t d names m = record {
   files = λ q is. ap hollow (look-put t names (File []) q) ∙ new_file (same_path q names) (temps q) (look t q) (m.files q) is;
   same = λ q.
-    look-put d names (File []) q ∙ new_at (same_path q names) (temps q) (look t q) (look d q) (m.same q)
-    ∙ ap (shown (with_new temps (Ok names) q)) (sym (look-put t names (File []) q));
+      look-put d names (File []) q ∙ new_at (same_path q names) (temps q) (look t q) (look d q) (m.same q)
+      ∙ ap (shown (with_new temps (Ok names) q)) (sym (look-put t names (File []) q));
 }
 
 -- what is no file is no temporary file
@@ -170,9 +170,11 @@ module _ (temps : Names → Bool) (t d : Tree) (m : Mirrors temps t d) where
   append_same p bytes k spares =
       ends_so temps (steps.Append p bytes) t d (writable t p) (writable d p) _ _ (writable_same t d (shapes temps t d m) p) (λ fault. (refl, m))
       (λ names is.
-        let none : temps names ≡ false = subst (λ (r : Result Names Fault). IsNoTemp temps r) is spares in
-        (refl, subst (λ (o : Option Node). Mirrors temps (lengthened t names (take (taken k bytes) bytes)) (put d names (File (bytes_of o ++ take (taken k bytes) bytes)))) (sym (look_same_at temps t d names m none))
-          (put_apart temps t d names (File (bytes_of (look t names) ++ take (taken k bytes) bytes)) none m)))
+      let none : temps names ≡ false = subst (λ (r : Result Names Fault). IsNoTemp temps r) is spares in (
+        refl,
+        subst (λ (o : Option Node). Mirrors temps (lengthened t names (take (taken k bytes) bytes)) (put d names (File (bytes_of o ++ take (taken k bytes) bytes)))) (sym (look_same_at temps t d names m none))
+            (put_apart temps t d names (File (bytes_of (look t names) ++ take (taken k bytes) bytes)) none m),
+      ))
 
   read_all_same : (p : List ℕ) (k : Option ℕ) → IsNoTemp temps (leads t p) → Same temps (steps.ReadAll p) (plain t (steps.ReadAll p) k) (plain d (steps.ReadAll p) k)
   read_all_same p k spares =
@@ -234,10 +236,12 @@ module _ (temps : Names → Bool) (t d : Tree) (m : Mirrors temps t d) where
   persist_same f p k =
       ends_so temps (steps.Persist f p) t d (known f.bytes) (known f.bytes) _ _ refl (λ fault. (refl, m)) (λ bytes known_is.
       ends_so temps (steps.Persist f p) t d (kept t f.path) (kept d f.path) _ _ (kept_same t d (shapes temps t d m) f.path) (λ fault. (refl, m)) (λ old is.
-      ends_so temps (steps.Persist f p) t d (replaceable t p) (replaceable d p) _ _ (replaceable_same t d (shapes temps t d m) p) (λ fault. (refl, m)) (λ new at.
-      (refl, subst (λ (r : Result Names Fault). Mirrors (without (without temps r) (names_of p)) (put (cut t old) new (File bytes)) (put (cut d old) new (File bytes))) (sym (kept_ok t f.path old is).0)
-        (subst (λ (r : Result Names Fault). Mirrors (without (all_but temps old) r) (put (cut t old) new (File bytes)) (put (cut d old) new (File bytes))) (sym (replaceable_ok t p new at).0)
-          (put_mirrors (all_but temps old) (cut t old) (cut d old) new (File bytes) (cut_mirrors temps t d old m)))))))
+      ends_so temps (steps.Persist f p) t d (replaceable t p) (replaceable d p) _ _ (replaceable_same t d (shapes temps t d m) p) (λ fault. (refl, m)) (λ new at. (
+        refl,
+        subst (λ (r : Result Names Fault). Mirrors (without (without temps r) (names_of p)) (put (cut t old) new (File bytes)) (put (cut d old) new (File bytes))) (sym (kept_ok t f.path old is).0)
+            (subst (λ (r : Result Names Fault). Mirrors (without (all_but temps old) r) (put (cut t old) new (File bytes)) (put (cut d old) new (File bytes))) (sym (replaceable_ok t p new at).0)
+            (put_mirrors (all_but temps old) (cut t old) (cut d old) new (File bytes) (cut_mirrors temps t d old m))),
+      ))))
 
   plain_same : (step : PlainStep) (k : Option ℕ) → SparesOpen temps t step → Same temps step (plain t step k) (plain d step k)
   plain_same (steps.MakeDirs p) k spares = dirs_made p k

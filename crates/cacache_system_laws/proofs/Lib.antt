@@ -21,4 +21,5 @@ mod Refusing
 mod Fixing
 mod Mirroring
 mod Keeping
+mod Covered
 mod Chaining

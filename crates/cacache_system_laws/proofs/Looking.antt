@@ -101,18 +101,18 @@ opened_so : (b : Bool) (m : Machine) (path : List ℕ) (done : b ≡ false → I
 opened_so b m path done number names Folder info n inode is stands open_on described =
     refused_folder b info.kind (over (says.Opened number)) n (claim_of b m (steps.Open path)) described.kind
     (claim_plain b m (steps.Open path) done (says.Failed kind.IsADirectory) n
-      (apply_open m.tree path (Err IsADirectory) (folder_there m.tree path IsADirectory names is stands) ∙ table_fails (steps.Open path) IsADirectory kind.IsADirectory m n refl refl refl open_on.tree))
+    (apply_open m.tree path (Err IsADirectory) (folder_there m.tree path IsADirectory names is stands) ∙ table_fails (steps.Open path) IsADirectory kind.IsADirectory m n refl refl refl open_on.tree))
 opened_so b m path done number names (File bytes) info n inode is stands open_on described =
     wanted_file b info.kind (over (says.Opened number)) n (claim_of b m (steps.Open path)) described.kind
     (over_leads (way_of b) (says.Opened number) n (claim_of b m (steps.Open path))
-      (claim_plain b m (steps.Open path) done (says.Opened number) n
-        (apply_open m.tree path (Ok bytes) (file_there m.tree path IsADirectory names bytes is stands) ∙ open_file m n path number names bytes open_on stands)))
+    (claim_plain b m (steps.Open path) done (says.Opened number) n
+    (apply_open m.tree path (Ok bytes) (file_there m.tree path IsADirectory names bytes is stands) ∙ open_file m n path number names bytes open_on stands)))
 opened_so b m path done number names (Link target) info n inode is stands open_on described = absurd (link_there m.tree path names target is stands)
 
 open_openings : (b : Bool) (m : Machine) (path : List ℕ) → (b ≡ false → IsDone m (steps.Open path)) → Openings b m to_give path (claim_of b m (steps.Open path))
 open_openings b m path done = record {
   refuses = λ fault why is of memory. claim_plain b m (steps.Open path) done (says.Failed why) m
-    (apply_open m.tree path (Err fault) (no_file m.tree path IsADirectory fault is) ∙ table_fails (steps.Open path) fault why m m refl of memory refl);
+      (apply_open m.tree path (Err fault) (no_file m.tree path IsADirectory fault is) ∙ table_fails (steps.Open path) fault why m m refl of memory refl);
   breaks = λ why n broke fine stays synced. claim_broken b m (steps.Open path) done why n broke refl fine stays;
   opens = λ number names node info n inode is stands open_on described. opened_so b m path done number names node info n inode is stands open_on described;
 }
@@ -132,13 +132,13 @@ module _ (b : Bool) (m : Machine) (path : List ℕ) (done : b ≡ false → IsDo
   size_node names Folder info is stands described =
       refused_folder b info.kind (over (says.Info info)) m (claim_of b m (steps.Size path)) described.kind
       (claim_plain b m (steps.Size path) done (says.Failed kind.IsADirectory) m
-        (apply_size m.tree path (Err IsADirectory) (folder_there m.tree path IsADirectory names is stands) ∙ table_fails (steps.Size path) IsADirectory kind.IsADirectory m m refl refl refl refl))
+      (apply_size m.tree path (Err IsADirectory) (folder_there m.tree path IsADirectory names is stands) ∙ table_fails (steps.Size path) IsADirectory kind.IsADirectory m m refl refl refl refl))
   size_node names (File bytes) info is stands described =
       wanted_file b info.kind (over (says.Info info)) m (claim_of b m (steps.Size path)) described.kind
       (over_leads (way_of b) (says.Info info) m (claim_of b m (steps.Size path))
-        (claim_plain b m (steps.Size path) done (says.Info info) m
-          (apply_size m.tree path (Ok bytes) (file_there m.tree path IsADirectory names bytes is stands)
-            ∙ ap (λ (size : ℕ). outcome (answers.Length size) m.tree) (sym described.size))))
+      (claim_plain b m (steps.Size path) done (says.Info info) m
+      (apply_size m.tree path (Ok bytes) (file_there m.tree path IsADirectory names bytes is stands)
+      ∙ ap (λ (size : ℕ). outcome (answers.Length size) m.tree) (sym described.size))))
   size_node names (Link target) info is stands described = absurd (link_there m.tree path names target is stands)
 
   size_shown : (names : Names) (node : Node) (said : CallResult) (n : Machine) → found m.tree path ≡ Ok names → look m.tree names ≡ Some node → ShowsNode names m said n
@@ -146,15 +146,15 @@ module _ (b : Bool) (m : Machine) (path : List ℕ) (done : b ≡ false → IsDo
   size_shown names node said n is stands (info, same, fits, stays) =
       said_leads b (sizing path) said (says.Info info) n (claim_of b m (steps.Size path)) same
       (subst (λ (x : Machine). Leads (way_of b) (unless_folder info.kind (over (says.Info info))) x (claim_of b m (steps.Size path))) (sym stays)
-        (size_node names node info is stands (of_some (look m.tree names) node (λ x. Describes x (m.inodes names) info) stands fits)))
+      (size_node names node info is stands (of_some (look m.tree names) node (λ x. Describes x (m.inodes names) info) stands fits)))
 
   size_found : (v : View m.tree path) (said : CallResult) (n : Machine) → ShowsEnd (found m.tree path) m said n → Leads (way_of b) (after (sizing path) said) n (claim_of b m (steps.Size path))
   size_found (nowhere fault is file) said n shows =
       let refused : IsRefused fault m said n = subst (λ (r : Result Names Fault). ShowsEnd r m said n) is shows in
       said_leads b (sizing path) said (says.Failed refused.0) n (claim_of b m (steps.Size path)) refused.1
       (over_leads (way_of b) (says.Failed refused.0) n (claim_of b m (steps.Size path))
-        (claim_plain b m (steps.Size path) done (says.Failed refused.0) n
-          (apply_size m.tree path (Err fault) (file IsADirectory) ∙ table_fails (steps.Size path) fault refused.0 m n refl refused.2 refused.3 (ap (λ (x : Machine). x.tree) refused.4))))
+      (claim_plain b m (steps.Size path) done (says.Failed refused.0) n
+      (apply_size m.tree path (Err fault) (file IsADirectory) ∙ table_fails (steps.Size path) fault refused.0 m n refl refused.2 refused.3 (ap (λ (x : Machine). x.tree) refused.4))))
   size_found (a_folder names l is stands file) said n shows = size_shown names Folder said n is stands (subst (λ (r : Result Names Fault). ShowsEnd r m said n) is shows)
   size_found (a_file names bytes l is stands file) said n shows = size_shown names (File bytes) said n is stands (subst (λ (r : Result Names Fault). ShowsEnd r m said n) is shows)
 
@@ -164,9 +164,9 @@ module _ (b : Bool) (m : Machine) (path : List ℕ) (done : b ≡ false → IsDo
       ⊎_elim
       (λ (most, all, well). size_found (view m.tree path) said n well)
       (λ (broke, why, same, fine, part, left).
-        said_leads b (sizing path) said (says.Failed why) n (claim_of b m (steps.Size path)) same
-        (over_leads (way_of b) (says.Failed why) n (claim_of b m (steps.Size path))
-          (claim_broken b m (steps.Size path) done why n broke refl fine (ap (λ (x : Machine). x.tree) left))))
+      said_leads b (sizing path) said (says.Failed why) n (claim_of b m (steps.Size path)) same
+      (over_leads (way_of b) (says.Failed why) n (claim_of b m (steps.Size path))
+      (claim_broken b m (steps.Size path) done why n broke refl fine (ap (λ (x : Machine). x.tree) left))))
       (cases_of b m (asks.Stat path) said n happens))
 
 pub size_agrees : SizeAgrees

@@ -100,7 +100,7 @@ module _ (b : Bool) (t : Tree) (names : Names) (again : Bool) (path : List ℕ) 
   confirm_absent why said n l tree holds (other, same, of, memory, stays) =
       said_leads b (confirming why path todo) said (says.Failed other) l P same
       (subst (λ (c : Bool). Leads (way_of b) (over (says.Failed (if c then why else other))) l P) (sym (absent_fault other of))
-        (over_leads (way_of b) (says.Failed why) l P (holds l (ap (λ (x : Machine). x.tree) stays ∙ tree))))
+      (over_leads (way_of b) (says.Failed why) l P (holds l (ap (λ (x : Machine). x.tree) stays ∙ tree))))
 
   -- what stands there is asked for
   confirm_leads : (why : ErrorKind) (n : Machine) → n.tree ≡ t → ((said : CallResult) (l : Machine) → ShowsEnd (found t path) n said l → Leads (way_of b) (after (confirming why path todo) said) l P)
@@ -110,9 +110,9 @@ module _ (b : Bool) (t : Tree) (names : Names) (again : Bool) (path : List ℕ) 
       ⊎_elim
       (λ (most, all, well). shown said l (subst (λ (x : Tree). ShowsEnd (found x path) n said l) tree well))
       (λ (broke, other, same, fine, part, left).
-        said_leads b (confirming why path todo) said (says.Failed other) l P same
-        (subst (λ (c : Bool). Leads (way_of b) (over (says.Failed (if c then why else other))) l P) (sym (not_missing other fine))
-          (over_leads (way_of b) (says.Failed other) l P (next.fails other l broke fine (ap (λ (x : Machine). x.tree) left ∙ tree)))))
+      said_leads b (confirming why path todo) said (says.Failed other) l P same
+      (subst (λ (c : Bool). Leads (way_of b) (over (says.Failed (if c then why else other))) l P) (sym (not_missing other fine))
+      (over_leads (way_of b) (says.Failed other) l P (next.fails other l broke fine (ap (λ (x : Machine). x.tree) left ∙ tree)))))
       (cases_of b n (asks.Stat path) said l happens))
 
   confirm_broke : (why : ErrorKind) (n : Machine) → Spot t path names → n.tree ≡ t → ((l : Machine) → l.tree ≡ t → P (says.Failed why) l) → Leads (way_of b) (confirming why path todo) n P
@@ -150,8 +150,8 @@ module _ (b : Bool) (t : Tree) (names : Names) (again : Bool) (path : List ℕ) 
       ⊎_elim
       (λ (most, all, well). made_spot s said n l tree (subst (λ (x : Tree). ChangesTree (free x path) (λ y. put x y Folder) n said l) tree well))
       (λ (broke, why, same, fine, part, left).
-        let here : l.tree ≡ t = ap (λ (x : Machine). x.tree) left ∙ tree in
-        making_failed why false said l same (not_missing why fine) (confirm_broke why l s here (λ k stays. next.fails why k broke fine stays)))
+      let here : l.tree ≡ t = ap (λ (x : Machine). x.tree) left ∙ tree in
+      making_failed why false said l same (not_missing why fine) (confirm_broke why l s here (λ k stays. next.fails why k broke fine stays)))
       (cases_of b n (asks.MakeFolder path) said l happens))
 
 -- ---- names
@@ -269,14 +269,14 @@ module _ (b : Bool) (t : Tree) (all : Names) (P : Claim) (proper : AreProper all
   stand_missing path n l grown named tree said (why, same, of, memory, stays) =
       said_leads b (standing path) said (says.Failed why) l P same
       (subst (λ (c : Bool). Leads (way_of b) (if c then making false path [] else over (says.Failed why)) l P) (sym (absent_fault why of))
-        (up_leads (length path) path [] all l (omega arith) grown named refl (ap (λ (x : Machine). x.tree) stays ∙ tree)))
+      (up_leads (length path) path [] all l (omega arith) grown named refl (ap (λ (x : Machine). x.tree) stays ∙ tree)))
 
   stand_shown : (path : List ℕ) (n l : Machine) → Grown t all 0 t → n.tree ≡ t → look t all ≡ Some Folder → (said : CallResult) → ShowsNode all n said l → Leads (way_of b) (after (standing path) said) l P
   stand_shown path n l grown tree stands said (info, same, fits, stays) =
       let described = of_some (look n.tree all) Folder (λ x. Describes x (n.inodes all) info) (ap (λ (x : Tree). look x all) tree ∙ stands) fits in
       said_leads b (standing path) said (says.Info info) l P same
       (subst (λ (k : Kind). Leads (way_of b) (if_folder k kind.AlreadyExists (over says.Done)) l P) (sym described.kind)
-        (over_leads (way_of b) says.Done l P (ends.succeeds l t 0 grown stands (ap (λ (x : Machine). x.tree) stays ∙ tree))))
+      (over_leads (way_of b) says.Done l P (ends.succeeds l t 0 grown stands (ap (λ (x : Machine). x.tree) stays ∙ tree))))
 
   stand_found : (path : List ℕ) (n : Machine) → Grown t all 0 t → names_of path ≡ Ok all → n.tree ≡ t → Spot t path all → (said : CallResult) (l : Machine) → ShowsEnd (found t path) n said l → Leads (way_of b) (after (standing path) said) l P
   stand_found path n grown named tree (gone way is at) said l shows = stand_missing path n l grown named tree said (subst (λ (r : Result Names Fault). ShowsEnd r n said l) at shows)
@@ -292,7 +292,7 @@ module _ (b : Bool) (t : Tree) (all : Names) (P : Claim) (proper : AreProper all
       ⊎_elim
       (λ (most, all_moved, well). stand_found path n grown named tree here said l (subst (λ (x : Tree). ShowsEnd (found x path) n said l) tree well))
       (λ (broke, why, same, fine, part, left).
-        said_leads b (standing path) said (says.Failed why) l P same
-        (subst (λ (c : Bool). Leads (way_of b) (if c then making false path [] else over (says.Failed why)) l P) (sym (not_missing why fine))
-          (over_leads (way_of b) (says.Failed why) l P (ends.breaks why l t 0 grown (ap (λ (x : Machine). x.tree) left ∙ tree) broke fine))))
+      said_leads b (standing path) said (says.Failed why) l P same
+      (subst (λ (c : Bool). Leads (way_of b) (if c then making false path [] else over (says.Failed why)) l P) (sym (not_missing why fine))
+      (over_leads (way_of b) (says.Failed why) l P (ends.breaks why l t 0 grown (ap (λ (x : Machine). x.tree) left ∙ tree) broke fine))))
       (cases_of b n (asks.Stat path) said l happens))

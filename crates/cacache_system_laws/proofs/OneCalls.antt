@@ -43,13 +43,13 @@ module _ (m : Machine) (step : NumberedStep) (s : Stage) (call : SystemCall) (is
   one_plainly =
       call_leads (GoesWell None) s call m (IsPlain m step) is.wanted (λ end ends enough. absurd (enough (is.memory end ends)))
       (λ said n well. subst (λ (t : Stage). Leads (GoesWell None) t n (IsPlain m step)) (sym (is.leads said))
-        (over_leads (GoesWell None) said n (IsPlain m step) (λ enough. is.agrees None said n well)))
+      (over_leads (GoesWell None) said n (IsPlain m step) (λ enough. is.agrees None said n well)))
 
   pub one_breaking : IsDone m step → Leads OccursSomehow s m (IsLucky m step)
   one_breaking done =
       call_leads OccursSomehow s call m (IsLucky m step) is.wanted (λ end ends. fails_so kind.OutOfMemory end m (is.memory end ends) refl refl done)
       (λ said n somehow. subst (λ (t : Stage). Leads OccursSomehow t n (IsLucky m step)) (sym (is.leads said))
-        (over_leads OccursSomehow said n (IsLucky m step) (lucky_so somehow.0 said n somehow.1 done)))
+      (over_leads OccursSomehow said n (IsLucky m step) (lucky_so somehow.0 said n somehow.1 done)))
 
 -- both laws of a step that makes one call
 pub one_agrees : (m : Machine) (hint : Hint) (step : NumberedStep) (call : SystemCall) → OneCall m step (first hint step) call → Agrees m hint step

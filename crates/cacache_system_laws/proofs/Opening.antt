@@ -54,16 +54,16 @@ module _ (b : Bool) (m : Machine) (purpose : Purpose) (path : List ℕ) (P : Cla
       call_leads (way_of b) (checking purpose number) (asks.StatFile number) n P refl (λ end never. absurd never) (λ said l happens.
       ⊎_elim
       (λ (most, all, well).
-        let shown : ShowsNode names n said l = of_some (n.files number) (unread names) (λ file. ShowsNode file.names n said l) open_on.file well in
-        let here : look n.tree names ≡ Some node = ap (λ (t : Tree). look t names) open_on.tree ∙ stands in
-        let described = of_some (look n.tree names) node (λ x. Describes x (n.inodes names) shown.0) here shown.2 in
-        said_leads b (checking purpose number) said (says.Info shown.0) l P shown.1
-        (subst (λ (x : Machine). Leads (way_of b) (opened purpose number shown.0) x P) (sym shown.3)
-          (next.opens number names node shown.0 n (n.inodes names) is stands open_on described)))
+      let shown : ShowsNode names n said l = of_some (n.files number) (unread names) (λ file. ShowsNode file.names n said l) open_on.file well in
+      let here : look n.tree names ≡ Some node = ap (λ (t : Tree). look t names) open_on.tree ∙ stands in
+      let described = of_some (look n.tree names) node (λ x. Describes x (n.inodes names) shown.0) here shown.2 in
+      said_leads b (checking purpose number) said (says.Info shown.0) l P shown.1
+      (subst (λ (x : Machine). Leads (way_of b) (opened purpose number shown.0) x P) (sym shown.3)
+      (next.opens number names node shown.0 n (n.inodes names) is stands open_on described)))
       (λ (broke, why, same, fine, part, left).
-        let stays : l ≡ n = left in
-        said_leads b (checking purpose number) said (says.Failed why) l P same
-        (over_leads (way_of b) (says.Failed why) l P (next.breaks why l broke fine (ap (λ (x : Machine). x.tree) stays ∙ open_on.tree) (ap (λ (x : Machine). x.synced) stays ∙ open_on.synced))))
+      let stays : l ≡ n = left in
+      said_leads b (checking purpose number) said (says.Failed why) l P same
+      (over_leads (way_of b) (says.Failed why) l P (next.breaks why l broke fine (ap (λ (x : Machine). x.tree) stays ∙ open_on.tree) (ap (λ (x : Machine). x.synced) stays ∙ open_on.synced))))
       (cases_of b n (asks.StatFile number) said l happens))
 
   opened_on : (names : Names) (node : Node) (said : CallResult) (n : Machine) → found m.tree path ≡ Ok names → look m.tree names ≡ Some node
@@ -96,7 +96,7 @@ module _ (b : Bool) (m : Machine) (purpose : Purpose) (path : List ℕ) (P : Cla
       ⊎_elim
       (λ (most, all, well). found_on (view m.tree path) said n well)
       (λ (broke, why, same, fine, part, left).
-        let stays : n ≡ m = left in
-        said_leads b (opening purpose path) said (says.Failed why) n P same
-        (over_leads (way_of b) (says.Failed why) n P (next.breaks why n broke fine (ap (λ (x : Machine). x.tree) stays) (ap (λ (x : Machine). x.synced) stays))))
+      let stays : n ≡ m = left in
+      said_leads b (opening purpose path) said (says.Failed why) n P same
+      (over_leads (way_of b) (says.Failed why) n P (next.breaks why n broke fine (ap (λ (x : Machine). x.tree) stays) (ap (λ (x : Machine). x.synced) stays))))
       (cases_of b m (asks.OpenToRead path) said n happens))

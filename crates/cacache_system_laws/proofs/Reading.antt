@@ -72,7 +72,7 @@ drop_taken rest k =
     ⊎_elim
     (λ (l : k ≤ length rest). ap (λ (n : ℕ). drop n rest) (let e : length (take k rest) ≡ min k (length rest) = length-take k rest in omega (arith, e, l)))
     (λ (l : length rest ≤ k). ap (λ (n : ℕ). drop n rest) (let e : length (take k rest) ≡ min k (length rest) = length-take k rest in omega (arith, e, l))
-      ∙ drop_of_length-le rest {i = length rest} (omega arith) ∙ sym (drop_of_length-le rest {i = k} l))
+    ∙ drop_of_length-le rest {i = length rest} (omega arith) ∙ sym (drop_of_length-le rest {i = k} l))
     (either k (length rest))
 
 file_known : (m : Machine) (file : NumberedFile) (found : OpenFile) (bytes : List ℕ) → StaysOpen m file found bytes → option_map (left_in m) (m.files file.number) ≡ Some (drop found.read bytes)
@@ -153,10 +153,10 @@ module _ (b : Bool) (m : Machine) (file : NumberedFile) (found : OpenFile) (byte
   read_leads =
       taking_leads (way_of b) (trying false (asks.Read file.number size)) m (claim_of b m (steps.Read file max)) (claim_memory b m (steps.Read file max) done m refl refl)
       (trying_leads (way_of b) (asks.Read file.number size) m (claim_of b m (steps.Read file max))
-        (tried_so b m (asks.Read file.number size) (claim_of b m (steps.Read file max)) read_well
-          (λ broke. claim_broken b m (steps.Read file max) done kind.Interrupted m broke refl refl refl)
-          (λ why part n is left. left)
-          (λ why part n broke fine whole. claim_broken b m (steps.Read file max) done why n broke refl fine (ap (λ (x : Machine). x.tree) whole))))
+      (tried_so b m (asks.Read file.number size) (claim_of b m (steps.Read file max)) read_well
+      (λ broke. claim_broken b m (steps.Read file max) done kind.Interrupted m broke refl refl refl)
+      (λ why part n is left. left)
+      (λ why part n broke fine whole. claim_broken b m (steps.Read file max) done why n broke refl fine (ap (λ (x : Machine). x.tree) whole))))
 
 -- ---- the whole step
 
@@ -197,14 +197,16 @@ read_breaks m hint file found bytes max ready done =
     piece_leads false (file.left == 0 && not (min max 131072 == 0)) m file (min max 131072) (claim_of false m (steps.Read file max)) refl
     (λ e. broken_agrees (steps.Read file max) kind.FileTooLarge (says.Failed kind.FileTooLarge) m m refl refl refl done)
     (λ some. read_leads false m file found bytes max (min (min max 131072) file.left) ready (λ e. done)
-      (λ most n all gives. inl (Take (readable most (min (min max 131072) file.left)),
-        read_part m file found bytes max ready n (readable most (min (min max 131072) file.left))
-        (taken_part most (min (min max 131072) file.left) max (omega arith) (λ none. nothing_asked file.left (min max 131072) max some refl none)) gives)))
+    (λ most n all gives. inl (
+      Take (readable most (min (min max 131072) file.left)),
+      read_part m file found bytes max ready n (readable most (min (min max 131072) file.left))
+          (taken_part most (min (min max 131072) file.left) max (omega arith) (λ none. nothing_asked file.left (min max 131072) max some refl none)) gives,
+    )))
 
 pub pieces_read_plainly : PiecesReadPlainly
 pieces_read_plainly m hint file found bytes max ready piece fits =
     piece_leads true (file.left == 0 && not (min max 131072 == 0)) m file (min max 131072) (claim_of true m (steps.Read file max)) refl
     (λ e enough. absurd (gives_some (file.left == 0) (min max 131072 == 0) file.left (min max 131072) max refl refl e refl fits))
     (λ some. read_leads true m file found bytes max (min (min max 131072) file.left) ready (λ e. absurd cc)
-      (λ most n all gives enough. read_plain m file found bytes max ready n (readable most (min (min max 131072) file.left))
-        (ap (λ (o : Option ℕ). readable o (min (min max 131072) file.left)) (all refl) ∙ (let e : min (min max 131072) file.left ≡ max = omega arith in e)) gives))
+    (λ most n all gives enough. read_plain m file found bytes max ready n (readable most (min (min max 131072) file.left))
+    (ap (λ (o : Option ℕ). readable o (min (min max 131072) file.left)) (all refl) ∙ (let e : min (min max 131072) file.left ≡ max = omega arith in e)) gives))

@@ -62,15 +62,19 @@ broken_so : (step : NumberedStep) (why : ErrorKind) (end : CallResult) (m n : Ma
 broken_so step why end m n part false true whole memory is fine tree stays done =
     inr (is ∙ ap (λ (b : Bool). if not b then answers.NoMemory step else answers.Failed (fault_of why)) whole, stays refl)
 broken_so step why end m n part true true whole memory is fine tree stays done =
-    inl (Fail (fault_of why) part,
-    failing_apply m.tree (step_on m step) (fault_of why) part done
-    ∙ sym (same_outcome (answer_on n (answer_of step end)) (failed (made_up (fault_of why))) n.tree (left_by m.tree (step_on m step) part)
-      (ap (answer_on n) (is ∙ ap (λ (b : Bool). if not b then answers.NoMemory step else answers.Failed (fault_of why)) whole) ∙ ap failed (sym (never_missing why fine))) tree))
+    inl (
+      Fail (fault_of why) part,
+      failing_apply m.tree (step_on m step) (fault_of why) part done
+          ∙ sym (same_outcome (answer_on n (answer_of step end)) (failed (made_up (fault_of why))) n.tree (left_by m.tree (step_on m step) part)
+          (ap (answer_on n) (is ∙ ap (λ (b : Bool). if not b then answers.NoMemory step else answers.Failed (fault_of why)) whole) ∙ ap failed (sym (never_missing why fine))) tree),
+    )
 broken_so step why end m n part b false whole memory is fine tree stays done =
-    inl (Fail (fault_of why) part,
-    failing_apply m.tree (step_on m step) (fault_of why) part done
-    ∙ sym (same_outcome (answer_on n (answer_of step end)) (failed (made_up (fault_of why))) n.tree (left_by m.tree (step_on m step) part)
-      (ap (answer_on n) is ∙ ap failed (sym (never_missing why fine))) tree))
+    inl (
+      Fail (fault_of why) part,
+      failing_apply m.tree (step_on m step) (fault_of why) part done
+          ∙ sym (same_outcome (answer_on n (answer_of step end)) (failed (made_up (fault_of why))) n.tree (left_by m.tree (step_on m step) part)
+          (ap (answer_on n) is ∙ ap failed (sym (never_missing why fine))) tree),
+    )
 
 -- a step whose last call failed without cause, where a part of it may be left done
 pub broken_part : (step : NumberedStep) (why : ErrorKind) (end : CallResult) (m n : Machine) (part : Option ℕ) → answer_of step end ≡ failed_with step why

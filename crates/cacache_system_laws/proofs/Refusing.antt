@@ -64,7 +64,7 @@ no_removal_through_link node last above path gone entered link said end rest fir
     let items = item (asks.StatLink path) (says.Info link) ∷ item removes said ∷ rest in
     let looks : Runs (descend (path ∷ entered ++ above ∷ []) removes) items end
     = subst (λ (s : Stage). Runs s items end)
-      (ap (λ (k : Kind). compared (is_same_node last node) k (path ∷ entered ++ above ∷ []) removes) first_is ∙ compared_link (is_same_node last node) (path ∷ entered ++ above ∷ []) removes) second in
+    (ap (λ (k : Kind). compared (is_same_node last node) k (path ∷ entered ++ above ∷ []) removes) first_is ∙ compared_link (is_same_node last node) (path ∷ entered ++ above ∷ []) removes) second in
     let wanted : wants (if_folder link.kind kind.NotADirectory (descend (entered ++ above ∷ []) removes)) ≡ Some removes = looks.1.0 in
     let none : None ≡ Some removes = subst (λ (k : Kind). wants (if_folder k kind.NotADirectory (descend (entered ++ above ∷ []) removes)) ≡ Some removes) next_is wanted in
     cc

@@ -63,15 +63,15 @@ module _ (b : Bool) (m : Machine) (P : Claim) (breaks : (why : ErrorKind) (n : M
       let stands = folder_stands m.tree path names is in
       ⊎_elim
       (λ (most, all, well).
-        let here : ShowsNode names m said n = subst (λ (r : Result Names Fault). ShowsEnd r m said n) stands.0 well in
-        let described : Describes Folder (m.inodes names) here.0 = of_some (look m.tree names) Folder (λ x. Describes x (m.inodes names) here.0) stands.1 here.2 in
-        said_leads b s said (says.Info here.0) n P here.1
-        (subst (λ (t : Stage). Leads (way_of b) t n P) (sym (shown here.0))
-          (subst (λ (x : Machine). Leads (way_of b) (next here.0) x P) (sym here.3) (goes_on here.0 described.kind))))
+      let here : ShowsNode names m said n = subst (λ (r : Result Names Fault). ShowsEnd r m said n) stands.0 well in
+      let described : Describes Folder (m.inodes names) here.0 = of_some (look m.tree names) Folder (λ x. Describes x (m.inodes names) here.0) stands.1 here.2 in
+      said_leads b s said (says.Info here.0) n P here.1
+      (subst (λ (t : Stage). Leads (way_of b) t n P) (sym (shown here.0))
+      (subst (λ (x : Machine). Leads (way_of b) (next here.0) x P) (sym here.3) (goes_on here.0 described.kind))))
       (λ (broke, why, same, fine, part, left).
-        said_leads b s said (says.Failed why) n P same
-        (subst (λ (t : Stage). Leads (way_of b) t n P) (sym (failing why))
-          (over_leads (way_of b) (says.Failed why) n P (breaks why n broke fine left))))
+      said_leads b s said (says.Failed why) n P same
+      (subst (λ (t : Stage). Leads (way_of b) t n P) (sym (failing why))
+      (over_leads (way_of b) (says.Failed why) n P (breaks why n broke fine left))))
       (cases_of b m (asks.StatLink path) said n happens)
 
   -- the folders of a walk are looked at one by one
@@ -105,13 +105,13 @@ removal : (m : Machine) (hint : Hint) (step : NumberedStep) (call : SystemCall) 
 removal m hint step call begins walk usual whole agrees = agrees_of m hint step (λ b done.
     subst (λ (s : Stage). Leads (way_of b) s m (claim_of b m step)) (sym begins)
     (removes_so b m (claim_of b m step) (λ why n broke fine stays. claim_broken b m step done why n broke (usual why) fine (ap (λ (x : Machine). x.tree) stays)) hint call walk
-      (only_leads (way_of b) call m (claim_of b m step) (λ said n happens.
-        ⊎_elim
-        (λ (most, all, well). claim_plain b m step done said n (agrees most said n well))
-        (λ (broke, why, same, fine, part, left).
-          subst (λ (r : CallResult). claim_of b m step r n) (sym same)
-          (claim_broken b m step done why n broke (usual why) fine (ap (λ (x : Machine). x.tree) (whole why part n left))))
-        (cases_of b m call said n happens)))))
+    (only_leads (way_of b) call m (claim_of b m step) (λ said n happens.
+    ⊎_elim
+    (λ (most, all, well). claim_plain b m step done said n (agrees most said n well))
+    (λ (broke, why, same, fine, part, left).
+    subst (λ (r : CallResult). claim_of b m step r n) (sym same)
+    (claim_broken b m step done why n broke (usual why) fine (ap (λ (x : Machine). x.tree) (whole why part n left))))
+    (cases_of b m call said n happens)))))
 
 pub remove_file_agrees : RemoveFileAgrees
 unfolding apply

@@ -65,7 +65,7 @@ front_fine u tail fine =
     let parts = or_parts (list_any (λ b. b == 0) (u ++ 47 ∷ tail)) (list_any is_above (pieces (u ++ 47 ∷ tail))) fine in
     let nul = or_parts (list_any (λ b. b == 0) u) (list_any (λ b. b == 0) (47 ∷ tail)) (sym (list_any-append (λ b. b == 0) u (47 ∷ tail)) ∙ parts.0) in
     let up = or_parts (list_any is_above (pieces u)) (list_any is_above (pieces tail))
-      (sym (list_any-append is_above (pieces u) (pieces tail)) ∙ ap (list_any is_above) (sym (pieces-slash u tail)) ∙ parts.1) in
+    (sym (list_any-append is_above (pieces u) (pieces tail)) ∙ ap (list_any is_above) (sym (pieces-slash u tail)) ∙ parts.1) in
     ap (λ (x : Bool). x || list_any is_above (pieces u)) nul.0 ∙ up.0
 
 -- names, with one name more behind them or none

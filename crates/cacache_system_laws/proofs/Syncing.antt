@@ -48,10 +48,10 @@ sync_leads b n number file P is done breaks =
     only_leads (way_of b) (asks.Sync number) n P (λ said l happens.
     ⊎_elim
     (λ (most, all, well).
-      let syncs = of_some (n.files number) file (λ f. (said ≡ says.Done) × Became n.tree n.files ((f.names, look n.tree f.names) ∷ n.synced) l) is well in
-      subst (λ (r : CallResult). P r l) (sym syncs.0) (done l (record { tree = syncs.1.0; files = syncs.1.1; synced = syncs.1.2 })))
+    let syncs = of_some (n.files number) file (λ f. (said ≡ says.Done) × Became n.tree n.files ((f.names, look n.tree f.names) ∷ n.synced) l) is well in
+    subst (λ (r : CallResult). P r l) (sym syncs.0) (done l (record { tree = syncs.1.0; files = syncs.1.1; synced = syncs.1.2 })))
     (λ (broke, why, same, fine, part, left).
-      subst (λ (r : CallResult). P r l) (sym same) (breaks why l broke fine left))
+    subst (λ (r : CallResult). P r l) (sym same) (breaks why l broke fine left))
     (cases_of b n (asks.Sync number) said l happens))
 
 -- ---- a file
@@ -66,19 +66,19 @@ module _ (b : Bool) (m : Machine) (path : List ℕ) (done : b ≡ false → IsDo
   file_synced_so number names Folder info n inode is stands open_on described =
       refused_folder b info.kind (only (asks.Sync number)) n (claim_of b m (steps.SyncFile path)) described.kind
       (claim_plain b m (steps.SyncFile path) done (says.Failed kind.IsADirectory) n
-        (apply_sync m.tree path (Err IsADirectory) (folder_there m.tree path IsADirectory names is stands) ∙ table_fails (steps.SyncFile path) IsADirectory kind.IsADirectory m n refl refl refl open_on.tree))
+      (apply_sync m.tree path (Err IsADirectory) (folder_there m.tree path IsADirectory names is stands) ∙ table_fails (steps.SyncFile path) IsADirectory kind.IsADirectory m n refl refl refl open_on.tree))
   file_synced_so number names (File bytes) info n inode is stands open_on described =
       wanted_file b info.kind (only (asks.Sync number)) n (claim_of b m (steps.SyncFile path)) described.kind
       (sync_leads b n number _ (claim_of b m (steps.SyncFile path)) open_on.file
-        (λ l synced. claim_plain b m (steps.SyncFile path) done says.Done l
-          (apply_sync m.tree path (Ok bytes) (file_there m.tree path IsADirectory names bytes is stands) ∙ ap (outcome answers.Done) (sym (synced.tree ∙ open_on.tree))))
-        (λ why l broke fine stays. claim_broken b m (steps.SyncFile path) done why l broke refl fine (ap (λ (x : Machine). x.tree) stays ∙ open_on.tree)))
+      (λ l synced. claim_plain b m (steps.SyncFile path) done says.Done l
+      (apply_sync m.tree path (Ok bytes) (file_there m.tree path IsADirectory names bytes is stands) ∙ ap (outcome answers.Done) (sym (synced.tree ∙ open_on.tree))))
+      (λ why l broke fine stays. claim_broken b m (steps.SyncFile path) done why l broke refl fine (ap (λ (x : Machine). x.tree) stays ∙ open_on.tree)))
   file_synced_so number names (Link target) info n inode is stands open_on described = absurd (link_there m.tree path names target is stands)
 
   file_openings : Openings b m to_sync path (claim_of b m (steps.SyncFile path))
   file_openings = record {
     refuses = λ fault why is of memory. claim_plain b m (steps.SyncFile path) done (says.Failed why) m
-      (apply_sync m.tree path (Err fault) (no_file m.tree path IsADirectory fault is) ∙ table_fails (steps.SyncFile path) fault why m m refl of memory refl);
+        (apply_sync m.tree path (Err fault) (no_file m.tree path IsADirectory fault is) ∙ table_fails (steps.SyncFile path) fault why m m refl of memory refl);
     breaks = λ why n broke fine stays synced. claim_broken b m (steps.SyncFile path) done why n broke refl fine stays;
     opens = file_synced_so;
   }
@@ -106,19 +106,19 @@ module _ (b : Bool) (m : Machine) (path : List ℕ) (none : EndsInNoLink m.tree 
   folder_synced_so number names Folder info n inode is stands open_on described =
       subst (λ (k : Kind). Leads (way_of b) (if_folder k kind.NotADirectory (only (asks.Sync number))) n (claim_of b m (steps.SyncDir path))) (sym described.kind)
       (sync_leads b n number _ (claim_of b m (steps.SyncDir path)) open_on.file
-        (λ l synced. claim_plain b m (steps.SyncDir path) done says.Done l
-          (apply_sync_dir m.tree path (Ok names) (folder_of m.tree path names Folder none is stands) ∙ ap (outcome answers.Done) (sym (synced.tree ∙ open_on.tree))))
-        (λ why l broke fine stays. claim_broken b m (steps.SyncDir path) done why l broke refl fine (ap (λ (x : Machine). x.tree) stays ∙ open_on.tree)))
+      (λ l synced. claim_plain b m (steps.SyncDir path) done says.Done l
+      (apply_sync_dir m.tree path (Ok names) (folder_of m.tree path names Folder none is stands) ∙ ap (outcome answers.Done) (sym (synced.tree ∙ open_on.tree))))
+      (λ why l broke fine stays. claim_broken b m (steps.SyncDir path) done why l broke refl fine (ap (λ (x : Machine). x.tree) stays ∙ open_on.tree)))
   folder_synced_so number names (File bytes) info n inode is stands open_on described =
       refused_other b info.kind kind.NotADirectory (only (asks.Sync number)) n (claim_of b m (steps.SyncDir path)) described.kind
       (claim_plain b m (steps.SyncDir path) done (says.Failed kind.NotADirectory) n
-        (apply_sync_dir m.tree path (Err NotADirectory) (folder_of m.tree path names (File bytes) none is stands) ∙ table_fails (steps.SyncDir path) NotADirectory kind.NotADirectory m n refl refl refl open_on.tree))
+      (apply_sync_dir m.tree path (Err NotADirectory) (folder_of m.tree path names (File bytes) none is stands) ∙ table_fails (steps.SyncDir path) NotADirectory kind.NotADirectory m n refl refl refl open_on.tree))
   folder_synced_so number names (Link target) info n inode is stands open_on described = absurd (link_there m.tree path names target is stands)
 
   folder_openings : Openings b m to_sync_folder path (claim_of b m (steps.SyncDir path))
   folder_openings = record {
     refuses = λ fault why is of memory. claim_plain b m (steps.SyncDir path) done (says.Failed why) m
-      (apply_sync_dir m.tree path (Err fault) (folder_found m.tree path none ∙ ap (λ (r : Result Names Fault). and_then r (λ n. where_folder (look m.tree n) n)) is)
+        (apply_sync_dir m.tree path (Err fault) (folder_found m.tree path none ∙ ap (λ (r : Result Names Fault). and_then r (λ n. where_folder (look m.tree n) n)) is)
         ∙ table_fails (steps.SyncDir path) fault why m m refl of memory refl);
     breaks = λ why n broke fine stays synced. claim_broken b m (steps.SyncDir path) done why n broke refl fine stays;
     opens = folder_synced_so;
@@ -150,7 +150,7 @@ sync_temp_agrees m hint temp names bytes ready = agrees_of m hint (steps.SyncTem
     let file = open_under (m.files temp.number) names ready.opened in
     sync_leads b m temp.number file.0 (claim_of b m (steps.SyncTemp temp)) file.1
     (λ l synced. claim_plain b m (steps.SyncTemp temp) done says.Done l
-      (apply_sync_temp m temp
-        ∙ sym (same_outcome (synced_temp temp (option_map (bytes_in l) (l.files temp.number))) (synced_temp temp (option_map (bytes_in m) (m.files temp.number))) l.tree m.tree
-          (temp_kept m l temp synced.tree synced.files) synced.tree)))
+    (apply_sync_temp m temp
+    ∙ sym (same_outcome (synced_temp temp (option_map (bytes_in l) (l.files temp.number))) (synced_temp temp (option_map (bytes_in m) (m.files temp.number))) l.tree m.tree
+    (temp_kept m l temp synced.tree synced.files) synced.tree)))
     (λ why l broke fine stays. claim_broken b m (steps.SyncTemp temp) done why l broke refl fine (ap (λ (x : Machine). x.tree) stays)))

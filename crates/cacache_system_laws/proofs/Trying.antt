@@ -34,8 +34,8 @@ pub tried_so : (b : Bool) (m : Machine) (call : SystemCall) (P : Claim) → ((sa
 tried_so b m call P wells gives_up stays breaks said n happens =
     ⊎_elim
     (λ well.
-      let w = wells said n well in
-      inr (ap was_interrupted w.same ∙ w.goes_on, subst (λ (r : CallResult). P r n) (sym w.same) w.holds))
+    let w = wells said n well in
+    inr (ap was_interrupted w.same ∙ w.goes_on, subst (λ (r : CallResult). P r n) (sym w.same) w.holds))
     (λ (broke, why, same, fine, part, left).
-      subst (λ (r : CallResult). Tried P m r n) (sym same) (broke_so (interrupts why) P m n why refl (λ is. stays why part n is left) (gives_up broke) (breaks why part n broke fine left)))
+    subst (λ (r : CallResult). Tried P m r n) (sym same) (broke_so (interrupts why) P m n why refl (λ is. stays why part n is left) (gives_up broke) (breaks why part n broke fine left)))
     (cases_of b m call said n happens)

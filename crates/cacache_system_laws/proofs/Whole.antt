@@ -37,7 +37,7 @@ abbrev FrontTried : Way → Claim → Machine → ℕ → CallResult → Machine
 FrontTried R P n number said l =
     ((front : List ℕ) × (said ≡ says.Bytes front) × Leads R (reading_rest front number) l P)
     ⊎ ((why : ErrorKind) × (said ≡ says.Failed why)
-      × (((interrupts why ≡ true) × (l ≡ n) × P (says.Failed kind.Interrupted) n) ⊎ ((interrupts why ≡ false) × P (says.Failed why) l)))
+    × (((interrupts why ≡ true) × (l ≡ n) × P (says.Failed kind.Interrupted) n) ⊎ ((interrupts why ≡ false) × P (says.Failed why) l)))
 
 front_ends : (again : Bool) (size number : ℕ) (end : CallResult) (n m : Machine) (P : Claim) → Ends (reading_front again size number) end → n ≡ m → (again ≡ true → P (says.Failed kind.Interrupted) n) → P end m
 front_ends true size number end n m P ends same holds = subst (λ (x : Machine). P end x) same (subst (λ (e : CallResult). P e n) (sym ends) (holds refl))
@@ -83,19 +83,22 @@ module _ (b : Bool) (m : Machine) (path : List ℕ) (done : b ≡ false → IsDo
   -- a folder can't be read
   folder_refused : (l n : Machine) (said : CallResult) → look m.tree names ≡ Some Folder → l.tree ≡ m.tree → IsRefused IsADirectory l said n
       → (why : ErrorKind) × (said ≡ says.Failed why) × claim_of b m (steps.ReadAll path) (says.Failed why) n
-  folder_refused l n said stands tree (why, same, of, memory, stays) =
-      (why, same, claim_plain b m (steps.ReadAll path) done (says.Failed why) n
+  folder_refused l n said stands tree (why, same, of, memory, stays) = (
+    why,
+    same,
+    claim_plain b m (steps.ReadAll path) done (says.Failed why) n
         (apply_all m.tree path (Err IsADirectory) (folder_there m.tree path IsADirectory names is stands)
-          ∙ table_fails (steps.ReadAll path) IsADirectory why m n refl of memory (ap (λ (x : Machine). x.tree) stays ∙ tree)))
+        ∙ table_fails (steps.ReadAll path) IsADirectory why m n refl of memory (ap (λ (x : Machine). x.tree) stays ∙ tree)),
+  )
 
   all_read : (bytes front rest : List ℕ) (l : Machine) → look m.tree names ≡ Some (File bytes) → front ++ rest ≡ bytes → l.tree ≡ m.tree
       → Leads (way_of b) (taking_memory (over (says.Bytes (front ++ rest)))) l (claim_of b m (steps.ReadAll path))
   all_read bytes front rest l stands whole tree =
       taking_leads (way_of b) (over (says.Bytes (front ++ rest))) l (claim_of b m (steps.ReadAll path)) (claim_memory b m (steps.ReadAll path) done l refl tree)
       (over_leads (way_of b) (says.Bytes (front ++ rest)) l (claim_of b m (steps.ReadAll path))
-        (claim_plain b m (steps.ReadAll path) done (says.Bytes (front ++ rest)) l
-          (apply_all m.tree path (Ok bytes) (file_there m.tree path IsADirectory names bytes is stands)
-            ∙ same_outcome (answers.Bytes bytes) (answers.Bytes (front ++ rest)) m.tree l.tree (ap (λ (x : List ℕ). let a : PlainAnswer = answers.Bytes x in a) (sym whole)) (sym tree))))
+      (claim_plain b m (steps.ReadAll path) done (says.Bytes (front ++ rest)) l
+      (apply_all m.tree path (Ok bytes) (file_there m.tree path IsADirectory names bytes is stands)
+      ∙ same_outcome (answers.Bytes bytes) (answers.Bytes (front ++ rest)) m.tree l.tree (ap (λ (x : List ℕ). let a : PlainAnswer = answers.Bytes x in a) (sym whole)) (sym tree))))
 
   rest_read : (node : Node) (front : List ℕ) (l n : Machine) (said : CallResult) → look m.tree names ≡ Some node → ReadSoFar m l number names (length front)
       → ((bytes : List ℕ) → node ≡ File bytes → front ++ drop (length front) bytes ≡ bytes)
@@ -117,13 +120,13 @@ module _ (b : Bool) (m : Machine) (path : List ℕ) (done : b ≡ false → IsDo
       call_leads (way_of b) (reading_rest front number) (asks.ReadRest number) l (claim_of b m (steps.ReadAll path)) refl (λ end never. absurd never) (λ said n happens.
       ⊎_elim
       (λ (most, all, well).
-        let reads = of_some (l.files number) (record { names = names; read = length front }) (λ f. ReadsFile (λ bytes. bytes) number f (look l.tree f.names) l said n) ready.file well in
-        let here : look l.tree names ≡ Some node = ap (λ (t : Tree). look t names) ready.tree ∙ stands in
-        rest_read node front l n said stands ready fits (subst (λ (o : Option Node). ReadsFile (λ bytes. bytes) number (record { names = names; read = length front }) o l said n) here reads))
+      let reads = of_some (l.files number) (record { names = names; read = length front }) (λ f. ReadsFile (λ bytes. bytes) number f (look l.tree f.names) l said n) ready.file well in
+      let here : look l.tree names ≡ Some node = ap (λ (t : Tree). look t names) ready.tree ∙ stands in
+      rest_read node front l n said stands ready fits (subst (λ (o : Option Node). ReadsFile (λ bytes. bytes) number (record { names = names; read = length front }) o l said n) here reads))
       (λ (broke, why, same, fine, part, left).
-        said_leads b (reading_rest front number) said (says.Failed why) n (claim_of b m (steps.ReadAll path)) same
-        (over_leads (way_of b) (says.Failed why) n (claim_of b m (steps.ReadAll path))
-          (claim_broken b m (steps.ReadAll path) done why n broke refl fine (ap (λ (x : Machine). x.tree) left ∙ ready.tree))))
+      said_leads b (reading_rest front number) said (says.Failed why) n (claim_of b m (steps.ReadAll path)) same
+      (over_leads (way_of b) (says.Failed why) n (claim_of b m (steps.ReadAll path))
+      (claim_broken b m (steps.ReadAll path) done why n broke refl fine (ap (λ (x : Machine). x.tree) left ∙ ready.tree))))
       (cases_of b l (asks.ReadRest number) said n happens))
 
   front_read : (node : Node) (size : ℕ) (n l : Machine) (said : CallResult) (most : Option ℕ) → look m.tree names ≡ Some node → OpenedOn m n number names
@@ -134,12 +137,16 @@ module _ (b : Bool) (m : Machine) (path : List ℕ) (done : b ≡ false → IsDo
       inr (refused.0, refused.1, inr (never_interrupted reads.0 IsADirectory reads.2 refl, refused.2))
   front_read (File bytes) size n l said most stands open_on (same, became) =
       let front = take (readable most size) (drop 0 bytes) in
-      inl (front, same, rest_leads (File bytes) front l stands
-        (record {
-          tree = became.0 ∙ open_on.tree;
-          file = ap (λ (f : ℕ → Option OpenFile). f number) became.1 ∙ newly_open n.files number (record { names = names; read = 0 + length front }) ∙ ap (λ (k : ℕ). Some (record { names = names; read = k })) (zero-add (length front));
-        })
-        (λ other same. let e : bytes ≡ other = cc in ap (λ (x : List ℕ). front ++ x) (ap (drop (length front)) (sym e) ∙ drop_taken bytes (readable most size)) ∙ take-append-drop (readable most size) bytes ∙ e))
+      inl (
+        front,
+        same,
+        rest_leads (File bytes) front l stands
+            (record {
+              tree = became.0 ∙ open_on.tree;
+              file = ap (λ (f : ℕ → Option OpenFile). f number) became.1 ∙ newly_open n.files number (record { names = names; read = 0 + length front }) ∙ ap (λ (k : ℕ). Some (record { names = names; read = k })) (zero-add (length front));
+            })
+            (λ other same. let e : bytes ≡ other = cc in ap (λ (x : List ℕ). front ++ x) (ap (drop (length front)) (sym e) ∙ drop_taken bytes (readable most size)) ∙ take-append-drop (readable most size) bytes ∙ e),
+      )
   front_read (Link target) size n l said most stands open_on reads = absurd (link_there m.tree path names target is stands)
 
   broken_front : (why : ErrorKind) (c : Bool) (n l : Machine) → interrupts why ≡ c → l ≡ n → claim_of b m (steps.ReadAll path) (says.Failed kind.Interrupted) n → claim_of b m (steps.ReadAll path) (says.Failed why) l
@@ -152,13 +159,17 @@ module _ (b : Bool) (m : Machine) (path : List ℕ) (done : b ≡ false → IsDo
       front_leads (way_of b) size number n (claim_of b m (steps.ReadAll path)) false (λ e. absurd cc) (λ said l happens.
       ⊎_elim
       (λ (most, all, well).
-        let reads = of_some (n.files number) (unread names) (λ f. ReadsFile (take (readable most size)) number f (look n.tree f.names) n said l) open_on.file well in
-        let here : look n.tree names ≡ Some node = ap (λ (t : Tree). look t names) open_on.tree ∙ stands in
-        front_read node size n l said most stands open_on (subst (λ (o : Option Node). ReadsFile (take (readable most size)) number (unread names) o n said l) here reads))
+      let reads = of_some (n.files number) (unread names) (λ f. ReadsFile (take (readable most size)) number f (look n.tree f.names) n said l) open_on.file well in
+      let here : look n.tree names ≡ Some node = ap (λ (t : Tree). look t names) open_on.tree ∙ stands in
+      front_read node size n l said most stands open_on (subst (λ (o : Option Node). ReadsFile (take (readable most size)) number (unread names) o n said l) here reads))
       (λ (broke, why, same, fine, part, left).
-        inr (why, same, broken_front why (interrupts why) n l refl left
-          (claim_broken b m (steps.ReadAll path) done kind.Interrupted n broke refl refl open_on.tree)
-          (claim_broken b m (steps.ReadAll path) done why l broke refl fine (ap (λ (x : Machine). x.tree) left ∙ open_on.tree))))
+      inr (
+        why,
+        same,
+        broken_front why (interrupts why) n l refl left
+            (claim_broken b m (steps.ReadAll path) done kind.Interrupted n broke refl refl open_on.tree)
+            (claim_broken b m (steps.ReadAll path) done why l broke refl fine (ap (λ (x : Machine). x.tree) left ∙ open_on.tree)),
+      ))
       (cases_of b n (asks.Read number size) said l happens))
 
   whole_leads : (node : Node) (size : ℕ) (n : Machine) (c : Bool) → look m.tree names ≡ Some node → OpenedOn m n number names → (size == 0) ≡ c
@@ -170,11 +181,11 @@ module _ (b : Bool) (m : Machine) (path : List ℕ) (done : b ≡ false → IsDo
 all_openings : (b : Bool) (m : Machine) (path : List ℕ) → (b ≡ false → IsDone m (steps.ReadAll path)) → Openings b m to_read path (claim_of b m (steps.ReadAll path))
 all_openings b m path done = record {
   refuses = λ fault why is of memory. claim_plain b m (steps.ReadAll path) done (says.Failed why) m
-    (apply_all m.tree path (Err fault) (no_file m.tree path IsADirectory fault is) ∙ table_fails (steps.ReadAll path) fault why m m refl of memory refl);
+      (apply_all m.tree path (Err fault) (no_file m.tree path IsADirectory fault is) ∙ table_fails (steps.ReadAll path) fault why m m refl of memory refl);
   breaks = λ why n broke fine stays synced. claim_broken b m (steps.ReadAll path) done why n broke refl fine stays;
   opens = λ number names node info n inode is stands open_on described.
-    taking_leads (way_of b) (read_whole info.size number) n (claim_of b m (steps.ReadAll path)) (claim_memory b m (steps.ReadAll path) done n refl open_on.tree)
-    (whole_leads b m path done number names is node info.size n (info.size == 0) stands open_on refl);
+      taking_leads (way_of b) (read_whole info.size number) n (claim_of b m (steps.ReadAll path)) (claim_memory b m (steps.ReadAll path) done n refl open_on.tree)
+      (whole_leads b m path done number names is node info.size n (info.size == 0) stands open_on refl);
 }
 
 pub read_all_agrees : ReadAllAgrees

@@ -141,8 +141,8 @@ module _ (b : Bool) (m : Machine) (path bytes : List ℕ) (done : b ≡ false �
   broke_written false number names why (Some part) n l is ready broke fine left =
       part_so names why l part is broke fine
       (left.0 ∙ ap (λ (o : Option OpenFile). part_written o bytes (Some part) n.tree) ready.file
-        ∙ ap (λ (t : Tree). lengthened t names (take (taken (Some part) bytes) bytes)) ready.tree
-        ∙ lengthened_empty m.tree names (take (taken (Some part) bytes) bytes) (look m.tree names) refl)
+      ∙ ap (λ (t : Tree). lengthened t names (take (taken (Some part) bytes) bytes)) ready.tree
+      ∙ lengthened_empty m.tree names (take (taken (Some part) bytes) bytes) (look m.tree names) refl)
 
   written_well : (number : ℕ) (names : Names) (n : Machine) → writable m.tree path ≡ Ok names → Appending m n number names → (said : CallResult) (l : Machine) → Well b n (asks.Write number bytes) said l
       → SaidWell (claim_of b m (steps.Append path bytes)) said l
@@ -153,19 +153,19 @@ module _ (b : Bool) (m : Machine) (path bytes : List ℕ) (done : b ≡ false �
         same = writes.0;
         goes_on = refl;
         holds = claim_taken b m (steps.Append path bytes) done most (says.Count (taken most bytes)) l all
-          (apply_append most m.tree path bytes (Ok names) is
+            (apply_append most m.tree path bytes (Ok names) is
             ∙ ap (outcome (answers.Took (taken most bytes)))
-              (sym (writes.1.0 ∙ ap (λ (t : Tree). lengthened t names (take (taken most bytes) bytes)) ready.tree
-                ∙ lengthened_empty m.tree names (take (taken most bytes) bytes) (look m.tree names) refl)));
+            (sym (writes.1.0 ∙ ap (λ (t : Tree). lengthened t names (take (taken most bytes) bytes)) ready.tree
+            ∙ lengthened_empty m.tree names (take (taken most bytes) bytes) (look m.tree names) refl)));
       }
 
   line_leads : (number : ℕ) (names : Names) (n : Machine) → writable m.tree path ≡ Ok names → Appending m n number names → Leads (way_of b) (trying false (asks.Write number bytes)) n (claim_of b m (steps.Append path bytes))
   line_leads number names n is ready =
       trying_leads (way_of b) (asks.Write number bytes) n (claim_of b m (steps.Append path bytes))
       (tried_so b n (asks.Write number bytes) (claim_of b m (steps.Append path bytes)) (written_well number names n is ready)
-        (λ broke. none_so names kind.Interrupted n is broke refl ready.tree)
-        (λ why part l interrupted left. stopped why part number bytes n l interrupted left)
-        (λ why part l broke fine left. broke_written (did_nothing why) number names why part n l is ready broke fine left))
+      (λ broke. none_so names kind.Interrupted n is broke refl ready.tree)
+      (λ why part l interrupted left. stopped why part number bytes n l interrupted left)
+      (λ why part l broke fine left. broke_written (did_nothing why) number names why part n l is ready broke fine left))
 
   append_opened : (r : Result Names Fault) (said : CallResult) (n : Machine) → writable m.tree path ≡ r → OpensIf r (with_empty m.tree) m said n
       → Leads (way_of b) (after (appending path bytes) said) n (claim_of b m (steps.Append path bytes))
@@ -178,8 +178,8 @@ module _ (b : Bool) (m : Machine) (path bytes : List ℕ) (done : b ≡ false �
   append_opened (Err fault) said n is (why, same, of, memory, stays) =
       said_leads b (appending path bytes) said (says.Failed why) n (claim_of b m (steps.Append path bytes)) same
       (over_leads (way_of b) (says.Failed why) n (claim_of b m (steps.Append path bytes))
-        (claim_plain b m (steps.Append path bytes) done (says.Failed why) n
-          (apply_append None m.tree path bytes (Err fault) is ∙ table_fails (steps.Append path bytes) fault why m n refl of memory (ap (λ (x : Machine). x.tree) stays))))
+      (claim_plain b m (steps.Append path bytes) done (says.Failed why) n
+      (apply_append None m.tree path bytes (Err fault) is ∙ table_fails (steps.Append path bytes) fault why m n refl of memory (ap (λ (x : Machine). x.tree) stays))))
 
   append_leads : Leads (way_of b) (appending path bytes) m (claim_of b m (steps.Append path bytes))
   append_leads =
@@ -187,9 +187,9 @@ module _ (b : Bool) (m : Machine) (path bytes : List ℕ) (done : b ≡ false �
       ⊎_elim
       (λ (most, all, well). append_opened (writable m.tree path) said n refl well)
       (λ (broke, why, same, fine, part, left).
-        said_leads b (appending path bytes) said (says.Failed why) n (claim_of b m (steps.Append path bytes)) same
-        (over_leads (way_of b) (says.Failed why) n (claim_of b m (steps.Append path bytes))
-          (claim_broken b m (steps.Append path bytes) done why n broke refl fine (ap (λ (x : Machine). x.tree) left))))
+      said_leads b (appending path bytes) said (says.Failed why) n (claim_of b m (steps.Append path bytes)) same
+      (over_leads (way_of b) (says.Failed why) n (claim_of b m (steps.Append path bytes))
+      (claim_broken b m (steps.Append path bytes) done why n broke refl fine (ap (λ (x : Machine). x.tree) left))))
       (cases_of b m (asks.OpenToAppend path) said n happens))
 
 pub append_agrees : AppendAgrees
@@ -233,7 +233,7 @@ module _ (m : Machine) (temp : NumberedTemp) (names : Names) (bytes more : List 
   wrote_so most l tree files =
       same_outcome (apply m.tree (step_on m (steps.Write temp more)) (luck_of most)).0 (wrote temp (option_map (bytes_in l) (l.files temp.number)) (taken most more)) (lengthened m.tree names (take (taken most more) more)) l.tree
       (apply_write most m.tree temp (option_map (bytes_in m) (m.files temp.number)) bytes more held
-        ∙ ap (λ (o : Option (List ℕ)). wrote temp o (taken most more)) (sym (held_after l (take (taken most more) more) tree files))) (sym tree)
+      ∙ ap (λ (o : Option (List ℕ)). wrote temp o (taken most more)) (sym (held_after l (take (taken most more) more) tree files))) (sym tree)
 
   write_done : IsDone m (steps.Write temp more)
   write_done = ap fault_told (apply_write None m.tree temp (option_map (bytes_in m) (m.files temp.number)) bytes more held)
@@ -248,17 +248,23 @@ module _ (m : Machine) (temp : NumberedTemp) (names : Names) (bytes more : List 
   write_plainly =
       trying_leads (GoesWell None) (asks.Write temp.number more) m (WritesAll m temp names more) (λ said l well.
       let w = well_written None said l well in
-      inr (ap was_interrupted w.0, subst (λ (r : CallResult). WritesAll m temp names more r l) (sym w.0)
-        (ap (λ (x : List ℕ). outcome (apply m.tree (step_on m (steps.Write temp more)) Plain).0 (lengthened m.tree names x)) (sym (take_all (length more) more (omega arith)))
-          ∙ wrote_so None l w.1.0 w.1.1)))
+      inr (
+        ap was_interrupted w.0,
+        subst (λ (r : CallResult). WritesAll m temp names more r l) (sym w.0)
+            (ap (λ (x : List ℕ). outcome (apply m.tree (step_on m (steps.Write temp more)) Plain).0 (lengthened m.tree names x)) (sym (take_all (length more) more (omega arith)))
+            ∙ wrote_so None l w.1.0 w.1.1),
+      ))
 
   -- a write that failed, where a part of it is left
   failed_write : (why : ErrorKind) (part : ℕ) (l : Machine) → misses why ≡ false → refuses_memory why ≡ false → l.tree ≡ lengthened m.tree names (take part more) → WritesSome m temp names more (says.Failed why) l
   failed_write why part l fine memory tree =
-      inl (Fail (fault_of why) None, part,
-      same_outcome (apply m.tree (step_on m (steps.Write temp more)) (Fail (fault_of why) None)).0 (failed (fault_of why)) (lengthened m.tree names (take part more)) l.tree
-        (ap (λ (r : PlainAnswer × Tree). r.0) (failing_apply m.tree (step_on m (steps.Write temp more)) (fault_of why) None write_done) ∙ ap failed (never_missing why fine)) (sym tree)
-      ∙ ap (λ (a : PlainAnswer). outcome a l.tree) (sym (refused_on (steps.Write temp more) why l memory)))
+      inl (
+        Fail (fault_of why) None,
+        part,
+        same_outcome (apply m.tree (step_on m (steps.Write temp more)) (Fail (fault_of why) None)).0 (failed (fault_of why)) (lengthened m.tree names (take part more)) l.tree
+            (ap (λ (r : PlainAnswer × Tree). r.0) (failing_apply m.tree (step_on m (steps.Write temp more)) (fault_of why) None write_done) ∙ ap failed (never_missing why fine)) (sym tree)
+            ∙ ap (λ (a : PlainAnswer). outcome a l.tree) (sym (refused_on (steps.Write temp more) why l memory)),
+      )
 
   nothing_written : (why : ErrorKind) (c : Bool) (l : Machine) → misses why ≡ false → refuses_memory why ≡ c → l.tree ≡ m.tree → WritesSome m temp names more (says.Failed why) l
   nothing_written why false l fine memory stays = failed_write why 0 l fine memory (stays ∙ sym (lengthened_none m.tree names bytes ready.stands))
@@ -280,17 +286,17 @@ module _ (m : Machine) (temp : NumberedTemp) (names : Names) (bytes more : List 
   write_lucky =
       trying_leads OccursSomehow (asks.Write temp.number more) m (WritesSome m temp names more)
       (tried_so false m (asks.Write temp.number more) (WritesSome m temp names more)
-        (λ said l (most, all, well).
-          let w = well_written most said l well in
-          record {
-            is = says.Count (taken most more);
-            same = w.0;
-            goes_on = refl;
-            holds = inl (luck_of most, taken most more, wrote_so most l w.1.0 w.1.1);
-          })
-        (λ broke. nothing_written kind.Interrupted false m refl refl refl)
-        (λ why part l interrupted left. stopped why part temp.number more m l interrupted left)
-        (λ why part l broke fine left. broke_write why (interrupts why) (refuses_memory why) part l fine refl refl left))
+      (λ said l (most, all, well).
+      let w = well_written most said l well in
+      record {
+        is = says.Count (taken most more);
+        same = w.0;
+        goes_on = refl;
+        holds = inl (luck_of most, taken most more, wrote_so most l w.1.0 w.1.1);
+      })
+      (λ broke. nothing_written kind.Interrupted false m refl refl refl)
+      (λ why part l interrupted left. stopped why part temp.number more m l interrupted left)
+      (λ why part l broke fine left. broke_write why (interrupts why) (refuses_memory why) part l fine refl refl left))
 
 pub write_agrees : WriteAgrees
 write_agrees m hint temp names bytes more ready = record {

@@ -13,8 +13,9 @@ use Rattle.cacache_system.specs.CallsOf.{Runs}
 use Rattle.cacache_system.specs.AnswersOf.{Hint, first, answer_of}
 use Rattle.cacache_system_laws.specs.Machine.{Machine}
 use Rattle.cacache_system_laws.specs.Calls.{OccursSomehow, EachCall}
-use Rattle.cacache_system_laws.specs.Laws.{step_on, answer_on, outcome, IsDone, MayBreak}
+use Rattle.cacache_system_laws.specs.Laws.{step_on, answer_on, outcome, IsDone}
 use Rattle.cacache_system_laws.specs.OneCall.{StillStands}
+use Rattle.cacache_system_laws.specs.Premises.{Premise}
 use Rattle.cacache_system_laws.specs.Mirrors.{Mirrors, temps_after, SparesOpen}
 
 -- a step that was made: the machine before and after it, how its calls began, what they were, and their end
@@ -31,9 +32,9 @@ abbrev pub temps_left : (Names → Bool) → StepMade → Names → Bool
 temps_left temps s =
     temps_after temps (step_on s.before s.step) (answer_on s.after (answer_of s.step s.end))
 
--- a law says what the step's calls do, the disk's table does the step, and it spares the open temporary files
+-- a step has what its law asks, the disk's table does it, and it spares the open temporary files
 pub record HasLaw (temps : Names → Bool) (m : Machine) (hint : Hint) (step : NumberedStep) : Type 0 where
-  pub law : MayBreak m hint step
+  pub premise : Premise m hint step
   pub done : IsDone m step
   pub spares : SparesOpen temps m.tree (step_on m step)
 
@@ -57,9 +58,9 @@ abbrev pub DiskDoes : Tree → List StepMade → Type 0
 DiskDoes d [] = Unit {0}
 DiskDoes d (s ∷ made) =
     ((luck : Luck) × (new : Tree)
-        × (apply d (step_on s.before s.step) luck
-            ≡ outcome (answer_on s.after (answer_of s.step s.end)) new)
-        × DiskDoes new made)
+    × (apply d (step_on s.before s.step) luck
+    ≡ outcome (answer_on s.after (answer_of s.step s.end)) new)
+    × DiskDoes new made)
     ⊎ ((answer_of s.step s.end ≡ answers.NoMemory s.step) × DiskDoes d made)
 
 -- what many steps do on a system a disk that mirrors it does

@@ -37,9 +37,9 @@ abbrev pub FixesSynced : Machine → NumberedStep → CallResult → Machine →
 FixesSynced m step end after =
     (nodes : List SyncedNode) × (after.synced ≡ nodes ++ m.synced)
     × ((fixed : Fixed)
-        → fixed_after fixed m.tree after.tree (step_on m step)
-            (answer_on after (answer_of step end))
-        ≡ after_syncs nodes fixed)
+    → fixed_after fixed m.tree after.tree (step_on m step)
+    (answer_on after (answer_of step end))
+    ≡ after_syncs nodes fixed)
 
 -- so does each run of its calls, whether or not some fail without cause
 abbrev pub FixesAsTold : Machine → Hint → NumberedStep → Type 0

@@ -10,5 +10,6 @@ pub mod Writing
 pub mod Making
 pub mod Refusals
 pub mod Fixing
+pub mod Premises
 pub mod Mirrors
 pub mod Chains

@@ -110,7 +110,6 @@ abbrev pub ShowsEnd : Result Names Fault → Machine → CallResult → Machine 
 ShowsEnd ends m said after =
     MatchResult ends (λ names. ShowsNode names m said after) (λ fault. IsRefused fault m said after)
 
-
 -- of an open file it is said what it is; where none has the number nothing is said
 abbrev pub ShowsOpen : ℕ → Machine → CallResult → Machine → Type 0
 ShowsOpen number m said after =
@@ -123,8 +122,8 @@ abbrev pub Gives : ℕ → OpenFile → List ℕ → Machine → CallResult → 
 Gives number file next m said after =
     (said ≡ says.Bytes next)
     × Became m.tree
-        (with_file m.files number (record { names = file.names; read = file.read + length next }))
-        m.synced after
+    (with_file m.files number (record { names = file.names; read = file.read + length next }))
+    m.synced after
 
 -- of the bytes that it has left an open file gives those that are picked; a folder can't be read
 abbrev pub ReadsFile : (List ℕ → List ℕ) → ℕ → OpenFile → Option Node → Machine → CallResult

@@ -12,4 +12,3 @@ OpenAgrees = (m : Machine) (hint : Hint) (path : List ℕ) → Agrees m hint (st
 -- a file's size is asked for
 abbrev pub SizeAgrees : Type 0
 SizeAgrees = (m : Machine) (hint : Hint) (path : List ℕ) → Agrees m hint (steps.Size path)
-

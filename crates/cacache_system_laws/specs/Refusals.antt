@@ -21,8 +21,8 @@ abbrev pub NoSecondWrite : Type 0
 NoSecondWrite =
     (path bytes : List ℕ) (file k j : ℕ)
     → IsNoRun (steps.Append path bytes)
-        (item (asks.OpenToAppend path) (Opened file) ∷ item (asks.Write file bytes) (Count k)
-        ∷ item (asks.Write file bytes) (Count j) ∷ [])
+    (item (asks.OpenToAppend path) (Opened file) ∷ item (asks.Write file bytes) (Count k)
+    ∷ item (asks.Write file bytes) (Count j) ∷ [])
 
 -- what stands where a file is put isn't removed first
 abbrev pub NoRemovalBeforePut : Type 0
@@ -49,8 +49,8 @@ NoFileForFolder =
     (path : List ℕ) (file : ℕ) (info : FileInfo) (said : CallResult) (rest : List CallItem)
     → info.kind ≡ kinds.File
     → IsNoRun (steps.SyncDir path)
-        (item (asks.OpenToRead path) (Opened file) ∷ item (asks.StatFile file) (Info info)
-        ∷ item (asks.Sync file) said ∷ rest)
+    (item (asks.OpenToRead path) (Opened file) ∷ item (asks.StatFile file) (Info info)
+    ∷ item (asks.Sync file) said ∷ rest)
 
 -- a file isn't copied onto itself, which would empty it
 abbrev pub NoCopyOntoItself : Type 0
@@ -58,8 +58,8 @@ NoCopyOntoItself =
     (path : List ℕ) (source target : FileInfo) (said : CallResult) (rest : List CallItem)
     → source.regular ≡ true
     → IsNoRun (steps.Copy path path)
-        (item (asks.Stat path) (Info source) ∷ item (asks.Stat path) (Info target)
-        ∷ item (asks.CopyFile path path) said ∷ rest)
+    (item (asks.Stat path) (Info source) ∷ item (asks.Stat path) (Info target)
+    ∷ item (asks.CopyFile path path) said ∷ rest)
 
 -- where a link took the place of a folder that a walk is in, nothing is removed
 abbrev pub NoRemovalThroughLink : Type 0
@@ -67,6 +67,6 @@ NoRemovalThroughLink =
     (node last : FileInfo) (above path gone : List ℕ) (entered : List (List ℕ)) (link : FileInfo)
     (said end : CallResult) (rest : List CallItem) → last.kind ≡ kinds.Link → link.kind ≡ kinds.Link
     → Runs (first (in_walk node above (path ∷ entered)) (steps.RemoveFile gone))
-        (item (asks.StatLink above) (Info last) ∷ item (asks.StatLink path) (Info link)
-        ∷ item (asks.RemoveFile gone) said ∷ rest) end
+    (item (asks.StatLink above) (Info last) ∷ item (asks.StatLink path) (Info link)
+    ∷ item (asks.RemoveFile gone) said ∷ rest) end
     → ⊥

@@ -24,18 +24,18 @@ AppendAgrees =
 abbrev pub WritesAll : Machine → NumberedTemp → Names → List ℕ → CallResult → Machine → Type 0
 WritesAll m temp names more end after =
     outcome (apply m.tree (step_on m (steps.Write temp more)) Plain).0
-        (lengthened m.tree names more)
+    (lengthened m.tree names more)
     ≡ led_to (steps.Write temp more) end after
 
 -- it takes a part of them: the answer is that of some luck, or the step comes back
 abbrev pub WritesSome : Machine → NumberedTemp → Names → List ℕ → CallResult → Machine → Type 0
 WritesSome m temp names more end after =
     ((luck : Luck) × (part : ℕ)
-        × (outcome (apply m.tree (step_on m (steps.Write temp more)) luck).0
-            (lengthened m.tree names (take part more))
-        ≡ led_to (steps.Write temp more) end after))
+    × (outcome (apply m.tree (step_on m (steps.Write temp more)) luck).0
+    (lengthened m.tree names (take part more))
+    ≡ led_to (steps.Write temp more) end after))
     ⊎ ((answer_of (steps.Write temp more) end ≡ answers.NoMemory (steps.Write temp more))
-        × (after.tree ≡ m.tree))
+    × (after.tree ≡ m.tree))
 
 -- a temporary file is written, whether or not its calls fail without cause
 pub record Writes (m : Machine) (hint : Hint) (temp : NumberedTemp) (names : Names) (more : List ℕ) : Type 0 where

@@ -5,6 +5,7 @@ ghost use Rattle.cacache_system_laws.specs.Making.{MakeDirsAgrees};
 ghost use Rattle.cacache_system_laws.specs.Mirrors.{StepsMirror};
 ghost use Rattle.cacache_system_laws.specs.OneCall.{CreateAgrees, ExistsAgrees, HardLinkAgrees, PersistAgrees, ReflinkBreaks, SymlinkAgrees};
 ghost use Rattle.cacache_system_laws.specs.Opening.{OpenAgrees, SizeAgrees};
+ghost use Rattle.cacache_system_laws.specs.Premises.{EachMayBreak};
 ghost use Rattle.cacache_system_laws.specs.Reading.{PiecesReadPlainly, ReadAllAgrees, ReadBreaks};
 ghost use Rattle.cacache_system_laws.specs.Refusals.{NoCopyOntoItself, NoFileForFolder, NoOtherMode, NoOtherSync, NoRemovalBeforePut, NoRemovalThroughLink, NoSecondWrite};
 ghost use Rattle.cacache_system_laws.specs.Removing.{RemoveDirAgrees, RemoveFileAgrees};
@@ -64,6 +65,12 @@ pub fn fixing_laws()
     ensures temp { SyncTempFixes }
     ensures file { SyncFileFixes }
     ensures folder { SyncDirFixes }
+{}
+
+/// Each kind of step that the disk's table does, but listings and writes, is as under some luck, where it has what its law
+/// asks.
+pub fn covered_laws()
+    ensures breaking { EachMayBreak }
 {}
 
 /// What many steps do on a system, a disk in memory does that has the bytes of open temporary files in its handles.

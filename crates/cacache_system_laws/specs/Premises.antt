@@ -1,0 +1,49 @@
+-- What each step asks of the machine for its law.
+use Rattle.std.specs.Prelude.{◌≡◌, ℕ, List, Ok}
+use Rattle.cacache_core.specs.PathNames.{Names}
+use Rattle.cacache_store.specs.declared.store.step.Step.TheVariants.{MakeDirs, Write, Persist, Read, Copy, HardLink, ReadDir, RemoveFile, RemoveDir, SyncTemp, SyncDir}
+use Rattle.cacache_disk.specs.declared.node.Node.{Node}
+use Rattle.cacache_disk.specs.LedTo.{linked}
+use Rattle.cacache_disk.specs.Rooted.{Rooted}
+use Rattle.cacache_system.specs.Seen.{NumberedFile, NumberedTemp, NumberedStep}
+use Rattle.cacache_system.specs.AnswersOf.{Hint}
+use Rattle.cacache_system_laws.specs.Machine.{OpenFile, Machine}
+use Rattle.cacache_system_laws.specs.Laws.{MayBreak}
+use Rattle.cacache_system_laws.specs.OneCall.{StillStands}
+use Rattle.cacache_system_laws.specs.Reading.{StaysOpen}
+use Rattle.cacache_system_laws.specs.Writing.{TellsFilesApart}
+use Rattle.cacache_system_laws.specs.Making.{HasNoLink}
+use Rattle.cacache_system_laws.specs.Removing.{WalkStands}
+use Rattle.cacache_system_laws.specs.Syncing.{EndsInNoLink}
+
+-- a temporary file still stands at its path
+abbrev pub IsStill : Machine → NumberedTemp → Type 0
+IsStill m temp = (names : Names) × (bytes : List ℕ) × StillStands m temp names bytes
+
+-- an open file still stands where it was found
+abbrev pub IsOpen : Machine → NumberedFile → Type 0
+IsOpen m file = (found : OpenFile) × (bytes : List ℕ) × StaysOpen m file found bytes
+
+-- a file or link stands at a path
+abbrev pub IsLinked : Machine → List ℕ → Type 0
+IsLinked m path = (node : Node) × (linked m.tree path ≡ Ok node)
+
+-- What a step asks. A listing has no law, and a write has one of its own: the tree changes under it.
+abbrev pub Premise : Machine → Hint → NumberedStep → Type 0
+Premise m hint (MakeDirs p) = Rooted m.tree × HasNoLink m.tree p
+Premise m hint (Write t bytes) = ⊥
+Premise m hint (Persist t p) = IsStill m t
+Premise m hint (Read f max) = IsOpen m f
+Premise m hint (Copy p q) = TellsFilesApart m
+Premise m hint (HardLink p q) = IsLinked m p
+Premise m hint (ReadDir p) = ⊥
+Premise m hint (RemoveFile p) = WalkStands m hint
+Premise m hint (RemoveDir p) = WalkStands m hint
+Premise m hint (SyncTemp t) = IsStill m t
+Premise m hint (SyncDir p) = EndsInNoLink m.tree p
+Premise m hint step = Unit {0}
+
+-- each step that the disk's table does is as under some luck, whichever of its calls fail without cause
+abbrev pub EachMayBreak : Type 0
+EachMayBreak =
+    (m : Machine) (hint : Hint) (step : NumberedStep) → Premise m hint step → MayBreak m hint step
