@@ -23,3 +23,5 @@ mod Mirroring
 mod Keeping
 mod Covered
 mod Chaining
+mod Saying
+mod Meetings

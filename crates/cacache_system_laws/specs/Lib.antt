@@ -13,3 +13,4 @@ pub mod Fixing
 pub mod Premises
 pub mod Mirrors
 pub mod Chains
+pub mod Meeting

@@ -2,6 +2,7 @@
 ghost use Rattle.cacache_system_laws.specs.Chains.{RunsMirror};
 ghost use Rattle.cacache_system_laws.specs.Fixing.{SyncDirFixes, SyncFileFixes, SyncTempFixes};
 ghost use Rattle.cacache_system_laws.specs.Making.{MakeDirsAgrees};
+ghost use Rattle.cacache_system_laws.specs.Meeting.{CallsCanGoWell};
 ghost use Rattle.cacache_system_laws.specs.Mirrors.{StepsMirror};
 ghost use Rattle.cacache_system_laws.specs.OneCall.{CreateAgrees, ExistsAgrees, HardLinkAgrees, PersistAgrees, ReflinkBreaks, SymlinkAgrees};
 ghost use Rattle.cacache_system_laws.specs.Opening.{OpenAgrees, SizeAgrees};
@@ -77,6 +78,11 @@ pub fn covered_laws()
 pub fn mirror_laws()
     ensures step { StepsMirror }
     ensures run { RunsMirror }
+{}
+
+/// The model can be met: each call can go well.
+pub fn model_laws()
+    ensures calls { CallsCanGoWell }
 {}
 
 /// Calls that are no run of their step.
