@@ -23,5 +23,6 @@ mod Mirroring
 mod Keeping
 mod Covered
 mod Chaining
+mod Logging
 mod Saying
 mod Meetings

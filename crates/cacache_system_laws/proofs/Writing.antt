@@ -1,5 +1,5 @@
 -- Lines that are appended, and temporary files that are written.
-use Rattle.std.proofs.Common.{◌≡◌, ◌⊎◌, ◌||◌, ◌&&◌, not, if◌then◌else◌, ℕ, min, Bool, true, false, cond, List, [], ◌++◌, length, take, refl, sym, ap, subst, ◌∙◌, ⊎_elim, inl, inr, arith, append-nil, true≢false, take_all}
+use Rattle.std.proofs.Common.{◌≡◌, ◌||◌, ◌&&◌, not, if◌then◌else◌, ℕ, min, Bool, true, false, cond, List, [], ◌++◌, length, take, refl, sym, ap, subst, ◌∙◌, ⊎_elim, inl, inr, arith, append-nil, true≢false, take_all}
 use Rattle.std.specs.Prelude.{Option, None, Some, Result, Ok, Err, option_map}
 use Rattle.std.specs.FinMap as map
 use Rattle.std_io.specs.declared.io.kind.ErrorKind.{ErrorKind}

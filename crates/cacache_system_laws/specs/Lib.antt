@@ -14,3 +14,4 @@ pub mod Premises
 pub mod Mirrors
 pub mod Chains
 pub mod Meeting
+pub mod Logged

@@ -1,6 +1,7 @@
 //! Laws, on functions that do nothing.
 ghost use Rattle.cacache_system_laws.specs.Chains.{RunsMirror};
 ghost use Rattle.cacache_system_laws.specs.Fixing.{SyncDirFixes, SyncFileFixes, SyncTempFixes};
+ghost use Rattle.cacache_system_laws.specs.Logged.{LogsAgree};
 ghost use Rattle.cacache_system_laws.specs.Making.{MakeDirsAgrees};
 ghost use Rattle.cacache_system_laws.specs.Meeting.{CallsCanGoWell};
 ghost use Rattle.cacache_system_laws.specs.Mirrors.{StepsMirror};
@@ -72,6 +73,11 @@ pub fn fixing_laws()
 /// asks.
 pub fn covered_laws()
     ensures breaking { EachMayBreak }
+{}
+
+/// So it is of a step whose run a store's log gained, which is what the contract of a store of real folders says.
+pub fn logged_laws()
+    ensures agree { LogsAgree }
 {}
 
 /// What many steps do on a system, a disk in memory does that has the bytes of open temporary files in its handles.
