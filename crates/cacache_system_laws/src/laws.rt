@@ -14,7 +14,10 @@ ghost use Rattle.cacache_system_laws.specs.Removing.{RemoveDirAgrees, RemoveFile
 ghost use Rattle.cacache_system_laws.specs.Syncing.{SyncDirAgrees, SyncFileAgrees, SyncTempAgrees};
 ghost use Rattle.cacache_system_laws.specs.Writing.{AppendAgrees, CopyAgrees, WriteAgrees};
 
-/// The calls of a step that makes or moves something answer and leave what the disk's table says.
+/// A step that makes or moves something answers and leaves what the disk's table says of it.
+///
+/// Where none of its calls fails without cause, that is under plain luck; where some do, under some luck, if the table does
+/// the step. A `Reflink` is refused by luck alone.
 pub fn change_laws()
     ensures create { CreateAgrees }
     ensures persist { PersistAgrees }
@@ -23,64 +26,64 @@ pub fn change_laws()
     ensures reflink { ReflinkBreaks }
 {}
 
-/// So do those of a step that asks for something.
+/// So does a step that asks for something, or opens a file.
 pub fn look_laws()
     ensures exists { ExistsAgrees }
     ensures size { SizeAgrees }
     ensures open { OpenAgrees }
 {}
 
-/// So do those of a read.
+/// So does a read: of a whole file, and of a piece of an open one.
 pub fn read_laws()
     ensures whole { ReadAllAgrees }
     ensures piece { ReadBreaks }
     ensures plainly { PiecesReadPlainly }
 {}
 
-/// So do those of a write or a copy.
+/// So do an append and a copy; and a write, but that its file grows in the tree.
 pub fn write_laws()
     ensures append { AppendAgrees }
     ensures write { WriteAgrees }
     ensures copy { CopyAgrees }
 {}
 
-/// So do those of a step that makes folders, whether it asks for them first or not.
+/// So does a step that makes folders, whether it asks for them first or not.
 pub fn folder_laws()
     ensures make { MakeDirsAgrees }
 {}
 
-/// So do those of a removal.
+/// So does a removal, also where the folders of a walk are looked at before.
 pub fn removal_laws()
     ensures file { RemoveFileAgrees }
     ensures folder { RemoveDirAgrees }
 {}
 
-/// So do those of a sync.
+/// So does a sync.
 pub fn sync_laws()
     ensures temp { SyncTempAgrees }
     ensures file { SyncFileAgrees }
     ensures folder { SyncDirAgrees }
 {}
 
-/// A sync fixes what its calls synced, and a loss of power then leaves that.
+/// A sync fixes what its calls synced and nothing else, as the losses of power count it.
 pub fn fixing_laws()
     ensures temp { SyncTempFixes }
     ensures file { SyncFileFixes }
     ensures folder { SyncDirFixes }
 {}
 
-/// Each kind of step that the disk's table does, but listings and writes, is as under some luck, where it has what its law
-/// asks.
+/// Each kind of step but listings and writes, at once: where it has what its law asks, and the disk's table does it, it is
+/// as under some luck.
 pub fn covered_laws()
     ensures breaking { EachMayBreak }
 {}
 
-/// So it is of a step whose run a store's log gained, which is what the contract of a store of real folders says.
+/// So is a step whose run a store's log gained, which is what the contract of a store of real folders says.
 pub fn logged_laws()
     ensures agree { LogsAgree }
 {}
 
-/// What many steps do on a system, a disk in memory does that has the bytes of open temporary files in its handles.
+/// What many steps do on a system, a disk in memory does that has the bytes of open temporary files in their handles.
 pub fn mirror_laws()
     ensures step { StepsMirror }
     ensures run { RunsMirror }
