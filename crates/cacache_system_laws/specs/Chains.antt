@@ -33,7 +33,8 @@ temps_left temps s =
     temps_after temps (step_on s.before s.step) (answer_on s.after (answer_of s.step s.end))
 
 -- a step has what its law asks, the disk's table does it, and it spares the open temporary files
-pub record HasLaw (temps : Names → Bool) (m : Machine) (hint : Hint) (step : NumberedStep) : Type 0 where
+pub record HasLaw (temps : Names → Bool) (m : Machine) (hint : Hint) (step : NumberedStep)
+    : Type 0 where
   pub premise : Premise m hint step
   pub done : IsDone m step
   pub spares : SparesOpen temps m.tree (step_on m step)
@@ -44,7 +45,7 @@ WritesTemp temps m (steps.Write temp more) =
     (names : Names) × (bytes : List ℕ) × StillStands m temp names bytes × (temps names ≡ true)
 WritesTemp temps m step = ⊥
 
--- each step is made where the one before it led, by a run of its calls, whether or not some fail without cause
+-- each step is made where the one before it led, by a run of its calls, some of which may fail
 abbrev pub AreMade : (Names → Bool) → Machine → List StepMade → Type 0
 AreMade temps m [] = Unit {0}
 AreMade temps m (s ∷ made) =
@@ -53,7 +54,7 @@ AreMade temps m (s ∷ made) =
     × (HasLaw temps s.before s.hint s.step ⊎ WritesTemp temps s.before s.step)
     × AreMade (temps_left temps s) s.after made
 
--- a disk does each of these steps under some luck with the same answer, but those that came back for want of memory
+-- a disk does each of these steps under some luck with the same answer, but those that came back
 abbrev pub DiskDoes : Tree → List StepMade → Type 0
 DiskDoes d [] = Unit {0}
 DiskDoes d (s ∷ made) =

@@ -72,7 +72,8 @@ Leads Happens s m Holds =
 -- where memory isn't refused, it is as under plain luck
 abbrev pub IsPlain : Machine → NumberedStep → CallResult → Machine → Type 0
 IsPlain m step end after =
-    (end ≡ Failed kind.OutOfMemory → ⊥) → apply m.tree (step_on m step) Plain ≡ led_to step end after
+    (end ≡ Failed kind.OutOfMemory → ⊥)
+    → apply m.tree (step_on m step) Plain ≡ led_to step end after
 
 -- it is as under some luck, or the step comes back for want of memory and nothing changed
 abbrev pub IsLucky : Machine → NumberedStep → CallResult → Machine → Type 0

@@ -23,7 +23,8 @@ hollow (Some (Link target)) = Some (Link target)
 -- a disk's tree is the system's with the open temporary files emptied, which are files
 pub record Mirrors (temps : Names → Bool) (t d : Tree) : Type 0 where
   pub files : (names : Names) → temps names ≡ true → hollow (look t names) ≡ Some (File [])
-  pub same : (names : Names) → look d names ≡ (if temps names then hollow (look t names) else look t names)
+  pub same : (names : Names)
+      → look d names ≡ (if temps names then hollow (look t names) else look t names)
 
 -- ---- which files are open after a step
 
@@ -67,7 +68,8 @@ SparesOpen temps t (HardLink p q) = IsNoTemp temps (place t p)
 SparesOpen temps t step = Unit {0}
 
 -- a step answers the same on both trees, and they stay such
-pub record StaysMirrored (temps : Names → Bool) (step : PlainStep) (on_system on_disk : PlainAnswer × Tree) : Type 0 where
+pub record StaysMirrored (temps : Names → Bool) (step : PlainStep)
+    (on_system on_disk : PlainAnswer × Tree) : Type 0 where
   pub answers : on_disk.0 ≡ on_system.0
   pub mirrors : Mirrors (temps_after temps step on_system.0) on_system.1 on_disk.1
 

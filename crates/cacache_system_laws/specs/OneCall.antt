@@ -36,7 +36,8 @@ ReflinkBreaks =
     (m : Machine) (hint : Hint) (from to : List ℕ) → MayBreak m hint (steps.Reflink from to)
 
 -- a temporary file that still stands at its path
-pub record StillStands (m : Machine) (temp : NumberedTemp) (names : Names) (bytes : List ℕ) : Type 0 where
+pub record StillStands (m : Machine) (temp : NumberedTemp) (names : Names) (bytes : List ℕ)
+    : Type 0 where
   pub named : names_of temp.path ≡ Ok names
   pub way : way_fault m.tree [] names ≡ None
   pub stands : look m.tree names ≡ Some (File bytes)

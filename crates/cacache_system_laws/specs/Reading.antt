@@ -13,7 +13,8 @@ abbrev pub ReadAllAgrees : Type 0
 ReadAllAgrees = (m : Machine) (hint : Hint) (path : List ℕ) → Agrees m hint (steps.ReadAll path)
 
 -- an open file that still stands where it was opened
-pub record StaysOpen (m : Machine) (file : NumberedFile) (found : OpenFile) (bytes : List ℕ) : Type 0 where
+pub record StaysOpen (m : Machine) (file : NumberedFile) (found : OpenFile) (bytes : List ℕ)
+    : Type 0 where
   pub known : m.files file.number ≡ Some found
   pub stands : look m.tree found.names ≡ Some (File bytes)
 

@@ -38,9 +38,12 @@ WritesSome m temp names more end after =
     × (after.tree ≡ m.tree))
 
 -- a temporary file is written, whether or not its calls fail without cause
-pub record Writes (m : Machine) (hint : Hint) (temp : NumberedTemp) (names : Names) (more : List ℕ) : Type 0 where
-  pub plainly : Leads (GoesWell None) (first hint (steps.Write temp more)) m (WritesAll m temp names more)
-  pub breaking : Leads OccursSomehow (first hint (steps.Write temp more)) m (WritesSome m temp names more)
+pub record Writes (m : Machine) (hint : Hint) (temp : NumberedTemp) (names : Names)
+    (more : List ℕ) : Type 0 where
+  pub plainly : Leads (GoesWell None) (first hint (steps.Write temp more)) m
+      (WritesAll m temp names more)
+  pub breaking : Leads OccursSomehow (first hint (steps.Write temp more)) m
+      (WritesSome m temp names more)
 
 -- a temporary file that stands at its path
 abbrev pub WriteAgrees : Type 0
