@@ -51,7 +51,7 @@ use Rattle.cacache_history.proofs.Turned.{reached_turns}
 
 -- ---- deeds
 
-either : (d : Deed) (xs ys : List Deed) → IsAmong d (xs ++ ys) → IsAmong d xs ⊎ IsAmong d ys
+pub either : (d : Deed) (xs ys : List Deed) → IsAmong d (xs ++ ys) → IsAmong d xs ⊎ IsAmong d ys
 either d [] ys h = inr h
 either d (x ∷ xs) ys (inl e) = inl (inl e)
 either d (x ∷ xs) ys (inr h) = elim (either d xs ys h) [ inl a ↦ inl (inr a) | inr b ↦ inr b ]
@@ -71,7 +71,7 @@ done_at h d (turn ∷ turns) hold at is =
       | inr more ↦ done_at h d turns hold.1 at.1 more
     ]
 
-act_is : (act of : Act) → IsAmong (does act) (deeds_of_act of) → of ≡ act
+pub act_is : (act of : Act) → IsAmong (does act) (deeds_of_act of) → of ≡ act
 act_is act Nothing h = absurd h
 act_is act (PutBytes names bytes) (inl e) = cc
 act_is act (PutBytes names bytes) (inr none) = absurd none
@@ -85,7 +85,7 @@ act_is act (Drop names) (inr none) = absurd none
 act_is act (MakeFolders names count) h = absurd h
 act_is act (DropFolder names) h = absurd h
 
-not_found : (act : Act) (step : PlainStep) (answer : PlainAnswer) → IsAmong (does act) (finds_in step answer) → ⊥
+pub not_found : (act : Act) (step : PlainStep) (answer : PlainAnswer) → IsAmong (does act) (finds_in step answer) → ⊥
 not_found act (steps.Exists path) (answers.There true) (inl e) = absurd cc
 not_found act (steps.Exists path) (answers.There true) (inr none) = absurd none
 not_found act step answer h = absurd h
@@ -137,7 +137,7 @@ blob_is t (Some blob) e = tt
 
 -- ---- the acts of records
 
-acts_last : (folder : Option Names) (v : Value) (before : List Record) (caller : ℕ) (luck : Luck) (made : Made) (reply : Option Reply)
+pub acts_last : (folder : Option Names) (v : Value) (before : List Record) (caller : ℕ) (luck : Luck) (made : Made) (reply : Option Reply)
     → acts folder v (steps_of (before ++ Moved caller luck (Some made) reply ∷ [])) ≡ change folder (act_of made.0 luck made.1) (acts folder v (steps_of before))
 acts_last folder v [] caller luck made reply = refl
 acts_last folder v (Began k command ∷ before) caller luck made reply = acts_last folder v before caller luck made reply

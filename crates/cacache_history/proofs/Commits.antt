@@ -1,4 +1,4 @@
--- Each commit did nothing, put its content, or put its content and then its entry.
+-- Each commit did nothing, put its content, or put its content and then its entry; and what removals did.
 use Rattle.std.proofs.Common.{◌≡◌, ◌⊎◌, inl, inr, ℕ, List, [], ◌∷◌, ◌++◌, Option, None, Some, refl, sym, ap, subst, ◌∙◌, append-nil}
 use Rattle.cacache_core.specs.declared.errors.Error.TheVariants.{OutOfMemory}
 use Rattle.cacache_core.specs.Integrity.{integrity_under}
@@ -29,6 +29,7 @@ use Rattle.cacache_history.proofs.Carrying.{Own, own_bytes, own_link, put_own, o
 use Rattle.cacache_history.proofs.Deeds.{PutsAt, SendsEntry, Realizes, took_entry, turns_realize}
 use Rattle.cacache_history.proofs.Holding.{TurnsHold}
 use Rattle.cacache_history.proofs.Linked.{CommitsOf, links_read}
+use Rattle.cacache_history.proofs.Removals.{hash_removed, key_removed, all_cleared}
 use Rattle.cacache_history.proofs.Runs.{reached, reply_run, lost_run}
 
 content_deed : (own : Own) (c : Commit) (d : Deed) → PutsAt own (content_path c.cache c.computed) d → PutsContent c (put_own own) d
@@ -84,6 +85,9 @@ module _ (s : Setup) (n : ℕ) (reply : Option Reply) (r : Reply) (refused : IsR
   cases (commands.Delete d) turns may hold makes run =
       adds (own_bytes [] []) reply r refused (deletion s.cache d) (effects_of (made_in turns)) (deeds turns) may (turns_realize s (own_bytes [] []) turns hold makes)
       (deletes_send (call_site s n) d (made_in turns) r run)
+  cases (commands.RemoveHash i) turns may hold makes run = hash_removed (call_site s n) i turns r run
+  cases (commands.RemoveFully key) turns may hold makes run = key_removed (call_site s n) key turns r run
+  cases commands.Clear turns may hold makes run = all_cleared (call_site s n) turns r run
   cases other turns may hold makes run = tt
 
 pub plain_refused : (r : Reply) → IsRefused (plain_reply r) → IsNotOk (Some r)

@@ -1,5 +1,7 @@
--- A computed digest is a hash.
-use Rattle.std.proofs.Common.{ℕ, zero, suc, List, [], ◌∷◌, take, arith, slice_index}
+-- A computed digest is a hash, and makes an integrity.
+use Rattle.std.proofs.Common.{◌≡◌, ◌<◌, refl, sym, ap, Contains, ℕ, zero, suc, List, [], ◌∷◌, take, arith, slice_index}
+use Rattle.std.proofs.lemmas.List.Elements.{All-nil, All-cons}
+use Rattle.std.specs.List.{slice_index_or}
 use Rattle.std.specs.Int.{w32, w64, to_be_bytes}
 use Rattle.base64.specs.GeneralPurpose.{IsBytes}
 use Rattle.sha2.specs.Sha256 as small
@@ -8,8 +10,9 @@ use Rattle.sha2.proofs.Facts256.{length-sha256}
 use Rattle.sha2.proofs.Facts512.{length-sha384, length-sha512}
 use Rattle.cacache_core.specs.declared.integrity.algorithm.Algorithm.{Algorithm}
 use Rattle.cacache_core.specs.declared.integrity.algorithm.Algorithm.TheVariants.{Sha1, Sha256, Sha384, Sha512}
+use Rattle.cacache_core.specs.declared.integrity.digest.Hash.{Hash}
 use Rattle.cacache_core.specs.Digests.{digest}
-use Rattle.cacache_core.specs.Integrity.{IsHash, hash_of}
+use Rattle.cacache_core.specs.Integrity.{IsHash, IsIntegrity, Meets, hash_of, integrity_under, strongest_first}
 use Rattle.cacache_core.proofs.Decoded.{bytes_append}
 use Rattle.cacache_core.proofs.PathLemmas.{sha1_bytes, keys_have_digests}
 use Rattle.cacache_core.proofs.ProperNames.{be_bytes}
@@ -57,3 +60,31 @@ digest_hash Sha1 m = record { bytes = sha1_bytes m; long_enough = omega (arith, 
 digest_hash Sha256 m = record { bytes = sha256_bytes m; long_enough = omega (arith, length-sha256 m) }
 digest_hash Sha384 m = record { bytes = sha384_bytes m; long_enough = omega (arith, length-sha384 m) }
 digest_hash Sha512 m = record { bytes = sha512_bytes m; long_enough = omega (arith, length-sha512 m) }
+
+-- ---- an integrity
+
+own_ordered : (a : Algorithm) (d : List ℕ) → strongest_first (hash_of a d ∷ []) ≡ hash_of a d ∷ []
+own_ordered Sha1 d = refl
+own_ordered Sha256 d = refl
+own_ordered Sha384 d = refl
+own_ordered Sha512 d = refl
+
+-- the digest alone makes one
+pub own_integrity : (a : Algorithm) (bytes : List ℕ) → IsIntegrity (integrity_under a bytes)
+own_integrity a bytes = record {
+  nonempty = omega arith;
+  ordered = own_ordered a (digest a bytes);
+  hashes = All-cons IsHash (hash_of a (digest a bytes)) [] (digest_hash a bytes) (All-nil IsHash);
+}
+
+-- ---- bytes that meet it
+
+one_of : (x y : Hash) → Contains (x ∷ []) y → x ≡ y
+one_of x y c = by c.0 c.1 c.2
+  where
+    by : (k : ℕ) → k < 1 → slice_index_or (x ∷ []) k y ≡ y → x ≡ y
+    by zero lt e = e
+    by (suc k) lt e = absurd (omega (arith, lt))
+
+pub same_digest : (a : Algorithm) (bytes others : List ℕ) → Meets (integrity_under a bytes) others → digest a others ≡ digest a bytes
+same_digest a bytes others met = sym (ap (λ (x : Hash). x.digest) (one_of (hash_of a (digest a bytes)) (hash_of a (digest a others)) met))

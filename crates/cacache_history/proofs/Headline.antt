@@ -8,6 +8,7 @@ use Rattle.cacache_history.proofs.LinkedContents.{links_were_right, links_are_ri
 use Rattle.cacache_history.proofs.ListingTurns.{listings_read_value}
 use Rattle.cacache_history.proofs.ReadingCalls.{readers_do_nothing, reads_are_verified}
 use Rattle.cacache_history.proofs.TurnReplies.{replies_read_value, io_errors_are_caused}
+use Rattle.cacache_history.proofs.PlacedAnswers.{place_laws}
 use Rattle.cacache_history.proofs.Runs.{calls_are_runs}
 use Rattle.cacache_history.proofs.Turned.{turns_are_moves}
 use Rattle.cacache_history.proofs.Values.{value_follows_acts, buckets_only_grow, contents_stay, contents_are_right}
@@ -17,6 +18,7 @@ pub headline : (h : History) → IsLegal h → Headline h
 headline h legal = record {
   legal = legal;
   turns = turns_are_moves h;
+  places = place_laws h legal;
   runs = calls_are_runs h legal;
   values = value_follows_acts h legal;
   buckets = buckets_only_grow h legal;

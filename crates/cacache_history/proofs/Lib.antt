@@ -13,6 +13,7 @@ pub mod Exporting
 pub mod TurnReplies
 pub mod Deeds
 pub mod Linked
+pub mod Removals
 pub mod Commits
 pub mod Righted
 pub mod Turned
@@ -30,6 +31,10 @@ pub mod ListingTurns
 pub mod ReadingCalls
 pub mod PutLinks
 pub mod LinkedContents
+pub mod Places
+pub mod Writes
+pub mod Lookups
+pub mod PlacedAnswers
 pub mod Headline
 pub mod LegalCases
 pub mod IntegrityUtf8

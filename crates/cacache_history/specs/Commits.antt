@@ -1,10 +1,11 @@
 -- What a commit does to contents and buckets: nothing; its content; or its content and then its
--- entry.
+-- entry. And what a removal removes.
 use Rattle.std.specs.Prelude.{◌≡◌, ◌⊎◌, ◌<◌, ◌^◌, ℕ, true, List, [], ◌∷◌, ◌++◌, Option, None, Some, Ok, length}
 use Rattle.cacache_core.specs.PathNames.{Names, names_of}
 use Rattle.cacache_store.specs.declared.store.step.Step.TheVariants as steps
 use Rattle.cacache_store.specs.declared.store.answer.Answer.TheVariants as answers
 use Rattle.cacache_store.specs.Plain.{PlainStep, PlainAnswer}
+use Rattle.cacache_entry.specs.Latest.{Found}
 use Rattle.cacache_table.specs.declared.command.Command.{Command}
 use Rattle.cacache_table.specs.declared.command.Command.TheVariants as commands
 use Rattle.cacache_table.specs.declared.reply.Reply.{Reply}
@@ -16,6 +17,7 @@ use Rattle.cacache_table.specs.declared.target.Target.{Target}
 use Rattle.cacache_table.specs.Inserting.{insertion, deletion}
 use Rattle.cacache_table.specs.Storing.{insertion_of, put_commit}
 use Rattle.cacache_table.specs.Linking.{commit_for, link_target}
+use Rattle.cacache_table.specs.Replies.{bucket_shown, lookup}
 use Rattle.cacache_table.specs.Runs.{Moves}
 use Rattle.cacache_table.specs.Verifying.{ReadsWhole}
 use Rattle.cacache_value.specs.Acts.{Act, Nothing, PutBytes, PutLink, AddEntries, Drop, MakeFolders, DropFolder, act_of}
@@ -116,6 +118,43 @@ abbrev pub LinksAs : Target ℕ → List Turn → Option Reply → Type 0
 LinksAs t turns reply =
     DidNothing (deeds turns) reply ⊎ ReadsTarget t.path (LinksTo t turns reply) (made_in turns)
 
+-- ---- removals
+
+-- at most what lies at these paths was removed, in their order
+abbrev pub DropsAmong : List (List ℕ) → List Deed → Type 0
+DropsAmong [] ds = ds ≡ []
+DropsAmong (path ∷ paths) ds =
+    DropsAmong paths ds
+    ⊎ ((names : Names) × (more : List Deed) × (names_of path ≡ Ok names)
+    × (ds ≡ does (Drop names) ∷ more) × DropsAmong paths more)
+
+-- the first turn read the key's bucket, and a lookup in what it was answered found this
+abbrev pub FoundFirst : List ℕ → List ℕ → List Turn → Found → Type 0
+FoundFirst cache key turns found =
+    (turn : Turn) × (more : List Turn) × (turns ≡ turn ∷ more)
+    × (turn.move.step ≡ steps.ReadAll (bucket_path cache key))
+    × (lookup key (bucket_shown turn.move.answer) ≡ Ok (Some found))
+
+-- the content that the key's lookup found was removed at most, and then the key's bucket
+abbrev pub RemovesFound : List ℕ → List ℕ → List Turn → Type 0
+RemovesFound cache key turns =
+    DropsAmong (bucket_path cache key ∷ []) (deeds turns)
+    ⊎ ((found : Found) × FoundFirst cache key turns found
+    × DropsAmong (content_path cache found.integrity ∷ bucket_path cache key ∷ []) (deeds turns))
+
+-- something was removed, or found there
+abbrev pub IsRemoval : Deed → Type 0
+IsRemoval (does (Drop names)) = Unit {0}
+IsRemoval (does act) = ⊥
+IsRemoval (finds path) = Unit {0}
+
+-- so it is of each of these
+abbrev pub AreRemovals : List Deed → Type 0
+AreRemovals [] = Unit {0}
+AreRemovals (d ∷ ds) = IsRemoval d × AreRemovals ds
+
+-- ---- by the command
+
 -- what a call of this command did, by the reply that it has so far
 abbrev pub IsCase : Site → Command → List Turn → Option Reply → Type 0
 IsCase site (commands.Put p) turns reply =
@@ -129,11 +168,12 @@ IsCase site (commands.GetHash i) turns reply = Unit {0}
 IsCase site (commands.Exists i) turns reply = Unit {0}
 IsCase site commands.Ls turns reply = Unit {0}
 IsCase site (commands.Export source e) turns reply = Unit {0}
-IsCase site (commands.RemoveHash i) turns reply = Unit {0}
-IsCase site (commands.RemoveFully key) turns reply = Unit {0}
-IsCase site commands.Clear turns reply = Unit {0}
+IsCase site (commands.RemoveHash i) turns reply =
+    DropsAmong (content_path site.cache i ∷ []) (deeds turns)
+IsCase site (commands.RemoveFully key) turns reply = RemovesFound site.cache key turns
+IsCase site commands.Clear turns reply = AreRemovals (deeds turns)
 
--- each commit did one of the cases, whether it is over or was left on its way
+-- each commit and each removal did one of the cases, whether it is over or was left on its way
 abbrev pub CommitsAreCases : History → Type 0
 CommitsAreCases h =
     (call : Call) (reply : Option Reply) → Reaches h call reply

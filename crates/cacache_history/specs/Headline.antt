@@ -4,6 +4,7 @@ use Rattle.cacache_history.specs.Commits.{CommitsAreCases}
 use Rattle.cacache_history.specs.AddedEntries.{EntriesNameContents, PutsLeaveContents}
 use Rattle.cacache_history.specs.History.{History, IsLegal}
 use Rattle.cacache_history.specs.LinkedContents.{LinksWereRight, LinksAreRight}
+use Rattle.cacache_history.specs.Lookups.{PlaceLaws}
 use Rattle.cacache_history.specs.ListingTurns.{ListingsReadValue}
 use Rattle.cacache_history.specs.TurnPlaces.{TurnsAreMoves, CallsAreRuns}
 use Rattle.cacache_history.specs.ReadingCalls.{ReadersDoNothing, ReadsAreVerified}
@@ -20,6 +21,8 @@ pub record Headline (h : History) : Type 0 where
   pub legal : IsLegal h
   -- each turn of a call is a move of the history, on the tree of its place
   pub turns : TurnsAreMoves h
+  -- what callers may say of places: whose each move is, and what a lookup finds at each
+  pub places : PlaceLaws h
   -- each reply is that of a run of its call, or out of memory
   pub runs : CallsAreRuns h
   -- one value: the cache begins with nothing, and holds what the acts of the steps made
@@ -48,7 +51,8 @@ pub record Headline (h : History) : Type 0 where
   pub verified : ReadsAreVerified h
   -- a call that reads does nothing to the value
   pub readers : ReadersDoNothing h
-  -- a commit did nothing, put its content, or put its content and then its entry
+  -- a commit did nothing, put its content, or put its content and then its entry; a removal
+  -- removed at most its content, and with its key the key's bucket
   pub commits : CommitsAreCases h
   -- the entry that a commit added names a content that is there, unless a step removed it
   pub entries : EntriesNameContents h

@@ -11,5 +11,7 @@ pub mod TurnReplies
 pub mod TurnPlaces
 pub mod ReadingCalls
 pub mod LinkedContents
+pub mod Places
+pub mod Lookups
 pub mod Headline
 pub mod LegalCases

@@ -1,8 +1,9 @@
 -- What the cache holds at each place of a history.
 use Rattle.std.specs.Prelude.{◌≡◌, ℕ, List, [], ◌∷◌, ◌++◌, None, Some, Option, false}
+use Rattle.cacache_core.specs.declared.integrity.algorithm.Algorithm.{Algorithm}
 use Rattle.cacache_core.specs.declared.integrity.digest.Hash.{Hash}
 use Rattle.cacache_core.specs.Digests.{digest}
-use Rattle.cacache_core.specs.Integrity.{IsHash, hash_of}
+use Rattle.cacache_core.specs.Integrity.{IsHash, IsIntegrity, Meets, hash_of, integrity_under}
 use Rattle.cacache_core.specs.PathNames.{Names}
 use Rattle.cacache_core.specs.Paths.{content_names}
 use Rattle.cacache_entry.specs.Entry.{Entry}
@@ -92,7 +93,21 @@ abbrev pub AreRight : (Hash → Option Blob) → Type 0
 AreRight contents =
     (h : Hash) → IsHash h → (bytes : List ℕ) → contents h ≡ Some (InFile bytes) → HasDigest h bytes
 
--- at each place they do; of a link nothing is said, since its target is somebody else's
+-- ---- integrities of digests
+
+-- the digest of bytes under an algorithm makes an integrity
+abbrev pub DigestsMakeIntegrities : Type 0
+DigestsMakeIntegrities = (a : Algorithm) (bytes : List ℕ) → IsIntegrity (integrity_under a bytes)
+
+-- bytes that meet such an integrity have the same digest
+abbrev pub MetDigestsAreSame : Type 0
+MetDigestsAreSame =
+    (a : Algorithm) (bytes others : List ℕ) → Meets (integrity_under a bytes) others
+    → digest a others ≡ digest a bytes
+
+-- ---- contents at each place
+
+-- at each place contents have their digests; of a link nothing is said, since its target is somebody else's
 abbrev pub ContentsAreRight : History → Type 0
 ContentsAreRight h =
     (before later : List Record) → h.records ≡ before ++ later

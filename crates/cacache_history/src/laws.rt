@@ -3,6 +3,7 @@ ghost use Rattle.std.specs.Prelude.{List, ℕ};
 ghost use Rattle.cacache_disk.specs.declared.luck.Luck.{Luck};
 ghost use Rattle.cacache_history.specs.LegalCases.{CasesHold, LookupCases};
 ghost use Rattle.cacache_history.specs.Headline.{HeadlineHolds};
+ghost use Rattle.cacache_history.specs.Values.{DigestsMakeIntegrities, MetDigestsAreSame};
 
 /// The claim as a whole, of every legal history: see `Headline`.
 ///
@@ -11,7 +12,9 @@ ghost use Rattle.cacache_history.specs.Headline.{HeadlineHolds};
 /// keys; a content that is bytes has the digest of its address. Lookups, reads, questions, listings
 /// and checked exports answer by what the cache held at their own steps, and change nothing. Each
 /// commit did nothing, put its content, or put its content and then its entry, and unless somebody
-/// removed it that content is there. An `IoError` has a cause in its call's own steps.
+/// removed it that content is there. A removal removes at most its content, and with a key the key's
+/// bucket. Each move is one of a call's, each entry was written by one, and a lookup goes by the last
+/// entry that was written. An `IoError` has a cause in its call's own steps.
 pub fn history_laws()
     ensures headline { HeadlineHolds }
 {}
@@ -22,4 +25,10 @@ pub fn history_laws()
 pub fn legal_cases()
     ensures cases { CasesHold }
     ensures lookups { (cache key : List ℕ) (luck : Luck) → LookupCases cache key luck }
+{}
+
+/// The digest of bytes under an algorithm makes an integrity, and bytes that meet it have that digest.
+pub fn digest_laws()
+    ensures formed { DigestsMakeIntegrities }
+    ensures same { MetDigestsAreSame }
 {}

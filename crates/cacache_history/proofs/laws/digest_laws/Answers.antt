@@ -1,0 +1,5 @@
+use Rattle.cacache_history.proofs.Digests.{own_integrity, same_digest}
+use Rattle.cacache_history.proofs.laws.digest_laws.Goals as goal
+
+pub returns : goal.returns
+returns c = record { formed = own_integrity; same = same_digest }
