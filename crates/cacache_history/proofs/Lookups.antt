@@ -23,8 +23,8 @@ use Rattle.cacache_history.specs.declared.record.Record.TheVariants.{Began, Move
 use Rattle.cacache_history.specs.AddedEntries.{IsAmong}
 use Rattle.cacache_history.specs.Commits.{Deed, does, finds_in, deeds_of_act, deeds_of, deeds}
 use Rattle.cacache_history.specs.History.{History, Call, Turn, Made, IsLegal, turn_of, call_after}
-use Rattle.cacache_history.specs.Lookups.{lookup_at, Writes, LeavesBucket, Spares, WrittenIn, WasWritten, EntriesAreWritten, FoundWasWritten, LookupsFollowWrites, LookupsStay}
-use Rattle.cacache_history.specs.Places.{now_before, MoveAt, MovedCall, MovesAre}
+use Rattle.cacache_history.specs.Lookups.{lookup_at, WritesEntry, LeavesBucket, SparesKey, WrittenIn, WasWritten, EntriesAreWritten, FoundWasWritten, LookupsFollowWrites, LookupsStay}
+use Rattle.cacache_history.specs.Places.{now_before, MoveAt, MoveOfCall, MovesAre}
 use Rattle.cacache_history.specs.Setup.{call_site, home}
 use Rattle.cacache_history.specs.Values.{steps_of, bucket_at, opening_value, acted}
 use Rattle.cacache_history.proofs.AddedEntries.{acts_last}
@@ -65,7 +65,7 @@ module _ (h : History) (legal : IsLegal h) (n : ℕ) (digest : List ℕ) where
   record IsDropped : Type 0 where
     pub caller : ℕ
     pub move : MoveAt h n caller
-    pub by : MovedCall h n caller move
+    pub by : MoveOfCall h n caller move
     pub names : Names
     pub among : IsAmong (does (Drop names)) (deeds (call_after (now_before h n).tree move.luck move.made by.call).turns)
     pub here : is_path_of (home h.setup) (bucket_names_of digest) names ≡ true
@@ -101,14 +101,14 @@ module _ (h : History) (legal : IsLegal h) (n : ℕ) (digest : List ℕ) where
         ∙ ap (λ v. list_of (v.buckets digest)) (next (Moved caller luck (Some made) reply) is ∙ acts_last (home h.setup) (opening_value h) (take n h.records) caller luck made reply)
         ∙ ap (λ a. list_of ((change (home h.setup) a (acted h (take n h.records))).buckets digest)) e ∙ to
 
-    among : (by : MovedCall h n caller move) (act : Act) → act_of made.0 luck made.1 ≡ act → IsAmong (does act) (deeds_of_act act)
+    among : (by : MoveOfCall h n caller move) (act : Act) → act_of made.0 luck made.1 ≡ act → IsAmong (does act) (deeds_of_act act)
         → IsAmong (does act) (deeds (call_after (now_before h n).tree luck (Some made) by.call).turns)
     among by act e did = last_among act by.call.turns (turn_of (now_before h n).tree luck made) (subst (λ a. IsAmong (does act) (deeds_of_act a)) (sym e) did)
 
     unchanged : (act : Act) → act_of made.0 luck made.1 ≡ act → Becomes act (list_of ((acted h (take n h.records)).buckets digest)) → Changes
     unchanged act e to = inl (becomes act _ e to ∙ sym (held n))
 
-    added : (by : MovedCall h n caller move) (names : Names) (e : Entry) (es : List Entry) → act_of made.0 luck made.1 ≡ AddEntries names (e ∷ es) → (b : Bool) → is_path_of (home h.setup) (bucket_names_of digest) names ≡ b → Changes
+    added : (by : MoveOfCall h n caller move) (names : Names) (e : Entry) (es : List Entry) → act_of made.0 luck made.1 ≡ AddEntries names (e ∷ es) → (b : Bool) → is_path_of (home h.setup) (bucket_names_of digest) names ≡ b → Changes
     added by names e es act true here =
         let own = adds_own h legal (call_after (now_before h n).tree luck (Some made) by.call) reply by.reaches names e es (among by (AddEntries names (e ∷ es)) act (inl refl)) in
         let v = acted h (take n h.records) in
@@ -123,7 +123,7 @@ module _ (h : History) (legal : IsLegal h) (n : ℕ) (digest : List ℕ) where
         let v = acted h (take n h.records) in
         unchanged (AddEntries names (e ∷ es)) act (ap (λ b. list_of (cond b (Some (list_of (v.buckets digest) ++ e ∷ es)) (v.buckets digest))) here)
 
-    dropped : (by : MovedCall h n caller move) (names : Names) → act_of made.0 luck made.1 ≡ Drop names → (b : Bool) → is_path_of (home h.setup) (bucket_names_of digest) names ≡ b → Changes
+    dropped : (by : MoveOfCall h n caller move) (names : Names) → act_of made.0 luck made.1 ≡ Drop names → (b : Bool) → is_path_of (home h.setup) (bucket_names_of digest) names ≡ b → Changes
     dropped by names act true here =
         let v = acted h (take n h.records) in
         inr (inr (
@@ -272,14 +272,14 @@ answers_own key e x a = by (bytes_eq e.key key) refl a
     by true same a = (bytes_eq-Decides e.key key).0 same
     by false same a = absurd cc
 
-pub spared : (key : List ℕ) (c : Command) (site : Site) (e : Entry) (x : Option Found) → Spares key c → Writes site c e → answer_to key e ≡ Some x → ⊥
+pub spared : (key : List ℕ) (c : Command) (site : Site) (e : Entry) (x : Option Found) → SparesKey key c → WritesEntry site c e → answer_to key e ≡ Some x → ⊥
 spared key (commands.Put p) site e x spares w a = spares (w.1 ∙ ap Some (sym (ap (λ (y : Entry). y.key) w.2) ∙ answers_own key e x a))
 spared key (commands.Link l) site e x spares w a = spares (w.2 ∙ ap Some (sym (ap (λ (y : Entry). y.key) w.3) ∙ answers_own key e x a))
 spared key (commands.Insert i) site e x spares w a = spares (sym (ap (λ (y : Entry). y.key) w) ∙ answers_own key e x a)
 spared key (commands.Delete d) site e x spares w a = spares (sym (ap (λ (y : Entry). y.key) w) ∙ answers_own key e x a)
 spared key other site e x spares w a = w
 
-pub spares_leaves : (key : List ℕ) (c : Command) → Spares key c → LeavesBucket key c
+pub spares_leaves : (key : List ℕ) (c : Command) → SparesKey key c → LeavesBucket key c
 spares_leaves key (commands.Put p) s = tt
 spares_leaves key (commands.Link l) s = tt
 spares_leaves key (commands.Insert i) s = tt

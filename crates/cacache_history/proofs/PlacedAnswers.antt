@@ -36,7 +36,7 @@ use Rattle.cacache_history.specs.declared.record.Record.TheVariants.{Moved}
 use Rattle.cacache_history.specs.AddedEntries.{IsAmong}
 use Rattle.cacache_history.specs.Commits.{Deed, does, finds, finds_in, deeds_of_act, deeds_of, deeds, IsAdded, AddsAfter, CommitsAs, IsCase}
 use Rattle.cacache_history.specs.History.{History, Call, Turn, IsLegal, Reaches}
-use Rattle.cacache_history.specs.Lookups.{lookup_at, IsFoundIn, Writes, LeavesBucket, Spares, found_of_put, IsOfPut, IsPut, PlaceLaws}
+use Rattle.cacache_history.specs.Lookups.{lookup_at, IsFoundIn, WritesEntry, LeavesBucket, SparesKey, found_of_put, FoundOfPuts, IsOneOfPuts, PlaceLaws}
 use Rattle.cacache_history.specs.Places.{TurnIn, CallIn, MovesAre}
 use Rattle.cacache_history.specs.ReadingCalls.{MeetsLookup, IsVerified}
 use Rattle.cacache_history.specs.Setup.{Setup, call_site, home}
@@ -208,13 +208,13 @@ module _ (h : History) (legal : IsLegal h) (m n caller : ℕ) (call : Call) (p :
 -- ---- lookups follow puts
 
 -- what a put of these wrote is found as its entry
-put_answers : (cache key : List ℕ) (ps : List Put) (site : Site) (c : Command) (e : Entry) (x : Option Found) → site.cache ≡ cache → IsPut ps c → Writes site c e → answer_to key e ≡ Some x
-    → IsOfPut cache key ps x
+put_answers : (cache key : List ℕ) (ps : List Put) (site : Site) (c : Command) (e : Entry) (x : Option Found) → site.cache ≡ cache → IsOneOfPuts ps c → WritesEntry site c e → answer_to key e ≡ Some x
+    → FoundOfPuts cache key ps x
 put_answers cache key [] site c e x at is w a = is
 put_answers cache key (p ∷ ps) site c e x at (inr more) w a = inr (put_answers cache key ps site c e x at more w a)
 put_answers cache key (p ∷ ps) site c e x at (inl is) w a =
     let own = integrity_under p.options.algorithm p.data in
-    let wrote : Writes site (commands.Put p) e = subst (λ d. Writes site d e) is.0 w in
+    let wrote : WritesEntry site (commands.Put p) e = subst (λ d. WritesEntry site d e) is.0 w in
     let keyed : wrote.0 ≡ key = sym (ap (λ (y : Entry). y.key) wrote.2) ∙ answers_own key e x a in
     let entry = (insertion_of (put_commit cache p) key).entry in
     let same : e ≡ (insertion_of (put_commit cache p) key).entry
@@ -226,21 +226,21 @@ put_answers cache key (p ∷ ps) site c e x at (inl is) w a =
     let found : x ≡ Some (found_of e own) = (let both : Some x ≡ Some (Some (found_of e own)) = sym a ∙ answer in cc) in
     inl (found ∙ ap (λ y. Some (found_of y own)) same)
 
-put_leaves : (key : List ℕ) (ps : List Put) (c : Command) → IsPut ps c → LeavesBucket key c
+put_leaves : (key : List ℕ) (ps : List Put) (c : Command) → IsOneOfPuts ps c → LeavesBucket key c
 put_leaves key [] c is = absurd is
 put_leaves key (p ∷ ps) c (inl is) = subst (LeavesBucket key) (sym is.0) tt
 put_leaves key (p ∷ ps) c (inr more) = put_leaves key ps c more
 
 module _ (h : History) (legal : IsLegal h) (key : List ℕ) (ps : List Put) where
-  leaves : (c : Command) → Spares key c ⊎ IsPut ps c → LeavesBucket key c
+  leaves : (c : Command) → SparesKey key c ⊎ IsOneOfPuts ps c → LeavesBucket key c
   leaves c (inl spares) = spares_leaves key c spares
   leaves c (inr is) = put_leaves key ps c is
 
-  written_put : (e : Entry) (x : Option Found) (site : Site) (c : Command) → site.cache ≡ h.setup.cache → Spares key c ⊎ IsPut ps c → Writes site c e → answer_to key e ≡ Some x → IsOfPut h.setup.cache key ps x
+  written_put : (e : Entry) (x : Option Found) (site : Site) (c : Command) → site.cache ≡ h.setup.cache → SparesKey key c ⊎ IsOneOfPuts ps c → WritesEntry site c e → answer_to key e ≡ Some x → FoundOfPuts h.setup.cache key ps x
   written_put e x site c at (inl spares) w a = absurd (spared key c site e x spares w a)
   written_put e x site c at (inr is) w a = put_answers h.setup.cache key ps site c e x at is w a
 
-  lookups_follow_puts : (m n : ℕ) → m ≤ n → MovesAre h m n (λ c. Spares key c ⊎ IsPut ps c) → (lookup_at h n key ≡ lookup_at h m key) ⊎ IsOfPut h.setup.cache key ps (lookup_at h n key)
+  lookups_follow_puts : (m n : ℕ) → m ≤ n → MovesAre h m n (λ c. SparesKey key c ⊎ IsOneOfPuts ps c) → (lookup_at h n key ≡ lookup_at h m key) ⊎ FoundOfPuts h.setup.cache key ps (lookup_at h n key)
   lookups_follow_puts m n le moves =
       elim (lookups_follow_writes h legal key m n le (λ place caller call from to move is. leaves call.command (moves place caller call from to move is))) [
         | inl same ↦ inl same

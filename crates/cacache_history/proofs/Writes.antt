@@ -28,7 +28,7 @@ use Rattle.cacache_value.specs.Kinds.{is_path_of}
 use Rattle.cacache_history.specs.AddedEntries.{IsAmong}
 use Rattle.cacache_history.specs.Commits.{Deed, does, finds, finds_in, deeds_of_act, deeds_of, deeds, PutsContent, IsAdded, InsertionAdds, AddsAfter, CommitsAs, LinksAs, DropsAmong, FoundFirst, IsRemoval, AreRemovals, IsCase}
 use Rattle.cacache_history.specs.History.{History, Call, Turn, NamesIntegrity, IsLegal, Reaches}
-use Rattle.cacache_history.specs.Lookups.{Writes, LeavesBucket}
+use Rattle.cacache_history.specs.Lookups.{WritesEntry, LeavesBucket}
 use Rattle.cacache_history.specs.ReadingCalls.{IsReading, TurnDoesNothing}
 use Rattle.cacache_history.specs.Setup.{Setup, call_site, home}
 use Rattle.cacache_history.specs.ShownTurns.{entries_at, bucket_read}
@@ -100,16 +100,16 @@ linked site l turns reply act (inr h) among to =
 
 -- the entries are one that the command writes
 abbrev AreOwn : Site → Command → Entry → List Entry → Type 0
-AreOwn site command e es = (es ≡ []) × Writes site command e
+AreOwn site command e es = (es ≡ []) × WritesEntry site command e
 
 module _ (site : Site) (command : Command) (names : Names) (e : Entry) (es : List Entry) where
-  own_entry : (at : Names) (x : Entry) → Writes site command x → AddEntries names (e ∷ es) ≡ AddEntries at (x ∷ []) → AreOwn site command e es
+  own_entry : (at : Names) (x : Entry) → WritesEntry site command x → AddEntries names (e ∷ es) ≡ AddEntries at (x ∷ []) → AreOwn site command e es
   own_entry at x writes is =
       let same : e ≡ x = cc in
       let rest : es ≡ [] = cc in
-      (rest, subst (Writes site command) (sym same) writes)
+      (rest, subst (WritesEntry site command) (sym same) writes)
 
-  own_commit : (c : Commit) (put : Names → Act) → ((at : Names) → AddEntries names (e ∷ es) ≡ put at → ⊥) → ((key : List ℕ) → c.key ≡ Some key → Writes site command (insertion_of c key).entry)
+  own_commit : (c : Commit) (put : Names → Act) → ((at : Names) → AddEntries names (e ∷ es) ≡ put at → ⊥) → ((key : List ℕ) → c.key ≡ Some key → WritesEntry site command (insertion_of c key).entry)
       → PutsOrAdds c put (AddEntries names (e ∷ es)) → AreOwn site command e es
   own_commit c put not writes (inl puts) = absurd (not puts.0 puts.1)
   own_commit c put not writes (inr adds) = own_entry adds.1 (insertion_of c adds.0).entry (writes adds.0 adds.2) adds.3

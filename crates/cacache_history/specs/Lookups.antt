@@ -32,15 +32,15 @@ IsFoundIn h m n key found =
 -- ---- what commands do to a key
 
 -- a call of the command adds no entry but such ones
-abbrev pub Writes : Site → Command → Entry → Type 0
-Writes site (commands.Put p) e =
+abbrev pub WritesEntry : Site → Command → Entry → Type 0
+WritesEntry site (commands.Put p) e =
     (key : List ℕ) × (p.key ≡ Some key) × (e ≡ (insertion_of (put_commit site.cache p) key).entry)
-Writes site (commands.Link l) e =
+WritesEntry site (commands.Link l) e =
     (key bytes : List ℕ) × (l.key ≡ Some key)
     × (e ≡ (insertion_of (commit_for (link_target site l) bytes) key).entry)
-Writes site (commands.Insert i) e = e ≡ (insertion site.cache i).entry
-Writes site (commands.Delete d) e = e ≡ (deletion site.cache d).entry
-Writes site command e = ⊥
+WritesEntry site (commands.Insert i) e = e ≡ (insertion site.cache i).entry
+WritesEntry site (commands.Delete d) e = e ≡ (deletion site.cache d).entry
+WritesEntry site command e = ⊥
 
 -- a call of the command doesn't remove the key's bucket
 abbrev pub LeavesBucket : List ℕ → Command → Type 0
@@ -49,12 +49,12 @@ LeavesBucket key commands.Clear = ⊥
 LeavesBucket key command = Unit {0}
 
 -- a call of the command spares the key: it writes other keys at most, and leaves the key's bucket
-abbrev pub Spares : List ℕ → Command → Type 0
-Spares key (commands.Put p) = p.key ≡ Some key → ⊥
-Spares key (commands.Link l) = l.key ≡ Some key → ⊥
-Spares key (commands.Insert i) = i.key ≡ key → ⊥
-Spares key (commands.Delete d) = d.key ≡ key → ⊥
-Spares key command = LeavesBucket key command
+abbrev pub SparesKey : List ℕ → Command → Type 0
+SparesKey key (commands.Put p) = p.key ≡ Some key → ⊥
+SparesKey key (commands.Link l) = l.key ≡ Some key → ⊥
+SparesKey key (commands.Insert i) = i.key ≡ key → ⊥
+SparesKey key (commands.Delete d) = d.key ≡ key → ⊥
+SparesKey key command = LeavesBucket key command
 
 -- ---- entries and the calls that wrote them
 
@@ -67,7 +67,7 @@ pub record WrittenIn (h : History) (m n : ℕ) (e : Entry) : Type 0 where
   pub move : MoveAt h place caller
   pub call : Call
   pub is : (now_before h place).calls caller ≡ Some call
-  pub writes : Writes (call_site h.setup call.number) call.command e
+  pub writes : WritesEntry (call_site h.setup call.number) call.command e
 
 -- such an entry answers so to a lookup of the key
 abbrev pub WasWritten : History → ℕ → ℕ → List ℕ → Option Found → Type 0
@@ -97,7 +97,7 @@ LookupsFollowWrites h =
 -- while each move is of a call that spares the key, a lookup finds what it found
 abbrev pub LookupsStay : History → Type 0
 LookupsStay h =
-    (key : List ℕ) (m n : ℕ) → m ≤ n → MovesAre h m n (Spares key)
+    (key : List ℕ) (m n : ℕ) → m ≤ n → MovesAre h m n (SparesKey key)
     → lookup_at h n key ≡ lookup_at h m key
 
 -- a lookup answers what is found at a place since it began
@@ -121,24 +121,24 @@ found_of_put cache key p =
     (integrity_under p.options.algorithm p.data)
 
 -- what is found is such an entry of one of these puts
-abbrev pub IsOfPut : List ℕ → List ℕ → List Put → Option Found → Type 0
-IsOfPut cache key [] found = ⊥
-IsOfPut cache key (p ∷ ps) found =
-    (found ≡ Some (found_of_put cache key p)) ⊎ IsOfPut cache key ps found
+abbrev pub FoundOfPuts : List ℕ → List ℕ → List Put → Option Found → Type 0
+FoundOfPuts cache key [] found = ⊥
+FoundOfPuts cache key (p ∷ ps) found =
+    (found ≡ Some (found_of_put cache key p)) ⊎ FoundOfPuts cache key ps found
 
 -- the command is one of these puts, and isn't told which integrity to expect
-abbrev pub IsPut : List Put → Command → Type 0
-IsPut [] c = ⊥
-IsPut (p ∷ ps) c = ((c ≡ commands.Put p) × (p.options.integrity ≡ None)) ⊎ IsPut ps c
+abbrev pub IsOneOfPuts : List Put → Command → Type 0
+IsOneOfPuts [] c = ⊥
+IsOneOfPuts (p ∷ ps) c = ((c ≡ commands.Put p) × (p.options.integrity ≡ None)) ⊎ IsOneOfPuts ps c
 
 -- where each move is of such a put, or of a call that spares the key, a lookup finds what it found,
 -- or the entry of one of the puts
 abbrev pub LookupsFollowPuts : History → Type 0
 LookupsFollowPuts h =
     (key : List ℕ) (ps : List Put) (m n : ℕ) → m ≤ n
-    → MovesAre h m n (λ c. Spares key c ⊎ IsPut ps c)
+    → MovesAre h m n (λ c. SparesKey key c ⊎ IsOneOfPuts ps c)
     → (lookup_at h n key ≡ lookup_at h m key)
-    ⊎ IsOfPut h.setup.cache key ps (lookup_at h n key)
+    ⊎ FoundOfPuts h.setup.cache key ps (lookup_at h n key)
 
 -- a put that isn't told an integrity, and answers, is found at a place since it began
 abbrev pub PutsArePlaced : History → Type 0

@@ -45,7 +45,7 @@ TurnsAreOwn h =
     → EachTurn (TurnIn h m n caller) call.turns
 
 -- the call that moved at a place, which the history reaches with this move
-pub record MovedCall (h : History) (place caller : ℕ) (move : MoveAt h place caller) : Type 0 where
+pub record MoveOfCall (h : History) (place caller : ℕ) (move : MoveAt h place caller) : Type 0 where
   pub call : Call
   pub is : (now_before h place).calls caller ≡ Some call
   pub reaches : Reaches h
@@ -54,7 +54,7 @@ pub record MovedCall (h : History) (place caller : ℕ) (move : MoveAt h place c
 -- each move is one of a call's
 abbrev pub MovesAreOfCalls : History → Type 0
 MovesAreOfCalls h =
-    (place caller : ℕ) (move : MoveAt h place caller) → MovedCall h place caller move
+    (place caller : ℕ) (move : MoveAt h place caller) → MoveOfCall h place caller move
 
 -- each move from place m on and before place n is of a call whose command is so
 abbrev pub MovesAre : History → ℕ → ℕ → (Command → Type 0) → Type 0

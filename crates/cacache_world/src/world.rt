@@ -212,6 +212,13 @@ impl World {
         self.calls.len()
     }
 
+    /// The cache's text.
+    pub fn cache(&self) -> &str
+        ensures { result.now ≡ self.now.setup.cache }
+    {
+        self.cache.as_str()
+    }
+
     /// Where its memory is taken from.
     pub fn allocator(&self) -> Global {
         self.alloc
