@@ -104,7 +104,10 @@ module _ (h : History) (legal : IsLegal h) (folder : Names) (home_is : home h.se
         let dirs = subst (λ folders. HasDirs folders found.more) folders_are after_found.0 in
         elim found.puts [
           | inl f ↦ put_outlasts a is_hash q puts dirs loss f.0 (f.1 ∙ ap (λ text. (steps.Persist f.0 text, answers.Done)) text_is)
-          | inr e ↦ found_outlasts a is_hash q puts dirs loss (e ∙ ap (λ text. (steps.SyncFile text, answers.Done)) text_is) put.no_link
+          | inr e ↦
+            let synced = e ∙ ap (λ text. (steps.SyncFile text, answers.Done)) text_is in
+            found_outlasts a is_hash q puts dirs loss synced
+            (put.no_link (record { between = q.place.between; sync = own_record q; later = q.place.later; is = q.place.is; is_sync = (refl, synced) }))
         ]
 
     module _ (loss : Loss) (left : Tree) (left_of : LeftOf folder (moment_at h h.records) loss left) where

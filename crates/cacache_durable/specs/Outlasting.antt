@@ -3,7 +3,7 @@ use Rattle.std.specs.Prelude.{◌≡◌, ℕ, List, [], ◌∷◌, ◌++◌, Opt
 use Rattle.sha1.specs.Sha1.{sha1}
 use Rattle.cacache_core.specs.declared.integrity.digest.Hash.{Hash}
 use Rattle.cacache_core.specs.PathNames.{Names}
-use Rattle.cacache_core.specs.Paths.{content_names}
+use Rattle.cacache_core.specs.Paths.{content_names, joined}
 use Rattle.cacache_store.specs.declared.store.step.Step.TheVariants as steps
 use Rattle.cacache_store.specs.declared.store.answer.Answer.TheVariants as answers
 use Rattle.cacache_disk.specs.Tree.{Tree}
@@ -76,8 +76,23 @@ KeyOutlasts h before rest caller p (Some key) v =
 abbrev pub IsNoLink : Hash → Value → Type 0
 IsNoLink address v = (target : List ℕ) → v.contents address ≡ Some (AtLink target) → ⊥
 
+-- the caller's sync of the content itself, which it makes only where the content was found there
+abbrev pub IsSyncOf : ℕ → List ℕ → Record → Type 0
+IsSyncOf caller path (Moved other luck (Some made) told) =
+    (other ≡ caller) × (made ≡ (steps.SyncFile path, answers.Done))
+IsSyncOf caller path r = ⊥
+
+-- among these records is such a sync: the caller put nothing at this path, but found what stood there
+pub record FindsThere (caller : ℕ) (path : List ℕ) (rest : List Record) : Type 0 where
+  pub between : List Record
+  pub sync : Record
+  pub later : List Record
+  pub is : rest ≡ between ++ sync ∷ later
+  pub is_sync : IsSyncOf caller path sync
+
 -- a durable put that answers, from a place on where it had put nothing: from there on others remove,
--- link and export nothing, put its content durably, and at its address stood no link
+-- link and export nothing, and put its content durably. Where it found its content instead of putting
+-- it, no link stood at its address
 pub record DurablePut (h : History) (folder : Names) (p : Put) : Type 0 where
   pub before : List Record
   pub rest : List Record
@@ -87,7 +102,9 @@ pub record DurablePut (h : History) (folder : Names) (p : Put) : Type 0 where
   pub call : EndsFrom h before rest (commands.Put p) (Stored reply)
   pub quiet :
       AreQuiet h.setup (folder ++ content_names (address_of_put p)) (now_at h before) rest
-  pub no_link : IsNoLink (address_of_put p) (value_at h before)
+  pub no_link :
+      FindsThere call.caller (joined h.setup.cache (content_names (address_of_put p))) rest
+      → IsNoLink (address_of_put p) (value_at h before)
 
 -- a durable insertion that answers, from a place on where its entry wasn't added: from there on
 -- others remove, link and export nothing
