@@ -44,3 +44,4 @@ pub mod ExportEffects
 pub mod Copying
 pub mod WrittenFiles
 pub mod Arriving
+pub mod Standing

@@ -14,3 +14,4 @@ pub mod OpenWriters
 pub mod Puts
 pub mod OpenReaders
 pub mod ExportEffects
+pub mod Standing

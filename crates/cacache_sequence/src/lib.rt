@@ -8,8 +8,11 @@
 //! | `Keeping`, `Beside`, `Removed`, `Puts` | what each call leaves, and what it keeps |
 //! | `InParts` | a call in parts, with other calls in between |
 //! | `OpenWriters`, `OpenReaders` | open handles, by their parts |
+//! | `Standing` | lookups and reads of what a loss of power left |
 #![tactic(auto)]
 
 mod laws;
+mod left;
 
 pub use laws::{cache_laws, handle_laws, look_laws, parts_laws, sequence_laws};
+pub use left::standing_laws;

@@ -1,0 +1,45 @@
+-- Stores in memory of which less is known than of a cache: a loss of power may have damaged contents and buckets.
+use Rattle.std.specs.Prelude.{ℕ, List}
+use Rattle.cacache_core.specs.declared.integrity.digest.Hash.{Hash}
+use Rattle.cacache_core.specs.PathNames.{home_of}
+use Rattle.cacache_store.specs.declared.store.log.LogItem.{LogItem}
+use Rattle.cacache_disk.specs.Rooted.{Rooted}
+use Rattle.cacache_memory.specs.Replay.{tree_of}
+use Rattle.cacache_table.specs.declared.command.Command.{Command}
+use Rattle.cacache_table.specs.declared.command.Command.TheVariants as commands
+use Rattle.cacache_table.specs.declared.reply.Reply.{Reply}
+use Rattle.cacache_value.specs.Placed.{Placed}
+use Rattle.cacache_sequence.specs.Caches.{IsCache, HasKey, Called, GivesBytes}
+use Rattle.cacache_sequence.specs.Keeping.{found_under}
+use Rattle.cacache_sequence.specs.Looks.{OnlyLooks, GivesFound}
+
+-- everything stands where it may: of the bytes of contents and buckets nothing is known
+pub record IsStanding (cache : List ℕ) (log : List LogItem) : Type 0 where
+  pub placed : Placed (home_of cache) (tree_of log)
+  pub rooted : Rooted (tree_of log)
+
+-- a cache stands
+abbrev pub CachesStand : Type 0
+CachesStand = (cache : List ℕ) (log : List LogItem) → IsCache cache log → IsStanding cache log
+
+-- what only looks leaves a store standing
+abbrev pub LooksLeaveStanding : Type 0
+LooksLeaveStanding =
+    (cache : List ℕ) (command : Command) (r : Reply) (old new : List LogItem)
+    → OnlyLooks command → Called cache command r old new → IsStanding cache old
+    → IsStanding cache new
+
+-- a lookup finds what the key leads to
+abbrev pub StandingFinds : Type 0
+StandingFinds =
+    (cache key : List ℕ) (r : Reply) (old new : List LogItem)
+    → IsStanding cache old → Called cache (commands.Find key) r old new
+    → GivesFound (found_under cache key old) r old new
+
+-- a read by key answers the bytes that the key leads to, which stay
+abbrev pub StandingReads : Type 0
+StandingReads =
+    (cache key bytes : List ℕ) (i : List Hash) (r : Reply) (old new : List LogItem)
+    → IsStanding cache old → HasKey cache key i bytes old
+    → Called cache (commands.Get key) r old new
+    → GivesBytes (HasKey cache key i bytes new) bytes r old new
