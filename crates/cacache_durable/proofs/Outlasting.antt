@@ -105,9 +105,9 @@ module _ (h : History) (legal : IsLegal h) (folder : Names) (home_is : home h.se
         elim found.puts [
           | inl f ↦ put_outlasts a is_hash q puts dirs loss f.0 (f.1 ∙ ap (λ text. (steps.Persist f.0 text, answers.Done)) text_is)
           | inr e ↦
-            let synced = e ∙ ap (λ text. (steps.SyncFile text, answers.Done)) text_is in
-            found_outlasts a is_hash q puts dirs loss synced
-            (put.no_link (record { between = q.place.between; sync = own_record q; later = q.place.later; is = q.place.is; is_sync = (refl, synced) }))
+              let synced = e ∙ ap (λ text. (steps.SyncFile text, answers.Done)) text_is in
+              found_outlasts a is_hash q puts dirs loss synced
+              (put.no_link (record { between = q.place.between; sync = own_record q; later = q.place.later; is = q.place.is; is_sync = (refl, synced) }))
         ]
 
     module _ (loss : Loss) (left : Tree) (left_of : LeftOf folder (moment_at h h.records) loss left) where
