@@ -1,0 +1,59 @@
+-- What a user says of many callers.
+use Rattle.std.specs.Prelude.{◌≡◌, ◌⊎◌, ◌≤◌, ℕ, suc, List, [], ◌∷◌, Option, None, Some}
+use Rattle.cacache_core.specs.declared.integrity.digest.Hash.{Hash}
+use Rattle.cacache_core.specs.Digests.{digest}
+use Rattle.cacache_core.specs.Integrity.{Meets}
+use Rattle.cacache_entry.specs.Latest.{Found}
+use Rattle.cacache_table.specs.declared.command.Command.TheVariants as commands
+use Rattle.cacache_table.specs.declared.command.Put.{Put}
+use Rattle.cacache_table.specs.declared.reply.Reply.{Reply}
+use Rattle.cacache_table.specs.declared.reply.Reply.TheVariants.{Stored, Read, LookedUp}
+use Rattle.cacache_table.specs.Storing.{put_commit}
+use Rattle.cacache_value.specs.Acts.{PutBytes}
+use Rattle.cacache_history.specs.Commits.{CommitsAs, deeds}
+use Rattle.cacache_history.specs.History.{History, Call, Reaches}
+use Rattle.cacache_history.specs.Lookups.{SparesKey, IsOneOfPuts, WasWritten, found_of_put, lookup_at}
+use Rattle.cacache_history.specs.Places.{CallIn, MoveAt, MovesAre, now_before}
+
+-- a put is answered, and since it began each other call spares its key; then a read of the key
+-- begins, and is answered bytes: they have the digest of what was put
+abbrev pub PutThenGet : History → Type 0
+PutThenGet h =
+    (key : List ℕ) (p : Put) (m between n putter reader : ℕ) (put get : Call) (i : List Hash)
+    (bytes : List ℕ) → p.key ≡ Some key → p.options.integrity ≡ None
+    → MovesAre h m n (λ c. SparesKey key c ⊎ IsOneOfPuts (p ∷ []) c)
+    → put.command ≡ commands.Put p → CallIn h m between putter put (Some (Stored i))
+    → get.command ≡ commands.Get key → CallIn h between n reader get (Some (Read bytes))
+    → digest p.options.algorithm bytes ≡ digest p.options.algorithm p.data
+
+-- where nobody else writes the key, a lookup finds the entry of one of the two puts
+abbrev pub OneOfTwo : History → Type 0
+OneOfTwo h =
+    (key : List ℕ) (p q : Put) (n caller : ℕ) (call : Call) (found : Found)
+    → MovesAre h 0 n (λ c. SparesKey key c ⊎ IsOneOfPuts (p ∷ q ∷ []) c)
+    → call.command ≡ commands.Find key → CallIn h 0 n caller call (Some (LookedUp (Some found)))
+    → (found ≡ found_of_put h.setup.cache key p) ⊎ (found ≡ found_of_put h.setup.cache key q)
+
+-- a move of a put leaves what a lookup of another key finds
+abbrev pub LeavesOthers : History → Type 0
+LeavesOthers h =
+    (place caller : ℕ) (call : Call) (p : Put) (other : List ℕ) → MoveAt h place caller
+    → (now_before h place).calls caller ≡ Some call → call.command ≡ commands.Put p
+    → (p.key ≡ Some other → ⊥) → lookup_at h (suc place) other ≡ lookup_at h place other
+
+-- a put did nothing, its content, or its content and its entry, whether it is over or not; and other
+-- keys are left
+pub record CrashesAreSafe (h : History) : Type 0 where
+  pub whole : (call : Call) (p : Put) (reply : Option Reply) → Reaches h call reply
+      → call.command ≡ commands.Put p
+      → CommitsAs (put_commit h.setup.cache p) (λ names. PutBytes names p.data) (deeds call.turns)
+      reply
+  pub others : LeavesOthers h
+
+-- bytes that are read by a key meet the integrity of an entry of it that was written before
+abbrev pub ReadersNeverLie : History → Type 0
+ReadersNeverLie h =
+    (n caller : ℕ) (call : Call) (key bytes : List ℕ)
+    → CallIn h 0 n caller call (Some (Read bytes)) → call.command ≡ commands.Get key
+    → (place : ℕ) × (found : Found) × (place ≤ n) × WasWritten h 0 place key (Some found)
+    × Meets found.integrity bytes
