@@ -69,7 +69,7 @@ module _ (cache : List ℕ) (p : Put) where
   later_contents None more reply v none a = ap (λ (x : List Deed). (after_deeds (home_of cache) x v).contents a) none
   later_contents (Some key) more reply v adds a = adds_contents (home_of cache) (insertion_of (put_commit cache p) key) more reply v adds a
 
-  later_lookups : (key : Option (List ℕ)) (more : List Deed) (reply : Option Reply) (v : Value) → AddsAfter (put_commit cache p) key more reply → (other : List ℕ) → IsOther key other
+  pub later_lookups : (key : Option (List ℕ)) (more : List Deed) (reply : Option Reply) (v : Value) → AddsAfter (put_commit cache p) key more reply → (other : List ℕ) → IsOther key other
       → latest other (list_of ((after_deeds (home_of cache) more v).buckets (sha1 other))) ≡ latest other (list_of (v.buckets (sha1 other)))
   later_lookups None more reply v none other differ = ap (λ (x : List Deed). latest other (list_of ((after_deeds (home_of cache) x v).buckets (sha1 other)))) none
   later_lookups (Some key) more reply v adds other differ = adds_lookups (home_of cache) (insertion_of (put_commit cache p) key) more reply v adds other differ

@@ -93,30 +93,32 @@ given_formed : (p : Put) (o : Option (List Hash)) → IfSome o IsIntegrity → I
 given_formed p None h = own_formed p.options.algorithm p.data
 given_formed p (Some i) h = h
 
+-- an entry behind the others is what its key leads to
+pub led_by : (cache : List ℕ) (p : Put) → ExpectsIntegrity p → (old new : List LogItem) (key : List ℕ)
+    → entries_on (home_of cache) (tree_of new) key ≡ entries_on (home_of cache) (tree_of old) key ++ (insertion_of (put_commit cache p) key).entry ∷ []
+    → found_under cache key new ≡ Some (entry_of_put cache p key)
+led_by cache p expects old new key entries =
+    let e = (insertion_of (put_commit cache p) key).entry in
+    let j = given_or (own_integrity p) p.options.integrity in
+    let answer : answer_of e e.integrity ≡ Some (Some (found_of e j))
+    = ap (λ r. option_map (option_map (found_of e)) (answer_read r)) (printed j (given_formed p p.options.integrity expects)) in
+    finds_last key e (Some (found_of e j)) (entries_on (home_of cache) (tree_of old) key) (entries_on (home_of cache) (tree_of new) key) refl answer entries
+
 module _ (cache : List ℕ) (p : Put) (expects : ExpectsIntegrity p) (old new : List LogItem) (ds : List Deed) (reply : Option Reply)
     (commits : CommitsAs (put_commit cache p) (λ names. PutBytes names p.data) ds reply)
     (follows : Alike (value_of_tree (home_of cache) (tree_of new)) (after_deeds (home_of cache) ds (value_of_tree (home_of cache) (tree_of old)))) where
-  led : (key : List ℕ) → entries_on (home_of cache) (tree_of new) key ≡ entries_on (home_of cache) (tree_of old) key ++ (insertion_of (put_commit cache p) key).entry ∷ []
-      → found_under cache key new ≡ Some (entry_of_put cache p key)
-  led key entries =
-      let e = (insertion_of (put_commit cache p) key).entry in
-      let j = given_or (own_integrity p) p.options.integrity in
-      let answer : answer_of e e.integrity ≡ Some (Some (found_of e j))
-      = ap (λ r. option_map (option_map (found_of e)) (answer_read r)) (printed j (given_formed p p.options.integrity expects)) in
-      finds_last key e (Some (found_of e j)) (entries_on (home_of cache) (tree_of old) key) (entries_on (home_of cache) (tree_of new) key) refl answer entries
-
   pub may_lead : MayLeadToPut cache p old new
   may_lead key keyed =
       elim (put_entries cache p (value_of_tree (home_of cache) (tree_of old)) ds reply key keyed commits) [
         | inl same ↦ inl (ap (latest key) (follows.lists (sha1 key) ∙ same.0))
-        | inr more ↦ inr (led key (follows.lists (sha1 key) ∙ more))
+        | inr more ↦ inr (led_by cache p expects old new key (follows.lists (sha1 key) ∙ more))
       ]
 
   pub leads : (IsNotOk reply → ⊥) → LeadsToPut cache p new
   leads ok key keyed =
       elim (put_entries cache p (value_of_tree (home_of cache) (tree_of old)) ds reply key keyed commits) [
         | inl same ↦ absurd (ok same.1)
-        | inr more ↦ led key (follows.lists (sha1 key) ∙ more)
+        | inr more ↦ led_by cache p expects old new key (follows.lists (sha1 key) ∙ more)
       ]
 
   has_content : lies_under cache (own_integrity p) new ≡ Some (InFile p.data) → HasContent cache (own_integrity p) p.data new

@@ -30,7 +30,7 @@ use Rattle.cacache_sequence.specs.ReadAnswers.{entries_on}
 use Rattle.cacache_sequence.specs.Stored.{own_hash, HasStored, PutsStore, InsertsAdd, DeletesAdd}
 
 -- a path that names these below the cache is the path of these names in its folder
-below_is : (folder : Option Names) (names all : Names) (r : Result Names Fault) → r ≡ names_below folder names → r ≡ Ok all → is_path_of folder names all ≡ true
+pub below_is : (folder : Option Names) (names all : Names) (r : Result Names Fault) → r ≡ names_below folder names → r ≡ Ok all → is_path_of folder names all ≡ true
 below_is None names all r e f = let no : Err _ ≡ Ok all = sym e ∙ f in absurd cc
 below_is (Some folder) names all r e f =
     let is : Ok (folder ++ names) ≡ Ok all = sym e ∙ f in
@@ -41,7 +41,7 @@ more_entries : (b : Bool) (o : Option (List Entry)) (new : List Entry) → b ≡
 more_entries true o new e = refl
 more_entries false o new e = absurd cc
 
-new_blob : (b : Bool) (blob old : Option Blob) → b ≡ true → cond b blob old ≡ blob
+pub new_blob : (b : Bool) (blob old : Option Blob) → b ≡ true → cond b blob old ≡ blob
 new_blob true blob old e = refl
 new_blob false blob old e = absurd cc
 

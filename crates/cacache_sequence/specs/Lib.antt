@@ -15,3 +15,6 @@ pub mod Puts
 pub mod OpenReaders
 pub mod ExportEffects
 pub mod Standing
+pub mod GivenUp
+pub mod Links
+pub mod Exported

@@ -11,9 +11,11 @@ ghost use Rattle.cacache_sequence.specs.ExportEffects.{CopiesArrive, CopiesCount
 ghost use Rattle.cacache_sequence.specs.Inserts.{InsertsLast, PlainInsertsFit, KeysJoin, NoneLacks};
 ghost use Rattle.cacache_sequence.specs.Removed.{ContentsGo, KeysGo};
 ghost use Rattle.cacache_sequence.specs.Beside.{WritesKeep, PlainWritesFit, RemovalsKeep};
+ghost use Rattle.cacache_sequence.specs.Links.{LinksLast};
 ghost use Rattle.cacache_sequence.specs.InParts.{LogsLead, CallsBegin, PartsGoOn, LeftAreCases, PartsAnswer, ReadsAreParts, WritesAreParts};
 ghost use Rattle.cacache_sequence.specs.OpenWriters.{WritersOpen, CommitsLast, CommitsStore};
 ghost use Rattle.cacache_sequence.specs.Puts.{PutsLeave, PutsMayLead, CommitsLeave, CommitsKeep};
+ghost use Rattle.cacache_sequence.specs.GivenUp.{GivingUpLasts};
 ghost use Rattle.cacache_sequence.specs.OpenReaders.{ReadersOpen, ReadersOpenKey};
 
 use cacache_memory::MemStore;
@@ -73,6 +75,7 @@ pub fn cache_laws(store: &MemStore)
     ensures plain_inserts { PlainInsertsFit }
     ensures joins_keys { KeysJoin }
     ensures lacks { NoneLacks }
+    ensures links { LinksLast }
 {
     let _log = store.log();
 }
@@ -94,13 +97,14 @@ pub fn look_laws()
 
 /// What handles do to a cache in a store in memory, in words of their user. A writer opens and commits later, and in
 /// between any calls may be made that leave a cache: after a commit that stored, the key leads to the bytes that the writer
-/// took, and whatever it answers, all else stays. A reader has the bytes to give that lay in the cache when it opened, whatever becomes of the content since.
+/// took, and whatever it answers, all else stays; given up, it leaves all that was known. A reader has the bytes to give that lay in the cache when it opened, whatever becomes of the content since.
 pub fn handle_laws()
     ensures opens { WritersOpen }
     ensures commits { CommitsLast }
     ensures stores { CommitsStore }
     ensures leaves { CommitsLeave }
     ensures commits_keep { CommitsKeep }
+    ensures gives_up { GivingUpLasts }
     ensures reads { ReadersOpen }
     ensures reads_key { ReadersOpenKey }
 {}

@@ -2,6 +2,7 @@ use Rattle.cacache_sequence.proofs.OpenWriters.{writers_open}
 use Rattle.cacache_sequence.proofs.Committing.{commits_last, commits_store}
 use Rattle.cacache_sequence.proofs.OpenReaders.{readers_open, readers_open_key}
 use Rattle.cacache_sequence.proofs.Puts.{commits_leave, commits_keep}
+use Rattle.cacache_sequence.proofs.GivenUp.{giving_up_lasts}
 use Rattle.cacache_sequence.proofs.laws.handle_laws.Goals as goal
 
 pub returns-clause-opens : goal.returns-clause-opens
@@ -24,3 +25,6 @@ returns-clause-leaves c = commits_leave
 
 pub returns-clause-commits_keep : goal.returns-clause-commits_keep
 returns-clause-commits_keep c = commits_keep
+
+pub returns-clause-gives_up : goal.returns-clause-gives_up
+returns-clause-gives_up c = giving_up_lasts
