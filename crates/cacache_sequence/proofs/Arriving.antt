@@ -85,7 +85,7 @@ same_bytes t path bytes = by (leads t path)
     by (Ok names) e = node (look t names) e
 
 -- those of a content are what lies there
-content_bytes : (cache bytes held : List ℕ) (i : List Hash) (log : List LogItem) → IsCache cache log → HasContent cache i bytes log
+pub content_bytes : (cache bytes held : List ℕ) (i : List Hash) (log : List LogItem) → IsCache cache log → HasContent cache i bytes log
     → file_at (tree_of log) (content_path cache i) faults.InvalidInput ≡ Ok held → held ≡ bytes
 content_bytes cache bytes held [] log sound has e = absurd (omega (arith, has.formed.nonempty))
 content_bytes cache bytes held (a ∷ hs) log sound has e =

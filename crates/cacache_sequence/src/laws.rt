@@ -11,6 +11,7 @@ ghost use Rattle.cacache_sequence.specs.ExportEffects.{CopiesArrive, CopiesCount
 ghost use Rattle.cacache_sequence.specs.Inserts.{InsertsLast, PlainInsertsFit, KeysJoin, NoneLacks};
 ghost use Rattle.cacache_sequence.specs.Removed.{ContentsGo, KeysGo};
 ghost use Rattle.cacache_sequence.specs.Beside.{WritesKeep, PlainWritesFit, RemovalsKeep};
+ghost use Rattle.cacache_sequence.specs.Exported.{ExportsArrive};
 ghost use Rattle.cacache_sequence.specs.Links.{LinksLast};
 ghost use Rattle.cacache_sequence.specs.InParts.{LogsLead, CallsBegin, PartsGoOn, LeftAreCases, PartsAnswer, ReadsAreParts, WritesAreParts};
 ghost use Rattle.cacache_sequence.specs.OpenWriters.{WritersOpen, CommitsLast, CommitsStore};
@@ -76,6 +77,7 @@ pub fn cache_laws(store: &MemStore)
     ensures joins_keys { KeysJoin }
     ensures lacks { NoneLacks }
     ensures links { LinksLast }
+    ensures exports_arrive { ExportsArrive }
 {
     let _log = store.log();
 }

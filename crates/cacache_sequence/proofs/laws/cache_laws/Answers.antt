@@ -14,6 +14,7 @@ use Rattle.cacache_sequence.proofs.Removed.{contents_go}
 use Rattle.cacache_sequence.proofs.RemovedKeys.{keys_go}
 use Rattle.cacache_sequence.proofs.Puts.{puts_leave, puts_may_lead}
 use Rattle.cacache_sequence.proofs.Arriving.{copies_arrive}
+use Rattle.cacache_sequence.proofs.Exported.{exports_arrive}
 use Rattle.cacache_sequence.proofs.Linking.{links_last}
 use Rattle.cacache_sequence.proofs.laws.cache_laws.Goals as goal
 
@@ -103,3 +104,6 @@ returns-clause-copies_arrive c = copies_arrive
 
 pub returns-clause-links : goal.returns-clause-links
 returns-clause-links c = links_last
+
+pub returns-clause-exports_arrive : goal.returns-clause-exports_arrive
+returns-clause-exports_arrive c = exports_arrive

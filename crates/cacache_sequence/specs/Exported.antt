@@ -1,0 +1,35 @@
+-- What an export answers by what its source leads to, and what it leaves at its path.
+use Rattle.std.specs.Prelude.{◌≡◌, ℕ, Bool, List, Some, length}
+use Rattle.cacache_store.specs.declared.store.log.LogItem.{LogItem}
+use Rattle.cacache_memory.specs.Replay.{shown, tree_of}
+use Rattle.cacache_table.specs.declared.command.Command.{Command}
+use Rattle.cacache_table.specs.declared.command.Command.TheVariants as commands
+use Rattle.cacache_table.specs.declared.command.How.{How}
+use Rattle.cacache_table.specs.declared.command.Source.{Source}
+use Rattle.cacache_table.specs.declared.reply.Reply.{Reply}
+use Rattle.cacache_table.specs.declared.reply.Reply.TheVariants.{Copied, Done, Refused}
+use Rattle.cacache_sequence.specs.Caches.{IsCache, IsExcused, Called}
+use Rattle.cacache_sequence.specs.ExportEffects.{IsApart, NamesBytes}
+
+-- what the source names goes to the path: as a copy, by shared storage or as one more name, verified first or
+-- not
+abbrev pub export_by : How → Source → Bool → List ℕ → Command
+export_by how source checked to =
+    commands.Export source (record { how = how; checked = checked; to = to })
+
+-- where it isn't refused the bytes stand where the path leads, and a count is theirs
+abbrev pub Arrives : List ℕ → List ℕ → Reply → List LogItem → List LogItem → Type 0
+Arrives bytes to (Copied n) old new = (shown (tree_of new) to ≡ Some bytes) × (n ≡ length bytes)
+Arrives bytes to Done old new = shown (tree_of new) to ≡ Some bytes
+Arrives bytes to (Refused e) old new = IsExcused e old new
+Arrives bytes to r old new = ⊥
+
+-- so answers each export of bytes that are there, to a path apart from the cache: it fails for nothing but a
+-- step of its own, as that at the path, or for memory
+abbrev pub ExportsArrive : Type 0
+ExportsArrive =
+    (cache bytes to : List ℕ) (how : How) (source : Source) (checked : Bool) (r : Reply)
+    (old new : List LogItem)
+    → IsApart cache to → IsCache cache old → NamesBytes cache source bytes old
+    → Called cache (export_by how source checked to) r old new
+    → Arrives bytes to r old new
