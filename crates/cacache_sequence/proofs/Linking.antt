@@ -2,6 +2,7 @@
 use Rattle.std.proofs.Common.{◌≡◌, ◌⊎◌, inl, inr, ◌<◌, ◌^◌, ℕ, Bool, true, false, cond, List, [], ◌∷◌, ◌++◌, ◌||◌, Option, None, Some, Result, Ok, Err, length, map, refl, sym, ap, subst, ◌∙◌}
 use Rattle.std.proofs.lemmas.List.Elements.{All-head}
 use Rattle.sha1.specs.Sha1.{sha1}
+use Rattle.cacache_core.specs.declared.errors.Error.TheVariants.{IoError}
 use Rattle.cacache_core.specs.declared.errors.Fault.{Fault}
 use Rattle.cacache_core.specs.declared.errors.Fault.TheVariants as faults
 use Rattle.cacache_core.specs.declared.integrity.digest.Hash.{Hash}
@@ -16,7 +17,7 @@ use Rattle.cacache_store.specs.declared.store.step.Step.TheVariants as steps
 use Rattle.cacache_disk.specs.declared.luck.Luck.TheVariants.{Plain}
 use Rattle.cacache_disk.specs.Tree.{Tree}
 use Rattle.cacache_disk.specs.Apply.{apply, opened, unless}
-use Rattle.cacache_disk.specs.LedTo.{file_at}
+use Rattle.cacache_disk.specs.LedTo.{file_at, leads, place}
 use Rattle.cacache_disk.proofs.Roots.{same_self}
 use Rattle.cacache_memory.specs.Replay.{bytes_told, shown, tree_of}
 use Rattle.cacache_entry.specs.Latest.{latest}
@@ -31,7 +32,9 @@ use Rattle.cacache_table.specs.Runs.{Moves, Runs}
 use Rattle.cacache_table.specs.Sound.{SoundTarget}
 use Rattle.cacache_table.specs.StepPaths.{content_path}
 use Rattle.cacache_table.specs.Storing.{insertion_of, put_commit}
-use Rattle.cacache_table.specs.Table.{opening}
+use Rattle.cacache_table.specs.State.{sizing}
+use Rattle.cacache_table.specs.Table.{after, opening}
+use Rattle.cacache_table.specs.declared.target.Target.{Target}
 use Rattle.cacache_table.proofs.Verifying.{links_read_whole}
 use Rattle.cacache_value.specs.Acts.{PutLink, change, list_of}
 use Rattle.cacache_value.specs.Kinds.{is_path_of}
@@ -45,18 +48,21 @@ use Rattle.cacache_history.proofs.OpenedContents.{EachAsks, OnDisks, gives_all, 
 use Rattle.cacache_history.proofs.Righted.{one_address}
 use Rattle.cacache_history.proofs.ShownTurns.{content_below}
 use Rattle.cacache_sequence.specs.Beside.{IsOther, ShareAddress, own_integrity}
-use Rattle.cacache_sequence.specs.Caches.{HasContent, HasKey, IsCache, lies_under, setup_at}
+use Rattle.cacache_sequence.specs.Caches.{Called, HasContent, HasKey, IsCache, lies_under, setup_at}
 use Rattle.cacache_sequence.specs.Keeping.{found_under}
-use Rattle.cacache_sequence.specs.Links.{FitsLink, HasLinked, IsOutside, KeepsBesideLink, LeavesLink, LinksLast, put_like}
+use Rattle.cacache_sequence.specs.ExportEffects.{IsApart}
+use Rattle.cacache_sequence.specs.Links.{FitsLink, HasLinked, KeepsBesideLink, LeavesLink, LinksLast, put_like}
 use Rattle.cacache_sequence.specs.Puts.{ExpectsIntegrity, LeadsToPut, MayLeadToPut, stored_as}
 use Rattle.cacache_sequence.specs.ReadAnswers.{entries_on}
-use Rattle.cacache_sequence.specs.Sequence.{Alike, AreAnswered, CallIsAnswered, IsMadeOn, SequenceCall, after_deeds, tree_on, turns_on}
+use Rattle.cacache_sequence.specs.Sequence.{Alike, AreAnswered, CallIsAnswered, IsMadeOn, IsSound, SequenceCall, after_deeds, tree_on, turns_on}
 use Rattle.cacache_sequence.specs.Stored.{own_hash}
 use Rattle.cacache_sequence.proofs.Beside.{later_contents, later_lookups}
 use Rattle.cacache_sequence.proofs.KeptKeys.{alike_lookup}
 use Rattle.cacache_sequence.proofs.Logs.{some_same}
 use Rattle.cacache_sequence.proofs.Puts.{led_by}
+use Rattle.cacache_sequence.proofs.InParts.{logs_lead}
 use Rattle.cacache_sequence.proofs.ReadsStay.{opening_keeps, sizing_keeps}
+use Rattle.cacache_sequence.proofs.Removed.{over_run}
 use Rattle.cacache_sequence.proofs.Sequence.{calls_answer_alone, turns_made}
 use Rattle.cacache_sequence.proofs.Stored.{adds_entry, below_is, first_deed, new_blob}
 
@@ -292,17 +298,61 @@ module _ (cache : List ℕ) (l : Link) (base : List ℕ) (number : ℕ) (moves :
         beside = link_keeps cache p path old new ds (Some r) target_commits target_follows;
       }
 
+-- a path that names nothing shows nothing
+nowhere : (t : Tree) (path : List ℕ) (fault : Fault) → names_of path ≡ Err fault → file_at t path faults.IsADirectory ≡ Err fault
+unfolding file_at leads place
+nowhere t path fault e = rw e refl
+
+nothing_shown : (t : Tree) (path held : List ℕ) (fault : Fault) → names_of path ≡ Err fault → shown t path ≡ Some held → ⊥
+unfolding apply
+nothing_shown t path held fault e shows =
+    let no : None ≡ Some held = sym (ap (λ r. bytes_told (unless r t (λ b. (answers.Bytes b, t))).0) (nowhere t path fault e)) ∙ shows in
+    absurd cc
+
+-- a link to it asks for its size, and fails
+size_fails : (t : Tree) (path : List ℕ) (fault : Fault) → names_of path ≡ Err fault → (apply t (steps.Size path) Plain).0 ≡ answers.Failed fault
+unfolding apply
+size_fails t path fault e = ap (λ r. (unless r t (λ b. (answers.Length (length b), t))).0) (nowhere t path fault e)
+
+stops : (t : Tree) (target : Target ℕ) (fault : Fault) (moves : Moves) (r : Reply) → names_of target.path ≡ Err fault → Runs (sizing target) moves r → AreAnswered t moves → tree_on t moves ≡ t
+stops t target fault [] r e run answered = refl
+stops t target fault ((step, a) ∷ more) r e run answered =
+    let is : step ≡ steps.Size target.path = cc in
+    let failed : a ≡ answers.Failed fault = answered.0 ∙ ap (λ x. (apply t x Plain).0) is ∙ size_fails t target.path fault e in
+    let none = (over_run (replies.Refused (IoError fault [])) r more (subst (λ x. Runs (after (sizing target) x) more r) failed run.2)).0 in
+    ap (λ (ms : Moves). tree_on (apply t step Plain).1 ms) none ∙ ap (λ x. (apply t x Plain).1) is ∙ sizing_keeps t target.path
+
+module _ (cache : List ℕ) (l : Link) (r : Reply) (old new : List LogItem) (c : Called cache (commands.Link l) r old new) (sound : IsCache cache old) where
+  -- what a link leaves, by what its target's path names
+  abbrev Leaves : Type 0
+  Leaves =
+      IsCache cache new
+      × ((held : List ℕ) → ExpectsIntegrity (put_like l held) → shown (tree_of old) (based c.base l.target) ≡ Some held → LeavesLink cache (put_like l held) (based c.base l.target) r old new)
+
+  named_leaves : (names : Names) → names_of (based c.base l.target) ≡ Ok names → FitsLink cache l → IsApart cache (based c.base l.target) → Leaves
+  named_leaves names named fits apart =
+      let path = based c.base l.target in
+      let s = setup_to cache c.base (based c.base l.target) in
+      let call : SequenceCall = record { command = commands.Link l; number = c.number; moves = c.ran.0; reply = r } in
+      let made : IsMadeOn (setup_to cache c.base (based c.base l.target)) old (record { command = commands.Link l; number = c.number; moves = c.ran.0; reply = r }) new
+      = record {
+        run = subst (λ x. Runs (opening (call_site (setup_to cache c.base (based c.base l.target)) c.number) (commands.Link l)) c.ran.0 x) (sym c.plain) c.ran.1;
+        gained = some_same new (old ++ map (λ m. Made m.0 m.1) c.ran.0) c.ran.2;
+      } in
+      let target : SoundTarget (record { cache = cache; base = c.base; number = c.number }) (link_target (record { cache = cache; base = c.base; number = c.number }) l) = record { here = refl; formed = fits } in
+      let a = calls_answer_alone s call old new (apart, tt) ((target, is_there path names (names_of path) named), tt, tt) sound made c.logged in
+      (a.1, λ held expects shows. leaves_link cache l c.base c.number c.ran.0 r old new c.ran.1 a.0 a.2 held expects shows)
+
+  nameless_leaves : (fault : Fault) → names_of (based c.base l.target) ≡ Err fault → Leaves
+  nameless_leaves fault nameless =
+      let lead = logs_lead old new c.ran.0 c.ran.2 c.logged in
+      let t = link_target (record { cache = cache; base = c.base; number = c.number }) l in
+      let same : tree_of new ≡ tree_of old = lead.1 ∙ stops (tree_of old) t fault c.ran.0 r nameless c.ran.1 lead.0 in
+      (subst (IsSound (home_of cache)) (sym same) sound, λ held expects shows. absurd (nothing_shown (tree_of old) (based c.base l.target) held fault nameless shows))
+
 pub links_last : LinksLast
-links_last cache l r old new c fits outside sound =
-    let path = based c.base l.target in
-    let s = setup_to cache c.base (based c.base l.target) in
-    let call : SequenceCall = record { command = commands.Link l; number = c.number; moves = c.ran.0; reply = r } in
-    let made : IsMadeOn (setup_to cache c.base (based c.base l.target)) old (record { command = commands.Link l; number = c.number; moves = c.ran.0; reply = r }) new
-    = record {
-      run = subst (λ x. Runs (opening (call_site (setup_to cache c.base (based c.base l.target)) c.number) (commands.Link l)) c.ran.0 x) (sym c.plain) c.ran.1;
-      gained = some_same new (old ++ map (λ m. Made m.0 m.1) c.ran.0) c.ran.2;
-    } in
-    let target : SoundTarget (record { cache = cache; base = c.base; number = c.number }) (link_target (record { cache = cache; base = c.base; number = c.number }) l) = record { here = refl; formed = fits } in
-    let a = calls_answer_alone s call old new (outside.apart, tt) ((target, is_there path outside.names (names_of (based c.base l.target)) outside.named), tt, tt) sound made c.logged in
-    let turns = turns_on (tree_of old) c.ran.0 in
-    (a.1, λ held expects shows. leaves_link cache l c.base c.number c.ran.0 r old new c.ran.1 a.0 a.2 held expects shows)
+links_last cache l r old new c fits apart sound = by (names_of (based c.base l.target)) refl
+  where
+    by : (n : Result Names Fault) → names_of (based c.base l.target) ≡ n → Leaves cache l r old new c sound
+    by (Ok names) e = named_leaves cache l r old new c sound names e fits apart
+    by (Err fault) e = nameless_leaves cache l r old new c sound fault e

@@ -1,8 +1,7 @@
 -- What a link leaves in a cache in a store in memory, in words of its caller.
-use Rattle.std.specs.Prelude.{◌≡◌, ◌⊎◌, ◌<◌, ◌^◌, ℕ, false, List, Option, Some, Ok, length}
+use Rattle.std.specs.Prelude.{◌≡◌, ◌⊎◌, ◌<◌, ◌^◌, ℕ, false, List, Option, Some, length}
 use Rattle.cacache_core.specs.declared.integrity.digest.Hash.{Hash}
 use Rattle.cacache_core.specs.Integrity.{IsIntegrity}
-use Rattle.cacache_core.specs.PathNames.{Names, names_of}
 use Rattle.cacache_store.specs.declared.store.log.LogItem.{LogItem}
 use Rattle.cacache_memory.specs.Replay.{shown, tree_of}
 use Rattle.cacache_table.specs.declared.command.Command.TheVariants as commands
@@ -20,12 +19,6 @@ use Rattle.cacache_sequence.specs.Keeping.{found_under}
 use Rattle.cacache_sequence.specs.Puts.{ExpectsIntegrity, LeadsToPut, MayLeadToPut, stored_as}
 
 -- ---- what is linked to
-
--- a path that names a place apart from the cache
-pub record IsOutside (cache path : List ℕ) : Type 0 where
-  pub names : Names
-  pub named : names_of path ≡ Ok names
-  pub apart : IsApart cache path
 
 -- the put of these bytes that has the entry of the link
 abbrev pub put_like : Link → List ℕ → Put
@@ -80,7 +73,7 @@ abbrev pub LinksLast : Type 0
 LinksLast =
     (cache : List ℕ) (l : Link) (r : Reply) (old new : List LogItem)
     (c : Called cache (commands.Link l) r old new)
-    → FitsLink cache l → IsOutside cache (based c.base l.target) → IsCache cache old
+    → FitsLink cache l → IsApart cache (based c.base l.target) → IsCache cache old
     → IsCache cache new
     × ((held : List ℕ) → ExpectsIntegrity (put_like l held)
     → shown (tree_of old) (based c.base l.target) ≡ Some held
