@@ -6,6 +6,7 @@ use Rattle.cacache_core.specs.declared.integrity.digest.Hash.{Hash}
 use Rattle.cacache_store.specs.Plain.{PlainAnswer}
 use Rattle.cacache_table.specs.declared.command.Command.TheVariants as commands
 use Rattle.cacache_table.specs.declared.command.Insert.{Insert}
+use Rattle.cacache_table.specs.declared.command.Put.{Put}
 use Rattle.cacache_table.specs.declared.reply.Reply.{Reply}
 use Rattle.cacache_table.specs.declared.reply.Reply.TheVariants.{Refused}
 use Rattle.cacache_table.specs.Inserting.{unless_refused, insertion, deletion, refused_cause}
@@ -121,6 +122,13 @@ calls_fail_only = record {
       calm_run (opening site (commands.Delete d)) moves r (by_cause (deletion site.cache d) (refused_cause (deletion site.cache d)) written tt) run;
   clears = λ site moves r run. calm_run (opening site commands.Clear) moves r (refl, (tt, tt)) run;
 }
+
+-- so is a put without a key
+pub contents_fail : (site : Site) (p : Put) (moves : Moves) (r : Reply) → p.key ≡ None → p.options.integrity ≡ None → p.options.size ≡ None → Runs (opening site (commands.Put p)) moves r → FailsOnly r
+contents_fail site p moves r none no_integrity no_size run =
+    let plain : Plain (put_commit site.cache p)
+    = record { no_integrity = no_integrity; no_size = no_size; written = λ k e. let no : None ≡ Some k = sym none ∙ e in absurd cc } in
+    calm_run (opening site (commands.Put p)) moves r plain run
 
 -- ---- insertions
 

@@ -1,0 +1,107 @@
+-- What reads and questions gave and left.
+use Rattle.std.proofs.Common.{◌≡◌, inl, inr, ℕ, Bool, true, false, List, Option, None, Some, Vec, Global, Result, Ok, Err, refl}
+use Rattle.std.specs.Prelude.{IfOk, IfErr, option_map}
+use Rattle.cacache_core.specs.declared.errors.Error.{Error}
+use Rattle.cacache_core.specs.declared.errors.Error.TheVariants.{OutOfMemory}
+use Rattle.cacache_core.specs.declared.integrity.digest.Hash.{Hash}
+use Rattle.cacache_core.specs.Integrity.{IsIntegrity}
+use Rattle.cacache_store.specs.declared.env.Env.{Env}
+use Rattle.cacache_store.specs.declared.store.log.LogItem.{LogItem}
+use Rattle.cacache_memory.specs.Replay.{IsLog}
+use Rattle.cacache_entry.specs.declared.metadata.Metadata.{Metadata}
+use Rattle.cacache_entry.specs.Latest.{Found}
+use Rattle.cacache_entry.specs.View.{found_view}
+use Rattle.cacache_table.specs.declared.command.Command.TheVariants as commands
+use Rattle.cacache_table.specs.declared.reply.Reply.TheVariants as replies
+use Rattle.cacache_table.specs.Replies.{looked_up}
+use Rattle.cacache_table.specs.Runs.{reply_of, without_message}
+use Rattle.cacache_reads.specs.Reads.{bytes_read}
+use Rattle.cacache_sequence.specs.Caches.{Called, IsCache, HasContent, HasKey, LacksKey, IsExcused, AStepFailed, GivesBytes, FindsNone, SaysThere}
+use Rattle.cacache_sequence.specs.Keeping.{found_under}
+use Rattle.cacache_sequence.specs.Looks.{GivesFound, GivesHeld, GivesOfKey, SaysAbsent}
+use Rattle.cacache_sequence.proofs.AskedContents.{asks_absent, asks_content}
+use Rattle.cacache_sequence.proofs.GivenReads.{content_reads_give, key_reads_give}
+use Rattle.cacache_sequence.proofs.Known.{caches_last}
+use Rattle.cacache_sequence.proofs.Looked.{finds_found}
+use Rattle.cacache_sequence.proofs.ReadsKeep.{reads_content, reads_key, reads_none}
+use Rattle.cacache_results.specs.Reads.{AskedContent, ContentReadMeans, FoundEntry, GivesJust, GivesNoEntry, IsWhole, IsWholeOfKey, KeyReadMeans, LookupMeans, QuestionMeans, ReadContent, ReadKey}
+use Rattle.cacache_results.proofs.Told.{called, excused, looks_leave, of_memory, of_missing}
+
+-- ---- reads
+
+given : (r : Result (Vec ℕ Global) Error) (Stays : Type 0) (bytes : List ℕ) (old new : List LogItem) → GivesBytes Stays bytes (reply_of bytes_read r) old new → GivesJust bytes r old new
+given (Ok v) Stays bytes old new h = h.0
+given (Err e) Stays bytes old new h = excused e old new h
+
+none_given : (r : Result (Vec ℕ Global) Error) (cache key : List ℕ) (old new : List LogItem) → FindsNone cache key (reply_of bytes_read r) old new → GivesNoEntry cache key r old new
+none_given (Ok v) cache key old new h = h
+none_given (Err e) cache key old new (inl is) = inl (of_missing e cache key is)
+none_given (Err e) cache key old new (inr h) = inr (excused e old new h)
+
+whole_of : (r : Result (Vec ℕ Global) Error) (cache key : List ℕ) (old new : List LogItem) → GivesOfKey cache key (reply_of bytes_read r) old new → IfOk r (λ v. IsWholeOfKey cache key old v.items)
+whole_of (Ok v) cache key old new h = h
+whole_of (Err e) cache key old new h = tt
+
+pub key_read_means : {C N : Type 0} (cache key : List ℕ) (r : Result (Vec ℕ Global) Error) (new : Env (List LogItem) C N) → IsLog new.store → KeyReadMeans cache key r new
+key_read_means cache key r new logged old sound ran =
+    let c = called bytes_read (λ b. refl) r cache old.base 0 (commands.Get key) old.store new.store ran.0.0 logged in
+    let any = key_reads_give cache key (reply_of bytes_read r) old.store new.store sound c in
+    record {
+      leaves = looks_leave cache (commands.Get key) (reply_of bytes_read r) old.store new.store tt c (caches_last cache (commands.Get key) (reply_of bytes_read r) old.store new.store c tt tt sound);
+      gives = λ i bytes has. given r (HasKey cache key i bytes new.store) bytes old.store new.store (reads_key cache key bytes i (reply_of bytes_read r) old.store new.store sound has c).1;
+      lacks = λ lacks. none_given r cache key old.store new.store (reads_none cache key (reply_of bytes_read r) old.store new.store sound lacks c).1;
+      whole = whole_of r cache key old.store new.store any;
+      any = any;
+    }
+
+held_whole : (r : Result (Vec ℕ Global) Error) (cache : List ℕ) (i : List Hash) (old new : List LogItem) → GivesHeld cache i (reply_of bytes_read r) old new → IfOk r (λ v. IsWhole cache i old v.items)
+held_whole (Ok v) cache i old new h = h
+held_whole (Err e) cache i old new h = tt
+
+pub content_read_means : {C N : Type 0} (cache : List ℕ) (i : List Hash) (r : Result (Vec ℕ Global) Error) (new : Env (List LogItem) C N) → IsIntegrity i → IsLog new.store → ContentReadMeans cache i r new
+content_read_means cache i r new formed logged old sound ran =
+    let c = called bytes_read (λ b. refl) r cache old.base 0 (commands.GetHash i) old.store new.store ran.0.0 logged in
+    let any = content_reads_give cache i (reply_of bytes_read r) old.store new.store formed sound c in
+    record {
+      leaves = looks_leave cache (commands.GetHash i) (reply_of bytes_read r) old.store new.store tt c (caches_last cache (commands.GetHash i) (reply_of bytes_read r) old.store new.store c tt formed sound);
+      gives = λ bytes has. given r (HasContent cache i bytes new.store) bytes old.store new.store (reads_content cache bytes i (reply_of bytes_read r) old.store new.store sound has c).1;
+      whole = held_whole r cache i old.store new.store any;
+      any = any;
+    }
+
+-- ---- questions
+
+found : (r : Result (Option Metadata) Error) (there : Option Found) (old new : List LogItem) → GivesFound there (reply_of looked_up r) old new
+    → IfOk r (λ found. option_map found_view found ≡ there) × IfErr r (λ e. IsExcused e old new)
+found (Ok f) there old new h = (h, tt)
+found (Err e) there old new h = (tt, excused e old new h)
+
+pub lookup_means : {C N : Type 0} (cache key : List ℕ) (r : Result (Option Metadata) Error) (new : Env (List LogItem) C N) → IsLog new.store → LookupMeans cache key r new
+lookup_means cache key r new logged old sound ran =
+    let c = called looked_up (λ b. refl) r cache old.base 0 (commands.Find key) old.store new.store ran.0.0 logged in
+    let f = found r (found_under cache key old.store) old.store new.store (finds_found cache key (reply_of looked_up r) old.store new.store sound c) in
+    record {
+      leaves = looks_leave cache (commands.Find key) (reply_of looked_up r) old.store new.store tt c (caches_last cache (commands.Find key) (reply_of looked_up r) old.store new.store c tt tt sound);
+      finds = f.0;
+      fails = f.1;
+    }
+
+said : (r : Result Bool Error) (Stays : Type 0) (old new : List LogItem) → SaysThere Stays (reply_of replies.Exists r) old new
+    → IfOk r (λ there. there ≡ false → AStepFailed old new)
+said (Ok true) Stays old new h = λ no. absurd cc
+said (Ok false) Stays old new h = λ no. h
+said (Err e) Stays old new h = tt
+
+denied : (r : Result Bool Error) → SaysAbsent (reply_of replies.Exists r) → IfOk r (λ there. there ≡ false)
+denied (Ok true) h = absurd h
+denied (Ok false) h = refl
+denied (Err e) h = tt
+
+pub question_means : {C N : Type 0} (cache : List ℕ) (i : List Hash) (r : Result Bool Error) (new : Env (List LogItem) C N) → IsIntegrity i → IsLog new.store → QuestionMeans cache i r new
+question_means cache i r new formed logged old sound ran =
+    let c = called replies.Exists (λ b. refl) r cache old.base 0 (commands.Exists i) old.store new.store ran.0.0 logged in
+    record {
+      leaves = looks_leave cache (commands.Exists i) (reply_of replies.Exists r) old.store new.store tt c (caches_last cache (commands.Exists i) (reply_of replies.Exists r) old.store new.store c tt formed sound);
+      there = λ bytes has. said r (HasContent cache i bytes new.store) old.store new.store (asks_content cache bytes i (reply_of replies.Exists r) old.store new.store sound has c).1;
+      absent = λ none. denied r (asks_absent cache i (reply_of replies.Exists r) old.store new.store sound formed none c);
+    }

@@ -1,0 +1,84 @@
+-- What removals and clearings gave and left.
+use Rattle.std.proofs.Common.{◌≡◌, ℕ, List, Option, None, Some, Result, Ok, Err, refl}
+use Rattle.std.specs.Prelude.{OnOk, IfErr, IsUtf8}
+use Rattle.cacache_core.specs.declared.errors.Error.{Error}
+use Rattle.cacache_core.specs.declared.integrity.digest.Hash.{Hash}
+use Rattle.cacache_core.specs.Integrity.{IsIntegrity}
+use Rattle.cacache_store.specs.declared.env.Env.{Env}
+use Rattle.cacache_store.specs.declared.store.log.LogItem.{LogItem}
+use Rattle.cacache_memory.specs.Replay.{IsLog}
+use Rattle.cacache_table.specs.declared.command.Command.TheVariants as commands
+use Rattle.cacache_table.specs.Replies.{done}
+use Rattle.cacache_table.specs.Runs.{reply_of}
+use Rattle.cacache_reads.specs.Lookups.{delete_of}
+use Rattle.cacache_sequence.specs.Caches.{IsEmptyCache, IsExcused, LacksKey, Empties, RemovesKey, lies_under}
+use Rattle.cacache_sequence.specs.Removed.{RemovesContent}
+use Rattle.cacache_sequence.proofs.Beside.{removals_keep}
+use Rattle.cacache_sequence.proofs.Logs.{calls_grow}
+use Rattle.cacache_sequence.proofs.Removals.{clearings_empty, removals_last}
+use Rattle.cacache_sequence.proofs.Removed.{contents_go}
+use Rattle.cacache_sequence.proofs.RemovedKeys.{keys_go}
+use Rattle.cacache_results.specs.Removals.{ClearingMeans, ContentRemovalMeans, FullRemovalMeans, RemovalMeans}
+use Rattle.cacache_results.proofs.Told.{called, excused}
+
+gone : (r : Result (Unit {0}) Error) (cache key : List ℕ) (old new : List LogItem) → RemovesKey cache key (reply_of done r) old new → OnOk r (LacksKey cache key new) × IfErr r (λ e. IsExcused e old new)
+gone (Ok u) cache key old new h = (h, tt)
+gone (Err e) cache key old new h = (tt, excused e old new h)
+
+pub removal_means : {C N : Type 0} (moments : C → Option (List ℕ)) (cache key : List ℕ) (r : Result (Unit {0}) Error) (new : Env (List LogItem) C N) → IsUtf8 key → IsLog new.store → RemovalMeans moments cache key r new
+removal_means moments cache key r new utf8 logged old sound ran =
+    let c = called done (λ u. refl) r cache old.base 0 (commands.Delete (delete_of key ran.0)) old.store new.store ran.2.0 logged in
+    let w = removals_last cache key ran.0 (reply_of done r) old.store new.store utf8 ran.1.1 sound c in
+    let told = gone r cache key old.store new.store w.1 in
+    record {
+      sound = w.0;
+      grows = calls_grow cache (commands.Delete (delete_of key ran.0)) (reply_of done r) old.store new.store c;
+      gone = told.0;
+      others = removals_keep cache key ran.0 (reply_of done r) old.store new.store utf8 ran.1.1 sound c;
+      fails = told.1;
+    }
+
+content_gone : (r : Result (Unit {0}) Error) (cache : List ℕ) (i : List Hash) (old new : List LogItem) → RemovesContent cache i (reply_of done r) old new
+    → OnOk r (lies_under cache i new ≡ None) × IfErr r (λ e. IsExcused e old new)
+content_gone (Ok u) cache i old new h = (h, tt)
+content_gone (Err e) cache i old new h = (tt, excused e old new h)
+
+pub content_removal_means : {C N : Type 0} (cache : List ℕ) (i : List Hash) (r : Result (Unit {0}) Error) (new : Env (List LogItem) C N) → IsIntegrity i → IsLog new.store → ContentRemovalMeans cache i r new
+content_removal_means cache i r new formed logged old sound ran =
+    let c = called done (λ u. refl) r cache old.base 0 (commands.RemoveHash i) old.store new.store ran.0.0 logged in
+    let w = contents_go cache i (reply_of done r) old.store new.store formed sound c in
+    let told = content_gone r cache i old.store new.store w.1 in
+    record {
+      sound = w.0;
+      grows = calls_grow cache (commands.RemoveHash i) (reply_of done r) old.store new.store c;
+      gone = told.0;
+      apart = w.2;
+      fails = told.1;
+    }
+
+pub full_removal_means : {C N : Type 0} (cache key : List ℕ) (r : Result (Unit {0}) Error) (new : Env (List LogItem) C N) → IsLog new.store → FullRemovalMeans cache key r new
+full_removal_means cache key r new logged old sound ran =
+    let c = called done (λ u. refl) r cache old.base 0 (commands.RemoveFully key) old.store new.store ran.0.0 logged in
+    let w = keys_go cache key (reply_of done r) old.store new.store sound c in
+    let told = gone r cache key old.store new.store w.1 in
+    record {
+      sound = w.0;
+      grows = calls_grow cache (commands.RemoveFully key) (reply_of done r) old.store new.store c;
+      gone = told.0;
+      apart = w.2;
+      fails = told.1;
+    }
+
+empty_after : (r : Result (Unit {0}) Error) (cache : List ℕ) (old new : List LogItem) → Empties cache (reply_of done r) old new → OnOk r (IsEmptyCache cache new)
+empty_after (Ok u) cache old new h = h
+empty_after (Err e) cache old new h = tt
+
+pub clearing_means : {C N : Type 0} (cache : List ℕ) (r : Result (Unit {0}) Error) (new : Env (List LogItem) C N) → IsLog new.store → ClearingMeans cache r new
+clearing_means cache r new logged old sound ran =
+    let c = called done (λ u. refl) r cache old.base 0 commands.Clear old.store new.store ran.0.0 logged in
+    let w = clearings_empty cache (reply_of done r) old.store new.store sound c in
+    record {
+      sound = w.0;
+      grows = calls_grow cache commands.Clear (reply_of done r) old.store new.store c;
+      empty = empty_after r cache old.store new.store w.1;
+    }

@@ -1,0 +1,6 @@
+pub mod Reads
+pub mod Writes
+pub mod Removals
+pub mod Exports
+pub mod Links
+pub mod Handles

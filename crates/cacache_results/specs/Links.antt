@@ -1,0 +1,65 @@
+-- What links gave their caller and left, by their results, on a store in memory.
+use Rattle.std.specs.Prelude.{◌≡◌, ◌⊎◌, ℕ, List, Option, None, Some, Result, IfOk}
+use Rattle.cacache_core.specs.declared.errors.Error.{Error}
+use Rattle.cacache_core.specs.declared.integrity.algorithm.Algorithm.TheVariants.{Sha256}
+use Rattle.cacache_core.specs.declared.integrity.digest.Hash.{Hash}
+use Rattle.cacache_core.specs.Integrity.{integrity_under}
+use Rattle.cacache_store.specs.declared.env.Env.{Env}
+use Rattle.cacache_store.specs.declared.store.log.LogItem.{LogItem}
+use Rattle.cacache_memory.specs.Replay.{shown, tree_of}
+use Rattle.cacache_table.specs.declared.command.Command.TheVariants as commands
+use Rattle.cacache_table.specs.declared.reply.Reply.TheVariants.{Stored}
+use Rattle.cacache_table.specs.Linking.{based}
+use Rattle.cacache_table.specs.Runs.{reply_of}
+use Rattle.cacache_value.specs.Value.{AtLink}
+use Rattle.cacache_jobs.specs.Environment.{Calls, RunsTimed}
+use Rattle.cacache_put.specs.LinkCalls.{link_to}
+use Rattle.cacache_sequence.specs.Caches.{IsCache, Grows, lies_under}
+use Rattle.cacache_sequence.specs.ExportEffects.{IsApart}
+use Rattle.cacache_sequence.specs.Inserts.{leads_to}
+use Rattle.cacache_sequence.specs.Links.{KeepsBesideLink}
+
+-- under this integrity lies a link to the path, unless something lay there before
+abbrev pub LiesLinked : List ℕ → List Hash → List ℕ → List LogItem → List LogItem → Type 0
+LiesLinked cache i path old new =
+    lies_under cache i old ≡ None → lies_under cache i new ≡ Some (AtLink path)
+
+-- a link under a key, or without one, to a file that shows these bytes
+pub record LinksBytes (cache : List ℕ) (key : Option (List ℕ)) (path held : List ℕ)
+    (r : Result (List Hash) Error) (old new : List LogItem) : Type 0 where
+  pub stored : IfOk r (λ i. i ≡ integrity_under Sha256 held)
+  pub leads : IfOk r (λ i. (k : List ℕ) → key ≡ Some k → leads_to cache k new ≡ Some i)
+  pub lies : IfOk r (λ i. LiesLinked cache i path old new)
+  pub beside : KeepsBesideLink cache key (integrity_under Sha256 held) path old new
+
+-- a link: a cache is left, and so much of the bytes that the target shows
+pub record LinkedFile (cache : List ℕ) (key : Option (List ℕ)) (path : List ℕ)
+    (r : Result (List Hash) Error) (old new : List LogItem) : Type 0 where
+  pub sound : IsCache cache new
+  pub grows : Grows old new
+  pub of : (held : List ℕ) → shown (tree_of old) path ≡ Some held
+      → LinksBytes cache key path held r old new
+
+-- ---- laws, of the environment that a call left
+
+module _ {C N : Type 0} where
+  -- a link under a key to a file apart from the cache, of this result, is one
+  abbrev pub LinkMeans :
+      (C → Option (List ℕ)) → List ℕ → List ℕ → List ℕ → Result (List Hash) Error
+      → Env (List LogItem) C N → Type 0
+  LinkMeans moments cache key target r new =
+      (old : Env (List LogItem) C N) → IsApart cache (based old.base target)
+      → IsCache cache old.store
+      → RunsTimed (λ log. Some log) moments None old new cache
+      (λ moment. commands.Link (link_to (Some key) target moment)) (reply_of Stored r)
+      → LinkedFile cache (Some key) (based old.base target) r old.store new.store
+
+  -- so is one without a key
+  abbrev pub ContentLinkMeans :
+      List ℕ → List ℕ → Result (List Hash) Error → Env (List LogItem) C N → Type 0
+  ContentLinkMeans cache target r new =
+      (old : Env (List LogItem) C N) → IsApart cache (based old.base target)
+      → IsCache cache old.store
+      → Calls (λ log. Some log) old new cache (commands.Link (link_to None target 0))
+      (reply_of Stored r)
+      → LinkedFile cache None (based old.base target) r old.store new.store

@@ -1,0 +1,114 @@
+-- What calls that only look gave their caller and left, by their results, on a store in memory.
+use Rattle.std.specs.Prelude.{◌≡◌, ◌⊎◌, ℕ, Bool, false, List, Option, None, Some, Vec, Result, Ok, IfOk, IfErr, MatchResult, option_map}
+use Rattle.std.specs.Global.{Global}
+use Rattle.cacache_core.specs.declared.errors.Error.{Error}
+use Rattle.cacache_core.specs.declared.errors.Error.TheVariants.{EntryNotFound, OutOfMemory}
+use Rattle.cacache_core.specs.declared.integrity.digest.Hash.{Hash}
+use Rattle.cacache_core.specs.Integrity.{Meets}
+use Rattle.cacache_store.specs.declared.env.Env.{Env}
+use Rattle.cacache_store.specs.declared.store.log.LogItem.{LogItem}
+use Rattle.cacache_entry.specs.declared.metadata.Metadata.{Metadata}
+use Rattle.cacache_entry.specs.Latest.{Found}
+use Rattle.cacache_entry.specs.View.{found_view}
+use Rattle.cacache_table.specs.declared.command.Command.TheVariants as commands
+use Rattle.cacache_table.specs.declared.reply.Reply.TheVariants as replies
+use Rattle.cacache_table.specs.Replies.{looked_up}
+use Rattle.cacache_table.specs.Runs.{reply_of}
+use Rattle.cacache_jobs.specs.Environment.{Calls}
+use Rattle.cacache_reads.specs.Reads.{bytes_read}
+use Rattle.cacache_sequence.specs.Caches.{IsCache, HasContent, HasKey, LacksKey, IsExcused, AStepFailed, lies_under}
+use Rattle.cacache_sequence.specs.Keeping.{found_under}
+use Rattle.cacache_sequence.specs.Looks.{GivesHeld, GivesOfKey, bytes_under}
+use Rattle.cacache_sequence.specs.OpenWriters.{LeavesKnownCache}
+
+-- ---- reads
+
+-- these bytes, unless the error is excused
+abbrev pub GivesJust : List ℕ → Result (Vec ℕ Global) Error → List LogItem → List LogItem → Type 0
+GivesJust bytes r old new = MatchResult r (λ v. v.items ≡ bytes) (λ e. IsExcused e old new)
+
+-- no bytes but `EntryNotFound`, unless the error is excused
+abbrev pub GivesNoEntry :
+    List ℕ → List ℕ → Result (Vec ℕ Global) Error → List LogItem → List LogItem → Type 0
+GivesNoEntry cache key r old new =
+    MatchResult r (λ v. ⊥) (λ e. (e ≡ EntryNotFound cache key) ⊎ IsExcused e old new)
+
+-- these bytes lie under the integrity, or where a link there leads, and meet it
+abbrev pub IsWhole : List ℕ → List Hash → List LogItem → List ℕ → Type 0
+IsWhole cache i log bytes = (bytes_under cache i log ≡ Ok bytes) × Meets i bytes
+
+-- so do they under the integrity that the key leads to
+abbrev pub IsWholeOfKey : List ℕ → List ℕ → List LogItem → List ℕ → Type 0
+IsWholeOfKey cache key log bytes =
+    (found : Found) × (found_under cache key log ≡ Some found)
+    × IsWhole cache found.integrity log bytes
+
+-- a read by key: it gives what the key leads to, and whatever that is, only whole bytes
+pub record ReadKey (cache key : List ℕ) (r : Result (Vec ℕ Global) Error) (old new : List LogItem)
+    : Type 0 where
+  pub leaves : LeavesKnownCache cache old new
+  pub gives : (i : List Hash) (bytes : List ℕ) → HasKey cache key i bytes old
+      → GivesJust bytes r old new
+  pub lacks : LacksKey cache key old → GivesNoEntry cache key r old new
+  pub whole : IfOk r (λ v. IsWholeOfKey cache key old v.items)
+  pub any : GivesOfKey cache key (reply_of bytes_read r) old new
+
+-- a read by integrity: it gives what lies there, and whatever that is, only whole bytes
+pub record ReadContent (cache : List ℕ) (i : List Hash) (r : Result (Vec ℕ Global) Error)
+    (old new : List LogItem) : Type 0 where
+  pub leaves : LeavesKnownCache cache old new
+  pub gives : (bytes : List ℕ) → HasContent cache i bytes old → GivesJust bytes r old new
+  pub whole : IfOk r (λ v. IsWhole cache i old v.items)
+  pub any : GivesHeld cache i (reply_of bytes_read r) old new
+
+-- ---- questions
+
+-- a lookup: it finds the entry that the key leads to, if any
+pub record FoundEntry (cache key : List ℕ) (r : Result (Option Metadata) Error)
+    (old new : List LogItem) : Type 0 where
+  pub leaves : LeavesKnownCache cache old new
+  pub finds : IfOk r (λ found. option_map found_view found ≡ found_under cache key old)
+  pub fails : IfErr r (λ e. IsExcused e old new)
+
+-- a question whether a content is there: a no of one that is there says that a step failed
+pub record AskedContent (cache : List ℕ) (i : List Hash) (r : Result Bool Error)
+    (old new : List LogItem) : Type 0 where
+  pub leaves : LeavesKnownCache cache old new
+  pub there : (bytes : List ℕ) → HasContent cache i bytes old
+      → IfOk r (λ there. there ≡ false → AStepFailed old new)
+  pub absent : lies_under cache i old ≡ None → IfOk r (λ there. there ≡ false)
+
+-- ---- laws, of the environment that a call left
+
+module _ {C N : Type 0} where
+  -- a read by key, of this result, is one
+  abbrev pub KeyReadMeans :
+      List ℕ → List ℕ → Result (Vec ℕ Global) Error → Env (List LogItem) C N → Type 0
+  KeyReadMeans cache key r new =
+      (old : Env (List LogItem) C N) → IsCache cache old.store
+      → Calls (λ log. Some log) old new cache (commands.Get key) (reply_of bytes_read r)
+      → ReadKey cache key r old.store new.store
+
+  -- so is a read by integrity
+  abbrev pub ContentReadMeans :
+      List ℕ → List Hash → Result (Vec ℕ Global) Error → Env (List LogItem) C N → Type 0
+  ContentReadMeans cache i r new =
+      (old : Env (List LogItem) C N) → IsCache cache old.store
+      → Calls (λ log. Some log) old new cache (commands.GetHash i) (reply_of bytes_read r)
+      → ReadContent cache i r old.store new.store
+
+  -- so is a lookup
+  abbrev pub LookupMeans :
+      List ℕ → List ℕ → Result (Option Metadata) Error → Env (List LogItem) C N → Type 0
+  LookupMeans cache key r new =
+      (old : Env (List LogItem) C N) → IsCache cache old.store
+      → Calls (λ log. Some log) old new cache (commands.Find key) (reply_of looked_up r)
+      → FoundEntry cache key r old.store new.store
+
+  -- so is a question
+  abbrev pub QuestionMeans :
+      List ℕ → List Hash → Result Bool Error → Env (List LogItem) C N → Type 0
+  QuestionMeans cache i r new =
+      (old : Env (List LogItem) C N) → IsCache cache old.store
+      → Calls (λ log. Some log) old new cache (commands.Exists i) (reply_of replies.Exists r)
+      → AskedContent cache i r old.store new.store
