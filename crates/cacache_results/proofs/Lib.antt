@@ -5,3 +5,4 @@ pub mod RemovalResults
 pub mod ExportResults
 pub mod LinkResults
 pub mod WriterResults
+pub mod JoinedResults

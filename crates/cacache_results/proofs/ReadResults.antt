@@ -1,5 +1,5 @@
 -- What reads and questions gave and left.
-use Rattle.std.proofs.Common.{◌≡◌, inl, inr, ℕ, Bool, true, false, List, Option, None, Some, Vec, Global, Result, Ok, Err, refl}
+use Rattle.std.proofs.Common.{◌≡◌, inl, inr, ℕ, Bool, true, false, List, Option, None, Some, Vec, Global, Result, Ok, Err, refl, sym, ap, subst, ◌∙◌}
 use Rattle.std.specs.Prelude.{IfOk, IfErr, option_map}
 use Rattle.cacache_core.specs.declared.errors.Error.{Error}
 use Rattle.cacache_core.specs.declared.errors.Error.TheVariants.{OutOfMemory}
@@ -17,14 +17,16 @@ use Rattle.cacache_table.specs.Replies.{looked_up}
 use Rattle.cacache_table.specs.Runs.{reply_of, without_message}
 use Rattle.cacache_reads.specs.Reads.{bytes_read}
 use Rattle.cacache_sequence.specs.Caches.{Called, IsCache, HasContent, HasKey, LacksKey, IsExcused, AStepFailed, GivesBytes, FindsNone, SaysThere}
+use Rattle.cacache_sequence.specs.Inserts.{leads_to}
 use Rattle.cacache_sequence.specs.Keeping.{found_under}
 use Rattle.cacache_sequence.specs.Looks.{GivesFound, GivesHeld, GivesOfKey, SaysAbsent}
 use Rattle.cacache_sequence.proofs.AskedContents.{asks_absent, asks_content}
 use Rattle.cacache_sequence.proofs.GivenReads.{content_reads_give, key_reads_give}
+use Rattle.cacache_sequence.proofs.LinkedReads.{links_show}
 use Rattle.cacache_sequence.proofs.Known.{caches_last}
 use Rattle.cacache_sequence.proofs.Looked.{finds_found}
 use Rattle.cacache_sequence.proofs.ReadsKeep.{reads_content, reads_key, reads_none}
-use Rattle.cacache_results.specs.Reads.{AskedContent, ContentReadMeans, FoundEntry, GivesJust, GivesNoEntry, IsWhole, IsWholeOfKey, KeyReadMeans, LookupMeans, QuestionMeans, ReadContent, ReadKey}
+use Rattle.cacache_results.specs.Reads.{AskedContent, ContentReadMeans, FoundEntry, GivesJust, GivesNoEntry, IsLinkTo, IsWhole, IsWholeOfKey, KeyReadMeans, LookupMeans, QuestionMeans, ReadContent, ReadKey}
 use Rattle.cacache_results.proofs.Told.{called, excused, looks_leave, of_memory, of_missing}
 
 -- ---- reads
@@ -42,6 +44,23 @@ whole_of : (r : Result (Vec ℕ Global) Error) (cache key : List ℕ) (old new :
 whole_of (Ok v) cache key old new h = h
 whole_of (Err e) cache key old new h = tt
 
+-- where a link lies, whole bytes are those that its target shows
+linked_whole : (cache target held bytes : List ℕ) (i : List Hash) (log : List LogItem) → IsLinkTo cache i target held log → IsWhole cache i log bytes → bytes ≡ held
+linked_whole cache target held bytes i log at h = links_show cache target bytes held i log at.lies at.shows h.0
+
+linked_of : (r : Result (Vec ℕ Global) Error) (cache key target held : List ℕ) (i : List Hash) (old : List LogItem) → leads_to cache key old ≡ Some i → IsLinkTo cache i target held old
+    → IfOk r (λ v. IsWholeOfKey cache key old v.items) → IfOk r (λ v. v.items ≡ held)
+linked_of (Ok v) cache key target held i old leads at h =
+    let led : Some h.0.integrity ≡ Some i = sym (ap (option_map (λ (f : Found). f.integrity)) h.1) ∙ leads in
+    let same : h.0.integrity ≡ i = cc in
+    linked_whole cache target held v.items i old at (subst (λ j. IsWhole cache j old v.items) same h.2)
+linked_of (Err e) cache key target held i old leads at h = tt
+
+linked_held : (r : Result (Vec ℕ Global) Error) (cache target held : List ℕ) (i : List Hash) (old : List LogItem) → IsLinkTo cache i target held old
+    → IfOk r (λ v. IsWhole cache i old v.items) → IfOk r (λ v. v.items ≡ held)
+linked_held (Ok v) cache target held i old at h = linked_whole cache target held v.items i old at h
+linked_held (Err e) cache target held i old at h = tt
+
 pub key_read_means : {C N : Type 0} (cache key : List ℕ) (r : Result (Vec ℕ Global) Error) (new : Env (List LogItem) C N) → IsLog new.store → KeyReadMeans cache key r new
 key_read_means cache key r new logged old sound ran =
     let c = called bytes_read (λ b. refl) r cache old.base 0 (commands.Get key) old.store new.store ran.0.0 logged in
@@ -51,6 +70,7 @@ key_read_means cache key r new logged old sound ran =
       gives = λ i bytes has. given r (HasKey cache key i bytes new.store) bytes old.store new.store (reads_key cache key bytes i (reply_of bytes_read r) old.store new.store sound has c).1;
       lacks = λ lacks. none_given r cache key old.store new.store (reads_none cache key (reply_of bytes_read r) old.store new.store sound lacks c).1;
       whole = whole_of r cache key old.store new.store any;
+      linked = λ i target held leads at. linked_of r cache key target held i old.store leads at (whole_of r cache key old.store new.store any);
       any = any;
     }
 
@@ -66,6 +86,7 @@ content_read_means cache i r new formed logged old sound ran =
       leaves = looks_leave cache (commands.GetHash i) (reply_of bytes_read r) old.store new.store tt c (caches_last cache (commands.GetHash i) (reply_of bytes_read r) old.store new.store c tt formed sound);
       gives = λ bytes has. given r (HasContent cache i bytes new.store) bytes old.store new.store (reads_content cache bytes i (reply_of bytes_read r) old.store new.store sound has c).1;
       whole = held_whole r cache i old.store new.store any;
+      linked = λ target held at. linked_held r cache target held i old.store at (held_whole r cache i old.store new.store any);
       any = any;
     }
 

@@ -4,3 +4,4 @@ pub mod Removals
 pub mod Exports
 pub mod Links
 pub mod Handles
+pub mod Joins

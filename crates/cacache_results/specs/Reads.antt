@@ -7,6 +7,7 @@ use Rattle.cacache_core.specs.declared.integrity.digest.Hash.{Hash}
 use Rattle.cacache_core.specs.Integrity.{Meets}
 use Rattle.cacache_store.specs.declared.env.Env.{Env}
 use Rattle.cacache_store.specs.declared.store.log.LogItem.{LogItem}
+use Rattle.cacache_memory.specs.Replay.{shown, tree_of}
 use Rattle.cacache_entry.specs.declared.metadata.Metadata.{Metadata}
 use Rattle.cacache_entry.specs.Latest.{Found}
 use Rattle.cacache_entry.specs.View.{found_view}
@@ -14,9 +15,11 @@ use Rattle.cacache_table.specs.declared.command.Command.TheVariants as commands
 use Rattle.cacache_table.specs.declared.reply.Reply.TheVariants as replies
 use Rattle.cacache_table.specs.Replies.{looked_up}
 use Rattle.cacache_table.specs.Runs.{reply_of}
+use Rattle.cacache_value.specs.Value.{AtLink}
 use Rattle.cacache_jobs.specs.Environment.{Calls}
 use Rattle.cacache_reads.specs.Reads.{bytes_read}
 use Rattle.cacache_sequence.specs.Caches.{IsCache, HasContent, HasKey, LacksKey, IsExcused, AStepFailed, lies_under}
+use Rattle.cacache_sequence.specs.Inserts.{leads_to}
 use Rattle.cacache_sequence.specs.Keeping.{found_under}
 use Rattle.cacache_sequence.specs.Looks.{GivesHeld, GivesOfKey, bytes_under}
 use Rattle.cacache_sequence.specs.OpenWriters.{LeavesKnownCache}
@@ -43,6 +46,12 @@ IsWholeOfKey cache key log bytes =
     (found : Found) × (found_under cache key log ≡ Some found)
     × IsWhole cache found.integrity log bytes
 
+-- under the integrity lies a link to a file that shows these bytes
+pub record IsLinkTo (cache : List ℕ) (i : List Hash) (target held : List ℕ) (log : List LogItem)
+    : Type 0 where
+  pub lies : lies_under cache i log ≡ Some (AtLink target)
+  pub shows : shown (tree_of log) target ≡ Some held
+
 -- a read by key: it gives what the key leads to, and whatever that is, only whole bytes
 pub record ReadKey (cache key : List ℕ) (r : Result (Vec ℕ Global) Error) (old new : List LogItem)
     : Type 0 where
@@ -51,6 +60,8 @@ pub record ReadKey (cache key : List ℕ) (r : Result (Vec ℕ Global) Error) (o
       → GivesJust bytes r old new
   pub lacks : LacksKey cache key old → GivesNoEntry cache key r old new
   pub whole : IfOk r (λ v. IsWholeOfKey cache key old v.items)
+  pub linked : (i : List Hash) (target held : List ℕ) → leads_to cache key old ≡ Some i
+      → IsLinkTo cache i target held old → IfOk r (λ v. v.items ≡ held)
   pub any : GivesOfKey cache key (reply_of bytes_read r) old new
 
 -- a read by integrity: it gives what lies there, and whatever that is, only whole bytes
@@ -59,6 +70,8 @@ pub record ReadContent (cache : List ℕ) (i : List Hash) (r : Result (Vec ℕ G
   pub leaves : LeavesKnownCache cache old new
   pub gives : (bytes : List ℕ) → HasContent cache i bytes old → GivesJust bytes r old new
   pub whole : IfOk r (λ v. IsWhole cache i old v.items)
+  pub linked : (target held : List ℕ) → IsLinkTo cache i target held old
+      → IfOk r (λ v. v.items ≡ held)
   pub any : GivesHeld cache i (reply_of bytes_read r) old new
 
 -- ---- questions

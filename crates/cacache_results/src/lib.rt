@@ -5,6 +5,7 @@
 
 mod changes;
 mod handles;
+mod joins;
 mod looks;
 mod outside;
 
@@ -13,5 +14,6 @@ pub use changes::{
     after_write_hash,
 };
 pub use handles::writer_laws;
+pub use joins::joining_laws;
 pub use looks::{after_exists, after_find, after_read, after_read_hash};
 pub use outside::{after_copy, after_link, after_link_hash, after_share};
