@@ -5,7 +5,7 @@ use Rattle.cacache_store.specs.declared.store.log.LogItem.{LogItem}
 use Rattle.cacache_table.specs.Causes.{Faulted}
 use Rattle.cacache_table.specs.Runs.{Moves}
 use Rattle.cacache_sequence.proofs.Logs.{growths_join, joined}
-use Rattle.cacache_results.specs.Joins.{ExcusesStay, LeavingsJoin, UntouchedJoin}
+use Rattle.cacache_results.specs.Joins.{ExcusesStay, KnownStays, LeavingsJoin, UntouchedJoin}
 
 pub leavings_join : LeavingsJoin
 leavings_join cache old mid new a b = (
@@ -24,6 +24,13 @@ untouched_join cache written own added old mid new a b = record {
   finds = λ other differ. b.finds other differ ∙ a.finds other differ;
   content = λ i bytes apart has. b.content i bytes apart (a.content i bytes apart has);
   key = λ other bytes i differ apart has. b.key other bytes i differ apart (a.key other bytes i differ apart has);
+}
+
+pub known_stays : KnownStays
+known_stays cache written own added old new h = record {
+  finds = λ other differ. h.1.finds other;
+  content = λ i bytes apart has. h.1.content i bytes has;
+  key = λ other bytes i differ apart has. h.1.key other bytes i has;
 }
 
 faulted_first : (xs ys : Moves) (fault : Fault) → Faulted xs fault → Faulted (xs ++ ys) fault

@@ -6,3 +6,4 @@ pub mod ExportResults
 pub mod LinkResults
 pub mod WriterResults
 pub mod JoinedResults
+pub mod ListResults

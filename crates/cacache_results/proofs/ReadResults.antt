@@ -25,6 +25,7 @@ use Rattle.cacache_sequence.proofs.GivenReads.{content_reads_give, key_reads_giv
 use Rattle.cacache_sequence.proofs.LinkedReads.{links_show}
 use Rattle.cacache_sequence.proofs.Known.{caches_last}
 use Rattle.cacache_sequence.proofs.Looked.{finds_found}
+use Rattle.cacache_sequence.proofs.Looks.{tree_stays}
 use Rattle.cacache_sequence.proofs.ReadsKeep.{reads_content, reads_key, reads_none}
 use Rattle.cacache_results.specs.Reads.{AskedContent, ContentReadMeans, FoundEntry, GivesJust, GivesNoEntry, IsLinkTo, IsWhole, IsWholeOfKey, KeyReadMeans, LookupMeans, QuestionMeans, ReadContent, ReadKey}
 use Rattle.cacache_results.proofs.Told.{called, excused, looks_leave, of_memory, of_missing}
@@ -67,6 +68,7 @@ key_read_means cache key r new logged old sound ran =
     let any = key_reads_give cache key (reply_of bytes_read r) old.store new.store sound c in
     record {
       leaves = looks_leave cache (commands.Get key) (reply_of bytes_read r) old.store new.store tt c (caches_last cache (commands.Get key) (reply_of bytes_read r) old.store new.store c tt tt sound);
+      same = tree_stays cache (commands.Get key) (reply_of bytes_read r) old.store new.store tt c;
       gives = λ i bytes has. given r (HasKey cache key i bytes new.store) bytes old.store new.store (reads_key cache key bytes i (reply_of bytes_read r) old.store new.store sound has c).1;
       lacks = λ lacks. none_given r cache key old.store new.store (reads_none cache key (reply_of bytes_read r) old.store new.store sound lacks c).1;
       whole = whole_of r cache key old.store new.store any;
@@ -84,6 +86,7 @@ content_read_means cache i r new formed logged old sound ran =
     let any = content_reads_give cache i (reply_of bytes_read r) old.store new.store formed sound c in
     record {
       leaves = looks_leave cache (commands.GetHash i) (reply_of bytes_read r) old.store new.store tt c (caches_last cache (commands.GetHash i) (reply_of bytes_read r) old.store new.store c tt formed sound);
+      same = tree_stays cache (commands.GetHash i) (reply_of bytes_read r) old.store new.store tt c;
       gives = λ bytes has. given r (HasContent cache i bytes new.store) bytes old.store new.store (reads_content cache bytes i (reply_of bytes_read r) old.store new.store sound has c).1;
       whole = held_whole r cache i old.store new.store any;
       linked = λ target held at. linked_held r cache target held i old.store at (held_whole r cache i old.store new.store any);
@@ -103,6 +106,7 @@ lookup_means cache key r new logged old sound ran =
     let f = found r (found_under cache key old.store) old.store new.store (finds_found cache key (reply_of looked_up r) old.store new.store sound c) in
     record {
       leaves = looks_leave cache (commands.Find key) (reply_of looked_up r) old.store new.store tt c (caches_last cache (commands.Find key) (reply_of looked_up r) old.store new.store c tt tt sound);
+      same = tree_stays cache (commands.Find key) (reply_of looked_up r) old.store new.store tt c;
       finds = f.0;
       fails = f.1;
     }
@@ -123,6 +127,7 @@ question_means cache i r new formed logged old sound ran =
     let c = called replies.Exists (λ b. refl) r cache old.base 0 (commands.Exists i) old.store new.store ran.0.0 logged in
     record {
       leaves = looks_leave cache (commands.Exists i) (reply_of replies.Exists r) old.store new.store tt c (caches_last cache (commands.Exists i) (reply_of replies.Exists r) old.store new.store c tt formed sound);
+      same = tree_stays cache (commands.Exists i) (reply_of replies.Exists r) old.store new.store tt c;
       there = λ bytes has. said r (HasContent cache i bytes new.store) old.store new.store (asks_content cache bytes i (reply_of replies.Exists r) old.store new.store sound has c).1;
       absent = λ none. denied r (asks_absent cache i (reply_of replies.Exists r) old.store new.store sound formed none c);
     }

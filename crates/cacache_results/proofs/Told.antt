@@ -19,7 +19,7 @@ use Rattle.cacache_sequence.proofs.Looks.{looks_keep}
 
 -- ---- errors
 
-plain_twice : (e : Error) → without_message (without_message e) ≡ without_message e
+pub plain_twice : (e : Error) → without_message (without_message e) ≡ without_message e
 plain_twice (EntryNotFound c k) = refl
 plain_twice (SizeMismatch wanted actual) = refl
 plain_twice (IoError fault message) = refl

@@ -23,6 +23,13 @@ UntouchedJoin =
     → KeepsUntouched cache written own added mid new
     → KeepsUntouched cache written own added old new
 
+-- what is known stayed untouched
+abbrev pub KnownStays : Type 0
+KnownStays =
+    (cache : List ℕ) (written : Option (List ℕ)) (own : List Hash) (added : List ℕ)
+    (old new : List LogItem) → LeavesKnownCache cache old new
+    → KeepsUntouched cache written own added old new
+
 -- what excuses an error in the earlier part of a log excuses it in the whole
 abbrev pub ExcusesStay : Type 0
 ExcusesStay =

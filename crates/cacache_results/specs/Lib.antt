@@ -5,3 +5,4 @@ pub mod Exports
 pub mod Links
 pub mod Handles
 pub mod Joins
+pub mod Lists

@@ -24,6 +24,8 @@ use Rattle.cacache_sequence.specs.Keeping.{found_under}
 use Rattle.cacache_sequence.specs.Looks.{GivesHeld, GivesOfKey, bytes_under}
 use Rattle.cacache_sequence.specs.OpenWriters.{LeavesKnownCache}
 
+-- Each of these calls leaves the whole store as it was: files apart from the cache too.
+
 -- ---- reads
 
 -- these bytes, unless the error is excused
@@ -56,6 +58,7 @@ pub record IsLinkTo (cache : List ℕ) (i : List Hash) (target held : List ℕ) 
 pub record ReadKey (cache key : List ℕ) (r : Result (Vec ℕ Global) Error) (old new : List LogItem)
     : Type 0 where
   pub leaves : LeavesKnownCache cache old new
+  pub same : tree_of new ≡ tree_of old
   pub gives : (i : List Hash) (bytes : List ℕ) → HasKey cache key i bytes old
       → GivesJust bytes r old new
   pub lacks : LacksKey cache key old → GivesNoEntry cache key r old new
@@ -68,6 +71,7 @@ pub record ReadKey (cache key : List ℕ) (r : Result (Vec ℕ Global) Error) (o
 pub record ReadContent (cache : List ℕ) (i : List Hash) (r : Result (Vec ℕ Global) Error)
     (old new : List LogItem) : Type 0 where
   pub leaves : LeavesKnownCache cache old new
+  pub same : tree_of new ≡ tree_of old
   pub gives : (bytes : List ℕ) → HasContent cache i bytes old → GivesJust bytes r old new
   pub whole : IfOk r (λ v. IsWhole cache i old v.items)
   pub linked : (target held : List ℕ) → IsLinkTo cache i target held old
@@ -80,6 +84,7 @@ pub record ReadContent (cache : List ℕ) (i : List Hash) (r : Result (Vec ℕ G
 pub record FoundEntry (cache key : List ℕ) (r : Result (Option Metadata) Error)
     (old new : List LogItem) : Type 0 where
   pub leaves : LeavesKnownCache cache old new
+  pub same : tree_of new ≡ tree_of old
   pub finds : IfOk r (λ found. option_map found_view found ≡ found_under cache key old)
   pub fails : IfErr r (λ e. IsExcused e old new)
 
@@ -87,6 +92,7 @@ pub record FoundEntry (cache key : List ℕ) (r : Result (Option Metadata) Error
 pub record AskedContent (cache : List ℕ) (i : List Hash) (r : Result Bool Error)
     (old new : List LogItem) : Type 0 where
   pub leaves : LeavesKnownCache cache old new
+  pub same : tree_of new ≡ tree_of old
   pub there : (bytes : List ℕ) → HasContent cache i bytes old
       → IfOk r (λ there. there ≡ false → AStepFailed old new)
   pub absent : lies_under cache i old ≡ None → IfOk r (λ there. there ≡ false)

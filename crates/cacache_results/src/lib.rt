@@ -6,6 +6,7 @@
 mod changes;
 mod handles;
 mod joins;
+mod listing;
 mod looks;
 mod outside;
 
@@ -15,5 +16,6 @@ pub use changes::{
 };
 pub use handles::writer_laws;
 pub use joins::joining_laws;
+pub use listing::after_list;
 pub use looks::{after_exists, after_find, after_read, after_read_hash};
 pub use outside::{after_copy, after_link, after_link_hash, after_share};

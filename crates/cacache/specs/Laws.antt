@@ -1,0 +1,32 @@
+-- The words of the laws of calls on a store in memory, for the crates above: what a cache holds, what calls left and
+-- answered.
+pub use Rattle.serde_json.specs.Data.{Data}
+pub use Rattle.serde_json.specs.View.{view}
+pub use Rattle.cacache_core.specs.declared.errors.Error.TheVariants.{EntryNotFound, SizeMismatch, IoError, SerdeError, IntegrityError, OutOfMemory}
+pub use Rattle.cacache_core.specs.declared.errors.IntegrityFault.{IntegrityFault}
+pub use Rattle.cacache_core.specs.Integrity.{IsIntegrity}
+pub use Rattle.cacache_memory.specs.Replay.{IsLog, shown, tree_of}
+pub use Rattle.cacache_entry.specs.FittingEntries.{AreBytes, IsJson}
+pub use Rattle.cacache_table.specs.declared.command.Source.TheVariants.{Key, Hash as OfHash}
+pub use Rattle.cacache_table.specs.declared.command.How.TheVariants.{Copy, Reflink, HardLink}
+pub use Rattle.cacache_table.specs.Linking.{based}
+pub use Rattle.cacache_table.specs.Promises.{answered}
+pub use Rattle.cacache_value.specs.Value.{InFile, AtLink}
+pub use Rattle.cacache_history.specs.Values.{IsThere}
+pub use Rattle.cacache_sequence.specs.Caches.{IsCache, IsEmptyCache, HasContent, HasKey, LacksKey, Grows, AStepFailed, IsExcused, Called, lies_under}
+pub use Rattle.cacache_sequence.specs.Keeping.{StaysKnown, KeepsOthers, found_under}
+pub use Rattle.cacache_sequence.specs.Inserts.{leads_to}
+pub use Rattle.cacache_sequence.specs.Beside.{IsOther, KeepsBeside, ShareAddress}
+pub use Rattle.cacache_sequence.specs.Removed.{KeepsApart, KeepsApartFrom}
+pub use Rattle.cacache_sequence.specs.Links.{KeepsBesideLink}
+pub use Rattle.cacache_sequence.specs.Looks.{IsDamaged, GivesHeld, GivesOfKey, bytes_under}
+pub use Rattle.cacache_sequence.specs.ExportEffects.{IsApart, NamesBytes}
+pub use Rattle.cacache_sequence.specs.OpenWriters.{LeavesKnownCache, NothingElse}
+pub use Rattle.cacache_results.specs.Reads.{GivesJust, GivesNoEntry, IsWhole, IsWholeOfKey, IsLinkTo, ReadKey, ReadContent, FoundEntry, AskedContent}
+pub use Rattle.cacache_results.specs.Writes.{DontClash, KeepsUntouched, SaysPlain, Wrote, WroteContent, Inserted}
+pub use Rattle.cacache_results.specs.Removals.{RemovedKey, RemovedContent, RemovedFully, Cleared}
+pub use Rattle.cacache_results.specs.Exports.{CopiedOut, SharedOut}
+pub use Rattle.cacache_results.specs.Links.{LiesLinked, LinksBytes, LinkedFile}
+pub use Rattle.cacache_table.specs.ListReplies.{In}
+pub use Rattle.cacache_results.specs.Lists.{AreEntries, ListedKeys}
+pub use Rattle.cacache_results.specs.Handles.{MemWriter, IsWriting, OpenedWriter, SaysFit, IsEntryFor, LeadsToEntry, LiesOrStayed, CommittedBytes, own_of}

@@ -1,0 +1,40 @@
+-- What a listing gave its caller and left, by its reply, on a store in memory.
+use Rattle.std.specs.Prelude.{◌≡◌, ℕ, All, List, Some, Ok, map}
+use Rattle.cacache_store.specs.declared.env.Env.{Env}
+use Rattle.cacache_store.specs.declared.store.log.LogItem.{LogItem}
+use Rattle.cacache_memory.specs.Replay.{tree_of}
+use Rattle.cacache_entry.specs.Latest.{Found}
+use Rattle.cacache_table.specs.declared.command.Command.TheVariants as commands
+use Rattle.cacache_table.specs.declared.reply.Reply.{Reply}
+use Rattle.cacache_table.specs.declared.reply.Reply.TheVariants.{Listed}
+use Rattle.cacache_table.specs.ListReplies.{In}
+use Rattle.cacache_table.specs.Runs.{Ran, plain_reply}
+use Rattle.cacache_table.specs.Table.{opening}
+use Rattle.cacache_jobs.specs.Sites.{site_of}
+use Rattle.cacache_sequence.specs.Caches.{IsCache}
+use Rattle.cacache_sequence.specs.Keeping.{found_under}
+use Rattle.cacache_sequence.specs.ListedKeys.{GivesKeys}
+use Rattle.cacache_sequence.specs.OpenWriters.{LeavesKnownCache}
+
+-- these are the entries that keys lead to, all of them
+pub record AreEntries (cache : List ℕ) (log : List LogItem) (entries : List Found) : Type 0 where
+  pub each : All (λ entry. found_under cache entry.key log ≡ Some entry) entries
+  pub all : (key : List ℕ) (entry : Found) → found_under cache key log ≡ Some entry
+      → In entry entries
+
+-- a listing: where no item is an error, its items are the entries that keys lead to, all of them
+pub record ListedKeys (cache : List ℕ) (r : Reply) (old new : List LogItem) : Type 0 where
+  pub leaves : LeavesKnownCache cache old new
+  pub same : tree_of new ≡ tree_of old
+  pub entries : (entries : List Found) → r ≡ Listed (map Ok entries)
+      → AreEntries cache old entries
+  pub any : GivesKeys cache (plain_reply r) old new
+
+-- a listing, of this reply, is one
+abbrev pub ListingMeans :
+    {C N : Type 0} → List ℕ → Reply → Env (List LogItem) C N → Type 0
+ListingMeans {C} {N} cache r new =
+    (old : Env (List LogItem) C N) → IsCache cache old.store
+    → Ran (opening (site_of cache old.base 0) commands.Ls) (plain_reply r) (Some old.store)
+    (Some new.store)
+    → ListedKeys cache r old.store new.store
