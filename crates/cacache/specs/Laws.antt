@@ -22,11 +22,11 @@ pub use Rattle.cacache_sequence.specs.Links.{KeepsBesideLink}
 pub use Rattle.cacache_sequence.specs.Looks.{IsDamaged, GivesHeld, GivesOfKey, bytes_under}
 pub use Rattle.cacache_sequence.specs.ExportEffects.{IsApart, NamesBytes}
 pub use Rattle.cacache_sequence.specs.OpenWriters.{LeavesKnownCache, NothingElse}
-pub use Rattle.cacache_results.specs.Reads.{GivesJust, GivesNoEntry, IsWhole, IsWholeOfKey, IsLinkTo, ReadKey, ReadContent, FoundEntry, AskedContent}
-pub use Rattle.cacache_results.specs.Writes.{DontClash, KeepsUntouched, SaysPlain, Wrote, WroteContent, Inserted}
-pub use Rattle.cacache_results.specs.Removals.{RemovedKey, RemovedContent, RemovedFully, Cleared}
+pub use Rattle.cacache_results.specs.Reads.{GivesJust, GivesNoEntry, LiesWhole, KeyLiesWhole, LinksToFile, KeyRead, ContentRead, EntryFound, AskedContent}
+pub use Rattle.cacache_results.specs.Writes.{DontClash, KeepsUntouched, SaysPlain, KeyWritten, ContentWritten, KeyInserted}
+pub use Rattle.cacache_results.specs.Removals.{KeyRemoved, ContentRemoved, KeyRemovedFully, Cleared}
 pub use Rattle.cacache_results.specs.Exports.{CopiedOut, SharedOut}
 pub use Rattle.cacache_results.specs.Links.{LiesLinked, LinksBytes, LinkedFile}
 pub use Rattle.cacache_table.specs.ListReplies.{In}
-pub use Rattle.cacache_results.specs.Lists.{AreEntries, ListedKeys}
-pub use Rattle.cacache_results.specs.Handles.{MemWriter, IsWriting, OpenedWriter, SaysFit, IsEntryFor, LeadsToEntry, LiesOrStayed, CommittedBytes, own_of}
+pub use Rattle.cacache_results.specs.Lists.{AreAllEntries, ListedEntries}
+pub use Rattle.cacache_results.specs.Handles.{MemWriter, IsWriting, OpenedWriter, SaysFit, IsEntryFor, LeadsToEntry, LiesOrStayed, CommittedBytes, said_integrity}

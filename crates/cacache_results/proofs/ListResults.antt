@@ -18,7 +18,7 @@ use Rattle.cacache_sequence.specs.ListedKeys.{AreAllFound, GivesKeys, IsShown, L
 use Rattle.cacache_sequence.proofs.Known.{caches_last}
 use Rattle.cacache_sequence.proofs.ListedKeys.{listings_give}
 use Rattle.cacache_sequence.proofs.Looks.{tree_stays}
-use Rattle.cacache_results.specs.Lists.{AreEntries, ListingMeans}
+use Rattle.cacache_results.specs.Lists.{AreAllEntries, ListingMeans}
 use Rattle.cacache_results.proofs.Told.{looks_leave, plain_twice}
 
 -- ---- replies without messages
@@ -62,7 +62,7 @@ in_entries f [] i = i
 in_entries f (g ∷ gs) (inl e) = inl cc
 in_entries f (g ∷ gs) (inr i) = inr (in_entries f gs i)
 
-are_entries : (cache : List ℕ) (r : Reply) (entries : List Found) (old new : List LogItem) → r ≡ replies.Listed (map (λ f. Ok f) entries) → GivesKeys cache (plain_reply r) old new → AreEntries cache old entries
+are_entries : (cache : List ℕ) (r : Reply) (entries : List Found) (old new : List LogItem) → r ≡ replies.Listed (map (λ f. Ok f) entries) → GivesKeys cache (plain_reply r) old new → AreAllEntries cache old entries
 are_entries cache r entries old new is h =
     let all : ListsKeys cache (map plain_item (map (λ f. Ok f) entries)) old new = subst (λ x. GivesKeys cache (plain_reply x) old new) is h in
     let lists : ListsKeys cache (map (λ f. Ok f) entries) old new = subst (λ l. ListsKeys cache l old new) (plain_entries entries) all in

@@ -27,7 +27,7 @@ use Rattle.cacache_sequence.proofs.Known.{caches_last}
 use Rattle.cacache_sequence.proofs.Looked.{finds_found}
 use Rattle.cacache_sequence.proofs.Looks.{tree_stays}
 use Rattle.cacache_sequence.proofs.ReadsKeep.{reads_content, reads_key, reads_none}
-use Rattle.cacache_results.specs.Reads.{AskedContent, ContentReadMeans, FoundEntry, GivesJust, GivesNoEntry, IsLinkTo, IsWhole, IsWholeOfKey, KeyReadMeans, LookupMeans, QuestionMeans, ReadContent, ReadKey}
+use Rattle.cacache_results.specs.Reads.{AskedContent, ContentReadMeans, EntryFound, GivesJust, GivesNoEntry, LinksToFile, LiesWhole, KeyLiesWhole, KeyReadMeans, LookupMeans, QuestionMeans, ContentRead, KeyRead}
 use Rattle.cacache_results.proofs.Told.{called, excused, looks_leave, of_memory, of_missing}
 
 -- ---- reads
@@ -41,24 +41,24 @@ none_given (Ok v) cache key old new h = h
 none_given (Err e) cache key old new (inl is) = inl (of_missing e cache key is)
 none_given (Err e) cache key old new (inr h) = inr (excused e old new h)
 
-whole_of : (r : Result (Vec ℕ Global) Error) (cache key : List ℕ) (old new : List LogItem) → GivesOfKey cache key (reply_of bytes_read r) old new → IfOk r (λ v. IsWholeOfKey cache key old v.items)
+whole_of : (r : Result (Vec ℕ Global) Error) (cache key : List ℕ) (old new : List LogItem) → GivesOfKey cache key (reply_of bytes_read r) old new → IfOk r (λ v. KeyLiesWhole cache key old v.items)
 whole_of (Ok v) cache key old new h = h
 whole_of (Err e) cache key old new h = tt
 
 -- where a link lies, whole bytes are those that its target shows
-linked_whole : (cache target held bytes : List ℕ) (i : List Hash) (log : List LogItem) → IsLinkTo cache i target held log → IsWhole cache i log bytes → bytes ≡ held
+linked_whole : (cache target held bytes : List ℕ) (i : List Hash) (log : List LogItem) → LinksToFile cache i target held log → LiesWhole cache i log bytes → bytes ≡ held
 linked_whole cache target held bytes i log at h = links_show cache target bytes held i log at.lies at.shows h.0
 
-linked_of : (r : Result (Vec ℕ Global) Error) (cache key target held : List ℕ) (i : List Hash) (old : List LogItem) → leads_to cache key old ≡ Some i → IsLinkTo cache i target held old
-    → IfOk r (λ v. IsWholeOfKey cache key old v.items) → IfOk r (λ v. v.items ≡ held)
+linked_of : (r : Result (Vec ℕ Global) Error) (cache key target held : List ℕ) (i : List Hash) (old : List LogItem) → leads_to cache key old ≡ Some i → LinksToFile cache i target held old
+    → IfOk r (λ v. KeyLiesWhole cache key old v.items) → IfOk r (λ v. v.items ≡ held)
 linked_of (Ok v) cache key target held i old leads at h =
     let led : Some h.0.integrity ≡ Some i = sym (ap (option_map (λ (f : Found). f.integrity)) h.1) ∙ leads in
     let same : h.0.integrity ≡ i = cc in
-    linked_whole cache target held v.items i old at (subst (λ j. IsWhole cache j old v.items) same h.2)
+    linked_whole cache target held v.items i old at (subst (λ j. LiesWhole cache j old v.items) same h.2)
 linked_of (Err e) cache key target held i old leads at h = tt
 
-linked_held : (r : Result (Vec ℕ Global) Error) (cache target held : List ℕ) (i : List Hash) (old : List LogItem) → IsLinkTo cache i target held old
-    → IfOk r (λ v. IsWhole cache i old v.items) → IfOk r (λ v. v.items ≡ held)
+linked_held : (r : Result (Vec ℕ Global) Error) (cache target held : List ℕ) (i : List Hash) (old : List LogItem) → LinksToFile cache i target held old
+    → IfOk r (λ v. LiesWhole cache i old v.items) → IfOk r (λ v. v.items ≡ held)
 linked_held (Ok v) cache target held i old at h = linked_whole cache target held v.items i old at h
 linked_held (Err e) cache target held i old at h = tt
 
@@ -76,7 +76,7 @@ key_read_means cache key r new logged old sound ran =
       any = any;
     }
 
-held_whole : (r : Result (Vec ℕ Global) Error) (cache : List ℕ) (i : List Hash) (old new : List LogItem) → GivesHeld cache i (reply_of bytes_read r) old new → IfOk r (λ v. IsWhole cache i old v.items)
+held_whole : (r : Result (Vec ℕ Global) Error) (cache : List ℕ) (i : List Hash) (old new : List LogItem) → GivesHeld cache i (reply_of bytes_read r) old new → IfOk r (λ v. LiesWhole cache i old v.items)
 held_whole (Ok v) cache i old new h = h
 held_whole (Err e) cache i old new h = tt
 

@@ -33,7 +33,7 @@ use Rattle.cacache_sequence.proofs.Committing.{commits_last}
 use Rattle.cacache_sequence.proofs.GivenUp.{giving_up_lasts}
 use Rattle.cacache_sequence.proofs.OpenWriters.{writers_open}
 use Rattle.cacache_sequence.proofs.Puts.{commits_keep, commits_leave}
-use Rattle.cacache_results.specs.Handles.{CommitsMean, CommittedBytes, FailedWritesMean, GivingUpMeans, IsText, IsWriting, LeadsToEntry, MemWriter, OpenedWriter, OpeningsMean, SaysFit, WritersGoOn, own_of}
+use Rattle.cacache_results.specs.Handles.{CommitsMean, CommittedBytes, FailedWritesMean, GivingUpMeans, IsText, IsWriting, LeadsToEntry, MemWriter, OpenedWriter, OpeningsMean, SaysFit, WritersGoOn, said_integrity}
 use Rattle.cacache_results.proofs.Told.{excused, plain_result}
 use Rattle.cacache_results.proofs.WriteResults.{untouched}
 
@@ -102,7 +102,7 @@ fits : (cache : List ℕ) (key : Option (List ℕ)) (s : Said) (bytes : List ℕ
 fits cache None s bytes moment says text small k is = absurd cc
 fits cache (Some key) s bytes moment says text small k is = λ none. record {
   key = (let same : key ≡ k = cc in subst (λ (x : List ℕ). IsUtf8 x) same text);
-  integrity = integrity_utf8 (given_or (own_of s bytes) s.integrity);
+  integrity = integrity_utf8 (given_or (said_integrity s bytes) s.integrity);
   size = small;
   metadata = says.json;
   raw_metadata = says.raw;
@@ -143,7 +143,7 @@ commits_mean moments new logged cache key s bytes w (Ok i) old sound t says text
       stored = left.stored;
       leads = leads_so cache key s bytes h.0 i old.store new.store left;
       content = left.content;
-      keeps = untouched cache key (own_of s bytes) bytes old.store new.store kept.1;
+      keeps = untouched cache key (said_integrity s bytes) bytes old.store new.store kept.1;
     }
 commits_mean moments new logged cache key s bytes w (Err e) old sound t says text small h =
     let p = put_of key s bytes h.0 in
@@ -157,7 +157,7 @@ commits_mean moments new logged cache key s bytes w (Err e) old sound t says tex
       stored = tt;
       leads = tt;
       content = tt;
-      keeps = untouched cache key (own_of s bytes) bytes old.store new.store kept.1;
+      keeps = untouched cache key (said_integrity s bytes) bytes old.store new.store kept.1;
     }
 
 -- ---- writers that are given up

@@ -65,8 +65,8 @@ abbrev pub IsText : Option (List ℕ) → Type 0
 IsText key = IfSome key (λ k. IsUtf8 k)
 
 -- the integrity of the bytes, under the algorithm that was said
-abbrev pub own_of : Said → List ℕ → List Hash
-own_of s bytes = integrity_under s.algorithm bytes
+abbrev pub said_integrity : Said → List ℕ → List Hash
+said_integrity s bytes = integrity_under s.algorithm bytes
 
 -- an entry of this integrity, of so many bytes, and of the metadata that was said
 pub record IsEntryFor (s : Said) (i : List Hash) (count : ℕ) (found : Found) : Type 0 where
@@ -93,11 +93,11 @@ pub record CommittedBytes (cache : List ℕ) (key : Option (List ℕ)) (s : Said
     (r : Result (List Hash) Error) (old new : List LogItem) : Type 0 where
   pub sound : IsCache cache new
   pub grows : Grows old new
-  pub stored : IfOk r (λ i. i ≡ answered (own_of s bytes) s.integrity key)
+  pub stored : IfOk r (λ i. i ≡ answered (said_integrity s bytes) s.integrity key)
   pub leads : IfOk r (λ i. (k : List ℕ) → key ≡ Some k
       → LeadsToEntry cache k s i (length bytes) new)
-  pub content : IfOk r (λ i. LiesOrStayed cache (own_of s bytes) bytes old new)
-  pub keeps : KeepsUntouched cache key (own_of s bytes) bytes old new
+  pub content : IfOk r (λ i. LiesOrStayed cache (said_integrity s bytes) bytes old new)
+  pub keeps : KeepsUntouched cache key (said_integrity s bytes) bytes old new
 
 -- ---- laws, of the environment that a call left
 

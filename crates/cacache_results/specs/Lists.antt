@@ -17,17 +17,17 @@ use Rattle.cacache_sequence.specs.ListedKeys.{GivesKeys}
 use Rattle.cacache_sequence.specs.OpenWriters.{LeavesKnownCache}
 
 -- these are the entries that keys lead to, all of them
-pub record AreEntries (cache : List ℕ) (log : List LogItem) (entries : List Found) : Type 0 where
+pub record AreAllEntries (cache : List ℕ) (log : List LogItem) (entries : List Found) : Type 0 where
   pub each : All (λ entry. found_under cache entry.key log ≡ Some entry) entries
   pub all : (key : List ℕ) (entry : Found) → found_under cache key log ≡ Some entry
       → In entry entries
 
 -- a listing: where no item is an error, its items are the entries that keys lead to, all of them
-pub record ListedKeys (cache : List ℕ) (r : Reply) (old new : List LogItem) : Type 0 where
+pub record ListedEntries (cache : List ℕ) (r : Reply) (old new : List LogItem) : Type 0 where
   pub leaves : LeavesKnownCache cache old new
   pub same : tree_of new ≡ tree_of old
   pub entries : (entries : List Found) → r ≡ Listed (map Ok entries)
-      → AreEntries cache old entries
+      → AreAllEntries cache old entries
   pub any : GivesKeys cache (plain_reply r) old new
 
 -- a listing, of this reply, is one
@@ -37,4 +37,4 @@ ListingMeans {C} {N} cache r new =
     (old : Env (List LogItem) C N) → IsCache cache old.store
     → Ran (opening (site_of cache old.base 0) commands.Ls) (plain_reply r) (Some old.store)
     (Some new.store)
-    → ListedKeys cache r old.store new.store
+    → ListedEntries cache r old.store new.store

@@ -39,49 +39,49 @@ GivesNoEntry cache key r old new =
     MatchResult r (λ v. ⊥) (λ e. (e ≡ EntryNotFound cache key) ⊎ IsExcused e old new)
 
 -- these bytes lie under the integrity, or where a link there leads, and meet it
-abbrev pub IsWhole : List ℕ → List Hash → List LogItem → List ℕ → Type 0
-IsWhole cache i log bytes = (bytes_under cache i log ≡ Ok bytes) × Meets i bytes
+abbrev pub LiesWhole : List ℕ → List Hash → List LogItem → List ℕ → Type 0
+LiesWhole cache i log bytes = (bytes_under cache i log ≡ Ok bytes) × Meets i bytes
 
 -- so do they under the integrity that the key leads to
-abbrev pub IsWholeOfKey : List ℕ → List ℕ → List LogItem → List ℕ → Type 0
-IsWholeOfKey cache key log bytes =
+abbrev pub KeyLiesWhole : List ℕ → List ℕ → List LogItem → List ℕ → Type 0
+KeyLiesWhole cache key log bytes =
     (found : Found) × (found_under cache key log ≡ Some found)
-    × IsWhole cache found.integrity log bytes
+    × LiesWhole cache found.integrity log bytes
 
 -- under the integrity lies a link to a file that shows these bytes
-pub record IsLinkTo (cache : List ℕ) (i : List Hash) (target held : List ℕ) (log : List LogItem)
+pub record LinksToFile (cache : List ℕ) (i : List Hash) (target held : List ℕ) (log : List LogItem)
     : Type 0 where
   pub lies : lies_under cache i log ≡ Some (AtLink target)
   pub shows : shown (tree_of log) target ≡ Some held
 
 -- a read by key: it gives what the key leads to, and whatever that is, only whole bytes
-pub record ReadKey (cache key : List ℕ) (r : Result (Vec ℕ Global) Error) (old new : List LogItem)
+pub record KeyRead (cache key : List ℕ) (r : Result (Vec ℕ Global) Error) (old new : List LogItem)
     : Type 0 where
   pub leaves : LeavesKnownCache cache old new
   pub same : tree_of new ≡ tree_of old
   pub gives : (i : List Hash) (bytes : List ℕ) → HasKey cache key i bytes old
       → GivesJust bytes r old new
   pub lacks : LacksKey cache key old → GivesNoEntry cache key r old new
-  pub whole : IfOk r (λ v. IsWholeOfKey cache key old v.items)
+  pub whole : IfOk r (λ v. KeyLiesWhole cache key old v.items)
   pub linked : (i : List Hash) (target held : List ℕ) → leads_to cache key old ≡ Some i
-      → IsLinkTo cache i target held old → IfOk r (λ v. v.items ≡ held)
+      → LinksToFile cache i target held old → IfOk r (λ v. v.items ≡ held)
   pub any : GivesOfKey cache key (reply_of bytes_read r) old new
 
 -- a read by integrity: it gives what lies there, and whatever that is, only whole bytes
-pub record ReadContent (cache : List ℕ) (i : List Hash) (r : Result (Vec ℕ Global) Error)
+pub record ContentRead (cache : List ℕ) (i : List Hash) (r : Result (Vec ℕ Global) Error)
     (old new : List LogItem) : Type 0 where
   pub leaves : LeavesKnownCache cache old new
   pub same : tree_of new ≡ tree_of old
   pub gives : (bytes : List ℕ) → HasContent cache i bytes old → GivesJust bytes r old new
-  pub whole : IfOk r (λ v. IsWhole cache i old v.items)
-  pub linked : (target held : List ℕ) → IsLinkTo cache i target held old
+  pub whole : IfOk r (λ v. LiesWhole cache i old v.items)
+  pub linked : (target held : List ℕ) → LinksToFile cache i target held old
       → IfOk r (λ v. v.items ≡ held)
   pub any : GivesHeld cache i (reply_of bytes_read r) old new
 
 -- ---- questions
 
 -- a lookup: it finds the entry that the key leads to, if any
-pub record FoundEntry (cache key : List ℕ) (r : Result (Option Metadata) Error)
+pub record EntryFound (cache key : List ℕ) (r : Result (Option Metadata) Error)
     (old new : List LogItem) : Type 0 where
   pub leaves : LeavesKnownCache cache old new
   pub same : tree_of new ≡ tree_of old
@@ -106,7 +106,7 @@ module _ {C N : Type 0} where
   KeyReadMeans cache key r new =
       (old : Env (List LogItem) C N) → IsCache cache old.store
       → Calls (λ log. Some log) old new cache (commands.Get key) (reply_of bytes_read r)
-      → ReadKey cache key r old.store new.store
+      → KeyRead cache key r old.store new.store
 
   -- so is a read by integrity
   abbrev pub ContentReadMeans :
@@ -114,7 +114,7 @@ module _ {C N : Type 0} where
   ContentReadMeans cache i r new =
       (old : Env (List LogItem) C N) → IsCache cache old.store
       → Calls (λ log. Some log) old new cache (commands.GetHash i) (reply_of bytes_read r)
-      → ReadContent cache i r old.store new.store
+      → ContentRead cache i r old.store new.store
 
   -- so is a lookup
   abbrev pub LookupMeans :
@@ -122,7 +122,7 @@ module _ {C N : Type 0} where
   LookupMeans cache key r new =
       (old : Env (List LogItem) C N) → IsCache cache old.store
       → Calls (λ log. Some log) old new cache (commands.Find key) (reply_of looked_up r)
-      → FoundEntry cache key r old.store new.store
+      → EntryFound cache key r old.store new.store
 
   -- so is a question
   abbrev pub QuestionMeans :

@@ -14,7 +14,7 @@ use Rattle.cacache_sequence.specs.Keeping.{KeepsOthers}
 use Rattle.cacache_sequence.specs.Removed.{KeepsApart, KeepsApartFrom}
 
 -- a removal of a key: it leads to nothing, or the error is excused, and all else stays
-pub record RemovedKey (cache key : List ℕ) (r : Result (Unit {0}) Error) (old new : List LogItem)
+pub record KeyRemoved (cache key : List ℕ) (r : Result (Unit {0}) Error) (old new : List LogItem)
     : Type 0 where
   pub sound : IsCache cache new
   pub grows : Grows old new
@@ -23,7 +23,7 @@ pub record RemovedKey (cache key : List ℕ) (r : Result (Unit {0}) Error) (old 
   pub fails : IfErr r (λ e. IsExcused e old new)
 
 -- a removal of a content: nothing lies under the integrity, or the error is excused, and all else stays
-pub record RemovedContent (cache : List ℕ) (i : List Hash) (r : Result (Unit {0}) Error)
+pub record ContentRemoved (cache : List ℕ) (i : List Hash) (r : Result (Unit {0}) Error)
     (old new : List LogItem) : Type 0 where
   pub sound : IsCache cache new
   pub grows : Grows old new
@@ -32,7 +32,7 @@ pub record RemovedContent (cache : List ℕ) (i : List Hash) (r : Result (Unit {
   pub fails : IfErr r (λ e. IsExcused e old new)
 
 -- a removal of a key with its content and its bucket: the key leads to nothing, or the error is excused
-pub record RemovedFully (cache key : List ℕ) (r : Result (Unit {0}) Error) (old new : List LogItem)
+pub record KeyRemovedFully (cache key : List ℕ) (r : Result (Unit {0}) Error) (old new : List LogItem)
     : Type 0 where
   pub sound : IsCache cache new
   pub grows : Grows old new
@@ -58,7 +58,7 @@ module _ {C N : Type 0} where
       (old : Env (List LogItem) C N) → IsCache cache old.store
       → RunsTimed (λ log. Some log) moments None old new cache
       (λ moment. commands.Delete (delete_of key moment)) (reply_of done r)
-      → RemovedKey cache key r old.store new.store
+      → KeyRemoved cache key r old.store new.store
 
   -- so is the removal of a content
   abbrev pub ContentRemovalMeans :
@@ -66,7 +66,7 @@ module _ {C N : Type 0} where
   ContentRemovalMeans cache i r new =
       (old : Env (List LogItem) C N) → IsCache cache old.store
       → Calls (λ log. Some log) old new cache (commands.RemoveHash i) (reply_of done r)
-      → RemovedContent cache i r old.store new.store
+      → ContentRemoved cache i r old.store new.store
 
   -- so is a removal of a key with its content
   abbrev pub FullRemovalMeans :
@@ -74,7 +74,7 @@ module _ {C N : Type 0} where
   FullRemovalMeans cache key r new =
       (old : Env (List LogItem) C N) → IsCache cache old.store
       → Calls (λ log. Some log) old new cache (commands.RemoveFully key) (reply_of done r)
-      → RemovedFully cache key r old.store new.store
+      → KeyRemovedFully cache key r old.store new.store
 
   -- so is a clearing
   abbrev pub ClearingMeans :

@@ -38,7 +38,7 @@ pub record KeepsUntouched (cache : List ℕ) (written : Option (List ℕ)) (own 
 -- ---- writes
 
 -- a write under a key: the key leads to the bytes, or the error is excused, and what wasn't written stays
-pub record Wrote (a : Algorithm) (cache key bytes : List ℕ) (r : Result (List Hash) Error)
+pub record KeyWritten (a : Algorithm) (cache key bytes : List ℕ) (r : Result (List Hash) Error)
     (old new : List LogItem) : Type 0 where
   pub sound : IsCache cache new
   pub grows : Grows old new
@@ -49,7 +49,7 @@ pub record Wrote (a : Algorithm) (cache key bytes : List ℕ) (r : Result (List 
   pub fails : IfErr r (λ e. IsExcused e old new)
 
 -- a write without a key: the bytes lie under their integrity, or the error is excused
-pub record WroteContent (a : Algorithm) (cache bytes : List ℕ) (r : Result (List Hash) Error)
+pub record ContentWritten (a : Algorithm) (cache bytes : List ℕ) (r : Result (List Hash) Error)
     (old new : List LogItem) : Type 0 where
   pub sound : IsCache cache new
   pub grows : Grows old new
@@ -66,7 +66,7 @@ pub record SaysPlain (s : Said) : Type 0 where
   pub formed : IfSome s.integrity IsIntegrity
 
 -- an insertion: the key leads to its integrity, or to nothing without one, and all else stays
-pub record Inserted (cache key : List ℕ) (integrity : Option (List Hash))
+pub record KeyInserted (cache key : List ℕ) (integrity : Option (List Hash))
     (r : Result (List Hash) Error) (old new : List LogItem) : Type 0 where
   pub sound : IsCache cache new
   pub grows : Grows old new
@@ -85,7 +85,7 @@ module _ {C N : Type 0} (moments : C → Option (List ℕ)) (numbers : N → Opt
       (old : Env (List LogItem) C N) → IsCache cache old.store
       → RunsPut (λ log. Some log) moments numbers old new cache (keyed_put a key bytes)
       (reply_of Stored r)
-      → Wrote a cache key bytes r old.store new.store
+      → KeyWritten a cache key bytes r old.store new.store
 
   -- so is a write without a key
   abbrev pub ContentWriteMeans :
@@ -94,7 +94,7 @@ module _ {C N : Type 0} (moments : C → Option (List ℕ)) (numbers : N → Opt
       (old : Env (List LogItem) C N) → IsCache cache old.store
       → RunsNumbered (λ log. Some log) numbers old new cache
       (commands.Put (unkeyed_put a bytes)) (reply_of Stored r)
-      → WroteContent a cache bytes r old.store new.store
+      → ContentWritten a cache bytes r old.store new.store
 
   -- so is a plain insertion
   abbrev pub InsertionMeans :
@@ -103,4 +103,4 @@ module _ {C N : Type 0} (moments : C → Option (List ℕ)) (numbers : N → Opt
       (old : Env (List LogItem) C N) → SaysPlain said → IsCache cache old.store
       → RunsTimed (λ log. Some log) moments said.time old new cache
       (λ moment. commands.Insert (insert_of key said moment)) (reply_of Stored r)
-      → Inserted cache key said.integrity r old.store new.store
+      → KeyInserted cache key said.integrity r old.store new.store
