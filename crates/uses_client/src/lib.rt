@@ -1,0 +1,24 @@
+//! A package manager over a cache in memory: each function's contract says what it does in a caller's words, and is
+//! proved from the contracts of the public calls and the public laws alone. Behind each call its law is called, so that an
+//! answer is one term.
+//!
+//! | Module | Functions |
+//! |---|---|
+//! | `reading` | `fetch` |
+//! | `storing` | `store`, `replace`, `install_two`, `retry_install`, `uninstall` |
+//! | `installing` | `install`, by a writer with metadata and a size |
+//! | `auditing` | `list`, `is_whole`, `audit` |
+//! | `outside` | `mirror` a file, `export` a package |
+#![tactic(auto)]
+
+mod auditing;
+mod installing;
+mod outside;
+mod reading;
+mod storing;
+
+pub use auditing::{Verdict, audit, is_whole, list};
+pub use installing::install;
+pub use outside::{export, mirror};
+pub use reading::fetch;
+pub use storing::{install_two, replace, retry_install, store, uninstall};
