@@ -77,26 +77,28 @@ no_blob (Some b) h = absurd (h b refl)
 not_false : (b : Bool) → b ≡ true → not b ≡ true → ⊥
 not_false b e n = let wrong : false ≡ true = ap not (sym e) ∙ n in cc
 
-module _ (site : Site) (home : Names) (t new : Tree) (hashes : List Hash) (strange : List (List ℕ)) (entries : List Found)
-    (is : home_of site.cache ≡ Some home) (holds : HoldsJust site.cache home t hashes strange) (index : IndexLists site t entries)
-    (removed : Removes site.cache (filter (λ h. not (is_live entries h)) hashes) t new) where
+-- ---- what removals leave of a listing, where those are left that a test picks
+
+module _ (site : Site) (home : Names) (t new : Tree) (hashes : List Hash) (strange : List (List ℕ)) (picked : Hash → Bool)
+    (is : home_of site.cache ≡ Some home) (holds : HoldsJust site.cache home t hashes strange)
+    (removed : Removes site.cache (filter (λ h. not (picked h)) hashes) t new) where
   abbrev dropped : List Hash
-  dropped = filter (λ h. not (is_live entries h)) hashes
+  dropped = filter (λ h. not (picked h)) hashes
 
-  of_dropped : (h : Hash) → Contains dropped h → Contains hashes h × (not (is_live entries h) ≡ true)
-  of_dropped h c = let k = from_kept (λ x. not (is_live entries x)) h hashes (member_contains h dropped c) in (contains_member h hashes k.0, k.1)
+  of_dropped : (h : Hash) → Contains dropped h → Contains hashes h × (not (picked h) ≡ true)
+  of_dropped h c = let k = from_kept (λ x. not (picked x)) h hashes (member_contains h dropped c) in (contains_member h hashes k.0, k.1)
 
-  dropped_hash : (h : Hash) → Contains dropped h → IsHash h
+  pub dropped_hash : (h : Hash) → Contains dropped h → IsHash h
   dropped_hash h c = holds.formed h (of_dropped h c).0
 
   pub leaves : IsCollected home dropped t new
   leaves = removals_leave site.cache home dropped t new is dropped_hash removed
 
-  pub live_left : (h : Hash) → IsHash h → is_live entries h ≡ true → (value_of_tree (Some home) new).contents h ≡ (value_of_tree (Some home) t).contents h
-  live_left h hash live = leaves.kept h hash (λ c. not_false (is_live entries h) live (of_dropped h c).1)
+  pub picked_left : (h : Hash) → IsHash h → picked h ≡ true → (value_of_tree (Some home) new).contents h ≡ (value_of_tree (Some home) t).contents h
+  picked_left h hash live = leaves.kept h hash (λ c. not_false (picked h) live (of_dropped h c).1)
 
-  listed_gone : (h : Hash) → is_live entries h ≡ false → Contains hashes h → (value_of_tree (Some home) new).contents h ≡ None
-  listed_gone h dead c = leaves.gone h (contains_member h dropped (kept_in (λ x. not (is_live entries x)) h hashes (ap not dead) (member_contains h hashes c)))
+  listed_gone : (h : Hash) → picked h ≡ false → Contains hashes h → (value_of_tree (Some home) new).contents h ≡ None
+  listed_gone h dead c = leaves.gone h (contains_member h dropped (kept_in (λ x. not (picked x)) h hashes (ap not dead) (member_contains h hashes c)))
 
   -- where nothing was, nothing is
   unheld : (h : Hash) → IsHash h → (value_of_tree (Some home) t).contents h ≡ None → (value_of_tree (Some home) new).contents h ≡ None
@@ -106,21 +108,27 @@ module _ (site : Site) (home : Names) (t new : Tree) (hashes : List Hash) (stran
       let wrong : None ≡ Some b.0 = sym none ∙ b.1 in cc)
       ∙ none
 
-  gone_at : (o : Option Blob) (h : Hash) → IsHash h → is_live entries h ≡ false → (value_of_tree (Some home) t).contents h ≡ o → (value_of_tree (Some home) new).contents h ≡ None
+  gone_at : (o : Option Blob) (h : Hash) → IsHash h → picked h ≡ false → (value_of_tree (Some home) t).contents h ≡ o → (value_of_tree (Some home) new).contents h ≡ None
   gone_at None h hash dead e = unheld h hash e
   gone_at (Some b) h hash dead e = listed_gone h dead ((holds.held h hash).1 (b, e))
 
-  pub dead_gone : (h : Hash) → IsHash h → is_live entries h ≡ false → (value_of_tree (Some home) new).contents h ≡ None
-  dead_gone h hash dead = gone_at ((value_of_tree (Some home) t).contents h) h hash dead refl
+  pub others_gone : (h : Hash) → IsHash h → picked h ≡ false → (value_of_tree (Some home) new).contents h ≡ None
+  others_gone h hash dead = gone_at ((value_of_tree (Some home) t).contents h) h hash dead refl
 
   not_so : (b : Bool) → not b ≡ true → b ≡ false
   not_so true e = let wrong : false ≡ true = e in cc
   not_so false e = refl
 
-  pub rest_stays : (names : Names) → ((h : Hash) → IsHash h → is_live entries h ≡ false → names ≡ home ++ content_names h → ⊥) → look new names ≡ look t names
+  pub rest_stays : (names : Names) → ((h : Hash) → IsHash h → picked h ≡ false → names ≡ home ++ content_names h → ⊥) → look new names ≡ look t names
   rest_stays names apart =
       stays site.cache home is dropped t new names (λ g m. dropped_hash g (contains_member g dropped m)) removed
-      (λ g m e. apart g (dropped_hash g (contains_member g dropped m)) (not_so (is_live entries g) (of_dropped g (contains_member g dropped m)).1) e)
+      (λ g m e. apart g (dropped_hash g (contains_member g dropped m)) (not_so (picked g) (of_dropped g (contains_member g dropped m)).1) e)
+
+module _ (site : Site) (home : Names) (t new : Tree) (hashes : List Hash) (strange : List (List ℕ)) (entries : List Found)
+    (is : home_of site.cache ≡ Some home) (holds : HoldsJust site.cache home t hashes strange) (index : IndexLists site t entries)
+    (removed : Removes site.cache (filter (λ h. not (is_live entries h)) hashes) t new) where
+  abbrev unused : List Hash
+  unused = filter (λ h. not (is_live entries h)) hashes
 
   -- ---- what it lacks
 
@@ -130,14 +138,14 @@ module _ (site : Site) (home : Names) (t new : Tree) (hashes : List Hash) (stran
   entry_of : (f : Found) → Contains items (Ok f) → Contains entries f
   entry_of f c = subst (λ l. Contains l f) (sym index.those) (contains_member f (entries_in items) (item_in f items (member_contains (Ok f) items c)))
 
-  not_live : (h : Hash) → Contains dropped h → IsLive items h → ⊥
-  not_live h c l = not_false (is_live entries h) (live_so entries l.0 h (member_contains l.0 entries (entry_of l.0 l.1)) l.2) (of_dropped h c).1
+  not_live : (h : Hash) → Contains unused h → IsLive items h → ⊥
+  not_live h c l = not_false (is_live entries h) (live_so entries l.0 h (member_contains l.0 entries (entry_of l.0 l.1)) l.2) (from_kept (λ x. not (is_live entries x)) h hashes (member_contains h unused c)).1
 
   pub lacks : Rooted t → LinksLeadOut home t → All (λ f. IsIntegrity f.integrity) entries → LacksIdle site.cache home t new
   lacks rooted out formed =
-      lacks_idle site home t new index.answers.0 items dropped is rooted out index.answers.1 index.answers.2 index.clean
+      lacks_idle site home t new index.answers.0 items unused is rooted out index.answers.1 index.answers.2 index.clean
       (λ f c. let e = entry_of f c in subst (λ x. IsIntegrity x.integrity) e.2 (formed e.0 f e.1))
-      (λ h c. (dropped_hash h c, not_live h c)) removed
+      (λ h c. (dropped_hash site home t new hashes strange (is_live entries) is holds removed h c, not_live h c)) removed
 
 pub indexes_find : IndexesFind
 indexes_find site home t entries key bytes found is rooted index answer e =

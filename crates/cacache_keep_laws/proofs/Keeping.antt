@@ -15,7 +15,7 @@ use Rattle.cacache_core.proofs.PathLemmas.{keys_have_digests}
 use Rattle.cacache_core.proofs.PathTexts.{paths_differ}
 use Rattle.cacache_store.specs.declared.store.step.Step.TheVariants.{ReadAll, RemoveFile}
 use Rattle.cacache_store.specs.declared.store.answer.Answer.TheVariants as answers
-use Rattle.cacache_store.specs.declared.store.answer.Answer.TheVariants.{Done, Bytes, Failed}
+use Rattle.cacache_store.specs.declared.store.answer.Answer.TheVariants.{Done}
 use Rattle.cacache_store.specs.Plain.{PlainAnswer}
 use Rattle.cacache_disk.specs.declared.luck.Luck.TheVariants.{Plain}
 use Rattle.cacache_disk.specs.declared.node.Node.{Node}
@@ -61,7 +61,7 @@ done_at : (t : Tree) (r : Result Names Fault) (names : Names) → ((n : Names) �
 done_at t (Ok n) names h e = ap (cut t) (h n refl)
 done_at t (Err fault) names h e = absurd cc
 
-removed : (t : Tree) (path : List ℕ) (names : Names) → names_of path ≡ Ok names → (apply t (RemoveFile path) Plain).0 ≡ Done → (apply t (RemoveFile path) Plain).1 ≡ cut t names
+pub removed : (t : Tree) (path : List ℕ) (names : Names) → names_of path ≡ Ok names → (apply t (RemoveFile path) Plain).0 ≡ Done → (apply t (RemoveFile path) Plain).1 ≡ cut t names
 unfolding apply
 removed t path names is e =
     done_at t (removable t path) names (λ n found. let both : Ok n ≡ Ok names = sym (removable_ok t path n found).0 ∙ is in cc) e

@@ -22,3 +22,8 @@ pub mod Verified
 pub mod Collected
 pub mod Removed
 mod Links
+pub mod Temporary
+pub mod Agreed
+pub mod Tombstones
+pub mod Mended
+pub mod HiddenKeys

@@ -74,3 +74,11 @@ ListingsHold =
     → ReadsFolders (top_folder (content_area_in cache) ∷ []) moves → AnsweredBy t moves
     → Sorts cache (files_shown moves) addresses strange
     → HoldsJust cache home t order.hashes strange
+
+-- what one tree holds is one list
+abbrev pub HoldingsAgree : Type 0
+HoldingsAgree =
+    (cache : List ℕ) (home : Names) (t : Tree) (hashes others : List Hash)
+    (strange stranger : List (List ℕ))
+    → HoldsJust cache home t hashes strange → HoldsJust cache home t others stranger
+    → hashes ≡ others

@@ -60,3 +60,9 @@ IndexesFind =
     → (apply t (ReadAll (bucket_path site.cache key)) Plain).0 ≡ Bytes bytes
     → latest key (entries_of bytes) ≡ Some found
     → Contains entries found
+
+-- one tree has one list of entries
+abbrev pub IndexesAgree : Type 0
+IndexesAgree =
+    (site : Site) (t : Tree) (entries others : List Found)
+    → IndexLists site t entries → IndexLists site t others → entries ≡ others

@@ -6,3 +6,5 @@ pub mod Verifying
 pub mod Collecting
 pub mod Removing
 pub mod Idle
+pub mod Temporary
+pub mod Mending

@@ -1,10 +1,12 @@
 //! Laws, on functions that do nothing.
 ghost use Rattle.cacache_keep_laws.specs.Answers.{AnswersAgree, LooksAnswer, TreesAreRooted};
 ghost use Rattle.cacache_keep_laws.specs.Collecting.{CachesLinkOut, CollectionsKeepLookups, CollectionsKeepReads, RemovalsLeave};
-ghost use Rattle.cacache_keep_laws.specs.Contents.{ContentsShown, ListingsHold};
+ghost use Rattle.cacache_keep_laws.specs.Contents.{ContentsShown, HoldingsAgree, ListingsHold};
 ghost use Rattle.cacache_keep_laws.specs.Idle.{IdleIsUnseen, StillLacksIdle};
-ghost use Rattle.cacache_keep_laws.specs.Index.{IndexesFind, ListsEachKey};
+ghost use Rattle.cacache_keep_laws.specs.Index.{IndexesAgree, IndexesFind, ListsEachKey};
+ghost use Rattle.cacache_keep_laws.specs.Mending.{RepairsLeave, TombstonesHide, TombstonesKeepContents};
 ghost use Rattle.cacache_keep_laws.specs.Removing.{RemovalsRun};
+ghost use Rattle.cacache_keep_laws.specs.Temporary.{SweepsLeave};
 ghost use Rattle.cacache_keep_laws.specs.Verifying.{ReadsTellGood};
 ghost use Rattle.cacache_keep_laws.specs.Walks.{WalksFind, WalksStayBelow};
 
@@ -22,16 +24,18 @@ pub fn answer_laws()
     ensures agree { AnswersAgree }
 {}
 
-/// A listing of the contents lists the addresses that the cache holds.
+/// A listing of the contents lists the addresses that the cache holds, and these are one list.
 pub fn contents_laws()
     ensures shown { ContentsShown }
     ensures holds { ListingsHold }
+    ensures agree { HoldingsAgree }
 {}
 
-/// A listing of the index without errors lists what the lookup of each key finds.
+/// A listing of the index without errors lists what the lookup of each key finds, and one tree has one such list.
 pub fn index_laws()
     ensures each { ListsEachKey }
     ensures finds { IndexesFind }
+    ensures agree { IndexesAgree }
 {}
 
 /// A read of a content that stands tells whether it is good.
@@ -54,4 +58,17 @@ pub fn collect_laws()
 pub fn idle_laws()
     ensures removals { StillLacksIdle }
     ensures unseen { IdleIsUnseen }
+{}
+
+/// The removal of the temporary files that a listing of their folder tells leaves all else.
+pub fn sweep_laws()
+    ensures leaves { SweepsLeave }
+{}
+
+/// A call that adds a tombstone leaves the contents, and hides its key alone; and so removals of damaged
+/// contents and tombstones behind them leave the good contents.
+pub fn repair_laws()
+    ensures contents { TombstonesKeepContents }
+    ensures leaves { RepairsLeave }
+    ensures hides { TombstonesHide }
 {}

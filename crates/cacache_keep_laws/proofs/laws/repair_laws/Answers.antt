@@ -1,0 +1,11 @@
+use Rattle.cacache_keep_laws.proofs.HiddenKeys.{tombstones_hide}
+use Rattle.cacache_keep_laws.proofs.Mended.{repairs_leave}
+use Rattle.cacache_keep_laws.proofs.Tombstones.{tombstones_keep_contents}
+use Rattle.cacache_keep_laws.proofs.laws.repair_laws.Goals as goal
+
+pub returns : goal.returns
+returns c = record {
+  contents = tombstones_keep_contents;
+  leaves = repairs_leave;
+  hides = tombstones_hide;
+}

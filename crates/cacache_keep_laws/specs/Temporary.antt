@@ -1,0 +1,87 @@
+-- Temporary files, and what a sweep leaves.
+use Rattle.std.specs.Prelude.{◌≡◌, ◌++◌, ◌&&◌, ℕ, List, [], ◌∷◌, Bool, true, false, None, Some, codes, filter, length, map, min, ◌+◌, ◌-◌, ◌^◌}
+use Rattle.std.specs.List.{starts_with, sum}
+use Rattle.std.specs.Bool.{nat_eq}
+use Rattle.cacache_core.specs.declared.integrity.digest.Hash.{Hash}
+use Rattle.cacache_core.specs.Integrity.{IsHash}
+use Rattle.cacache_core.specs.PathLaws.{IsKeyDigest}
+use Rattle.cacache_core.specs.PathNames.{Names, home_of}
+use Rattle.cacache_core.specs.Paths.{join, temp_area}
+use Rattle.cacache_store.specs.declared.store.answer.Kind.{Kind}
+use Rattle.cacache_store.specs.declared.store.answer.Kind.TheVariants as kinds
+use Rattle.cacache_store.specs.declared.store.answer.Name.{Name}
+use Rattle.cacache_store.specs.declared.store.answer.Answer.TheVariants as answers
+use Rattle.cacache_store.specs.declared.store.step.Step.TheVariants as steps
+use Rattle.cacache_disk.specs.declared.luck.Luck.TheVariants.{Plain}
+use Rattle.cacache_disk.specs.declared.node.Node.TheVariants.{File}
+use Rattle.cacache_disk.specs.Tree.{Tree, listing, look}
+use Rattle.cacache_disk.specs.Rooted.{Rooted}
+use Rattle.cacache_disk.specs.Apply.{apply}
+use Rattle.cacache_table.specs.Runs.{Moves}
+use Rattle.cacache_sequence.specs.Sequence.{tree_on, AreAnswered}
+use Rattle.cacache_walks.specs.Reading.{names_shown}
+use Rattle.cacache_keep_laws.specs.Contents.{bucket_in, content_in}
+
+-- ---- temporary files
+
+-- whether it is a file
+abbrev pub is_file : Kind → Bool
+is_file kinds.File = true
+is_file kind = false
+
+-- the name of a temporary file begins with `.tmp`
+abbrev pub is_temp_name : List ℕ → Bool
+is_temp_name name = starts_with nat_eq name (codes ".tmp")
+
+-- whether what stands in the folder of temporary files is one
+abbrev pub is_temporary : Name → Bool
+is_temporary n = is_file n.kind && is_temp_name n.name
+
+-- the folder of temporary files
+abbrev pub temp_area_in : List ℕ → List ℕ
+temp_area_in cache = join cache temp_area
+
+-- where a temporary file of this name lies in the tree
+abbrev pub temp_at : Names → List ℕ → Names
+temp_at home name = home ++ temp_area ∷ name ∷ []
+
+-- a temporary file stands there
+abbrev pub IsTemporary : Names → Tree → Names → Type 0
+IsTemporary home t names =
+    (name bytes : List ℕ) × (names ≡ temp_at home name) × (is_temp_name name ≡ true)
+    × (look t names ≡ Some (File bytes))
+
+-- each of them is asked for its size, which it answers, and removed
+abbrev pub sized_removals : List ℕ → List (Name × ℕ) → Moves
+sized_removals folder [] = []
+sized_removals folder (r ∷ removed) =
+    (steps.Size (join folder r.0.name), answers.Length r.1)
+    ∷ (steps.RemoveFile (join folder r.0.name), answers.Done)
+    ∷ sized_removals folder removed
+
+-- these sizes together; 2^64 - 1 where that are more
+abbrev pub total : List ℕ → ℕ
+total sizes = min (sum sizes) (2 ^ 64 - 1)
+
+-- ---- what a sweep leaves
+
+-- so many temporary files are gone, which were all, and the rest of the tree is as it was
+pub record LeavesUntemporary (home : Names) (t new : Tree) (files : ℕ) : Type 0 where
+  pub counted : files ≡ length (filter is_temporary (listing t (home ++ temp_area ∷ [])))
+  pub gone : (names : Names) → IsTemporary home t names → look new names ≡ None
+  pub rest : (names : Names) → (IsTemporary home t names → ⊥) → look new names ≡ look t names
+  pub contents : (h : Hash) → IsHash h → content_in home new h ≡ content_in home t h
+  pub buckets : (digest : List ℕ) → IsKeyDigest digest
+      → bucket_in home new digest ≡ bucket_in home t digest
+
+-- so it is once the names in the folder of temporary files were listed, and those that tell of one
+-- were removed
+abbrev pub SweepsLeave : Type 0
+SweepsLeave =
+    (cache : List ℕ) (home : Names) (t : Tree) (names : List Name) (removed : List (Name × ℕ))
+    → home_of cache ≡ Some home → Rooted t
+    → names_shown (apply t (steps.ReadDir (temp_area_in cache)) Plain).0 ≡ Some names
+    → map (λ r. r.0) removed ≡ filter is_temporary names
+    → AreAnswered t (sized_removals (temp_area_in cache) removed)
+    → LeavesUntemporary home t (tree_on t (sized_removals (temp_area_in cache) removed))
+    (length removed)
