@@ -1,3 +1,4 @@
 pub mod Appending
 pub mod Texts
 pub mod PrintedLines
+pub mod Asking

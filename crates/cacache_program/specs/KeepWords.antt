@@ -1,11 +1,7 @@
 -- The words of a command line.
-use Rattle.std.specs.Prelude.{◌≡◌, ℕ, List, [], ◌∷◌, String, string_bytes, codes}
+use Rattle.std.specs.Prelude.{◌≢◌, IfNone, codes}
+use Rattle.cacache_program.specs.Words.{Asked}
 
--- the words are this name and a cache
-abbrev pub AsksFor : {A : Type 0} → List ℕ → List (String A) → Type 0
-AsksFor name (a ∷ b ∷ []) = string_bytes a ≡ name
-AsksFor name words = ⊥
-
--- the words ask for nothing that the program knows
-abbrev pub IsWrong : {A : Type 0} → List (String A) → Type 0
-IsWrong words = (AsksFor (codes "verify") words → ⊥) × (AsksFor (codes "collect") words → ⊥)
+-- what is asked for is nothing that the program knows: more than a cache, or another name
+abbrev pub IsWrong : Asked → Type 0
+IsWrong a = IfNone a.key ((a.name ≢ codes "verify") × (a.name ≢ codes "collect"))

@@ -11,4 +11,6 @@ pub mod WordLs
 pub mod WordStorm
 pub mod Lines
 pub mod KeepWords
+pub mod WordVerify
+pub mod WordCollect
 pub mod KeepAbout

@@ -8,10 +8,15 @@ abbrev pub AppendsPart : Option (List ℕ) → Option (List ℕ) → List ℕ �
 AppendsPart old new bytes =
     (count : ℕ) × (count < length bytes) × Appends old new (take count bytes)
 
+-- the bytes were put out with this status, or a beginning of them with status 1
+abbrev pub PutsOutWith : ℕ → List ℕ → Option (List ℕ) → Option (List ℕ) → ℕ → Type 0
+PutsOutWith whole bytes before after status =
+    ((status ≡ whole) × Appends before after bytes)
+    ⊎ ((status ≡ 1) × AppendsPart before after bytes)
+
 -- the bytes were put out with status 0, or a beginning of them with status 1
 abbrev pub PutsOut : List ℕ → Option (List ℕ) → Option (List ℕ) → ℕ → Type 0
-PutsOut bytes before after status =
-    ((status ≡ 0) × Appends before after bytes) ⊎ ((status ≡ 1) × AppendsPart before after bytes)
+PutsOut bytes before after status = PutsOutWith 0 bytes before after status
 
 -- these bytes were put out; where there are none, the word failed and put nothing out
 abbrev pub PutsOutOrFails : Option (List ℕ) → Option (List ℕ) → Option (List ℕ) → ℕ → Type 0

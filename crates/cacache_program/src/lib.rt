@@ -39,5 +39,6 @@ mod writing;
 pub use about::{About, HELP, USAGE, VERSION, said, tell};
 pub use errors::{Errors, tell_failed_call, tell_misuse};
 pub use program::run;
+pub use storming::tell_failed_storm;
 pub use why::{Why, asks_why, why_of};
 pub use words::{without_words, words_of};

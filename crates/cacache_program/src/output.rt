@@ -1,7 +1,7 @@
 //! What goes to the output.
 ghost use Rattle.std.specs.Prelude.{◌≡◌, ◌≤◌, IfSome, IfNone, true, false, [], length, take};
 ghost use Rattle.std.specs.Io.KnownBytes.{Appends};
-ghost use Rattle.cacache_program.specs.Output.{AppendsPart, PutsOut};
+ghost use Rattle.cacache_program.specs.Output.{AppendsPart, PutsOut, PutsOutWith};
 
 use crate::errors::{Errors, tell_failed_stream};
 use std::io::{ErrorKind, Write};
@@ -44,6 +44,23 @@ pub(crate) fn write_whole<W: Write>(output: &mut W, bytes: &[u8]) -> bool
     written == bytes.len()
 }
 
+/// Prints the bytes, and returns the status: this one, or 1 if the output failed.
+pub(crate) fn put_out_with<W: Write, E: Write>(
+    output: &mut W,
+    bytes: &[u8],
+    status: u8,
+    errors: &mut Errors<E>,
+) -> u8
+    ensures put { PutsOutWith status bytes.now
+        (W.contents output.old) (W.contents output.new) result }
+    ensures quiet { result ≡ 0 → errors.new ≡ errors.old }
+{
+    if write_whole(output, bytes) {
+        return status;
+    }
+    tell_failed_stream(errors, b"output failed\n")
+}
+
 /// Prints the bytes, and returns the status.
 pub(crate) fn put_out<W: Write, E: Write>(
     output: &mut W,
@@ -53,8 +70,5 @@ pub(crate) fn put_out<W: Write, E: Write>(
     ensures put { PutsOut bytes.now (W.contents output.old) (W.contents output.new) result }
     ensures quiet { result ≡ 0 → errors.new ≡ errors.old }
 {
-    if write_whole(output, bytes) {
-        return 0;
-    }
-    tell_failed_stream(errors, b"output failed\n")
+    put_out_with(output, bytes, 0, errors)
 }

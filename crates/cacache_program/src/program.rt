@@ -1,5 +1,5 @@
 //! What the program does with its words.
-ghost use Rattle.std.specs.Prelude.{◌≡◌, ◌≤◌, codes, option_map};
+ghost use Rattle.std.specs.Prelude.{◌≡◌, ◌≢◌, ◌≤◌, codes};
 ghost use Rattle.cacache_program.specs.Words.{asked_of, Keyed, Unkeyed, IsWrong};
 ghost use Rattle.cacache_program.specs.WordWrite.{Writes};
 ghost use Rattle.cacache_program.specs.WordRead.{Reads};
@@ -17,27 +17,13 @@ use crate::listing::ls;
 use crate::reading::read;
 use crate::removing::remove;
 use crate::storming::storm;
+use crate::words::parse_words;
 use crate::writing::write;
 use cacache::env::{Clock, Env, Names, Reasons};
 use std::io::{Read, Write};
 use std::sync::Wait;
 use std::thread::Threads;
 use std::time;
-
-/// The name, the cache and the key that the words give; an empty name where there are fewer or more.
-fn parse_words(words: &[String]) -> (&str, &str, Option<&str>)
-    ensures { asked_of words.now ≡ record {
-      name = result.0.now;
-      cache = result.1.now;
-      key = option_map (λ k. k.now) result.2;
-    } }
-{
-    match words {
-        [word, cache] => (word.as_str(), cache.as_str(), None),
-        [word, cache, key] => (word.as_str(), cache.as_str(), Some(key.as_str())),
-        _ => ("", "", None),
-    }
-}
 
 /// Does what the words say, and returns the status: 0, or 1 if the call or a stream failed, which
 /// is printed on `errors`, or 2 for wrong words. A failed write to `errors` changes no status.
@@ -64,6 +50,7 @@ pub fn run<
     ensures wrong { IsWrong (asked_of words.now) → result ≡ 2 }
     ensures nothing_done { result ≡ 2 → (env.new ≡ env.old) × (output.new ≡ output.old) }
     ensures quiet { result ≡ 0 → errors.new ≡ errors.old }
+    ensures input { (asked_of words.now).name ≢ codes "write" → input.new ≡ input.old }
     ensures writes { Keyed (asked_of words.now) (codes "write") (λ cache key.
         Writes S.log C.given N.given cache key (R.remaining input.old)
         env.old env.new (W.contents output.old) (W.contents output.new) result) }

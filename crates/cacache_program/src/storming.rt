@@ -48,7 +48,7 @@ fn text_of(alloc: Global, moves: u64, live: u64) -> Result<String, AllocError>
 }
 
 /// Prints why a storm failed, and returns the status: that of wrong words for numbers out of range.
-fn tell_failed_storm<E: Write>(errors: &mut Errors<E>, fault: StormFault) -> u8
+pub fn tell_failed_storm<E: Write>(errors: &mut Errors<E>, fault: StormFault) -> u8
     ensures count { fault ≡ Count → result ≡ 2 }
     ensures other { fault ≢ Count → result ≡ 1 }
 {

@@ -1,6 +1,7 @@
 //! The words of a command line.
-ghost use Rattle.std.specs.Prelude.{◌≡◌, ◌≢◌};
+ghost use Rattle.std.specs.Prelude.{◌≡◌, ◌≢◌, option_map};
 ghost use Rattle.std.specs.IoError.{error_kind};
+ghost use Rattle.cacache_program.specs.Words.{asked_of};
 
 use crate::errors::{Errors, tell_failed_stream, tell_misuse};
 use std::env::{Env, args};
@@ -13,6 +14,21 @@ pub fn words_of<R: Env + AllocGlobal>(rt: &R) -> io::Result<Vec<String>> {
         words.push(word)?;
     }
     Ok(words)
+}
+
+/// The name, the cache and the key that the words give; an empty name where there are fewer or more.
+pub(crate) fn parse_words(words: &[String]) -> (&str, &str, Option<&str>)
+    ensures { asked_of words.now ≡ record {
+      name = result.0.now;
+      cache = result.1.now;
+      key = option_map (λ k. k.now) result.2;
+    } }
+{
+    match words {
+        [word, cache] => (word.as_str(), cache.as_str(), None),
+        [word, cache, key] => (word.as_str(), cache.as_str(), Some(key.as_str())),
+        _ => ("", "", None),
+    }
 }
 
 /// Prints why the words can't be had, and returns the status: 1 if memory ran out, and 2 with this

@@ -1,46 +1,82 @@
 //! What goes to the output.
-ghost use Rattle.std.specs.Prelude.{◌≡◌, ◌⊎◌};
+ghost use Rattle.std.specs.Prelude.{◌≡◌, ◌⊎◌, IfOk, length, string_bytes};
+ghost use Rattle.cacache_program.specs.Output.{PutsOut};
+ghost use Rattle.cacache_program.specs.WordVerify.{TellsVerdict, verdict_status, verdict_text as text_of_verdict};
+ghost use Rattle.cacache_program.specs.WordCollect.{collected_text as text_of_collected};
 
 use crate::errors::{Errors, tell_failed_call};
+use crate::output::{put_out, put_out_with};
 use cacache::errors::Error;
 use cacache_keep::{Collected, Verdict};
 use std::alloc::{AllocError, Global};
 use std::io::Write;
 
 /// What is printed of a verification.
-pub(crate) fn verdict_text(alloc: Global, verdict: &Verdict) -> Result<String, AllocError> {
+fn verdict_text(alloc: Global, verdict: &Verdict) -> Result<String, AllocError>
+    ensures { IfOk result (λ text. string_bytes text ≡ text_of_verdict verdict.now.good
+        (length verdict.now.damaged.items) (length verdict.now.dangling.items)
+        (length verdict.now.strange.items)) }
+{
     let (damaged, dangling) = (verdict.damaged.len(), verdict.dangling.len());
     let (good, strange) = (verdict.good, verdict.strange.len());
     format!(in alloc; "good {good}\ndamaged {damaged}\ndangling {dangling}\nstrange {strange}\n")
 }
 
-/// What is printed of a collection.
-pub(crate) fn collected_text(alloc: Global, collected: &Collected) -> Result<String, AllocError> {
-    format!(in alloc;
-        "kept {}\ndropped {}\n",
-        collected.kept,
-        collected.dropped.len()
-    )
+/// The status of a verification: 0 where all is good, else 3.
+fn status_of(verdict: &Verdict) -> u8
+    ensures status { result ≡ verdict_status (length verdict.now.damaged.items)
+        (length verdict.now.dangling.items) (length verdict.now.strange.items) }
+    ensures known { (result ≡ 0) ⊎ (result ≡ 3) }
+{
+    let is_whole = verdict.damaged.is_empty() && verdict.dangling.is_empty();
+    if is_whole && verdict.strange.is_empty() {
+        return 0;
+    }
+    3
 }
 
-/// Prints the text, and returns the status: this one, or 1 where it can't be had or printed.
-pub(crate) fn put_out<W: Write, E: Write>(
-    text: Result<String, AllocError>,
-    status: u8,
+/// Prints what a verification found, and returns the status: the verdict's, or 1 where the text can't be had or printed.
+pub(crate) fn print_verdict<W: Write, E: Write>(
+    alloc: Global,
+    verdict: &Verdict,
     output: &mut W,
     errors: &mut Errors<E>,
 ) -> u8
-    ensures fails { (result ≡ status) ⊎ (result ≡ 1) }
+    ensures tells { TellsVerdict verdict.now.good (length verdict.now.damaged.items)
+        (length verdict.now.dangling.items) (length verdict.now.strange.items)
+        (W.contents output.old) (W.contents output.new) result }
+    ensures known { (result ≡ 0) ⊎ (result ≡ 1) ⊎ (result ≡ 3) }
     ensures quiet { result ≡ 0 → errors.new ≡ errors.old }
 {
-    let Ok(text) = text else {
-        return tell_failed_call(errors, &Error::OutOfMemory, None);
-    };
-    match output.write_all(text.as_bytes()) {
-        Ok(()) => status,
-        Err(_) => {
-            let _ = errors.output.write_all(b"output failed\n");
-            1
-        }
+    match verdict_text(alloc, verdict) {
+        Ok(text) => put_out_with(output, text.as_bytes(), status_of(verdict), errors),
+        Err(_) => tell_failed_call(errors, &Error::OutOfMemory, None),
+    }
+}
+
+/// What is printed of a collection.
+fn collected_text(alloc: Global, collected: &Collected) -> Result<String, AllocError>
+    ensures { IfOk result (λ text. string_bytes text
+        ≡ text_of_collected collected.now.kept (length collected.now.dropped.items)) }
+{
+    let (kept, dropped) = (collected.kept, collected.dropped.len());
+    format!(in alloc; "kept {kept}\ndropped {dropped}\n")
+}
+
+/// Prints what a collection did, and returns the status: 0, or 1 where the text can't be had or printed.
+pub(crate) fn print_collected<W: Write, E: Write>(
+    alloc: Global,
+    collected: &Collected,
+    output: &mut W,
+    errors: &mut Errors<E>,
+) -> u8
+    ensures tells { PutsOut
+        (text_of_collected collected.now.kept (length collected.now.dropped.items))
+        (W.contents output.old) (W.contents output.new) result }
+    ensures quiet { result ≡ 0 → errors.new ≡ errors.old }
+{
+    match collected_text(alloc, collected) {
+        Ok(text) => put_out(output, text.as_bytes(), errors),
+        Err(_) => tell_failed_call(errors, &Error::OutOfMemory, None),
     }
 }

@@ -1,24 +1,17 @@
 //! What the program does with its words.
-ghost use Rattle.std.specs.Prelude.{◌≡◌, ◌≢◌, ◌≤◌, ◌⊎◌};
+ghost use Rattle.std.specs.Prelude.{◌≡◌, ◌≢◌, ◌≤◌, codes};
+ghost use Rattle.cacache_program.specs.Words.{Unkeyed, asked_of};
 ghost use Rattle.cacache_program.specs.KeepWords.{IsWrong};
+ghost use Rattle.cacache_program.specs.WordVerify.{Verifies};
+ghost use Rattle.cacache_program.specs.WordCollect.{CollectsUnused};
 
 use crate::errors::{Errors, tell_failed_call, tell_misuse};
 use crate::keep::about::USAGE;
-use crate::keep::output::{collected_text, put_out, verdict_text};
+use crate::keep::output::{print_collected, print_verdict};
+use crate::words::parse_words;
 use cacache::env::{Clock, Env, Names, Reasons};
-use cacache_keep::{Verdict, collect, verify};
+use cacache_keep::{collect, verify};
 use std::io::Write;
-
-/// The status of a verification: 0 where all is good, else 3.
-fn status_of(verdict: &Verdict) -> u8
-    ensures { (result ≡ 0) ⊎ (result ≡ 3) }
-{
-    let is_whole = verdict.damaged.is_empty() && verdict.dangling.is_empty();
-    if is_whole && verdict.strange.is_empty() {
-        return 0;
-    }
-    3
-}
 
 /// Verifies the cache, and prints how many contents are good and damaged, entries dangle, and other files are there.
 fn verify_and_print<S: Reasons, C: Clock, N: Names, W: Write, E: Write>(
@@ -27,14 +20,13 @@ fn verify_and_print<S: Reasons, C: Clock, N: Names, W: Write, E: Write>(
     output: &mut W,
     errors: &mut Errors<E>,
 ) -> u8
+    ensures does { Verifies S.log cache.now env.old env.new
+        (W.contents output.old) (W.contents output.new) result }
     ensures status { (result ≤ 3) × (result ≢ 2) }
     ensures quiet { result ≡ 0 → errors.new ≡ errors.old }
 {
     match verify(env, cache) {
-        Ok(verdict) => {
-            let status = status_of(&verdict);
-            put_out(verdict_text(env.alloc, &verdict), status, output, errors)
-        }
+        Ok(verdict) => print_verdict(env.alloc, &verdict, output, errors),
         Err(error) => tell_failed_call(errors, &error, env.store.reason()),
     }
 }
@@ -46,11 +38,12 @@ fn collect_and_print<S: Reasons, C: Clock, N: Names, W: Write, E: Write>(
     output: &mut W,
     errors: &mut Errors<E>,
 ) -> u8
-    ensures status { result ≤ 1 }
+    ensures does { CollectsUnused S.log cache.now env.old env.new
+        (W.contents output.old) (W.contents output.new) result }
     ensures quiet { result ≡ 0 → errors.new ≡ errors.old }
 {
     match collect(env, cache) {
-        Ok(collected) => put_out(collected_text(env.alloc, &collected), 0, output, errors),
+        Ok(collected) => print_collected(env.alloc, &collected, output, errors),
         Err(error) => tell_failed_call(errors, &error, env.store.reason()),
     }
 }
@@ -64,16 +57,19 @@ pub fn run<S: Reasons, C: Clock, N: Names, W: Write, E: Write>(
     errors: &mut Errors<E>,
 ) -> u8
     ensures status { result ≤ 3 }
-    ensures wrong { IsWrong words.now → result ≡ 2 }
+    ensures wrong { IsWrong (asked_of words.now) → result ≡ 2 }
     ensures nothing_done { result ≡ 2 → (env.new ≡ env.old) × (output.new ≡ output.old) }
     ensures quiet { result ≡ 0 → errors.new ≡ errors.old }
+    ensures verifies { Unkeyed (asked_of words.now) (codes "verify") (λ cache.
+        Verifies S.log cache env.old env.new
+        (W.contents output.old) (W.contents output.new) result) }
+    ensures collects { Unkeyed (asked_of words.now) (codes "collect") (λ cache.
+        CollectsUnused S.log cache env.old env.new
+        (W.contents output.old) (W.contents output.new) result) }
 {
-    let [word, cache] = words else {
-        return tell_misuse(USAGE, errors);
-    };
-    match word.as_str() {
-        "verify" => verify_and_print(env, cache.as_str(), output, errors),
-        "collect" => collect_and_print(env, cache.as_str(), output, errors),
+    match parse_words(words) {
+        ("verify", cache, None) => verify_and_print(env, cache, output, errors),
+        ("collect", cache, None) => collect_and_print(env, cache, output, errors),
         _ => tell_misuse(USAGE, errors),
     }
 }

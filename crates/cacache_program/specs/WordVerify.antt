@@ -1,0 +1,60 @@
+-- The word `verify` of the program `cacache-keep`.
+use Rattle.std.specs.Prelude.{◌≡◌, ◌⊎◌, ◌++◌, ◌==◌, ◌&&◌, ℕ, Bool, cond, List, Option, codes, length}
+use Rattle.std.specs.Fmt.{decimal}
+use Rattle.cacache_core.specs.declared.integrity.digest.Hash.{Hash}
+use Rattle.cacache.specs.Stores.{LogItem}
+use Rattle.cacache.specs.Calls.{Env, Error, KeepsRest}
+use Rattle.cacache.specs.Entries.{Found}
+use Rattle.cacache_jobs.specs.Sites.{site_of}
+use Rattle.cacache_keep.specs.Keeping.{StopsVerifying, VerifiesCache}
+use Rattle.cacache_program.specs.Output.{PutsOutWith}
+
+-- how many contents are good and damaged, entries dangle, and other files are there, a line each
+abbrev pub verdict_text : ℕ → ℕ → ℕ → ℕ → List ℕ
+verdict_text good damaged dangling strange =
+    codes "good " ++ (decimal good
+    ++ (codes "\ndamaged " ++ (decimal damaged
+    ++ (codes "\ndangling " ++ (decimal dangling
+    ++ (codes "\nstrange " ++ (decimal strange ++ codes "\n")))))))
+
+-- there is nothing but good contents
+abbrev pub is_all_good : ℕ → ℕ → ℕ → Bool
+is_all_good damaged dangling strange = damaged == 0 && dangling == 0 && strange == 0
+
+-- the status of a verdict: 0 where all is good, else 3
+abbrev pub verdict_status : ℕ → ℕ → ℕ → ℕ
+verdict_status damaged dangling strange = cond (is_all_good damaged dangling strange) 0 3
+
+-- the counts were put out with the verdict's status, or a beginning of them with status 1
+abbrev pub TellsVerdict :
+    ℕ → ℕ → ℕ → ℕ → Option (List ℕ) → Option (List ℕ) → ℕ → Type 0
+TellsVerdict good damaged dangling strange before after status =
+    PutsOutWith (verdict_status damaged dangling strange)
+    (verdict_text good damaged dangling strange) before after status
+
+module _ {S C N : Type 0} (log : S → Option (List LogItem)) where
+  -- the log gained a verification, and what it found was told
+  abbrev pub PrintsVerdict :
+      List ℕ → Env S C N → Env S C N → Option (List ℕ) → Option (List ℕ) → ℕ → Type 0
+  PrintsVerdict cache old new before after status =
+      (good : ℕ) × (damaged : List (List Hash)) × (dangling : List Found)
+      × (strange : List (List ℕ))
+      × VerifiesCache (site_of cache old.base 0) good damaged dangling strange
+      (log old.store) (log new.store)
+      × TellsVerdict good (length damaged) (length dangling) (length strange) before after status
+
+  -- an error ended the verification, and nothing was put out
+  abbrev pub FailsToVerify :
+      List ℕ → Env S C N → Env S C N → Option (List ℕ) → Option (List ℕ) → ℕ → Type 0
+  FailsToVerify cache old new before after status =
+      (error : Error)
+      × StopsVerifying (site_of cache old.base 0) error (log old.store) (log new.store)
+      × (status ≡ 1) × (after ≡ before)
+
+  -- one of the two, and of the environment only the store may have changed
+  abbrev pub Verifies :
+      List ℕ → Env S C N → Env S C N → Option (List ℕ) → Option (List ℕ) → ℕ → Type 0
+  Verifies cache old new before after status =
+      KeepsRest old new
+      × (PrintsVerdict cache old new before after status
+      ⊎ FailsToVerify cache old new before after status)
