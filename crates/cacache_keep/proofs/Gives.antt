@@ -29,14 +29,14 @@ use Rattle.cacache_keep.specs.Reading.{FindsNone, Gave, GaveAll, Opens, Pieces, 
 
 -- ---- a step that brought nothing
 
-failed : (a : PlainStep) (fault : Fault) (e : Error) (old new : Option (List LogItem)) → Logs old new a (answers.Failed fault) → EndsAs e (fails fault) → FailsAt a e old new
+pub failed : (a : PlainStep) (fault : Fault) (e : Error) (old new : Option (List LogItem)) → Logs old new a (answers.Failed fault) → EndsAs e (fails fault) → FailsAt a e old new
 failed a fault (IoError g message) old new logs (inl is) = let same : g ≡ fault = cc in rw same logs
 failed a fault (IoError g message) old new logs (inr is) = absurd cc
 failed a fault OutOfMemory old new logs ends = inr (fault, logs)
 failed a fault e old new logs (inl is) = absurd cc
 failed a fault e old new logs (inr is) = absurd cc
 
-lost : (a : PlainStep) (e : Error) (old new : Option (List LogItem)) → new ≡ old → EndsAs e (ends_with OutOfMemory) → FailsAt a e old new
+pub lost : (a : PlainStep) (e : Error) (old new : Option (List LogItem)) → new ≡ old → EndsAs e (ends_with OutOfMemory) → FailsAt a e old new
 lost a OutOfMemory old new same ends = inl same
 lost a e old new same (inl is) = absurd cc
 lost a e old new same (inr is) = absurd cc
@@ -114,7 +114,7 @@ pub opened_so : (cache path : List ℕ) (i : List Hash) (f : PlainFile) (t : Pla
 opened_so cache path i f (answers.File g) old new at e logs = let is : f ≡ g = cc in rw (← at, is) logs
 opened_so cache path i f t old new at e logs = absurd cc
 
-none_found : (refusal : Refusal) → finds_none refusal ≡ true → refusal ≡ refusals.Fault NotFound
+pub none_found : (refusal : Refusal) → finds_none refusal ≡ true → refusal ≡ refusals.Fault NotFound
 none_found (refusals.Fault NotFound) is = refl
 none_found refusal is = absurd cc
 
@@ -133,7 +133,7 @@ found_none : (e : Error) → is_gone e ≡ true → (message : List ℕ) × (e �
 found_none (IoError NotFound message) is = (message, refl)
 found_none e is = absurd cc
 
-not_gone : (e : Error) (refusal : Refusal) → EndsAs e (refuse refusal fails) → (refusal ≡ refusals.Fault NotFound → ⊥) → is_gone e ≡ false
+pub not_gone : (e : Error) (refusal : Refusal) → EndsAs e (refuse refusal fails) → (refusal ≡ refusals.Fault NotFound → ⊥) → is_gone e ≡ false
 not_gone e refusal ends other = by (is_gone e) refl
   where
     says : (message : List ℕ) (refusal : Refusal) → EndsAs (IoError NotFound message) (refuse refusal fails) → refusal ≡ refusals.Fault NotFound

@@ -1,5 +1,5 @@
 -- A collection leaves what is live, and later reads see none of it.
-use Rattle.std.proofs.Common.{◌≡◌, ℕ, List, [], ◌∷◌, ◌++◌, Bool, true, false, cond, Option, Some, map, length, refl, sym, ap, subst, ◌∙◌, arith, filter}
+use Rattle.std.proofs.Common.{◌≡◌, ℕ, List, [], ◌∷◌, Bool, true, false, cond, Option, Some, map, length, refl, sym, ap, subst, ◌∙◌, arith, filter}
 use Rattle.std.proofs.lemmas.List.{length-map}
 use Rattle.std.proofs.lemmas.List.Filters.{length-filter_both}
 use Rattle.std.specs.Prelude.{not}
@@ -15,47 +15,41 @@ use Rattle.cacache_disk.specs.Apply.{apply}
 use Rattle.cacache_memory.specs.Replay.{tree_of, IsLog}
 use Rattle.cacache_entry.specs.Latest.{Found}
 use Rattle.cacache_table.specs.declared.command.Command.{Command}
-use Rattle.cacache_table.specs.declared.command.Command.TheVariants as commands
 use Rattle.cacache_table.specs.declared.reply.Reply.{Reply}
-use Rattle.cacache_table.specs.declared.reply.Reply.TheVariants as replies
 use Rattle.cacache_table.specs.State.{Site}
 use Rattle.cacache_table.specs.Runs.{Moves, Gains}
 use Rattle.cacache_sequence.specs.Sequence.{tree_on, AreAnswered}
-use Rattle.cacache_sequence.proofs.InParts.{logs_lead}
 use Rattle.cacache_sequence.proofs.Looks.{tree_stays}
-use Rattle.cacache_walks.specs.Listing.{content_area_in}
-use Rattle.cacache_walks.specs.Reading.{top_folder}
 use Rattle.cacache_keep_laws.specs.Contents.{HoldsJust}
 use Rattle.cacache_keep_laws.specs.Index.{IndexLists}
 use Rattle.cacache_keep_laws.specs.Collecting.{LeavesLive, Removes, is_live}
 use Rattle.cacache_keep_laws.specs.Idle.{LacksIdle}
-use Rattle.cacache_keep_laws.proofs.Collected.{dead_gone, lacks, leaves, live_left, rest_stays}
+use Rattle.cacache_keep_laws.proofs.Collected.{lacks, leaves, others_gone, picked_left, rest_stays}
 use Rattle.cacache_keep_laws.proofs.Idle.{idle_is_unseen}
 use Rattle.cacache_keep_laws.proofs.BothLogs.{still_lacks_idle}
 use Rattle.cacache_keep_laws.proofs.Fully.{lacks_at}
-use Rattle.cacache_keep_laws.proofs.Held.{holds_just}
-use Rattle.cacache_keep_laws.proofs.Logged.{answered_rest, answered_split, gains_join, log_rooted, looked, tree_rest, walked}
+use Rattle.cacache_keep_laws.proofs.Logged.{gains_join, log_rooted}
 use Rattle.cacache_keep_laws.proofs.Removed.{removals_run}
 use Rattle.cacache_keep.specs.Calls.{MadeCalls, has_entry, removal}
 use Rattle.cacache_keep.specs.Keeping.{Collects}
 use Rattle.cacache_keep.specs.Kept.{Cleaned, CollectionsLackIdle, CollectionsLeave, LaterReadsStay, Looked}
-use Rattle.cacache_keep.proofs.Judged.{index_lists}
+use Rattle.cacache_keep.proofs.Chosen.{choice}
 use Rattle.cacache_keep.proofs.Parts.{gains_none}
 
 -- ---- removals
 
 -- the steps of removals that are done
-abbrev removals : List ℕ → List Hash → Moves
+abbrev pub removals : List ℕ → List Hash → Moves
 removals cache hs = map (λ h. (RemoveFile (joined cache (content_names h)), answers.Done)) hs
 
-removals_gain : (site : Site) (hs : List Hash) (old new : Option (List LogItem)) → MadeCalls site (map removal (map (λ h. h ∷ []) hs)) old new → Gains old new (removals site.cache hs)
+pub removals_gain : (site : Site) (hs : List Hash) (old new : Option (List LogItem)) → MadeCalls site (map removal (map (λ h. h ∷ []) hs)) old new → Gains old new (removals site.cache hs)
 removals_gain site [] old new made = gains_none old new made
 removals_gain site (h ∷ hs) old new made =
     let ran = made.1 in
     let one = removals_run site h ran.0 ran.1 in
     gains_join old made.0 new ((RemoveFile (joined site.cache (content_names h)), answers.Done) ∷ []) (removals site.cache hs) (subst (Gains old made.0) one ran.2) (removals_gain site hs made.0 new made.2)
 
-removed_by : (cache : List ℕ) (hs : List Hash) (t : Tree) → AreAnswered t (removals cache hs) → Removes cache hs t (tree_on t (removals cache hs))
+pub removed_by : (cache : List ℕ) (hs : List Hash) (t : Tree) → AreAnswered t (removals cache hs) → Removes cache hs t (tree_on t (removals cache hs))
 removed_by cache [] t a = refl
 removed_by cache (h ∷ hs) t a = (sym a.0, removed_by cache hs (apply t (RemoveFile (joined cache (content_names h))) Plain).1 a.1)
 
@@ -102,20 +96,12 @@ module _ (site : Site) (home : Names) (kept : ℕ) (dropped : List (List Hash)) 
 
   steps_done : Done
   steps_done =
-      let list = c.1.contents in
-      let l = c.1.listing.2 in
-      let gone = removals site.cache unused in
       let removing = removals_gain site unused c.0 (Some new) (subst (λ d. MadeCalls site (map removal d) c.0 (Some new)) dropped_are c.2) in
-      let gains = gains_join (Some old) c.1.found (Some new) list.0 (l.0 ++ gone) list.1 (gains_join c.1.found c.0 (Some new) l.0 gone l.2 removing) in
-      let lead = logs_lead old new (list.0 ++ (l.0 ++ gone)) gains logged in
-      let walk = walked t list.0 (top_folder (content_area_in site.cache) ∷ []) list.2 (answered_split t list.0 (l.0 ++ gone) lead.0).0 in
-      let after_walk = answered_rest t list.0 (l.0 ++ gone) walk.1 lead.0 in
-      let index = looked site t commands.Ls (replies.Listed c.1.listing.0) l.0 tt l.1 (answered_split t l.0 gone after_walk).0 in
-      let made = removed_by site.cache unused t (answered_rest t l.0 gone index.1 after_walk) in
+      let chosen = choice site home kept dropped old new c.0 is logged c.1 (removals site.cache unused) removing in
       record {
-        holds = holds_just site.cache home t list.0 is (log_rooted old) list.2 walk.0 c.1.addresses c.1.strange list.3 c.1.order;
-        index = index_lists site t c.1.listing.0 entries c.1.listing.1 index.0;
-        removes = subst (Removes site.cache unused t) (sym (lead.1 ∙ tree_rest t list.0 (l.0 ++ gone) walk.1 ∙ tree_rest t l.0 gone index.1)) made;
+        holds = chosen.holds;
+        index = chosen.index;
+        removes = subst (Removes site.cache unused t) (sym chosen.leads) (removed_by site.cache unused t chosen.answered);
       }
 
   leaves_live : LeavesLive site home t (tree_of new) kept dropped
@@ -129,10 +115,10 @@ module _ (site : Site) (home : Names) (kept : ℕ) (dropped : List (List Hash)) 
         index = d.index;
         counted = kept_are;
         others = dropped_are;
-        left = live_left site home t (tree_of new) hashes c.1.strange entries is d.holds d.index d.removes;
-        gone = dead_gone site home t (tree_of new) hashes c.1.strange entries is d.holds d.index d.removes;
-        buckets = (leaves site home t (tree_of new) hashes c.1.strange entries is d.holds d.index d.removes).buckets;
-        rest = rest_stays site home t (tree_of new) hashes c.1.strange entries is d.holds d.index d.removes;
+        left = picked_left site home t (tree_of new) hashes c.1.strange (is_live entries) is d.holds d.removes;
+        gone = others_gone site home t (tree_of new) hashes c.1.strange (is_live entries) is d.holds d.removes;
+        buckets = (leaves site home t (tree_of new) hashes c.1.strange (is_live entries) is d.holds d.removes).buckets;
+        rest = rest_stays site home t (tree_of new) hashes c.1.strange (is_live entries) is d.holds d.removes;
       }
 
 pub collections_leave : CollectionsLeave

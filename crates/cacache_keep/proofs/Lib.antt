@@ -5,6 +5,12 @@ mod Stopped
 mod Parts
 mod Judged
 mod Verdicts
+mod Chosen
 mod Leaving
 mod Gives
 mod InTurn
+mod Sweeps
+mod SweptCaches
+mod Sizes
+mod Tombs
+mod Mends

@@ -33,7 +33,7 @@ lists_hold cache home addresses strange old new is logged lists order =
       lead.1 ∙ walk.1,
     )
 
-all_questions : (asks : List (Found × Bool)) → AllLook (map question_of asks)
+pub all_questions : (asks : List (Found × Bool)) → AllLook (map question_of asks)
 all_questions [] = tt
 all_questions (a ∷ asks) = (tt, all_questions asks)
 

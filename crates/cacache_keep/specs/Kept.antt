@@ -1,21 +1,28 @@
--- What a listing, a verification and a collection come to on a store in memory.
-use Rattle.std.specs.Prelude.{◌≡◌, ℕ, List, [], ◌∷◌, Some, map}
+-- What the calls come to on a store in memory.
+use Rattle.std.specs.Prelude.{◌≡◌, ℕ, List, [], ◌∷◌, None, Some, Contains, filter, map, not}
 use Rattle.cacache_core.specs.declared.integrity.digest.Hash.{Hash}
 use Rattle.cacache_core.specs.PathNames.{Names, home_of}
 use Rattle.cacache_store.specs.declared.store.log.LogItem.{LogItem}
+use Rattle.cacache_disk.specs.Tree.{Tree}
 use Rattle.cacache_memory.specs.Replay.{tree_of, IsLog}
 use Rattle.cacache_entry.specs.Latest.{Found}
 use Rattle.cacache_table.specs.declared.command.Command.{Command}
 use Rattle.cacache_table.specs.declared.reply.Reply.{Reply}
 use Rattle.cacache_table.specs.State.{Site}
+use Rattle.cacache_value.specs.Placed.{Placed}
 use Rattle.cacache_sequence.specs.Caches.{Called}
 use Rattle.cacache_sequence.specs.Looks.{OnlyLooks}
 use Rattle.cacache_walks.specs.Listing.{IsByHash, ListsContents}
 use Rattle.cacache_keep_laws.specs.Contents.{HoldsJust}
-use Rattle.cacache_keep_laws.specs.Verifying.{Judges}
+use Rattle.cacache_keep_laws.specs.Verifying.{Judges, is_good}
 use Rattle.cacache_keep_laws.specs.Collecting.{LeavesLive, LinksLeadOut, ReadsAsBefore}
 use Rattle.cacache_keep_laws.specs.Idle.{LacksIdle, Removed}
+use Rattle.cacache_keep_laws.specs.Mending.{LeavesGood, found_in}
+use Rattle.cacache_keep_laws.specs.Temporary.{LeavesUntemporary}
 use Rattle.cacache_keep.specs.Keeping.{Collects, VerifiesCache}
+use Rattle.cacache_keep.specs.Planning.{PlansCache, Sized}
+use Rattle.cacache_keep.specs.Repairing.{RepairsCache}
+use Rattle.cacache_keep.specs.Sweeping.{SweepsCache}
 
 -- the log leads to the tree that it led to
 abbrev pub LeavesTree : List LogItem → List LogItem → Type 0
@@ -56,6 +63,60 @@ CollectionsLackIdle =
     → home_of site.cache ≡ Some home → IsLog new → LinksLeadOut home (tree_of old)
     → Collects site kept dropped (Some old) (Some new)
     → LacksIdle site.cache home (tree_of old) (tree_of new)
+
+-- a plan changes nothing
+abbrev pub PlansLeave : Type 0
+PlansLeave =
+    (site : Site) (home : Names) (kept : ℕ) (unused : List Sized) (old new : List LogItem)
+    → home_of site.cache ≡ Some home → IsLog new
+    → PlansCache site kept unused (Some old) (Some new) → LeavesTree old new
+
+-- what it finds unused is what a collection drops that is made on the same tree
+abbrev pub PlansForetell : Type 0
+PlansForetell =
+    (site : Site) (home : Names) (kept others : ℕ) (unused : List Sized)
+    (dropped : List (List Hash)) (old planned mid collected : List LogItem)
+    → home_of site.cache ≡ Some home → IsLog planned → IsLog collected
+    → tree_of mid ≡ tree_of old
+    → PlansCache site kept unused (Some old) (Some planned)
+    → Collects site others dropped (Some mid) (Some collected)
+    → (others ≡ kept) × (dropped ≡ map (λ u. u.0) unused)
+
+-- a sweep takes the temporary files away, and leaves the rest
+abbrev pub CachesAreSwept : Type 0
+CachesAreSwept =
+    (cache : List ℕ) (home : Names) (files bytes : ℕ) (strange : List (List ℕ))
+    (old new : List LogItem)
+    → home_of cache ≡ Some home → IsLog new
+    → SweepsCache cache files bytes strange (Some old) (Some new)
+    → LeavesUntemporary home (tree_of old) (tree_of new) files
+
+-- the key of one of the entries
+abbrev pub IsKeyOf : List Found → List ℕ → Type 0
+IsKeyOf entries key = (f : Found) × Contains entries f × (f.key ≡ key)
+
+-- These contents were damaged, and are gone; the good ones are left. The keys of these entries lead to
+-- nothing, and each other key leads where it led.
+pub record MendsCache
+    (site : Site) (home : Names) (t new : Tree)
+    (damaged : List (List Hash)) (dangling : List Found) : Type 0 where
+  pub hashes : List Hash
+  pub strange : List (List ℕ)
+  pub contents : HoldsJust site.cache home t hashes strange
+  pub broken : damaged ≡ map (λ h. h ∷ []) (filter (λ h. not (is_good home t h)) hashes)
+  pub leaves : LeavesGood home t new
+  pub hidden : (key : List ℕ) → IsKeyOf dangling key → found_in home new key ≡ None
+  pub keys : (key : List ℕ) → (IsKeyOf dangling key → ⊥)
+      → found_in home new key ≡ found_in home t key
+
+-- so does a repair, where each thing in the cache's folder lies in its place
+abbrev pub RepairsMend : Type 0
+RepairsMend =
+    (site : Site) (home : Names) (damaged : List (List Hash)) (dangling : List Found)
+    (old new : List LogItem)
+    → home_of site.cache ≡ Some home → IsLog new → Placed (Some home) (tree_of old)
+    → RepairsCache site damaged dangling (Some old) (Some new)
+    → MendsCache site home (tree_of old) (tree_of new) damaged dangling
 
 -- ---- calls behind a collection
 

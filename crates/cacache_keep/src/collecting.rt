@@ -3,15 +3,12 @@ ghost use Rattle.std.specs.Prelude.{◌≡◌, IfOk, IfErr};
 ghost use Rattle.cacache_jobs.specs.Sites.{site_of};
 ghost use Rattle.cacache_keep.specs.Keeping.{Collects, StopsCollecting};
 
-use crate::index::entries;
-use crate::live::unused;
+use crate::choosing::{Chosen, choose};
 use crate::removing::remove_each;
 use cacache_core::errors::Result;
 use cacache_core::integrity::Integrity;
-use cacache_core::keeping::let_go;
 use cacache_store::env::{Clock, Env, Names};
 use cacache_store::store::Store;
-use cacache_walks::{Contents, list};
 
 /// What a collection did.
 #[derive(Debug, Drop)]
@@ -44,13 +41,7 @@ pub fn collect<S: Store, C: Clock, N: Names>(
     ensures names { env.new.names ≡ env.old.names }
     ensures base { env.new.base ≡ env.old.base }
 {
-    let Contents { addresses, strange } = list(env, cache)?;
-    let_go(strange);
-    let entries = entries(env, cache)?;
-    let count = addresses.len();
-    let dropped = unused(env.alloc, addresses, entries.as_slice())?;
-    let_go(entries);
+    let Chosen { kept, dropped } = choose(env, cache)?;
     remove_each(env, cache, dropped.as_slice())?;
-    let kept = (count - dropped.len()) as u64;
     Ok(Collected { kept, dropped })
 }

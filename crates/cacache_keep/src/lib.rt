@@ -2,14 +2,22 @@
 #![tactic(auto)]
 
 mod asking;
+mod burying;
+mod choosing;
 mod collecting;
 mod index;
 mod laws;
 mod live;
+mod planning;
 mod reading;
 mod removing;
+mod repairing;
+mod sweeping;
 mod verifying;
 
 pub use collecting::{Collected, collect};
 pub use laws::keep_laws;
+pub use planning::{Planned, Unused, plan};
+pub use repairing::{Repaired, repair};
+pub use sweeping::{Swept, sweep};
 pub use verifying::{Verdict, verify};

@@ -77,8 +77,8 @@ fn gives_good<S: Store>(
     }
 }
 
-/// Whether the content's opening was refused because it is gone.
-fn says_gone(refusal: Refusal) -> bool
+/// Whether a step was refused because nothing was found.
+pub(crate) fn says_gone(refusal: Refusal) -> bool
     ensures { result ≡ finds_none refusal }
 {
     match refusal {

@@ -1,39 +1,13 @@
-use Rattle.std.proofs.Common.{◌-◌, inl, inr, length, map, string_bytes, ◌∙◌, arith, rules}
-use Rattle.cacache_core.specs.declared.errors.Error.TheVariants.{OutOfMemory}
+use Rattle.std.proofs.Common.{inl, inr, rules}
 use Rattle.cacache_jobs.specs.Sites.{site_of}
-use Rattle.cacache_keep.specs.Calls.{AreUnused, ListsEntries, StopsReading, StopsRemoving}
-use Rattle.cacache_keep.specs.Keeping.{Chooses, StopsCollecting}
-use Rattle.cacache_keep.proofs.Stopped.{at_base, entries_stop, error_as, lost_here}
+use Rattle.cacache_keep.specs.Calls.{StopsRemoving}
+use Rattle.cacache_keep.specs.Keeping.{StopsCollecting}
+use Rattle.cacache_keep.proofs.Stopped.{at_base, error_as}
 use Rattle.cacache_keep.proofs.collecting.collect.Goals as goal
 
-pub returns-in_err-addresses-clause-stops : goal.returns-in_err-addresses-clause-stops
-returns-in_err-addresses-clause-stops g c =
-    error_as (λ x. StopsCollecting (site_of c.args.cache.now c.args.env.now.base 0) x (g.S.Store.log c.args.env.now.store) (g.S.Store.log c.list.new.env.store)) c.from_residual.result c.in_err-addresses.field-0.0 c.from_residual.ensures.1 (inl (inl c.in_err-addresses.ensures.stops))
-
-pub returns-in_err-entries-clause-stops : goal.returns-in_err-entries-clause-stops
-returns-in_err-entries-clause-stops g c =
-    let cache = c.args.cache.now in
-    let base = c.args.env.now.base in
-    let site = site_of cache base 0 in
-    let log = g.S.Store.log in
-    let found = log c.list.new.env.store in
-    let new = log c.entries.new.env.store in
-    let e = c.in_err-entries.field-0.0 in
-    let stop = at_base (λ s. StopsReading s e found new) cache base c.list.new.env.base c.list.ensures.base c.in_err-entries.ensures.stops in
-    error_as (λ x. StopsCollecting site x (log c.args.env.now.store) new) c.from_residual-in_err-entries.result e c.from_residual-in_err-entries.ensures.1
-    (inl (inr (c.in_ok-addresses.field-0.addresses.items, map string_bytes c.in_ok-addresses.field-0.strange.items, found, c.in_ok-addresses.ensures.lists, stop)))
-
-pub returns-in_err-dropped-clause-stops : goal.returns-in_err-dropped-clause-stops
-returns-in_err-dropped-clause-stops g c =
-    let cache = c.args.cache.now in
-    let base = c.args.env.now.base in
-    let site = site_of cache base 0 in
-    let log = g.S.Store.log in
-    let found = log c.list.new.env.store in
-    let new = log c.entries.new.env.store in
-    let lists = at_base (λ s. ListsEntries s c.in_ok-entries.entries.items found new) cache base c.list.new.env.base c.list.ensures.base c.in_ok-entries.ensures.lists in
-    error_as (λ x. StopsCollecting site x (log c.args.env.now.store) new) c.from_residual-in_err-dropped.result OutOfMemory c.from_residual-in_err-dropped.ensures.1
-    (inl (inr (c.in_ok-addresses.field-0.addresses.items, map string_bytes c.in_ok-addresses.field-0.strange.items, found, c.in_ok-addresses.ensures.lists, entries_stop site _ OutOfMemory found new new lists (lost_here site new))))
+pub returns-in_err-kept-clause-stops : goal.returns-in_err-kept-clause-stops
+returns-in_err-kept-clause-stops g c =
+    error_as (λ x. StopsCollecting (site_of c.args.cache.now c.args.env.now.base 0) x (g.S.Store.log c.args.env.now.store) (g.S.Store.log c.choose.new.env.store)) c.from_residual.result c.in_err-kept.field-0.0 c.from_residual.ensures.1 (inl c.in_err-kept.ensures.stops)
 
 pub returns-in_err-remove_each-clause-stops : goal.returns-in_err-remove_each-clause-stops
 returns-in_err-remove_each-clause-stops g c =
@@ -41,27 +15,11 @@ returns-in_err-remove_each-clause-stops g c =
     let base = c.args.env.now.base in
     let site = site_of cache base 0 in
     let log = g.S.Store.log in
-    let found = log c.list.new.env.store in
-    let chosen = log c.entries.new.env.store in
+    let chosen = log c.choose.new.env.store in
     let new = log c.remove_each.new.env.store in
     let e = c.in_err-remove_each.field-0.0 in
-    let addresses = c.in_ok-addresses.field-0.addresses.items in
-    let entries = c.in_ok-entries.entries.items in
-    let dropped = c.in_ok-dropped.dropped.items in
-    let lists = at_base (λ s. ListsEntries s entries found chosen) cache base c.list.new.env.base c.list.ensures.base c.in_ok-entries.ensures.lists in
-    let unused : AreUnused entries addresses dropped = search rules in
-    let stop : StopsRemoving (site_of cache c.entries.new.env.base 0) dropped e chosen new = search (rules, c.in_err-remove_each.ensures.stops) in
-    let stops = at_base (λ s. StopsRemoving s dropped e chosen new) cache base c.entries.new.env.base (c.entries.ensures.rest.2 ∙ c.list.ensures.base) stop in
-    let chooses : Chooses site (length addresses - length dropped) dropped (log c.args.env.now.store) chosen = record {
-      addresses = addresses;
-      order = c.in_ok-addresses.ensures.by_hash;
-      strange = map string_bytes c.in_ok-addresses.field-0.strange.items;
-      found = found;
-      contents = c.in_ok-addresses.ensures.lists;
-      entries = entries;
-      listing = lists;
-      unused = unused;
-      counts = omega (arith, unused.fewer);
-    } in
+    let dropped = c.in_ok-kept.field-0.dropped.items in
+    let stop : StopsRemoving (site_of cache c.choose.new.env.base 0) dropped e chosen new = search (rules, c.in_err-remove_each.ensures.stops) in
+    let stops = at_base (λ s. StopsRemoving s dropped e chosen new) cache base c.choose.new.env.base c.choose.ensures.rest.2 stop in
     error_as (λ x. StopsCollecting site x (log c.args.env.now.store) new) c.from_residual-in_err-remove_each.result e c.from_residual-in_err-remove_each.ensures.1
-    (inr (length addresses - length dropped, dropped, chosen, chooses, stops))
+    (inr (_, dropped, chosen, c.in_ok-kept.ensures.chooses, stops))

@@ -1,4 +1,7 @@
+use Rattle.cacache_keep.proofs.Chosen.{plans_foretell, plans_leave}
 use Rattle.cacache_keep.proofs.Leaving.{collections_lack_idle, collections_leave, later_reads_stay}
+use Rattle.cacache_keep.proofs.Mends.{repairs_mend}
+use Rattle.cacache_keep.proofs.SweptCaches.{caches_are_swept}
 use Rattle.cacache_keep.proofs.Verdicts.{lists_hold, verdicts_judge}
 use Rattle.cacache_keep.proofs.laws.keep_laws.Goals as goal
 
@@ -16,3 +19,15 @@ returns-clause-lacks c = collections_lack_idle
 
 pub returns-clause-later : goal.returns-clause-later
 returns-clause-later c = later_reads_stay
+
+pub returns-clause-plans_leave : goal.returns-clause-plans_leave
+returns-clause-plans_leave c = plans_leave
+
+pub returns-clause-plans : goal.returns-clause-plans
+returns-clause-plans c = plans_foretell
+
+pub returns-clause-sweeps : goal.returns-clause-sweeps
+returns-clause-sweeps c = caches_are_swept
+
+pub returns-clause-repairs : goal.returns-clause-repairs
+returns-clause-repairs c = repairs_mend

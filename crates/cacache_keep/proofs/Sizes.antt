@@ -1,0 +1,90 @@
+-- Contents that are asked for their sizes, one after another.
+use Rattle.std.proofs.Common.{◌≡◌, true, false, inl, inr, ℕ, List, [], ◌∷◌, ◌++◌, Option, Ok, Err, refl, sym, ap, subst, ◌∙◌, map, append_assoc}
+use Rattle.std.proofs.lemmas.List.{map-append}
+use Rattle.cacache_core.specs.declared.errors.Error.{Error}
+use Rattle.cacache_core.specs.declared.errors.Error.TheVariants.{OutOfMemory}
+use Rattle.cacache_core.specs.declared.errors.Fault.TheVariants.{NotFound}
+use Rattle.cacache_core.specs.declared.integrity.digest.Hash.{Hash}
+use Rattle.cacache_store.specs.declared.store.answer.Answer.TheVariants as answers
+use Rattle.cacache_store.specs.declared.store.log.LogItem.{LogItem}
+use Rattle.cacache_store.specs.declared.store.step.Step.TheVariants as steps
+use Rattle.cacache_store.specs.Fits.{Fits, Logs}
+use Rattle.cacache_store.specs.Plain.{PlainAnswer}
+use Rattle.cacache_table.specs.declared.answers.Refusal.{Refusal}
+use Rattle.cacache_table.specs.declared.answers.Refusal.TheVariants as refusals
+use Rattle.cacache_table.specs.Answers.{length_in}
+use Rattle.cacache_table.specs.Common.{fails, refuse}
+use Rattle.cacache_table.specs.Runs.{EndsAs}
+use Rattle.cacache_table.specs.SingleSteps.{Does, FailsAt}
+use Rattle.cacache_table.specs.StepPaths.{content_path}
+use Rattle.cacache_keep.specs.declared.planning.Unused.{Unused}
+use Rattle.cacache_keep.specs.Planning.{HidesFirst, HidesSize, Sized, StopsTelling, TellsSize, TellsSizes, sized_of}
+use Rattle.cacache_keep.specs.Reading.{finds_none}
+use Rattle.cacache_keep.proofs.Gives.{none_found}
+use Rattle.cacache_keep.proofs.Sweeps.{Refuses, sizing_refused, step_fails, still_there, told_size}
+
+-- ---- one content
+
+pub told_so : (cache path : List ℕ) (i : List Hash) (t : PlainAnswer) (size : ℕ) (old new : Option (List LogItem)) → path ≡ content_path cache i → Ok size ≡ length_in t → Logs old new (steps.Size path) t → TellsSize cache i size old new
+told_so cache path i t size old new at is logs = inl (subst (λ (p : List ℕ). Does (steps.Size p) (answers.Length size) old new) at (told_size path t size old new is logs))
+
+none_at : (path : List ℕ) (t : PlainAnswer) (refusal : Refusal) (old new : Option (List LogItem)) → Refuses t refusal → refusal ≡ refusals.Fault NotFound → Logs old new (steps.Size path) t → Does (steps.Size path) (answers.Failed NotFound) old new
+none_at path (answers.Failed fault) refusal old new refused gone logs = let is : fault ≡ NotFound = cc in rw is at logs
+none_at path (answers.NoMemory b) refusal old new refused gone logs = absurd cc
+none_at path t refusal old new refused gone logs = absurd refused
+
+pub none_so : (cache path : List ℕ) (i : List Hash) (t : PlainAnswer) (refusal : Refusal) (old new : Option (List LogItem)) → path ≡ content_path cache i → finds_none refusal ≡ true → Err refusal ≡ length_in t → Fits (steps.Size path) t → Logs old new (steps.Size path) t → TellsSize cache i 0 old new
+none_so cache path i t refusal old new at gone is fits logs =
+    inr (refl, subst (λ (p : List ℕ). Does (steps.Size p) (answers.Failed NotFound) old new) at (none_at path t refusal old new (sizing_refused path t refusal is fits) (none_found refusal gone) logs))
+
+pub hidden_so : (cache path : List ℕ) (i : List Hash) (t : PlainAnswer) (refusal : Refusal) (e : Error) (old new : Option (List LogItem)) → path ≡ content_path cache i → finds_none refusal ≡ false → Err refusal ≡ length_in t → Fits (steps.Size path) t → Logs old new (steps.Size path) t → EndsAs e (refuse refusal fails) → HidesSize cache i e old new
+hidden_so cache path i t refusal e old new at some is fits logs ends =
+    (still_there e refusal ends some, subst (λ (p : List ℕ). FailsAt (steps.Size p) e old new) at (step_fails (steps.Size path) t refusal e old new (sizing_refused path t refusal is fits) logs ends))
+
+-- ---- contents, one after another
+
+tells_on : (cache : List ℕ) (told : List Sized) (u : Sized) (old mid new : Option (List LogItem)) → TellsSizes cache told old mid → TellsSize cache u.0 u.1 mid new → TellsSizes cache (told ++ u ∷ []) old new
+tells_on cache [] u old mid new h says = (new, subst (λ (log : Option (List LogItem)). TellsSize cache u.0 u.1 log new) h says, refl)
+tells_on cache (r ∷ told) u old mid new h says = (h.0, h.1, tells_on cache told u h.0 mid new h.2 says)
+
+-- these were told of the first of the contents
+pub record ToldTo (cache : List ℕ) (seen : List (List Hash)) (unused : List Unused) (old new : Option (List LogItem)) : Type 0 where
+  pub each : map (λ u. u.address) unused ≡ seen
+  pub tells : TellsSizes cache (map sized_of unused) old new
+
+pub none_told : (cache : List ℕ) (unused : List Unused) (log : Option (List LogItem)) → unused ≡ [] → ToldTo cache [] unused log log
+none_told cache unused log none = record { each = ap (map (λ (u : Unused). u.address)) none; tells = subst (λ (l : List Unused). TellsSizes cache (map sized_of l) log log) (sym none) refl }
+
+pub one_told : (cache : List ℕ) (seen : List (List Hash)) (unused more : List Unused) (u : Unused) (old mid new : Option (List LogItem)) → more ≡ unused ++ u ∷ [] → ToldTo cache seen unused old mid → TellsSize cache u.address u.bytes mid new → ToldTo cache (seen ++ u.address ∷ []) more old new
+one_told cache seen unused more u old mid new is so says = record {
+  each = ap (map (λ (x : Unused). x.address)) is ∙ map-append (λ (x : Unused). x.address) unused (u ∷ []) ∙ ap (λ (l : List (List Hash)). l ++ u.address ∷ []) so.each;
+  tells = subst (λ (l : List Sized). TellsSizes cache l old new) (sym (ap (map sized_of) is ∙ map-append sized_of unused (u ∷ []))) (tells_on cache (map sized_of unused) (sized_of u) old mid new so.tells says);
+}
+
+-- ---- errors
+
+pub addresses_told : (unused : List Unused) → map (λ (s : Sized). s.0) (map sized_of unused) ≡ map (λ u. u.address) unused
+addresses_told [] = refl
+addresses_told (u ∷ unused) = ap (λ (l : List (List Hash)). u.address ∷ l) (addresses_told unused)
+
+stops_behind : (cache : List ℕ) (addresses seen rest : List (List Hash)) (unused : List Unused) (e : Error) (old mid new : Option (List LogItem)) → addresses ≡ seen ++ rest → ToldTo cache seen unused old mid → HidesFirst cache rest e mid new → StopsTelling cache addresses e old new
+stops_behind cache addresses seen rest unused e old mid new split so stop = record {
+  told = map sized_of unused;
+  rest = rest;
+  split = split ∙ ap (λ (l : List (List Hash)). l ++ rest) (sym (addresses_told unused ∙ so.each));
+  between = mid;
+  telling = so.tells;
+  stop = stop;
+}
+
+pub next_hidden : (cache : List ℕ) (addresses seen : List (List Hash)) (unused : List Unused) (i : List Hash) (rest : List (List Hash)) (e : Error) (old mid new : Option (List LogItem)) → addresses ≡ seen ++ i ∷ rest → ToldTo cache seen unused old mid → HidesSize cache i e mid new → StopsTelling cache addresses e old new
+next_hidden cache addresses seen unused i rest e old mid new split so stop = stops_behind cache addresses seen (i ∷ rest) unused e old mid new split so stop
+
+lost_next : (cache : List ℕ) (rest : List (List Hash)) (log : Option (List LogItem)) → HidesFirst cache rest OutOfMemory log log
+lost_next cache [] log = (refl, refl)
+lost_next cache (i ∷ rest) log = (refl, inl refl)
+
+-- memory ran out once one more was told
+pub lost_told : (cache : List ℕ) (addresses seen : List (List Hash)) (unused : List Unused) (u : Unused) (rest : List (List Hash)) (old mid new : Option (List LogItem)) → addresses ≡ seen ++ u.address ∷ rest → ToldTo cache seen unused old mid → TellsSize cache u.address u.bytes mid new → StopsTelling cache addresses OutOfMemory old new
+lost_told cache addresses seen unused u rest old mid new split so says =
+    stops_behind cache addresses (seen ++ u.address ∷ []) rest (unused ++ u ∷ []) OutOfMemory old new new (split ∙ sym (append_assoc seen (u.address ∷ []) rest)) (one_told cache seen unused (unused ++ u ∷ []) u old mid new refl so says) (lost_next cache rest new)

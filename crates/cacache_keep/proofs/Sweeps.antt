@@ -1,0 +1,156 @@
+-- Files of a folder that are removed, one after another, and why that ends.
+use Rattle.std.proofs.Common.{◌≡◌, Some, ◌+◌, ◌-◌, ◌^◌, ◌<◌, inl, ℕ, List, [], ◌∷◌, ◌++◌, true, false, Option, Ok, Err, refl, sym, ap, subst, ◌∙◌, map, length, take, drop, get_or, arith}
+use Rattle.std.specs.Prelude.{min}
+use Rattle.std.specs.List.{sum}
+use Rattle.std.proofs.lemmas.List.Sums.{sum_by-append}
+use Rattle.std.proofs.lemmas.List.{drop_more, map-append, take-append-drop, take_more}
+use Rattle.cacache_core.specs.declared.errors.Error.{Error}
+use Rattle.cacache_core.specs.declared.errors.Error.TheVariants.{OutOfMemory}
+use Rattle.cacache_core.specs.declared.errors.Fault.TheVariants.{NotFound}
+use Rattle.cacache_core.specs.Paths.{join}
+use Rattle.cacache_store.specs.declared.store.answer.Answer.TheVariants as answers
+use Rattle.cacache_store.specs.declared.store.answer.Name.{Name}
+use Rattle.cacache_store.specs.declared.store.log.LogItem.{LogItem}
+use Rattle.cacache_store.specs.declared.store.step.Step.TheVariants as steps
+use Rattle.cacache_store.specs.Fits.{Fits, Logs}
+use Rattle.cacache_store.specs.Plain.{PlainStep, PlainAnswer}
+use Rattle.cacache_table.specs.declared.answers.Refusal.{Refusal}
+use Rattle.cacache_table.specs.declared.answers.Refusal.TheVariants as refusals
+use Rattle.cacache_table.specs.Answers.{done_in, length_in, names_in}
+use Rattle.cacache_table.specs.Common.{fails, refuse}
+use Rattle.cacache_table.specs.Runs.{EndsAs, Gains, Moves}
+use Rattle.cacache_table.specs.SingleSteps.{Does, FailsAt}
+use Rattle.cacache_table.proofs.Going.{no_gain}
+use Rattle.cacache_keep_laws.proofs.Logged.{gains_join}
+use Rattle.cacache_keep_laws.specs.Temporary.{sized_removals, total}
+use Rattle.cacache_keep.specs.Reading.{finds_none, is_gone}
+use Rattle.cacache_keep.specs.Sweeping.{ListsFolder, RemovesSized, StopsRemoval, StopsSized}
+use Rattle.cacache_keep.proofs.Gives.{failed, lost, none_found, not_gone}
+
+-- ---- a step that was refused
+
+-- the answer is a fault or refused memory, and this is what it says
+abbrev pub Refuses : PlainAnswer → Refusal → Type 0
+Refuses (answers.Failed fault) refusal = refusal ≡ refusals.Fault fault
+Refuses (answers.NoMemory step) refusal = refusal ≡ refusals.Memory
+Refuses answer refusal = ⊥
+
+pub step_fails : (a : PlainStep) (t : PlainAnswer) (refusal : Refusal) (e : Error) (old new : Option (List LogItem)) → Refuses t refusal → Logs old new a t → EndsAs e (refuse refusal fails) → FailsAt a e old new
+step_fails a (answers.Failed fault) refusal e old new is logs ends = failed a fault e old new logs (rw is at ends)
+step_fails a (answers.NoMemory b) refusal e old new is logs ends = lost a e old new logs (rw is at ends)
+step_fails a t refusal e old new is logs ends = absurd is
+
+pub listing_refused : (path : List ℕ) (t : PlainAnswer) (refusal : Refusal) → Err refusal ≡ names_in t → Fits (steps.ReadDir path) t → Refuses t refusal
+listing_refused path (answers.Failed fault) refusal is fits = cc
+listing_refused path (answers.NoMemory b) refusal is fits = cc
+listing_refused path (answers.Names names) refusal is fits = absurd cc
+listing_refused path t refusal is fits = absurd fits
+
+pub sizing_refused : (path : List ℕ) (t : PlainAnswer) (refusal : Refusal) → Err refusal ≡ length_in t → Fits (steps.Size path) t → Refuses t refusal
+sizing_refused path (answers.Failed fault) refusal is fits = cc
+sizing_refused path (answers.NoMemory b) refusal is fits = cc
+sizing_refused path (answers.Length count) refusal is fits = absurd cc
+sizing_refused path t refusal is fits = absurd fits
+
+pub removal_refused : (path : List ℕ) (t : PlainAnswer) (refusal : Refusal) → Err refusal ≡ done_in t → Fits (steps.RemoveFile path) t → Refuses t refusal
+removal_refused path (answers.Failed fault) refusal is fits = cc
+removal_refused path (answers.NoMemory b) refusal is fits = cc
+removal_refused path answers.Done refusal is fits = absurd cc
+removal_refused path t refusal is fits = absurd fits
+
+-- ---- the names of a folder
+
+pub lists_names : (path : List ℕ) (t : PlainAnswer) (names : List Name) (old new : Option (List LogItem)) → Ok names ≡ names_in t → Fits (steps.ReadDir path) t → Logs old new (steps.ReadDir path) t → ListsFolder path names old new
+lists_names path (answers.Names l) names old new is fits logs = let same : l ≡ names = cc in (answers.Names l, record { fits = fits; shown = ap Some same; gained = logs })
+lists_names path t names old new is fits logs = absurd cc
+
+lists_none_at : (path : List ℕ) (t : PlainAnswer) (refusal : Refusal) (old new : Option (List LogItem)) → Refuses t refusal → refusal ≡ refusals.Fault NotFound → Logs old new (steps.ReadDir path) t → ListsFolder path [] old new
+lists_none_at path (answers.Failed fault) refusal old new refused gone logs =
+    let is : fault ≡ NotFound = cc in
+    let logged : Logs old new (steps.ReadDir path) (answers.Failed NotFound) = rw is at logs in
+    (answers.Failed NotFound, record { fits = tt; shown = refl; gained = logged })
+lists_none_at path (answers.NoMemory b) refusal old new refused gone logs = absurd cc
+lists_none_at path t refusal old new refused gone logs = absurd refused
+
+pub lists_none : (path : List ℕ) (t : PlainAnswer) (refusal : Refusal) (old new : Option (List LogItem)) → finds_none refusal ≡ true → Err refusal ≡ names_in t → Fits (steps.ReadDir path) t → Logs old new (steps.ReadDir path) t → ListsFolder path [] old new
+lists_none path t refusal old new gone is fits logs = lists_none_at path t refusal old new (listing_refused path t refusal is fits) (none_found refusal gone) logs
+
+pub still_there : (e : Error) (refusal : Refusal) → EndsAs e (refuse refusal fails) → finds_none refusal ≡ false → is_gone e ≡ false
+still_there e refusal ends some = not_gone e refusal ends (λ same. let wrong : true ≡ false = sym (ap finds_none same) ∙ some in absurd cc)
+
+pub unlisted_so : (path : List ℕ) (t : PlainAnswer) (refusal : Refusal) (e : Error) (old new : Option (List LogItem)) → finds_none refusal ≡ false → Err refusal ≡ names_in t → Fits (steps.ReadDir path) t → Logs old new (steps.ReadDir path) t → EndsAs e (refuse refusal fails) → (is_gone e ≡ false) × FailsAt (steps.ReadDir path) e old new
+unlisted_so path t refusal e old new some is fits logs ends = (still_there e refusal ends some, step_fails (steps.ReadDir path) t refusal e old new (listing_refused path t refusal is fits) logs ends)
+
+-- ---- one file
+
+pub told_size : (path : List ℕ) (t : PlainAnswer) (size : ℕ) (old new : Option (List LogItem)) → Ok size ≡ length_in t → Logs old new (steps.Size path) t → Does (steps.Size path) (answers.Length size) old new
+told_size path (answers.Length count) size old new is logs = let same : count ≡ size = cc in rw same at logs
+told_size path t size old new is logs = absurd cc
+
+pub was_removed : (path : List ℕ) (t : PlainAnswer) (u : Unit {0}) (old new : Option (List LogItem)) → Ok u ≡ done_in t → Logs old new (steps.RemoveFile path) t → Does (steps.RemoveFile path) answers.Done old new
+was_removed path answers.Done u old new is logs = logs
+was_removed path t u old new is logs = absurd cc
+
+abbrev sized : List ℕ → ℕ → Moves
+sized path size = (steps.Size path, answers.Length size) ∷ (steps.RemoveFile path, answers.Done) ∷ []
+
+pub both_done : (path : List ℕ) (size : ℕ) (old mid new : Option (List LogItem)) → Does (steps.Size path) (answers.Length size) old mid → Does (steps.RemoveFile path) answers.Done mid new → Gains old new (sized path size)
+both_done path size old mid new one two = gains_join old mid new ((steps.Size path, answers.Length size) ∷ []) ((steps.RemoveFile path, answers.Done) ∷ []) one two
+
+-- ---- files, one after another
+
+sized_more : (folder : List ℕ) (removed : List (Name × ℕ)) (r : Name × ℕ) → sized_removals folder (removed ++ r ∷ []) ≡ sized_removals folder removed ++ sized (join folder r.0.name) r.1
+sized_more folder [] r = refl
+sized_more folder (s ∷ removed) r = ap (λ (m : Moves). (steps.Size (join folder s.0.name), answers.Length s.1) ∷ (steps.RemoveFile (join folder s.0.name), answers.Done) ∷ m) (sized_more folder removed r)
+
+pub total_more : (sizes : List ℕ) (size : ℕ) → total (sizes ++ size ∷ []) ≡ min (total sizes + size) (2 ^ 64 - 1)
+total_more sizes size =
+    let more : sum (sizes ++ size ∷ []) ≡ sum sizes + sum (size ∷ []) = sum_by-append (λ (x : ℕ). x) sizes (size ∷ []) in
+    let one : sum (size ∷ []) ≡ size = omega arith in
+    saturated (sum sizes) (sum (sizes ++ size ∷ [])) size (more ∙ ap (λ n. sum sizes + n) one)
+  where
+    saturated : (a b size : ℕ) → b ≡ a + size → min b (2 ^ 64 - 1) ≡ min (min a (2 ^ 64 - 1) + size) (2 ^ 64 - 1)
+    saturated a b size e = omega (arith, e)
+
+-- the first so many of the files were removed, and had so many bytes
+pub record RemovedTo (folder : List ℕ) (files : List Name) (k bytes : ℕ) (old new : Option (List LogItem)) : Type 0 where
+  pub removed : List (Name × ℕ)
+  pub each : map (λ r. r.0) removed ≡ take k files
+  pub sum : bytes ≡ total (map (λ r. r.1) removed)
+  pub removing : RemovesSized folder removed old new
+
+pub none_removed : (folder : List ℕ) (files : List Name) (log : Option (List LogItem)) → RemovedTo folder files 0 0 log log
+none_removed folder files log = record { removed = []; each = refl; sum = refl; removing = no_gain log }
+
+pub one_sized : (folder : List ℕ) (files : List Name) (k bytes size : ℕ) (file : Name) (old mid new : Option (List LogItem)) → k < length files → file ≡ get_or files k file → RemovedTo folder files k bytes old mid
+    → Gains mid new (sized (join folder file.name) size) → RemovedTo folder files (k + 1) (min (bytes + size) (2 ^ 64 - 1)) old new
+one_sized folder files k bytes size file old mid new below is so gains =
+    let more : Name × ℕ = (file, size) in record {
+      removed = so.removed ++ more ∷ [];
+      each = map-append (λ (r : Name × ℕ). r.0) so.removed (more ∷ []) ∙ ap (λ l. l ++ file ∷ []) so.each ∙ sym (take_more files k file below ∙ ap (λ (n : Name). take k files ++ n ∷ []) (sym is));
+      sum = ap (λ b. min (b + size) (2 ^ 64 - 1)) so.sum ∙ sym (ap total (map-append (λ (r : Name × ℕ). r.1) so.removed (more ∷ [])) ∙ total_more (map (λ r. r.1) so.removed) size);
+      removing = subst (λ m. Gains old new m) (sym (sized_more folder so.removed more)) (gains_join old mid new (sized_removals folder so.removed) (sized (join folder file.name) size) so.removing gains);
+    }
+
+split_here : (files : List Name) (k : ℕ) (file : Name) → k < length files → file ≡ get_or files k file → files ≡ take k files ++ file ∷ drop (k + 1) files
+split_here files k file below is = sym (take-append-drop k files) ∙ ap (λ l. take k files ++ l) (drop_more files k file below ∙ ap (λ (n : Name). n ∷ drop (k + 1) files) (sym is))
+
+pub next_kept : (folder : List ℕ) (files : List Name) (k bytes : ℕ) (file : Name) (e : Error) (old mid new : Option (List LogItem)) → k < length files → file ≡ get_or files k file → RemovedTo folder files k bytes old mid
+    → StopsRemoval (join folder file.name) e mid new → StopsSized folder files e old new
+next_kept folder files k bytes file e old mid new below is so stop = record {
+  removed = so.removed;
+  rest = file ∷ drop (k + 1) files;
+  split = split_here files k file below is ∙ ap (λ l. l ++ file ∷ drop (k + 1) files) (sym so.each);
+  between = mid;
+  removing = so.removing;
+  stop = stop;
+}
+
+-- memory ran out before the next one was asked for its size
+pub lost_before : (folder : List ℕ) (files : List Name) (k bytes : ℕ) (file : Name) (old mid : Option (List LogItem)) → k < length files → file ≡ get_or files k file → RemovedTo folder files k bytes old mid → StopsSized folder files OutOfMemory old mid
+lost_before folder files k bytes file old mid below is so = next_kept folder files k bytes file OutOfMemory old mid mid below is so (inl (inl refl))
+
+-- memory ran out before the first
+pub lost_first : (folder : List ℕ) (files : List Name) (log : Option (List LogItem)) → StopsSized folder files OutOfMemory log log
+lost_first folder [] log = record { removed = []; rest = []; split = refl; between = log; removing = no_gain log; stop = (refl, refl) }
+lost_first folder (n ∷ files) log = record { removed = []; rest = n ∷ files; split = refl; between = log; removing = no_gain log; stop = inl (inl refl) }

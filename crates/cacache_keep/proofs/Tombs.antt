@@ -1,0 +1,132 @@
+-- Keys that lead to no content get tombstones, one after another.
+use Rattle.std.proofs.Common.{◌≡◌, ◌<◌, ◌^◌, inl, inr, ℕ, List, [], ◌∷◌, ◌++◌, Bool, true, false, Option, None, Some, refl, sym, ap, subst, ◌∙◌, map, append-nil, arith}
+use Rattle.std.specs.Prelude.{All, if◌then◌else◌, not}
+use Rattle.std.specs.List.{filter, flat_map}
+use Rattle.std.proofs.lemmas.List.{flat_map_more, map-append}
+use Rattle.std.proofs.lemmas.List.Elements.{All-append, All-cons, All-nil}
+use Rattle.cacache_core.specs.declared.errors.Error.{Error}
+use Rattle.cacache_core.specs.declared.errors.Error.TheVariants.{OutOfMemory}
+use Rattle.cacache_store.specs.declared.store.log.LogItem.{LogItem}
+use Rattle.cacache_entry.specs.Latest.{Found}
+use Rattle.cacache_table.specs.declared.command.Command.{Command}
+use Rattle.cacache_table.specs.declared.command.Command.TheVariants as commands
+use Rattle.cacache_table.specs.declared.reply.Reply.{Reply}
+use Rattle.cacache_table.specs.declared.reply.Reply.TheVariants as replies
+use Rattle.cacache_table.specs.State.{Site}
+use Rattle.cacache_table.specs.Table.{opening}
+use Rattle.cacache_table.specs.Runs.{Ran, without_message}
+use Rattle.cacache_keep.specs.Calls.{MadeCalls}
+use Rattle.cacache_keep.specs.Repairing.{BuriesEach, Fate, IsFateOf, Led, LooksOrAsks, StopsBurying, StopsFate, StopsLooking, calls_for, is_buried, leads_nowhere, looks_of, tombstone}
+use Rattle.cacache_keep.proofs.Asked.{kept, passed}
+use Rattle.cacache_keep.proofs.Stopped.{made_both}
+
+-- ---- one key
+
+pub found_none : (site : Site) (key : List ℕ) (old new : Option (List LogItem)) → Ran (opening site (commands.Find key)) (replies.LookedUp None) old new → MadeCalls site (looks_of key None) old new
+found_none site key old new ran = (new, ran, refl)
+
+pub found_some : (site : Site) (key : List ℕ) (f : Found) (there : Bool) (old mid new : Option (List LogItem)) → Ran (opening site (commands.Find key)) (replies.LookedUp (Some f)) old mid → Ran (opening site (commands.Exists f.integrity)) (replies.Exists there) mid new
+    → MadeCalls site (looks_of key (Some (f, there))) old new
+found_some site key f there old mid new one two = (mid, one, (new, two, refl))
+
+none_added : (b : Bool) (calls : List (Command × Reply)) (more : Command × Reply) → b ≡ false → calls ++ (if b then more ∷ [] else []) ≡ calls
+none_added false calls more e = append-nil calls
+none_added true calls more e = absurd cc
+
+one_added : (b : Bool) (calls : List (Command × Reply)) (more : Command × Reply) → b ≡ true → calls ++ (if b then more ∷ [] else []) ≡ calls ++ more ∷ []
+one_added true calls more e = refl
+one_added false calls more e = absurd cc
+
+-- it leads to a content, or to nothing
+pub spared : (site : Site) (key : List ℕ) (led : Led) (old new : Option (List LogItem)) → leads_nowhere led ≡ false → MadeCalls site (looks_of key led) old new → (fate : Fate) × (fate.key ≡ key) × (fate.moment < 2 ^ 64) × (false ≡ is_buried fate) × MadeCalls site (calls_for fate) old new
+spared site key led old new is made =
+    let fate : Fate = record { key = key; led = led; moment = 0 } in
+    (fate, refl, omega arith, sym is, subst (λ (calls : List (Command × Reply)). MadeCalls site calls old new) (sym (none_added (leads_nowhere led) (looks_of key led) (tombstone key 0) is)) made)
+
+pub got_one : (site : Site) (key : List ℕ) (led : Led) (moment : ℕ) (old mid new : Option (List LogItem)) → moment < 2 ^ 64 → leads_nowhere led ≡ true → MadeCalls site (looks_of key led) old mid → Ran (opening site (tombstone key moment).0) replies.Done mid new
+    → (fate : Fate) × (fate.key ≡ key) × (fate.moment < 2 ^ 64) × (true ≡ is_buried fate) × MadeCalls site (calls_for fate) old new
+got_one site key led moment old mid new early is made ran =
+    let fate : Fate = record { key = key; led = led; moment = moment } in (
+      fate,
+      refl,
+      early,
+      sym is,
+      subst (λ (calls : List (Command × Reply)). MadeCalls site calls old new) (sym (one_added (leads_nowhere led) (looks_of key led) (tombstone key moment) is)) (made_both site (looks_of key led) (tombstone key moment ∷ []) old mid new made (new, ran, refl)),
+    )
+
+-- what is told of a key, by its fate
+pub buried_so : (fate : Fate) (spared : Bool) → spared ≡ not (is_buried fate) → spared ≡ false → is_buried fate ≡ true
+buried_so fate spared e f = by (is_buried fate) (sym e ∙ f)
+  where
+    by : (b : Bool) → not b ≡ false → b ≡ true
+    by true e = refl
+    by false e = absurd (let wrong : true ≡ false = e in cc)
+
+pub spared_so : (fate : Fate) (spared : Bool) → spared ≡ not (is_buried fate) → spared ≡ true → is_buried fate ≡ false
+spared_so fate spared e f = by (is_buried fate) (sym e ∙ f)
+  where
+    by : (b : Bool) → not b ≡ true → b ≡ false
+    by false e = refl
+    by true e = absurd (let wrong : false ≡ true = e in cc)
+
+-- ---- keys, one after another
+
+calls_on : (site : Site) (fates : List (Found × Fate)) (x : Found × Fate) (old mid new : Option (List LogItem)) → MadeCalls site (flat_map (λ f. calls_for f.1) fates) old mid → MadeCalls site (calls_for x.1) mid new → MadeCalls site (flat_map (λ f. calls_for f.1) (fates ++ x ∷ [])) old new
+calls_on site fates x old mid new made more =
+    subst (λ (calls : List (Command × Reply)). MadeCalls site calls old new) (flat_map_more (λ (f : Found × Fate). calls_for f.1) [] fates x)
+    (made_both site (flat_map (λ f. calls_for f.1) fates) (calls_for x.1) old mid new made more)
+
+pub none_buried : (site : Site) (buried : List Found) (log : Option (List LogItem)) → buried ≡ [] → BuriesEach site [] buried log log
+none_buried site buried log none = record { fates = []; each = refl; keys = All-nil IsFateOf; calls = refl; which = none }
+
+keys_on : (fates : List (Found × Fate)) (f : Found) (fate : Fate) → All IsFateOf fates → IsFateOf (f, fate) → All IsFateOf (fates ++ (f, fate) ∷ [])
+keys_on fates f fate keys same = All-append IsFateOf fates ((f, fate) ∷ []) keys (All-cons IsFateOf (f, fate) [] same (All-nil IsFateOf))
+
+pub one_buried : (site : Site) (entries buried : List Found) (f : Found) (fate : Fate) (old mid new : Option (List LogItem)) → BuriesEach site entries buried old mid → IsFateOf (f, fate) → is_buried fate ≡ true → MadeCalls site (calls_for fate) mid new → BuriesEach site (entries ++ f ∷ []) (buried ++ f ∷ []) old new
+one_buried site entries buried f fate old mid new b same is made =
+    let more : Found × Fate = (f, fate) in record {
+      fates = b.fates ++ more ∷ [];
+      each = map-append (λ (x : Found × Fate). x.0) b.fates (more ∷ []) ∙ ap (λ (l : List Found). l ++ f ∷ []) b.each;
+      keys = keys_on b.fates f fate b.keys same;
+      calls = calls_on site b.fates more old mid new b.calls made;
+      which = ap (λ (l : List Found). l ++ f ∷ []) b.which ∙ sym (map-append (λ (x : Found × Fate). x.0) (filter (λ (x : Found × Fate). is_buried x.1) b.fates) (more ∷ [])) ∙ ap (λ (l : List (Found × Fate)). map (λ x. x.0) l) (sym (kept (λ (x : Found × Fate). is_buried x.1) b.fates more is));
+    }
+
+pub one_spared : (site : Site) (entries buried : List Found) (f : Found) (fate : Fate) (old mid new : Option (List LogItem)) → BuriesEach site entries buried old mid → IsFateOf (f, fate) → is_buried fate ≡ false → MadeCalls site (calls_for fate) mid new → BuriesEach site (entries ++ f ∷ []) buried old new
+one_spared site entries buried f fate old mid new b same is made =
+    let more : Found × Fate = (f, fate) in record {
+      fates = b.fates ++ more ∷ [];
+      each = map-append (λ (x : Found × Fate). x.0) b.fates (more ∷ []) ∙ ap (λ (l : List Found). l ++ f ∷ []) b.each;
+      keys = keys_on b.fates f fate b.keys same;
+      calls = calls_on site b.fates more old mid new b.calls made;
+      which = b.which ∙ ap (λ (l : List (Found × Fate)). map (λ x. x.0) l) (sym (passed (λ (x : Found × Fate). is_buried x.1) b.fates more is));
+    }
+
+-- ---- errors
+
+-- the only call was refused
+pub look_stops : (site : Site) (command : Command) (e : Error) (old new : Option (List LogItem)) → LooksOrAsks command → Ran (opening site command) (replies.Refused (without_message e)) old new → StopsLooking site e old new
+look_stops site command e old new looks ran = record {
+  calls = (command, replies.Refused (without_message e)) ∷ [];
+  made = (new, ran, refl);
+  harmless = All-cons (λ (c : Command × Reply). LooksOrAsks c.0) (command, replies.Refused (without_message e)) [] looks (All-nil (λ (c : Command × Reply). LooksOrAsks c.0));
+  why = inr ([], (command, replies.Refused (without_message e)), refl, refl);
+}
+
+-- the question for the content that the lookup found was refused
+pub question_stops : (site : Site) (key : List ℕ) (f : Found) (e : Error) (old mid new : Option (List LogItem)) → Ran (opening site (commands.Find key)) (replies.LookedUp (Some f)) old mid → Ran (opening site (commands.Exists f.integrity)) (replies.Refused (without_message e)) mid new → StopsLooking site e old new
+question_stops site key f e old mid new one two =
+    let first : Command × Reply = (commands.Find key, replies.LookedUp (Some f)) in
+    let last : Command × Reply = (commands.Exists f.integrity, replies.Refused (without_message e)) in record {
+      calls = first ∷ last ∷ [];
+      made = (mid, one, (new, two, refl));
+      harmless = All-cons (λ (c : Command × Reply). LooksOrAsks c.0) first (last ∷ []) tt (All-cons (λ (c : Command × Reply). LooksOrAsks c.0) last [] tt (All-nil (λ (c : Command × Reply). LooksOrAsks c.0)));
+      why = inr (first ∷ [], last, refl, refl);
+    }
+
+-- memory ran out between two keys
+pub lost_between : (site : Site) (log : Option (List LogItem)) → StopsLooking site OutOfMemory log log
+lost_between site log = record { calls = []; made = refl; harmless = All-nil (λ (c : Command × Reply). LooksOrAsks c.0); why = inl refl }
+
+pub next_stops_burying : (site : Site) (entries done rest buried : List Found) (key : List ℕ) (e : Error) (old mid new : Option (List LogItem)) → entries ≡ done ++ rest → BuriesEach site done buried old mid → StopsFate site key e mid new → StopsBurying site entries e old new
+next_stops_burying site entries done rest buried key e old mid new split b stop = record { done = done; rest = rest; split = split; buried = buried; between = mid; burying = b; key = key; stop = stop }

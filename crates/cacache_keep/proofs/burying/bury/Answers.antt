@@ -1,0 +1,31 @@
+use Rattle.std.proofs.Common.{ap, refl, sym, ◌∙◌}
+use Rattle.std.specs.Prelude.{not}
+use Rattle.cacache_table.specs.declared.reply.Reply.TheVariants as replies
+use Rattle.cacache_jobs.specs.Sites.{site_of}
+use Rattle.cacache_keep.specs.Repairing.{tombstone}
+use Rattle.cacache_keep.proofs.Asked.{ran_at}
+use Rattle.cacache_keep.proofs.Tombs.{got_one, spared}
+use Rattle.cacache_keep.proofs.burying.bury.Goals as goal
+
+pub returns-then-not-branch-clause-buries : goal.returns-then-not-branch-clause-buries
+returns-then-not-branch-clause-buries g c =
+    let site = site_of c.args.cache.now c.args.env.now.base 0 in
+    let old = g.S.Store.log c.args.env.now.store in
+    let new = g.S.Store.log c.leads_nowhere.new.env.store in
+    let told = c.in_ok-leads_nowhere.ensures.tells in
+    let fate = spared site c.args.key.now told.0 old new (sym told.1 ∙ c.if-not-branch.true) told.2 in
+    (fate.0, fate.1, fate.2, ap not fate.3, fate.4)
+
+pub returns-clause-buries : goal.returns-clause-buries
+returns-clause-buries g c =
+    let cache = c.args.cache.now in
+    let base = c.args.env.now.base in
+    let site = site_of cache base 0 in
+    let old = g.S.Store.log c.args.env.now.store in
+    let mid = g.S.Store.log c.leads_nowhere.new.env.store in
+    let new = g.S.Store.log c.delete.new.env.store in
+    let told = c.in_ok-leads_nowhere.ensures.tells in
+    let run = c.in_ok-delete.ensures.ran in
+    let ran = ran_at cache base c.leads_nowhere.new.env.base (tombstone c.args.key.now run.0).0 _ replies.Done _ mid new c.leads_nowhere.ensures.rest.2 refl refl run.2.0 in
+    let fate = got_one site c.args.key.now told.0 run.0 old mid new run.1.1 (sym told.1 ∙ c.if-not-branch.false) told.2 ran in
+    (fate.0, fate.1, fate.2, ap not fate.3, fate.4)

@@ -1,0 +1,88 @@
+use Rattle.std.proofs.Common.{inl, inr, map, rules, string_bytes, ◌∙◌}
+use Rattle.cacache_entry.specs.View.{found_view}
+use Rattle.cacache_jobs.specs.Sites.{site_of}
+use Rattle.cacache_keep.specs.Calls.{AsksEach, ListsEntries, MadeCalls, StopsReading, StopsRemoving, removal}
+use Rattle.cacache_keep.specs.Repairing.{DropsDamaged, StopsBurying, StopsRepairing}
+use Rattle.cacache_keep.proofs.Stopped.{at_base, entries_stop, error_as}
+use Rattle.cacache_keep.proofs.repairing.repair.Goals as goal
+
+pub returns-in_err-remove_each-clause-stops : goal.returns-in_err-remove_each-clause-stops
+returns-in_err-remove_each-clause-stops g c =
+    let cache = c.args.cache.now in
+    let base = c.args.env.now.base in
+    let site = site_of cache base 0 in
+    let log = g.S.Store.log in
+    let read = log c.read_each.new.store in
+    let new = log c.remove_each.new.env.store in
+    let e = c.in_err-remove_each.field-0.0 in
+    let damaged = c.in_ok-damaged.field-0.damaged.items in
+    let stop : StopsRemoving (site_of cache c.list.new.env.base 0) damaged e read new = search (rules, c.in_err-remove_each.ensures.stops) in
+    let stops = at_base (λ s. StopsRemoving s damaged e read new) cache base c.list.new.env.base c.list.ensures.base stop in
+    error_as (λ x. StopsRepairing site x (log c.args.env.now.store) new) c.from_residual-in_err-remove_each.result e c.from_residual-in_err-remove_each.ensures.1
+    (inl (inr (c.in_ok-addresses.field-0.addresses.items, map string_bytes c.in_ok-addresses.field-0.strange.items, log c.list.new.env.store, c.in_ok-addresses.ensures.lists, inr (_, damaged, read, c.in_ok-damaged.ensures.reads, stops))))
+
+pub returns-in_err-dangling-clause-stops : goal.returns-in_err-dangling-clause-stops
+returns-in_err-dangling-clause-stops g c =
+    let cache = c.args.cache.now in
+    let base = c.args.env.now.base in
+    let site = site_of cache base 0 in
+    let log = g.S.Store.log in
+    let read = log c.read_each.new.store in
+    let clean = log c.remove_each.new.env.store in
+    let listed = log c.entries.new.env.store in
+    let new = log c.dangling_of.new.env.store in
+    let e = c.in_err-dangling.field-0.0 in
+    let damaged = c.in_ok-damaged.field-0.damaged.items in
+    let behind = c.remove_each.ensures.rest.2 ∙ c.list.ensures.base in
+    let removals : MadeCalls (site_of cache c.list.new.env.base 0) (map removal damaged) read clean = search (rules, c.in_ok-remove_each.ensures.removes) in
+    let removing = at_base (λ s. MadeCalls s (map removal damaged) read clean) cache base c.list.new.env.base c.list.ensures.base removals in
+    let lists = at_base (λ s. ListsEntries s c.in_ok-entries.entries.items clean listed) cache base c.remove_each.new.env.base behind c.in_ok-entries.ensures.lists in
+    let stop = at_base (λ s. StopsReading s e listed new) cache base c.entries.new.env.base (c.entries.ensures.rest.2 ∙ behind) c.in_err-dangling.ensures.stops in
+    let drops : DropsDamaged site (log c.args.env.now.store) clean = record {
+      addresses = c.in_ok-addresses.field-0.addresses.items;
+      strange = map string_bytes c.in_ok-addresses.field-0.strange.items;
+      found = log c.list.new.env.store;
+      contents = c.in_ok-addresses.ensures.lists;
+      good = _;
+      damaged = damaged;
+      read = read;
+      reading = c.in_ok-damaged.ensures.reads;
+      removing = removing;
+    } in
+    error_as (λ x. StopsRepairing site x (log c.args.env.now.store) new) c.from_residual-in_err-dangling.result e c.from_residual-in_err-dangling.ensures.1
+    (inr (clean, drops, inl (entries_stop site _ e clean listed new lists stop)))
+
+pub returns-in_err-dangling-2-clause-stops : goal.returns-in_err-dangling-2-clause-stops
+returns-in_err-dangling-2-clause-stops g c =
+    let cache = c.args.cache.now in
+    let base = c.args.env.now.base in
+    let site = site_of cache base 0 in
+    let log = g.S.Store.log in
+    let read = log c.read_each.new.store in
+    let clean = log c.remove_each.new.env.store in
+    let listed = log c.entries.new.env.store in
+    let asked = log c.dangling_of.new.env.store in
+    let new = log c.bury_each.new.env.store in
+    let e = c.in_err-dangling-2.field-0.0 in
+    let damaged = c.in_ok-damaged.field-0.damaged.items in
+    let entries = c.in_ok-entries.entries.items in
+    let dangling = map found_view c.in_ok-dangling.dangling.items in
+    let behind = c.remove_each.ensures.rest.2 ∙ c.list.ensures.base in
+    let removals : MadeCalls (site_of cache c.list.new.env.base 0) (map removal damaged) read clean = search (rules, c.in_ok-remove_each.ensures.removes) in
+    let removing = at_base (λ s. MadeCalls s (map removal damaged) read clean) cache base c.list.new.env.base c.list.ensures.base removals in
+    let lists = at_base (λ s. ListsEntries s entries clean listed) cache base c.remove_each.new.env.base behind c.in_ok-entries.ensures.lists in
+    let asks = at_base (λ s. AsksEach s entries dangling listed asked) cache base c.entries.new.env.base (c.entries.ensures.rest.2 ∙ behind) c.in_ok-dangling.ensures.asks in
+    let stop = at_base (λ s. StopsBurying s dangling e asked new) cache base c.dangling_of.new.env.base (c.dangling_of.ensures.rest.2 ∙ c.entries.ensures.rest.2 ∙ behind) c.in_err-dangling-2.ensures.stops in
+    let drops : DropsDamaged site (log c.args.env.now.store) clean = record {
+      addresses = c.in_ok-addresses.field-0.addresses.items;
+      strange = map string_bytes c.in_ok-addresses.field-0.strange.items;
+      found = log c.list.new.env.store;
+      contents = c.in_ok-addresses.ensures.lists;
+      good = _;
+      damaged = damaged;
+      read = read;
+      reading = c.in_ok-damaged.ensures.reads;
+      removing = removing;
+    } in
+    error_as (λ x. StopsRepairing site x (log c.args.env.now.store) new) c.from_residual-in_err-dangling-2.result e c.from_residual-in_err-dangling-2.ensures.1
+    (inr (clean, drops, inr (entries, dangling, listed, asked, lists, asks, stop)))

@@ -1,0 +1,168 @@
+-- What a repair does, over any store.
+use Rattle.std.specs.Prelude.{if◌then◌else◌, ◌≡◌, ◌⊎◌, ◌++◌, ◌<◌, ◌^◌, All, IsUtf8, ℕ, List, [], ◌∷◌, Bool, true, false, Option, None, Some, filter, map, not}
+use Rattle.std.specs.List.{flat_map}
+use Rattle.cacache_core.specs.declared.errors.Error.{Error}
+use Rattle.cacache_core.specs.declared.integrity.digest.Hash.{Hash}
+use Rattle.cacache_store.specs.declared.store.log.LogItem.{LogItem}
+use Rattle.cacache_entry.specs.Latest.{Found}
+use Rattle.cacache_table.specs.declared.command.Command.{Command}
+use Rattle.cacache_table.specs.declared.command.Command.TheVariants as commands
+use Rattle.cacache_table.specs.declared.reply.Reply.{Reply}
+use Rattle.cacache_table.specs.declared.reply.Reply.TheVariants as replies
+use Rattle.cacache_table.specs.State.{Site}
+use Rattle.cacache_table.specs.Table.{opening}
+use Rattle.cacache_table.specs.Runs.{Ran, without_message}
+use Rattle.cacache_reads.specs.Lookups.{delete_of}
+use Rattle.cacache_walks.specs.Listing.{IsByHash, ListsContents, StopsListing}
+use Rattle.cacache_keep.specs.Calls.{AsksEach, ListsEntries, MadeCalls, SaysWhy, StopsReading, StopsRemoving, removal}
+use Rattle.cacache_keep.specs.Reading.{ReadsEach, StopsEach}
+
+-- ---- a key that may lead to no content
+
+-- what a key leads to: an entry, and whether its content is there
+abbrev pub Led : Type 0
+Led = Option (Found × Bool)
+
+-- whether it leads to an entry whose content isn't there
+abbrev pub leads_nowhere : Led → Bool
+leads_nowhere None = false
+leads_nowhere (Some led) = not led.1
+
+-- a lookup of the key, and a question for the content of what it finds, as calls
+abbrev pub looks_of : List ℕ → Led → List (Command × Reply)
+looks_of key None = (commands.Find key, replies.LookedUp None) ∷ []
+looks_of key (Some led) =
+    (commands.Find key, replies.LookedUp (Some led.0))
+    ∷ (commands.Exists led.0.integrity, replies.Exists led.1) ∷ []
+
+-- a key, what it led to, and the moment of its tombstone, if it got one
+pub record Fate : Type 0 where
+  pub key : List ℕ
+  pub led : Led
+  pub moment : ℕ
+
+-- a tombstone that is added, as a call
+abbrev pub tombstone : List ℕ → ℕ → Command × Reply
+tombstone key moment = (commands.Delete (delete_of key moment), replies.Done)
+
+-- whether a key got one: it led to an entry whose content isn't there
+abbrev pub is_buried : Fate → Bool
+is_buried f = leads_nowhere f.led
+
+-- what was asked for a key, and its tombstone, if it got one
+abbrev pub calls_for : Fate → List (Command × Reply)
+calls_for f =
+    looks_of f.key f.led ++ (if is_buried f then tombstone f.key f.moment ∷ [] else [])
+
+-- the fate is that of the entry's key, which is a text; its moment is one
+abbrev pub IsFateOf : Found × Fate → Type 0
+IsFateOf f = (f.1.key ≡ f.0.key) × IsUtf8 f.1.key × (f.1.moment < 2 ^ 64)
+
+-- the log gained these calls for the keys of these entries, in turn; those that got a tombstone are
+-- told
+pub record BuriesEach
+    (site : Site) (entries buried : List Found) (old new : Option (List LogItem)) : Type 0 where
+  pub fates : List (Found × Fate)
+  pub each : map (λ f. f.0) fates ≡ entries
+  pub keys : All IsFateOf fates
+  pub calls : MadeCalls site (flat_map (λ f. calls_for f.1) fates) old new
+  pub which : buried ≡ map (λ f. f.0) (filter (λ f. is_buried f.1) fates)
+
+-- ---- a repair
+
+-- The contents are listed, and each is read; the damaged ones are removed, one after another. Then
+-- the index is listed, of each entry is asked whether its content is there, and the keys of those
+-- whose content isn't get tombstones, unless they lead elsewhere.
+pub record RepairsCache
+    (site : Site) (damaged : List (List Hash)) (buried : List Found)
+    (old new : Option (List LogItem)) : Type 0 where
+  pub addresses : List (List Hash)
+  pub order : IsByHash addresses
+  pub strange : List (List ℕ)
+  pub found : Option (List LogItem)
+  pub contents : ListsContents site.cache addresses strange old found
+  pub good : ℕ
+  pub read : Option (List LogItem)
+  pub reading : ReadsEach site.cache addresses good damaged found read
+  pub removed : Option (List LogItem)
+  pub removing : MadeCalls site (map removal damaged) read removed
+  pub entries : List Found
+  pub listed : Option (List LogItem)
+  pub listing : ListsEntries site entries removed listed
+  pub dangling : List Found
+  pub asked : Option (List LogItem)
+  pub asking : AsksEach site entries dangling listed asked
+  pub burying : BuriesEach site dangling buried asked new
+
+-- ---- errors
+
+-- the command looks up a key or asks for a content
+abbrev pub LooksOrAsks : Command → Type 0
+LooksOrAsks (commands.Find key) = Unit {0}
+LooksOrAsks (commands.Exists i) = Unit {0}
+LooksOrAsks command = ⊥
+
+-- the log gained lookups and questions, which the error ended
+pub record StopsLooking (site : Site) (e : Error) (old new : Option (List LogItem)) : Type 0 where
+  pub calls : List (Command × Reply)
+  pub made : MadeCalls site calls old new
+  pub harmless : All (λ c. LooksOrAsks c.0) calls
+  pub why : SaysWhy calls e
+
+-- so it did for a key, or it ended the adding of the key's tombstone
+abbrev pub StopsFate :
+    Site → List ℕ → Error → Option (List LogItem) → Option (List LogItem) → Type 0
+StopsFate site key e old new =
+    StopsLooking site e old new
+    ⊎ ((led : Led) × (moment : ℕ) × (looked : Option (List LogItem))
+    × (leads_nowhere led ≡ true) × MadeCalls site (looks_of key led) old looked
+    × Ran (opening site (tombstone key moment).0) (replies.Refused (without_message e)) looked new)
+
+-- some of these entries' keys got their calls, and the error ended those for another key
+pub record StopsBurying
+    (site : Site) (entries : List Found) (e : Error) (old new : Option (List LogItem))
+    : Type 0 where
+  pub done : List Found
+  pub rest : List Found
+  pub split : entries ≡ done ++ rest
+  pub buried : List Found
+  pub between : Option (List LogItem)
+  pub burying : BuriesEach site done buried old between
+  pub key : List ℕ
+  pub stop : StopsFate site key e between new
+
+-- the contents were read and the damaged ones removed
+pub record DropsDamaged (site : Site) (old new : Option (List LogItem)) : Type 0 where
+  pub addresses : List (List Hash)
+  pub strange : List (List ℕ)
+  pub found : Option (List LogItem)
+  pub contents : ListsContents site.cache addresses strange old found
+  pub good : ℕ
+  pub damaged : List (List Hash)
+  pub read : Option (List LogItem)
+  pub reading : ReadsEach site.cache addresses good damaged found read
+  pub removing : MadeCalls site (map removal damaged) read new
+
+-- the error ended the listing of the contents, their reading, or the removal of those that are
+-- damaged
+abbrev pub StopsDropping :
+    Site → Error → Option (List LogItem) → Option (List LogItem) → Type 0
+StopsDropping site e old new =
+    StopsListing site.cache e old new
+    ⊎ ((addresses : List (List Hash)) × (strange : List (List ℕ))
+    × (found : Option (List LogItem)) × ListsContents site.cache addresses strange old found
+    × (StopsEach site.cache addresses e found new
+    ⊎ ((good : ℕ) × (damaged : List (List Hash)) × (read : Option (List LogItem))
+    × ReadsEach site.cache addresses good damaged found read
+    × StopsRemoving site damaged e read new)))
+
+-- it ended that, or the calls after it: the listing of the index, the questions, the tombstones
+abbrev pub StopsRepairing :
+    Site → Error → Option (List LogItem) → Option (List LogItem) → Type 0
+StopsRepairing site e old new =
+    StopsDropping site e old new
+    ⊎ ((clean : Option (List LogItem)) × DropsDamaged site old clean
+    × (StopsReading site e clean new
+    ⊎ ((entries dangling : List Found) × (listed asked : Option (List LogItem))
+    × ListsEntries site entries clean listed × AsksEach site entries dangling listed asked
+    × StopsBurying site dangling e asked new)))

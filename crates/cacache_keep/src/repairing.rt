@@ -1,0 +1,55 @@
+//! The call that repairs a cache.
+ghost use Rattle.std.specs.Prelude.{◌≡◌, IfOk, IfErr, map};
+ghost use Rattle.cacache_entry.specs.View.{found_view};
+ghost use Rattle.cacache_jobs.specs.Sites.{site_of};
+ghost use Rattle.cacache_keep.specs.Repairing.{RepairsCache, StopsRepairing};
+
+use crate::asking::dangling_of;
+use crate::burying::bury_each;
+use crate::index::entries;
+use crate::reading::{Read, read_each};
+use crate::removing::remove_each;
+use cacache_core::errors::Result;
+use cacache_core::integrity::Integrity;
+use cacache_core::keeping::let_go;
+use cacache_entry::Metadata;
+use cacache_store::env::{Clock, Env, Names};
+use cacache_store::store::Store;
+use cacache_walks::{Contents, list};
+
+/// What a repair did.
+#[derive(Debug, Drop)]
+pub struct Repaired {
+    /// The addresses of the damaged contents, which are removed, in the order of the listing.
+    pub damaged: Vec<Integrity>,
+    /// The entries whose content isn't there, whose keys got tombstones.
+    pub dangling: Vec<Metadata>,
+}
+
+/// Removes each damaged content of a cache, and adds a tombstone for each key that leads to an entry
+/// whose content isn't there then. A content is damaged as `verify` finds it. Of one that is a link,
+/// the link is removed and its target stays. What lies among the contents and is none stays, and so does
+/// an entry that its key's lookup doesn't find, as one in another key's bucket.
+///
+/// Repair a cache while nobody writes to it: a content is stored before its entry.
+///
+/// Errors are those of `verify`, of a removal and of a tombstone. Contents before the error are
+/// removed then, and keys before it have tombstones. `OutOfMemory` may come at any time.
+pub fn repair<S: Store, C: Clock, N: Names>(env: &mut Env<S, C, N>, cache: &str) -> Result<Repaired>
+    ensures repairs { IfOk result (λ r. RepairsCache (site_of cache.now env.old.base 0)
+        r.damaged.items (map found_view r.dangling.items)
+        (S.log env.old.store) (S.log env.new.store)) }
+    ensures stops { IfErr result (λ e. StopsRepairing (site_of cache.now env.old.base 0) e
+        (S.log env.old.store) (S.log env.new.store)) }
+    ensures names { env.new.names ≡ env.old.names }
+    ensures base { env.new.base ≡ env.old.base }
+{
+    let Contents { addresses, strange } = list(env, cache)?;
+    let_go(strange);
+    let Read { good: _, damaged } = read_each(env.alloc, &mut env.store, cache, addresses)?;
+    remove_each(env, cache, damaged.as_slice())?;
+    let entries = entries(env, cache)?;
+    let dangling = dangling_of(env, cache, entries)?;
+    let dangling = bury_each(env, cache, dangling)?;
+    Ok(Repaired { damaged, dangling })
+}

@@ -1,0 +1,163 @@
+//! The call that removes temporary files.
+ghost use Rattle.std.specs.Prelude.{◌≡◌, ℕ, List, [], ◌∷◌, IfOk, IfErr, false, filter, map, not, string_bytes};
+ghost use Rattle.cacache_core.specs.Paths.{join as join_of};
+ghost use Rattle.cacache_store.specs.declared.store.answer.Name.{Name};
+ghost use Rattle.cacache_store.specs.declared.store.answer.Answer.TheVariants as answers;
+ghost use Rattle.cacache_store.specs.declared.store.step.Step.TheVariants as steps;
+ghost use Rattle.cacache_table.specs.SingleSteps.{FailsAt};
+ghost use Rattle.cacache_keep_laws.specs.Temporary.{is_temporary as is_temporary_of, total};
+ghost use Rattle.cacache_table.specs.Runs.{Gains};
+ghost use Rattle.cacache_keep.specs.Reading.{is_gone};
+ghost use Rattle.cacache_keep.specs.Sweeping.{ListsFolder, RemovesSized, StopsRemoval, StopsSized, StopsSweeping, SweepsCache};
+
+use crate::reading::says_gone;
+use cacache_core::errors::Result;
+use cacache_core::paths::{TEMP_AREA, join};
+use cacache_core::text::Text;
+use cacache_jobs::refused;
+use cacache_store::env::{Clock, Env, Names};
+use cacache_store::store::{Kind, Name, Step, Store};
+use cacache_table::answers::{done_of, length_of, names_of};
+use std::alloc::{AllocError, Global};
+
+/// What a sweep did.
+#[derive(Debug, Drop)]
+pub struct Swept {
+    /// How many temporary files are removed.
+    pub files: u64,
+    /// How many bytes they had; 2^64 - 1 where that are more.
+    pub bytes: u64,
+    /// The paths of what lies in the folder of temporary files and is none, in the order of its
+    /// listing.
+    pub strange: Vec<String>,
+}
+
+/// What lies in the folder of temporary files.
+#[derive(Drop)]
+struct Parts {
+    files: Vec<Name>,
+    strange: Vec<String>,
+}
+
+/// The names in a folder; one that isn't there has none.
+fn names_in<S: Store>(alloc: Global, store: &mut S, folder: &str) -> Result<Vec<Name>>
+    ensures lists { IfOk result
+        (λ names. ListsFolder folder.now names.items (S.log store.old) (S.log store.new)) }
+    ensures stops { IfErr result (λ e. (is_gone e ≡ false)
+        × FailsAt (steps.ReadDir folder.now) e (S.log store.old) (S.log store.new)) }
+{
+    let path = Text::from_str(alloc, folder)?;
+    match names_of(store.step(Step::ReadDir(path))) {
+        Ok(names) => Ok(names.into_vec()),
+        Err(refusal) => {
+            if says_gone(refusal) {
+                return Ok(Vec::new(alloc));
+            }
+            Err(refused(refusal, unlisted(alloc, folder)))
+        }
+    }
+}
+
+/// The folder couldn't be listed.
+fn unlisted(alloc: Global, folder: &str) -> std::result::Result<Text, AllocError> {
+    Ok(Text::new(format!(in alloc; "Failed to list temporary files in {folder}")?))
+}
+
+/// Whether what stands in the folder of temporary files is one: a file whose name begins with `.tmp`.
+fn is_temporary(name: &Name) -> bool
+    ensures { result ≡ is_temporary_of name.now }
+{
+    matches!(name.kind, Kind::File) && name.name.as_str().as_bytes().starts_with(b".tmp")
+}
+
+/// The temporary files among the names, and the paths of the others.
+fn tell_apart(
+    alloc: Global,
+    folder: &str,
+    names: Vec<Name>,
+) -> std::result::Result<Parts, AllocError>
+    ensures files { IfOk result (λ f. f.files.items ≡ filter is_temporary_of names.items) }
+    ensures others { IfOk result (λ f. map string_bytes f.strange.items
+        ≡ map (λ n. join_of folder.now n.name) (filter (λ n. not (is_temporary_of n)) names.items)) }
+{
+    let mut files = Vec::new(alloc);
+    let mut strange = Vec::new(alloc);
+    for name in names {
+        if is_temporary(&name) {
+            files.push(name)?;
+        } else {
+            strange.push(join(alloc, folder, name.name.as_str())?.into_string())?;
+        }
+    }
+    Ok(Parts { files, strange })
+}
+
+/// The file didn't tell its size, or wasn't removed.
+fn left(alloc: Global, path: &Text) -> std::result::Result<Text, AllocError> {
+    Ok(Text::new(format!(in alloc; "Failed to remove temporary file {path}")?))
+}
+
+/// Removes the file at the path, and gives how many bytes it had.
+fn remove_sized<S: Store>(alloc: Global, store: &mut S, path: &Text) -> Result<u64>
+    ensures removes { IfOk result (λ size. Gains (S.log store.old) (S.log store.new)
+        ((steps.Size path.now, answers.Length size)
+        ∷ (steps.RemoveFile path.now, answers.Done) ∷ [])) }
+    ensures stops { IfErr result
+        (λ e. StopsRemoval path.now e (S.log store.old) (S.log store.new)) }
+{
+    let size = match length_of(store.step(Step::Size(path.clone()?))) {
+        Ok(size) => size,
+        Err(refusal) => return Err(refused(refusal, left(alloc, path))),
+    };
+    match done_of(store.step(Step::RemoveFile(path.clone()?))) {
+        Ok(()) => Ok(size),
+        Err(refusal) => Err(refused(refusal, left(alloc, path))),
+    }
+}
+
+/// Removes these files of the folder, and gives how many bytes they had.
+fn remove_files<S: Store>(alloc: Global, store: &mut S, folder: &str, files: &[Name]) -> Result<u64>
+    ensures removes { IfOk result (λ bytes. (removed : List (Name × ℕ))
+        × (map (λ r. r.0) removed ≡ files.now) × (bytes ≡ total (map (λ r. r.1) removed))
+        × RemovesSized folder.now removed (S.log store.old) (S.log store.new)) }
+    ensures stops { IfErr result
+        (λ e. StopsSized folder.now files.now e (S.log store.old) (S.log store.new)) }
+{
+    let mut bytes = 0u64;
+    for file in files {
+        let path = join(alloc, folder, file.name.as_str())?;
+        bytes = bytes.saturating_add(remove_sized(alloc, store, &path)?);
+    }
+    Ok(bytes)
+}
+
+/// Removes the temporary files of a cache: those in its folder `tmp` whose names begin with `.tmp`.
+/// What else lies there stays, be it a file, a folder or a link. A folder that isn't there has none.
+///
+/// Sweep a cache while nobody writes to it: a write whose temporary file is gone fails.
+///
+/// Errors: `IoError` where the folder couldn't be listed, or where a file didn't tell its size or
+/// couldn't be removed. Files before it are removed then, in the order of the listing. `OutOfMemory`
+/// may come at any time.
+pub fn sweep<S: Store, C: Clock, N: Names>(env: &mut Env<S, C, N>, cache: &str) -> Result<Swept>
+    ensures sweeps { IfOk result (λ s. SweepsCache cache.now
+        s.files s.bytes (map string_bytes s.strange.items)
+        (S.log env.old.store) (S.log env.new.store)) }
+    ensures stops { IfErr result
+        (λ e. StopsSweeping cache.now e (S.log env.old.store) (S.log env.new.store)) }
+    ensures clock { env.new.clock ≡ env.old.clock }
+    ensures names { env.new.names ≡ env.old.names }
+    ensures base { env.new.base ≡ env.old.base }
+{
+    let alloc = env.alloc;
+    let folder = join(alloc, cache, TEMP_AREA)?;
+    let names = names_in(alloc, &mut env.store, folder.as_str())?;
+    let Parts { files, strange } = tell_apart(alloc, folder.as_str(), names)?;
+    let bytes = remove_files(alloc, &mut env.store, folder.as_str(), files.as_slice())?;
+    let files = files.len() as u64;
+    Ok(Swept {
+        files,
+        bytes,
+        strange,
+    })
+}
