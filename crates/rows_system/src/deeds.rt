@@ -3,8 +3,9 @@ use crate::acts::{Act, Deed, step_of};
 use crate::fates::Fate;
 use crate::foretelling::Foretold;
 use crate::odds::Odd;
-use crate::told::{Told, tell};
-use crate::world::{Bad, Made, Opened, System, World};
+use crate::told::{Handle, tell};
+use crate::world::{Bad, Made, Opened, RealFile, RealTemp, RealTold, World};
+use cacache_core::keeping::{beside, let_go};
 use cacache_store::store::{PlainFile, PlainTemp, Store};
 use std::alloc::AllocError;
 
@@ -43,70 +44,64 @@ impl World {
         }
     }
 
-    /// Keeps an open file of both.
+    /// Keeps an open file of both, which is read from this offset on.
     fn keep_file(
         &mut self,
         number: usize,
-        plain: Option<PlainFile>,
-        real: Option<<System as Store>::File>,
-    ) -> Result<(), Bad> {
-        if let (Some(plain), Some(real)) = (plain, real) {
-            self.files.push(Opened {
-                real,
-                plain,
-                number,
-                offset: 0,
-            })?;
-        }
-        Ok(())
+        offset: usize,
+        plain: PlainFile,
+        real: Handle<RealFile, RealTemp>,
+    ) -> Result<(), AllocError> {
+        let Handle::File(real) = real else {
+            return Ok(());
+        };
+        let opened = Opened {
+            real,
+            plain,
+            number,
+            offset,
+        };
+        Ok(self.files.push(opened)?)
     }
 
     /// Keeps a temporary file of both.
     fn keep_temp(
         &mut self,
         number: usize,
-        plain: Option<PlainTemp>,
-        real: Option<<System as Store>::Temp>,
-    ) -> Result<(), Bad> {
-        if let (Some(plain), Some(real)) = (plain, real) {
-            self.temps.push(Made {
-                real,
-                plain,
-                number,
-            })?;
-        }
-        Ok(())
-    }
-
-    /// Keeps the handles of both.
-    fn keep_handles(
-        &mut self,
-        path: &str,
-        plain: Told<PlainFile, PlainTemp>,
-        real: Told<<System as Store>::File, <System as Store>::Temp>,
-    ) -> Result<(), Bad> {
-        let Some(number) = self.inodes.number_of(path) else {
+        plain: PlainTemp,
+        real: Handle<RealFile, RealTemp>,
+    ) -> Result<(), AllocError> {
+        let Handle::Temp(real) = real else {
             return Ok(());
         };
-        let Told {
-            text: _plain,
-            file: plain_file,
-            temp: plain_temp,
-        } = plain;
-        let Told {
-            text: _real,
-            file: real_file,
-            temp: real_temp,
-        } = real;
-        self.keep_file(number, plain_file, real_file)?;
-        self.keep_temp(number, plain_temp, real_temp)
+        let made = Made {
+            real,
+            plain,
+            number,
+        };
+        Ok(self.temps.push(made)?)
+    }
+
+    /// Keeps the handles of both, if there are any. An open file is read from this offset on.
+    pub(crate) fn keep_handles(
+        &mut self,
+        number: usize,
+        offset: usize,
+        plain: Handle<PlainFile, PlainTemp>,
+        real: Handle<RealFile, RealTemp>,
+    ) -> Result<(), AllocError> {
+        match plain {
+            Handle::File(plain) => self.keep_file(number, offset, plain, real),
+            Handle::Temp(plain) => self.keep_temp(number, plain, real),
+            Handle::None => {
+                let_go(real);
+                Ok(())
+            }
+        }
     }
 
     /// What the system answers to a step.
-    fn real(
-        &mut self,
-        deed: &Deed,
-    ) -> Result<Told<<System as Store>::File, <System as Store>::Temp>, AllocError> {
+    fn real(&mut self, deed: &Deed) -> Result<RealTold, AllocError> {
         let step = step_of(self.alloc, deed, deed.one.as_str(), deed.two.as_str())?;
         tell(self.alloc, self.system.step(step))
     }
@@ -118,20 +113,58 @@ impl World {
         self.check_reason(came, foretold.kind)
     }
 
-    /// Keeps what a step that was done left.
+    /// Keeps the handles of a step that was done at this path.
+    fn keep_opened(
+        &mut self,
+        path: &str,
+        foretold: Foretold,
+        real: RealTold,
+    ) -> Result<(), AllocError> {
+        match self.inodes.number_of(path) {
+            Some(number) => {
+                let plain = foretold.told.into_handle();
+                self.keep_handles(number, 0, plain, real.into_handle())
+            }
+            None => {
+                let_go((foretold, real));
+                Ok(())
+            }
+        }
+    }
+
+    /// Keeps what a step left that was done at these paths.
     fn keep(
         &mut self,
         act: Act,
-        fate: &Fate,
+        paths: (&str, &str),
         foretold: Foretold,
-        real: Told<<System as Store>::File, <System as Store>::Temp>,
+        real: RealTold,
     ) -> Result<(), Bad> {
+        let (one, two) = paths;
+        let kept = self.keep_names(act, one, two);
+        let (_, (foretold, real)) = beside(kept, (foretold, real))?;
+        Ok(self.keep_opened(one, foretold, real)?)
+    }
+
+    /// Does a step on the system, and compares its answer with what was foretold.
+    fn follow(
+        &mut self,
+        deed: &Deed,
+        fate: &Fate,
+        odd: Option<Odd>,
+        foretold: Foretold,
+    ) -> Result<(), Bad> {
+        let (real, foretold) = beside(self.real(deed), foretold)?;
+        let checked = self.check(&foretold, real.text.as_str(), odd);
+        let (_, (foretold, real)) = beside(checked, (foretold, real))?;
         match fate {
             Fate::Does(one, two) if !real.text.starts_with("Failed") => {
-                self.keep_names(act, one.as_str(), two.as_str())?;
-                self.keep_handles(one.as_str(), foretold.told, real)
+                self.keep(deed.act, (one.as_str(), two.as_str()), foretold, real)
             }
-            _ => Ok(()),
+            _ => {
+                let_go((foretold, real));
+                Ok(())
+            }
         }
     }
 
@@ -140,11 +173,9 @@ impl World {
         let Some((fate, odd)) = self.fate(deed)? else {
             return Ok(());
         };
-        let Some(foretold) = self.foretell(deed, &fate, odd)? else {
-            return Ok(());
-        };
-        let real = self.real(deed)?;
-        self.check(&foretold, real.text.as_str(), odd)?;
-        self.keep(deed.act, &fate, foretold, real)
+        match self.foretell(deed, &fate, odd)? {
+            Some(foretold) => self.follow(deed, &fate, odd, foretold),
+            None => Ok(()),
+        }
     }
 }

@@ -1,15 +1,14 @@
 //! What is foretold of a step that has paths alone.
 use crate::acts::{Act, Deed, step_of};
 use crate::fates::Fate;
-use crate::look::{Halt, Look};
+use crate::look::Halt;
 use crate::making::Making;
-use crate::odds::Odd;
-use crate::told::{Told, failure};
-use crate::world::{Bad, World, applied};
+use crate::odds::{Odd, Odds};
+use crate::told::{Handle, Told, failure};
+use crate::world::{Bad, PlainTold, World, applied};
 use cacache_core::keeping::{let_go, set};
 use cacache_disk::Disk;
 use cacache_folder::FolderStore;
-use cacache_store::store::{PlainFile, PlainTemp};
 use rows::Flaw;
 use std::alloc::{AllocError, Global};
 use std::io::ErrorKind;
@@ -20,17 +19,16 @@ pub(crate) struct Foretold {
     /// What the disk answers to the step as it was drawn.
     pub(crate) drawn: String,
     /// What Linux is to answer, and the disk's handle.
-    pub(crate) told: Told<PlainFile, PlainTemp>,
+    pub(crate) told: PlainTold,
     /// Why Linux fails, if it does and the disk isn't asked.
     pub(crate) kind: Option<ErrorKind>,
 }
 
 /// An answer without a handle.
-fn bare(text: String) -> Told<PlainFile, PlainTemp> {
+fn bare(text: String) -> PlainTold {
     Told {
         text,
-        file: None,
-        temp: None,
+        handle: Handle::None,
     }
 }
 
@@ -41,7 +39,7 @@ fn asked(
     deed: &Deed,
     one: &str,
     two: &str,
-) -> Result<Told<PlainFile, PlainTemp>, AllocError> {
+) -> Result<PlainTold, AllocError> {
     applied(alloc, disk, step_of(alloc, deed, one, two)?)
 }
 
@@ -56,20 +54,25 @@ fn refusal(alloc: Global, act: Act, kind: ErrorKind) -> Result<String, AllocErro
 }
 
 impl World {
-    /// What Linux makes of a step, and the kind of difference that it may make; None where it leads out of the folder.
-    pub(crate) fn fate(&mut self, deed: &Deed) -> Result<Option<(Fate, Option<Odd>)>, Bad> {
-        let mut look = Look::new(self.alloc, &self.disk, self.top.as_str());
+    /// What Linux makes of a step, and what is odd of its paths; None where it leads out of the folder.
+    fn looked_at(&self, deed: &Deed) -> Result<Option<(Fate, Odds)>, Bad> {
+        let mut look = self.look();
         match look.foretold(deed) {
-            Ok(fate) => {
-                let odds = look.odds;
-                if odds.last || odds.way {
-                    set(&mut self.system, FolderStore::new(self.rt));
-                }
-                Ok(Some((fate, odds.kind(Some(deed.act)))))
-            }
+            Ok(fate) => Ok(Some((fate, look.odds))),
             Err(Halt::NoMemory) => Err(Bad::Flaw(Flaw::NoMemory)),
             Err(_) => Ok(None),
         }
+    }
+
+    /// What Linux makes of a step, and the kind of difference that it may make; None where it leads out of the folder.
+    pub(crate) fn fate(&mut self, deed: &Deed) -> Result<Option<(Fate, Option<Odd>)>, Bad> {
+        let Some((fate, odds)) = self.looked_at(deed)? else {
+            return Ok(None);
+        };
+        if odds.last || odds.way {
+            set(&mut self.system, FolderStore::new(self.rt));
+        }
+        Ok(Some((fate, odds.kind(Some(deed.act)))))
     }
 
     /// What is foretold where Linux fails; the disk is asked beside that.
@@ -92,10 +95,7 @@ impl World {
             deed.two.as_str(),
         );
         let_go(copy);
-        let Told { text, file, temp } = answer?;
-        let_go(file);
-        let_go(temp);
-        Ok(text)
+        Ok(answer?.into_text())
     }
 
     /// What is foretold of folders that are made at a path with links or odd names; None where that leads out of the folder.

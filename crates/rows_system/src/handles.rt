@@ -1,11 +1,11 @@
 //! Steps on open files and temporary files.
 use crate::acts::bytes_of;
 use crate::odds::Odd;
-use crate::told::{tell, text_of};
-use crate::world::{Bad, Made, Opened, World, applied};
+use crate::told::{Handle, tell, text_of};
+use crate::world::{Bad, Made, Opened, PlainTold, RealFile, RealTemp, RealTold, World, applied};
 use cacache_core::bytes::Bytes;
-use cacache_store::store::{PlainFile, PlainTemp, Step, Store};
-use rows::Flaw;
+use cacache_core::keeping::{beside, let_go};
+use cacache_store::store::{PlainFile, PlainStep, PlainTemp, Step, Store};
 use std::alloc::AllocError;
 
 /// The bytes from a place on; none behind the end.
@@ -18,14 +18,6 @@ pub(crate) fn written(plain: &PlainTemp) -> &[u8] {
     match &plain.bytes {
         Some(bytes) => bytes.as_slice(),
         None => &[],
-    }
-}
-
-/// A handle that an answer must have.
-fn held<T>(handle: Option<T>) -> Result<T, Bad> {
-    match handle {
-        Some(handle) => Ok(handle),
-        None => Err(Bad::Flaw(Flaw::Unfit)),
     }
 }
 
@@ -46,35 +38,69 @@ impl World {
         })
     }
 
+    /// What the disk and the system answer to one step.
+    fn on_both(
+        &mut self,
+        plain: PlainStep,
+        real: Step<RealFile, RealTemp>,
+    ) -> Result<(PlainTold, RealTold), AllocError> {
+        let (drawn, real) = beside(applied(self.alloc, &mut self.disk, plain), real)?;
+        let (came, drawn) = beside(tell(self.alloc, self.system.step(real)), drawn)?;
+        Ok((drawn, came))
+    }
+
+    /// Compares what both read with these bytes: whether the disk reads them too.
+    fn is_read(&mut self, drawn: &str, came: &str, given: &[u8]) -> Result<bool, Bad> {
+        let wanted = format!(in self.alloc; "Got {}", text_of(given))?;
+        self.compare(drawn, wanted.as_str(), came, Some(Odd::OpenFile))?;
+        Ok(drawn == came)
+    }
+
+    /// The disk's open file behind a read: opened anew where it read other bytes.
+    fn plain_after(
+        &self,
+        drawn: PlainTold,
+        is_read: bool,
+        number: usize,
+        offset: usize,
+    ) -> Result<Handle<PlainFile, PlainTemp>, AllocError> {
+        if is_read {
+            return Ok(drawn.into_handle());
+        }
+        let_go(drawn);
+        Ok(Handle::File(self.reopened(number, offset)?))
+    }
+
+    /// Compares what both read with these bytes, and keeps their files.
+    fn keep_read(
+        &mut self,
+        drawn: PlainTold,
+        came: RealTold,
+        given: Bytes,
+        number: usize,
+        offset: usize,
+    ) -> Result<(), Bad> {
+        let is_read = self.is_read(drawn.text.as_str(), came.text.as_str(), given.as_slice());
+        let offset = offset.saturating_add(given.len());
+        let (is_read, (drawn, came)) = beside(is_read, (drawn, came))?;
+        let plain = self.plain_after(drawn, is_read, number, offset);
+        let (plain, came) = beside(plain, came)?;
+        Ok(self.keep_handles(number, offset, plain, came.into_handle())?)
+    }
+
     /// Reads of an open file.
     pub(crate) fn read(&mut self, opened: Opened, max: usize) -> Result<(), Bad> {
+        let given = self.given(opened.number, opened.offset, max);
+        let (given, opened) = beside(given, opened)?;
         let Opened {
             real,
             plain,
             number,
             offset,
         } = opened;
-        let drawn = applied(self.alloc, &mut self.disk, Step::Read(plain, max))?;
-        let came = tell(self.alloc, self.system.step(Step::Read(real, max)))?;
-        let given = self.given(number, offset, max)?;
-        let wanted = format!(in self.alloc; "Got {}", text_of(given.as_slice()))?;
-        let (drawn_text, came_text) = (drawn.text.as_str(), came.text.as_str());
-        let is_same = drawn_text == came_text;
-        self.compare(drawn_text, wanted.as_str(), came_text, Some(Odd::OpenFile))?;
-        let offset = offset.saturating_add(given.len());
-        let plain = if is_same {
-            held(drawn.file)?
-        } else {
-            self.reopened(number, offset)?
-        };
-        let real = held(came.file)?;
-        self.files.push(Opened {
-            real,
-            plain,
-            number,
-            offset,
-        })?;
-        Ok(())
+        let both = self.on_both(Step::Read(plain, max), Step::Read(real, max));
+        let ((drawn, came), given) = beside(both, given)?;
+        self.keep_read(drawn, came, given, number, offset)
     }
 
     /// Keeps what was written to a temporary file: it stands from the end of what was written before on.
@@ -89,31 +115,35 @@ impl World {
         self.spread(number, Odd::TempShows)
     }
 
+    /// Does a step on a temporary file in both, whose answers are to be the same, and keeps it.
+    fn alike(
+        &mut self,
+        number: usize,
+        plain: PlainStep,
+        real: Step<RealFile, RealTemp>,
+    ) -> Result<(), Bad> {
+        let (drawn, came) = self.on_both(plain, real)?;
+        let wanted = drawn.text.as_str();
+        let compared = self.compare(wanted, wanted, came.text.as_str(), None);
+        let (_, (drawn, came)) = beside(compared, (drawn, came))?;
+        Ok(self.keep_handles(number, 0, drawn.into_handle(), came.into_handle())?)
+    }
+
     /// Writes to a temporary file.
     pub(crate) fn write(&mut self, made: Made, text: &str) -> Result<(), Bad> {
+        let (bytes, made) = beside(bytes_of(self.alloc, text), made)?;
+        let (again, (bytes, made)) = beside(bytes.share(), (bytes, made))?;
+        let offset = written(&made.plain).len();
         let Made {
             real,
             plain,
             number,
         } = made;
-        let offset = written(&plain).len();
-        let step = Step::Write(plain, bytes_of(self.alloc, text)?);
-        let drawn = applied(self.alloc, &mut self.disk, step)?;
-        let step = Step::Write(real, bytes_of(self.alloc, text)?);
-        let came = tell(self.alloc, self.system.step(step))?;
-        let drawn_text = drawn.text.as_str();
-        self.compare(drawn_text, drawn_text, came.text.as_str(), None)?;
-        if !text.is_empty() {
-            self.overwrite(number, offset, text)?;
+        self.alike(number, Step::Write(plain, bytes), Step::Write(real, again))?;
+        if text.is_empty() {
+            return Ok(());
         }
-        let plain = held(drawn.temp)?;
-        let real = held(came.temp)?;
-        self.temps.push(Made {
-            real,
-            plain,
-            number,
-        })?;
-        Ok(())
+        self.overwrite(number, offset, text)
     }
 
     /// Syncs a temporary file.
@@ -123,17 +153,6 @@ impl World {
             plain,
             number,
         } = made;
-        let drawn = applied(self.alloc, &mut self.disk, Step::SyncTemp(plain))?;
-        let came = tell(self.alloc, self.system.step(Step::SyncTemp(real)))?;
-        let drawn_text = drawn.text.as_str();
-        self.compare(drawn_text, drawn_text, came.text.as_str(), None)?;
-        let plain = held(drawn.temp)?;
-        let real = held(came.temp)?;
-        self.temps.push(Made {
-            real,
-            plain,
-            number,
-        })?;
-        Ok(())
+        self.alike(number, Step::SyncTemp(plain), Step::SyncTemp(real))
     }
 }

@@ -4,12 +4,20 @@ use crate::look::{Halt, What};
 use crate::moves::Move;
 use crate::odds::Odd;
 use crate::told::{failure, tell};
-use crate::world::{Bad, Made, World, applied};
-use cacache_core::keeping::{let_go, set};
+use crate::world::{Bad, Made, RealTemp, World, applied};
+use cacache_core::keeping::{beside, let_go, set};
 use cacache_core::text::Text;
+use cacache_disk::Disk;
 use cacache_store::store::{PlainTemp, Step, Store};
 use rows::Flaw;
+use std::alloc::{AllocError, Global};
 use std::io::ErrorKind;
+
+/// What a disk answers to a move, which it makes.
+fn moved(alloc: Global, disk: &mut Disk, plain: PlainTemp, to: Text) -> Result<String, AllocError> {
+    let told = applied(alloc, disk, Step::Persist(plain, to))?;
+    Ok(told.into_text())
+}
 
 impl World {
     /// Removes the file or link at a path without links from the disk, if one stands there.
@@ -131,43 +139,72 @@ impl World {
     }
 
     /// What the disk answers to a move, which it makes if both are to hold the same then.
-    fn drawn_move(&mut self, plain: PlainTemp, to: &str, does: bool) -> Result<String, Bad> {
-        let step = Step::Persist(plain, Text::from_str(self.alloc, to)?);
+    fn drawn_move(&mut self, plain: PlainTemp, to: &str, does: bool) -> Result<String, AllocError> {
+        let (to, plain) = beside(Text::from_str(self.alloc, to), plain)?;
         if does {
-            return Ok(applied(self.alloc, &mut self.disk, step)?.text);
+            return moved(self.alloc, &mut self.disk, plain, to);
         }
-        let mut copy = self.disk.clone()?;
-        Ok(applied(self.alloc, &mut copy, step)?.text)
+        let (mut copy, (plain, to)) = beside(self.disk.clone(), (plain, to))?;
+        moved(self.alloc, &mut copy, plain, to)
     }
 
-    /// Moves a temporary file.
-    pub(crate) fn persist(&mut self, made: Made, to: &str) -> Result<(), Bad> {
-        let Some((moved, odd)) = self.foretold_move(made.number, &made.plain, to)? else {
-            self.temps.push(made)?;
-            return Ok(());
-        };
+    /// What the system answers to a move.
+    fn real_move(&mut self, real: RealTemp, to: &str) -> Result<String, AllocError> {
+        let (to, real) = beside(Text::from_str(self.alloc, to), real)?;
+        let came = tell(self.alloc, self.system.step(Step::Persist(real, to)))?;
+        Ok(came.into_text())
+    }
+
+    /// What both answer to a move, which the disk makes if both are to hold the same then.
+    fn move_both(
+        &mut self,
+        made: Made,
+        to: &str,
+        does: bool,
+    ) -> Result<(String, String), AllocError> {
         let Made {
             real,
             plain,
             number: _,
         } = made;
-        let path = plain.path.clone()?;
-        let is_plain = odd.is_none() && matches!(moved, Move::Goes(_, _));
-        let (wanted, kind) = match &moved {
-            Move::Fails(kind) => (failure(self.alloc, *kind)?, Some(*kind)),
-            _ => (String::from_str(self.alloc, "Done")?, None),
+        let (drawn, real) = beside(self.drawn_move(plain, to, does), real)?;
+        let came = self.real_move(real, to)?;
+        Ok((drawn, came))
+    }
+
+    /// What a move is to answer, and why it fails if it does.
+    fn wanted_of(&self, moved: &Move) -> Result<(String, Option<ErrorKind>), AllocError> {
+        match moved {
+            Move::Fails(kind) => Ok((failure(self.alloc, *kind)?, Some(*kind))),
+            _ => Ok((String::from_str(self.alloc, "Done")?, None)),
+        }
+    }
+
+    /// Moves a temporary file in both, and compares the answers.
+    fn try_move(
+        &mut self,
+        made: Made,
+        to: &str,
+        moved: &Move,
+        odd: Option<Odd>,
+        does: bool,
+    ) -> Result<(), Bad> {
+        let ((wanted, kind), made) = beside(self.wanted_of(moved), made)?;
+        let (drawn, came) = self.move_both(made, to, does)?;
+        self.check_move(drawn.as_str(), wanted.as_str(), came.as_str(), odd, kind)
+    }
+
+    /// Moves a temporary file.
+    pub(crate) fn persist(&mut self, made: Made, to: &str) -> Result<(), Bad> {
+        let foretold = self.foretold_move(made.number, &made.plain, to);
+        let (foretold, made) = beside(foretold, made)?;
+        let Some((moved, odd)) = foretold else {
+            return Ok(self.temps.push(made)?);
         };
-        let drawn = self.drawn_move(plain, to, is_plain)?;
-        let step = Step::Persist(real, Text::from_str(self.alloc, to)?);
-        let came = tell(self.alloc, self.system.step(step))?;
-        self.check_move(
-            drawn.as_str(),
-            wanted.as_str(),
-            came.text.as_str(),
-            odd,
-            kind,
-        )?;
-        self.keep_move(moved, &path, is_plain)
+        let (path, made) = beside(made.plain.path.clone(), made)?;
+        let does = odd.is_none() && matches!(moved, Move::Goes(_, _));
+        self.try_move(made, to, &moved, odd, does)?;
+        self.keep_move(moved, &path, does)
     }
 
     /// Compares what a move came to. One that leaves other things than the disk's is counted also where both answer the same.

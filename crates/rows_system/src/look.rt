@@ -1,5 +1,6 @@
 //! Where a path leads on Linux, name by name, over all that stands on the disk.
 use crate::odds::Odds;
+use cacache_core::keeping::set;
 use cacache_core::paths::join;
 use cacache_disk::{Disk, Node, Path};
 use std::alloc::{AllocError, AllocFailed, Global};
@@ -91,7 +92,7 @@ fn is_within(folder: &str, path: &str) -> bool {
 }
 
 /// A look at paths, and what of them is odd.
-#[derive(Drop)]
+#[derive(Clone, Copy)]
 pub(crate) struct Look<'a> {
     pub(crate) alloc: Global,
     pub(crate) disk: &'a Disk,
@@ -189,13 +190,13 @@ impl<'a> Look<'a> {
         Ok(())
     }
 
-    /// Puts the names of a link's target before those that are still to go, and tells where they start.
+    /// Puts the names of a link's target before those that are still to go; they start from a folder.
     fn follow(
         &mut self,
         names: &mut Vec<String>,
-        folder: String,
+        folder: &mut String,
         target: &str,
-    ) -> Result<String, Halt> {
+    ) -> Result<(), Halt> {
         if self.odds.links >= MOST_LINKS {
             return Err(Halt::Fails(ErrorKind::FilesystemLoop));
         }
@@ -207,24 +208,28 @@ impl<'a> Look<'a> {
         }
         self.push(names, target)?;
         if target.starts_with('/') {
-            return Ok(String::from_str(self.alloc, "/")?);
+            set(folder, String::from_str(self.alloc, "/")?);
+        } else {
+            self.odds.relative = true;
         }
-        self.odds.relative = true;
-        Ok(folder)
+        Ok(())
     }
 
     /// Goes on into a name that isn't the last.
     fn enter(
         &mut self,
         names: &mut Vec<String>,
-        folder: String,
+        folder: &mut String,
         name: &str,
-    ) -> Result<String, Halt> {
+    ) -> Result<(), Halt> {
         let path = self.named(folder.as_str(), name)?;
         match self.what(path.as_str())? {
             What::Nothing => Err(Halt::Fails(ErrorKind::NotFound)),
             What::File => Err(Halt::Fails(ErrorKind::NotADirectory)),
-            What::Folder => Ok(path),
+            What::Folder => {
+                set(folder, path);
+                Ok(())
+            }
             What::Link(target) => self.follow(names, folder, target.as_str()),
         }
     }
@@ -241,42 +246,65 @@ impl<'a> Look<'a> {
         }
     }
 
+    /// Goes on by the last name: whether the path ends there.
+    fn finish(
+        &mut self,
+        names: &mut Vec<String>,
+        end: &mut End,
+        name: String,
+        follow: Follow,
+    ) -> Result<bool, Halt> {
+        let stays = follow == Follow::None || follow == Follow::Making && end.slash;
+        let link = if stays {
+            None
+        } else {
+            self.link_at(end.folder.as_str(), name.as_str())?
+        };
+        match link {
+            Some(target) => {
+                end.slash |= target.ends_with('/');
+                self.follow(names, &mut end.folder, target.as_str())?;
+                Ok(false)
+            }
+            None => {
+                set(&mut end.name, name);
+                Ok(true)
+            }
+        }
+    }
+
+    /// Goes on by one name: whether the path ends there.
+    fn go_on(
+        &mut self,
+        names: &mut Vec<String>,
+        end: &mut End,
+        follow: Follow,
+    ) -> Result<bool, Halt> {
+        let Some(name) = names.pop() else {
+            return Ok(true);
+        };
+        if names.is_empty() {
+            return self.finish(names, end, name, follow);
+        }
+        self.enter(names, &mut end.folder, name.as_str())?;
+        Ok(false)
+    }
+
     /// Where a path leads.
     pub(crate) fn walk(&mut self, text: &str, follow: Follow) -> Result<End, Halt> {
         let mut names: Vec<String> = Vec::new(self.alloc);
         self.push(&mut names, text)?;
-        let mut folder = String::from_str(self.alloc, "/")?;
-        let mut slash = text.ends_with('/');
+        let mut end = End {
+            folder: String::from_str(self.alloc, "/")?,
+            name: String::new(self.alloc),
+            slash: text.ends_with('/'),
+        };
         for _ in 0..MOST_NAMES {
-            let Some(name) = names.pop() else {
+            if self.go_on(&mut names, &mut end, follow)? {
                 break;
-            };
-            if !names.is_empty() {
-                folder = self.enter(&mut names, folder, name.as_str())?;
-                continue;
             }
-            let stays = follow == Follow::None || follow == Follow::Making && slash;
-            let link = if stays {
-                None
-            } else {
-                self.link_at(folder.as_str(), name.as_str())?
-            };
-            let Some(target) = link else {
-                return Ok(End {
-                    folder,
-                    name,
-                    slash,
-                });
-            };
-            slash |= target.ends_with('/');
-            folder = self.follow(&mut names, folder, target.as_str())?;
         }
-        let name = String::new(self.alloc);
-        Ok(End {
-            folder,
-            name,
-            slash,
-        })
+        Ok(end)
     }
 
     /// What a path leads to, and its path without links. A `/` behind it wants a folder.

@@ -1,16 +1,40 @@
 //! What answers say, as texts that are compared, and the handles in them.
 use cacache_core::errors::Fault;
-use cacache_core::keeping::let_go;
+use cacache_core::keeping::{beside, let_go};
 use cacache_store::store::{Answer, Listing, Name};
 use std::alloc::{AllocError, Global};
 use std::io::ErrorKind;
+
+/// The handle in an answer.
+#[derive(Drop)]
+pub(crate) enum Handle<F, T> {
+    File(F),
+    Temp(T),
+    /// It has none.
+    None,
+}
 
 /// What an answer says, and the handle in it.
 #[derive(Drop)]
 pub(crate) struct Told<F, T> {
     pub(crate) text: String,
-    pub(crate) file: Option<F>,
-    pub(crate) temp: Option<T>,
+    pub(crate) handle: Handle<F, T>,
+}
+
+impl<F: Drop, T: Drop> Told<F, T> {
+    /// What it says.
+    pub(crate) fn into_text(self) -> String {
+        let Told { text, handle } = self;
+        let_go(handle);
+        text
+    }
+
+    /// Its handle.
+    pub(crate) fn into_handle(self) -> Handle<F, T> {
+        let Told { text, handle } = self;
+        let_go(text);
+        handle
+    }
 }
 
 /// The bytes as a text.
@@ -74,31 +98,25 @@ pub(crate) fn tell<F: Drop, T: Drop>(
     alloc: Global,
     answer: Answer<F, T>,
 ) -> Result<Told<F, T>, AllocError> {
-    let text = match said(alloc, &answer) {
-        Ok(text) => text,
-        Err(error) => {
-            let_go(answer);
-            return Err(error);
-        }
-    };
-    Ok(parted(text, answer))
+    let (text, answer) = beside(said(alloc, &answer), answer)?;
+    let handle = handle_in(answer);
+    Ok(Told { text, handle })
 }
 
-/// The text beside the handle of an answer.
-fn parted<F: Drop, T: Drop>(text: String, answer: Answer<F, T>) -> Told<F, T> {
-    let (file, temp) = match answer {
-        Answer::File(file) => (Some(file), None),
+/// The handle of an answer.
+fn handle_in<F: Drop, T: Drop>(answer: Answer<F, T>) -> Handle<F, T> {
+    match answer {
+        Answer::File(file) => Handle::File(file),
         Answer::Got(file, bytes) => {
             let_go(bytes);
-            (Some(file), None)
+            Handle::File(file)
         }
-        Answer::Temp(temp) => (None, Some(temp)),
-        Answer::Wrote(temp, _) => (None, Some(temp)),
-        Answer::Synced(temp) => (None, Some(temp)),
+        Answer::Temp(temp) => Handle::Temp(temp),
+        Answer::Wrote(temp, _) => Handle::Temp(temp),
+        Answer::Synced(temp) => Handle::Temp(temp),
         other => {
             let_go(other);
-            (None, None)
+            Handle::None
         }
-    };
-    Told { text, file, temp }
+    }
 }

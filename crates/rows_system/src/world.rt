@@ -7,7 +7,7 @@ use cacache_core::bytes::Bytes;
 use cacache_core::keeping::let_go;
 use cacache_disk::{Disk, Luck};
 use cacache_folder::FolderStore;
-use cacache_store::store::{PlainFile, PlainTemp, Step, Store};
+use cacache_store::store::{PlainFile, PlainStep, PlainTemp, Store};
 use rows::Flaw;
 use std::alloc::{AllocError, AllocFailed, Global};
 use std::io::ErrorKind;
@@ -16,10 +16,19 @@ use std::{fs, io};
 /// Real folders.
 pub(crate) type System = FolderStore<HostRuntime>;
 
+/// An open file, a temporary file and an answer of real folders, and an answer of the disk.
+pub(crate) type RealFile = <System as Store>::File;
+
+pub(crate) type RealTemp = <System as Store>::Temp;
+
+pub(crate) type RealTold = Told<RealFile, RealTemp>;
+
+pub(crate) type PlainTold = Told<PlainFile, PlainTemp>;
+
 /// An open file of both, and what Linux reads from it: a file's bytes from an offset on.
 #[derive(Drop)]
 pub(crate) struct Opened {
-    pub(crate) real: <System as Store>::File,
+    pub(crate) real: RealFile,
     pub(crate) plain: PlainFile,
     pub(crate) number: usize,
     pub(crate) offset: usize,
@@ -28,7 +37,7 @@ pub(crate) struct Opened {
 /// A temporary file of both, and the number of the file.
 #[derive(Drop)]
 pub(crate) struct Made {
-    pub(crate) real: <System as Store>::Temp,
+    pub(crate) real: RealTemp,
     pub(crate) plain: PlainTemp,
     pub(crate) number: usize,
 }
@@ -40,6 +49,12 @@ pub(crate) enum Bad {
     Flaw(Flaw),
     /// An answer, or what stands, differs in a way that isn't known.
     Differs(String),
+}
+
+impl From<Flaw> for Bad {
+    fn from(flaw: Flaw) -> Bad {
+        Bad::Flaw(flaw)
+    }
 }
 
 impl From<AllocError> for Bad {
@@ -98,8 +113,8 @@ impl Drop for World {
 pub(crate) fn applied(
     alloc: Global,
     disk: &mut Disk,
-    step: Step<PlainFile, PlainTemp>,
-) -> Result<Told<PlainFile, PlainTemp>, AllocError> {
+    step: PlainStep,
+) -> Result<PlainTold, AllocError> {
     let answer = disk.apply(&step, Luck::Plain);
     let_go(step);
     tell(alloc, answer?)
