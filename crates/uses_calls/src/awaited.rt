@@ -1,5 +1,5 @@
 //! Calls as futures.
-use crate::shown;
+use crate::{printed, shown, two};
 use anyhow::Result;
 use cacache::env::Memory;
 use futures::executor::block_on;
@@ -39,7 +39,7 @@ where
     let mut text = String::new(alloc);
     reader.read_to_string(&mut text)?; // text is "my data", which isn't checked yet
     let algorithm = reader.check()?; // Algorithm::Sha256
-    Ok(format!(in alloc; "{text}, {algorithm}")?)
+    two(alloc, text, algorithm)
 }
 
 /// A link to a file outside the cache.
@@ -53,5 +53,5 @@ where
         cacache::ToLinker::open(&mut env, "my-cache", "key", "/my-file"),
     )??;
     let sri = block_on(&rt, linker.commit(&mut env))??; // nothing was saved before
-    Ok(format!(in rt.alloc(); "{sri}")?)
+    printed(rt.alloc(), sri)
 }

@@ -1,5 +1,5 @@
 //! Calls that read.
-use crate::{in_memory, shown};
+use crate::{copies, shown, two};
 use anyhow::Result;
 use cacache::env::Memory;
 
@@ -24,7 +24,7 @@ fn exists_sync(rt: HostRuntime, mut env: &mut Memory) -> Result<String> {
     let before = cacache::exists_sync(&mut env, "my-cache", &sri)?; // false
     cacache::write_hash_sync(&mut env, "my-cache", b"my data")?;
     let after = cacache::exists_sync(&mut env, "my-cache", &sri)?; // true
-    Ok(format!(in alloc; "{before}, {after}")?)
+    two(alloc, before, after)
 }
 
 /// The contents that are there.
@@ -38,10 +38,13 @@ fn list(rt: HostRuntime, mut env: &mut Memory) -> Result<String> {
     Ok(text)
 }
 
-/// Makes these calls.
-pub(crate) fn run(rt: HostRuntime) -> Result<()> {
-    in_memory(rt, "read_sync", read_sync)?;
-    in_memory(rt, "read_hash_sync", read_hash_sync)?;
-    in_memory(rt, "exists_sync", exists_sync)?;
-    in_memory(rt, "content::read::list", list)
+/// What comes of the call of this name.
+pub(crate) fn came(rt: HostRuntime, env: &mut Memory, name: &str) -> Result<String> {
+    match name {
+        "read_sync" => read_sync(rt, env),
+        "read_hash_sync" => read_hash_sync(rt, env),
+        "exists_sync" => exists_sync(rt, env),
+        "content::read::list" => list(rt, env),
+        _ => copies::came(rt, env, name),
+    }
 }

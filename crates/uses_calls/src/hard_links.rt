@@ -1,5 +1,5 @@
 //! Files outside the cache that are one file with a content.
-use crate::{bytes_at, in_memory};
+use crate::{bytes_at, index};
 use anyhow::Result;
 use cacache::env::Memory;
 
@@ -31,14 +31,13 @@ fn hard_link_hash_unchecked_sync(rt: HostRuntime, mut env: &mut Memory) -> Resul
     bytes_at(rt.alloc(), env, "/my-link")
 }
 
-/// Makes these calls.
-pub(crate) fn run(rt: HostRuntime) -> Result<()> {
-    in_memory(rt, "hard_link_sync", hard_link_sync)?;
-    in_memory(rt, "hard_link_unchecked_sync", hard_link_unchecked_sync)?;
-    in_memory(rt, "hard_link_hash_sync", hard_link_hash_sync)?;
-    in_memory(
-        rt,
-        "hard_link_hash_unchecked_sync",
-        hard_link_hash_unchecked_sync,
-    )
+/// What comes of the call of this name.
+pub(crate) fn came(rt: HostRuntime, env: &mut Memory, name: &str) -> Result<String> {
+    match name {
+        "hard_link_sync" => hard_link_sync(rt, env),
+        "hard_link_unchecked_sync" => hard_link_unchecked_sync(rt, env),
+        "hard_link_hash_sync" => hard_link_hash_sync(rt, env),
+        "hard_link_hash_unchecked_sync" => hard_link_hash_unchecked_sync(rt, env),
+        _ => index::came(rt, env, name),
+    }
 }

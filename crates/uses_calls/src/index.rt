@@ -1,5 +1,5 @@
 //! Calls on the index.
-use crate::{in_memory, shown, tell};
+use crate::{rm, shown, two};
 use anyhow::Result;
 use cacache::env::{Memory, memory};
 use cacache::{Integrity, WriteOpts};
@@ -38,11 +38,11 @@ fn remove_sync(rt: HostRuntime, mut env: &mut Memory) -> Result<String> {
     let found = cacache::metadata_sync(&mut env, "my-cache", "key")?.is_some(); // false
     let bytes = cacache::read_hash_sync(&mut env, "my-cache", &sri)?; // b"my data"
     let text = shown(rt.alloc(), &bytes)?;
-    Ok(format!(in rt.alloc(); "{found}, {text}")?)
+    two(rt.alloc(), found, text)
 }
 
 /// All entries. The listing lends the environment, which is this function's own.
-fn list_sync(rt: HostRuntime) -> Result<String> {
+pub(crate) fn list_sync(rt: HostRuntime) -> Result<String> {
     let mut text = String::new(rt.alloc());
     let mut env = memory(rt, "/")?;
     cacache::write_sync(&mut env, "my-cache", "key", b"my data")?;
@@ -68,11 +68,13 @@ fn text(rt: HostRuntime, mut env: &mut Memory) -> Result<String> {
     }
 }
 
-/// Makes these calls.
-pub(crate) fn run(rt: HostRuntime) -> Result<()> {
-    in_memory(rt, "index::insert", insert)?;
-    in_memory(rt, "metadata_sync", metadata_sync)?;
-    in_memory(rt, "remove_sync", remove_sync)?;
-    tell(rt, "list_sync", list_sync(rt))?;
-    in_memory(rt, "index::text", text)
+/// What comes of the call of this name.
+pub(crate) fn came(rt: HostRuntime, env: &mut Memory, name: &str) -> Result<String> {
+    match name {
+        "index::insert" => insert(rt, env),
+        "metadata_sync" => metadata_sync(rt, env),
+        "remove_sync" => remove_sync(rt, env),
+        "index::text" => text(rt, env),
+        _ => rm::came(rt, env, name),
+    }
 }

@@ -1,5 +1,5 @@
 //! Links to a file outside the cache, which become contents.
-use crate::{in_memory, shown};
+use crate::{get, printed, shown, two};
 use anyhow::Result;
 use cacache::env::Memory;
 use std::io::Read;
@@ -29,7 +29,7 @@ fn open(rt: HostRuntime, mut env: &mut Memory) -> Result<String> {
     linker.read_to_end(&mut bytes)?; // bytes are those of /my-file
     let sri = linker.commit(&mut env)?; // nothing was saved before
     let bytes = shown(alloc, &bytes)?;
-    Ok(format!(in alloc; "{bytes}, {sri}")?)
+    two(alloc, bytes, sri)
 }
 
 /// One without a key, whose file the commit alone reads.
@@ -37,13 +37,16 @@ fn open_hash(rt: HostRuntime, mut env: &mut Memory) -> Result<String> {
     env.store.plant("/my-file", b"hello")?;
     let linker = cacache::SyncToLinker::open_hash(&mut env, "my-cache", "/my-file")?;
     let sri = linker.commit(&mut env)?; // nothing was saved before
-    Ok(format!(in rt.alloc(); "{sri}")?)
+    printed(rt.alloc(), sri)
 }
 
-/// Makes these calls.
-pub(crate) fn run(rt: HostRuntime) -> Result<()> {
-    in_memory(rt, "link_to_sync", link_to_sync)?;
-    in_memory(rt, "link_to_hash_sync", link_to_hash_sync)?;
-    in_memory(rt, "SyncToLinker::open", open)?;
-    in_memory(rt, "SyncToLinker::open_hash", open_hash)
+/// What comes of the call of this name.
+pub(crate) fn came(rt: HostRuntime, env: &mut Memory, name: &str) -> Result<String> {
+    match name {
+        "link_to_sync" => link_to_sync(rt, env),
+        "link_to_hash_sync" => link_to_hash_sync(rt, env),
+        "SyncToLinker::open" => open(rt, env),
+        "SyncToLinker::open_hash" => open_hash(rt, env),
+        _ => get::came(rt, env, name),
+    }
 }

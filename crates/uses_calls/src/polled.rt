@@ -1,4 +1,5 @@
 //! A content that is written by polls.
+use crate::printed;
 use anyhow::Result;
 use cacache::env::Memory;
 use cacache::jobs::Open;
@@ -47,7 +48,7 @@ where
     R: Threads + Wait + Clock + RandomSource + AllocGlobal + Copy + Sync + Send + 'static,
 {
     let (_count, sri) = made(rt, env)?;
-    Ok(sri.to_string(rt.alloc())?)
+    printed(rt.alloc(), sri)
 }
 
 /// How many bytes the worker took.
@@ -56,5 +57,5 @@ where
     R: Threads + Wait + Clock + RandomSource + AllocGlobal + Copy + Sync + Send + 'static,
 {
     let (count, _sri) = made(rt, env)?;
-    Ok(format!(in rt.alloc(); "{count}")?)
+    printed(rt.alloc(), count)
 }

@@ -1,5 +1,5 @@
 //! Calls that store.
-use crate::{in_memory, shown};
+use crate::{links, printed, shown};
 use anyhow::Result;
 use cacache::env::Memory;
 
@@ -15,7 +15,7 @@ fn write_sync_with_algo(rt: HostRuntime, mut env: &mut Memory) -> Result<String>
     let algo = cacache::Algorithm::Sha512;
     let sri = cacache::write_sync_with_algo(&mut env, algo, "my-cache", "key", b"my data")?;
     let algorithm = sri.pick_algorithm(); // Algorithm::Sha512
-    Ok(format!(in rt.alloc(); "{algorithm}")?)
+    printed(rt.alloc(), algorithm)
 }
 
 /// Bytes that are moved in.
@@ -40,14 +40,17 @@ fn write_hash_sync_with_algo(rt: HostRuntime, mut env: &mut Memory) -> Result<St
     let algo = cacache::Algorithm::Sha512;
     let sri = cacache::write_hash_sync_with_algo(&mut env, algo, "my-cache", b"my data")?;
     let algorithm = sri.pick_algorithm(); // Algorithm::Sha512
-    Ok(format!(in rt.alloc(); "{algorithm}")?)
+    printed(rt.alloc(), algorithm)
 }
 
-/// Makes these calls.
-pub(crate) fn run(rt: HostRuntime) -> Result<()> {
-    in_memory(rt, "write_sync", write_sync)?;
-    in_memory(rt, "write_sync_with_algo", write_sync_with_algo)?;
-    in_memory(rt, "write_vec_sync", write_vec_sync)?;
-    in_memory(rt, "write_hash_sync", write_hash_sync)?;
-    in_memory(rt, "write_hash_sync_with_algo", write_hash_sync_with_algo)
+/// What comes of the call of this name.
+pub(crate) fn came(rt: HostRuntime, env: &mut Memory, name: &str) -> Result<String> {
+    match name {
+        "write_sync" => write_sync(rt, env),
+        "write_sync_with_algo" => write_sync_with_algo(rt, env),
+        "write_vec_sync" => write_vec_sync(rt, env),
+        "write_hash_sync" => write_hash_sync(rt, env),
+        "write_hash_sync_with_algo" => write_hash_sync_with_algo(rt, env),
+        _ => links::came(rt, env, name),
+    }
 }

@@ -1,5 +1,5 @@
 //! Contents that are read in pieces.
-use crate::{in_memory, shown};
+use crate::{shown, two};
 use anyhow::Result;
 use cacache::env::Memory;
 use std::io::Read;
@@ -13,7 +13,7 @@ fn open(rt: HostRuntime, mut env: &mut Memory) -> Result<String> {
     reader.read_to_end(&mut bytes)?; // bytes are b"my data", which aren't checked yet
     let algorithm = reader.check()?; // Algorithm::Sha256
     let bytes = shown(alloc, &bytes)?;
-    Ok(format!(in alloc; "{bytes}, {algorithm}")?)
+    two(alloc, bytes, algorithm)
 }
 
 /// That of an integrity.
@@ -24,11 +24,14 @@ fn open_hash(rt: HostRuntime, mut env: &mut Memory) -> Result<String> {
     let mut text = String::new(alloc);
     reader.read_to_string(&mut text)?; // text is "my data", which isn't checked yet
     let algorithm = reader.check()?; // Algorithm::Sha256
-    Ok(format!(in alloc; "{text}, {algorithm}")?)
+    two(alloc, text, algorithm)
 }
 
-/// Makes these calls.
-pub(crate) fn run(rt: HostRuntime) -> Result<()> {
-    in_memory(rt, "SyncReader::open", open)?;
-    in_memory(rt, "SyncReader::open_hash", open_hash)
+/// What comes of the call of this name.
+pub(crate) fn came(rt: HostRuntime, env: &mut Memory, name: &str) -> Result<String> {
+    match name {
+        "SyncReader::open" => open(rt, env),
+        "SyncReader::open_hash" => open_hash(rt, env),
+        _ => shown(rt.alloc(), b"no such call"),
+    }
 }

@@ -1,5 +1,5 @@
 //! Files outside the cache that share a content's storage.
-use crate::{bytes_at, in_memory};
+use crate::{bytes_at, hard_links};
 use anyhow::Result;
 use cacache::env::Memory;
 
@@ -31,14 +31,13 @@ fn reflink_hash_unchecked_sync(rt: HostRuntime, mut env: &mut Memory) -> Result<
     bytes_at(rt.alloc(), env, "/my-copy")
 }
 
-/// Makes these calls.
-pub(crate) fn run(rt: HostRuntime) -> Result<()> {
-    in_memory(rt, "reflink_sync", reflink_sync)?;
-    in_memory(rt, "reflink_unchecked_sync", reflink_unchecked_sync)?;
-    in_memory(rt, "reflink_hash_sync", reflink_hash_sync)?;
-    in_memory(
-        rt,
-        "reflink_hash_unchecked_sync",
-        reflink_hash_unchecked_sync,
-    )
+/// What comes of the call of this name.
+pub(crate) fn came(rt: HostRuntime, env: &mut Memory, name: &str) -> Result<String> {
+    match name {
+        "reflink_sync" => reflink_sync(rt, env),
+        "reflink_unchecked_sync" => reflink_unchecked_sync(rt, env),
+        "reflink_hash_sync" => reflink_hash_sync(rt, env),
+        "reflink_hash_unchecked_sync" => reflink_hash_unchecked_sync(rt, env),
+        _ => hard_links::came(rt, env, name),
+    }
 }

@@ -1,5 +1,5 @@
 //! Calls that remove.
-use crate::in_memory;
+use crate::{printed, writers};
 use anyhow::Result;
 use cacache::env::Memory;
 
@@ -8,7 +8,7 @@ fn remove_hash_sync(rt: HostRuntime, mut env: &mut Memory) -> Result<String> {
     let sri = cacache::write_hash_sync(&mut env, "my-cache", b"my data")?;
     cacache::remove_hash_sync(&mut env, "my-cache", &sri)?;
     let there = cacache::exists_sync(&mut env, "my-cache", &sri)?; // false
-    Ok(format!(in rt.alloc(); "{there}")?)
+    printed(rt.alloc(), there)
 }
 
 /// All that a cache holds.
@@ -16,7 +16,7 @@ fn clear_sync(rt: HostRuntime, mut env: &mut Memory) -> Result<String> {
     let sri = cacache::write_hash_sync(&mut env, "my-cache", b"my data")?;
     cacache::clear_sync(&mut env, "my-cache")?;
     let there = cacache::exists_sync(&mut env, "my-cache", &sri)?; // false
-    Ok(format!(in rt.alloc(); "{there}")?)
+    printed(rt.alloc(), there)
 }
 
 /// A key and its content.
@@ -25,12 +25,15 @@ fn remove_fully(rt: HostRuntime, mut env: &mut Memory) -> Result<String> {
     let opts = cacache::RemoveOpts::new().remove_fully(true);
     opts.remove_sync(&mut env, "my-cache", "key")?;
     let there = cacache::exists_sync(&mut env, "my-cache", &sri)?; // false
-    Ok(format!(in rt.alloc(); "{there}")?)
+    printed(rt.alloc(), there)
 }
 
-/// Makes these calls.
-pub(crate) fn run(rt: HostRuntime) -> Result<()> {
-    in_memory(rt, "remove_hash_sync", remove_hash_sync)?;
-    in_memory(rt, "clear_sync", clear_sync)?;
-    in_memory(rt, "RemoveOpts::remove_sync", remove_fully)
+/// What comes of the call of this name.
+pub(crate) fn came(rt: HostRuntime, env: &mut Memory, name: &str) -> Result<String> {
+    match name {
+        "remove_hash_sync" => remove_hash_sync(rt, env),
+        "clear_sync" => clear_sync(rt, env),
+        "RemoveOpts::remove_sync" => remove_fully(rt, env),
+        _ => writers::came(rt, env, name),
+    }
 }

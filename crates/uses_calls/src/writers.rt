@@ -1,5 +1,5 @@
 //! Contents that are written in pieces.
-use crate::{in_memory, shown};
+use crate::{printed, readers, shown};
 use anyhow::Result;
 use cacache::env::Memory;
 use std::io::Write;
@@ -21,7 +21,7 @@ fn create_with_algo(rt: HostRuntime, mut env: &mut Memory) -> Result<String> {
     writer.write_all(b"my data")?;
     let sri = writer.commit(&mut env)?; // nothing was saved before
     let algorithm = sri.pick_algorithm(); // Algorithm::Sha512
-    Ok(format!(in rt.alloc(); "{algorithm}")?)
+    printed(rt.alloc(), algorithm)
 }
 
 /// A content whose file is removed where a write fails.
@@ -41,13 +41,16 @@ fn open_sync(rt: HostRuntime, mut env: &mut Memory) -> Result<String> {
     let mut writer = opts.open_sync(&mut env, "my-cache", "key")?;
     writer.write_all(b"my data")?; // one byte less, and the commit is a SizeMismatch
     let sri = writer.commit(&mut env)?;
-    Ok(format!(in rt.alloc(); "{sri}")?)
+    printed(rt.alloc(), sri)
 }
 
-/// Makes these calls.
-pub(crate) fn run(rt: HostRuntime) -> Result<()> {
-    in_memory(rt, "SyncWriter::create", create)?;
-    in_memory(rt, "SyncWriter::create_with_algo", create_with_algo)?;
-    in_memory(rt, "SyncWriter::write_or_abandon", write_or_abandon)?;
-    in_memory(rt, "WriteOpts::open_sync", open_sync)
+/// What comes of the call of this name.
+pub(crate) fn came(rt: HostRuntime, env: &mut Memory, name: &str) -> Result<String> {
+    match name {
+        "SyncWriter::create" => create(rt, env),
+        "SyncWriter::create_with_algo" => create_with_algo(rt, env),
+        "SyncWriter::write_or_abandon" => write_or_abandon(rt, env),
+        "WriteOpts::open_sync" => open_sync(rt, env),
+        _ => readers::came(rt, env, name),
+    }
 }
