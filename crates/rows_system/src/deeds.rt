@@ -5,9 +5,26 @@ use crate::foretelling::Foretold;
 use crate::odds::Odd;
 use crate::told::{Handle, tell};
 use crate::world::{Bad, Made, Opened, RealFile, RealTemp, RealTold, World};
-use cacache_core::keeping::{beside, let_go};
+use cacache_core::keeping::{beside, let_go, set};
+use cacache_core::text::Text;
 use cacache_store::store::{PlainFile, PlainTemp, Store};
-use std::alloc::AllocError;
+use std::alloc::{AllocError, Global};
+
+/// The handle of a step. A temporary file goes by the path at which it was asked for, which may lead elsewhere later.
+fn asked_at(
+    alloc: Global,
+    deed: &Deed,
+    handle: Handle<PlainFile, PlainTemp>,
+) -> Result<Handle<PlainFile, PlainTemp>, AllocError> {
+    match handle {
+        Handle::Temp(mut temp) => {
+            let path = Text::from_str(alloc, deed.one.as_str())?;
+            set(&mut temp.path, path);
+            Ok(Handle::Temp(temp))
+        }
+        other => Ok(other),
+    }
+}
 
 impl World {
     /// Keeps what was written to the file at a path, under each of its names.
@@ -113,16 +130,18 @@ impl World {
         self.check_reason(came, foretold.kind)
     }
 
-    /// Keeps the handles of a step that was done at this path.
+    /// Keeps the handles of a step that was done at this path, without links.
     fn keep_opened(
         &mut self,
+        deed: &Deed,
         path: &str,
         foretold: Foretold,
         real: RealTold,
     ) -> Result<(), AllocError> {
         match self.inodes.number_of(path) {
             Some(number) => {
-                let plain = foretold.told.into_handle();
+                let plain = asked_at(self.alloc, deed, foretold.told.into_handle());
+                let (plain, real) = beside(plain, real)?;
                 self.keep_handles(number, 0, plain, real.into_handle())
             }
             None => {
@@ -135,15 +154,15 @@ impl World {
     /// Keeps what a step left that was done at these paths.
     fn keep(
         &mut self,
-        act: Act,
+        deed: &Deed,
         paths: (&str, &str),
         foretold: Foretold,
         real: RealTold,
     ) -> Result<(), Bad> {
         let (one, two) = paths;
-        let kept = self.keep_names(act, one, two);
+        let kept = self.keep_names(deed.act, one, two);
         let (_, (foretold, real)) = beside(kept, (foretold, real))?;
-        Ok(self.keep_opened(one, foretold, real)?)
+        Ok(self.keep_opened(deed, one, foretold, real)?)
     }
 
     /// Does a step on the system, and compares its answer with what was foretold.
@@ -159,7 +178,7 @@ impl World {
         let (_, (foretold, real)) = beside(checked, (foretold, real))?;
         match fate {
             Fate::Does(one, two) if !real.text.starts_with("Failed") => {
-                self.keep(deed.act, (one.as_str(), two.as_str()), foretold, real)
+                self.keep(deed, (one.as_str(), two.as_str()), foretold, real)
             }
             _ => {
                 let_go((foretold, real));
