@@ -14,3 +14,6 @@ pub mod KeepWords
 pub mod WordVerify
 pub mod WordCollect
 pub mod KeepAbout
+pub mod WordPlan
+pub mod WordRepair
+pub mod WordSweep

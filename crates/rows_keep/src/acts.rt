@@ -1,8 +1,9 @@
 //! What the rows do.
-use crate::stuck::Stuck;
+use crate::stuck::{Kind, Stuck};
 use cacache::env::{Clock, Env, Names, Reasons};
 use cacache::store::Store;
 use cacache::{Integrity, Result as Answered};
+use cacache_keep::{Planned, Repaired, Swept, Unused, plan, repair, sweep};
 use cacache_program::keep::{run, said};
 use cacache_program::{Errors, asks_why, tell};
 use row_places::planting::{plant, plant_link};
@@ -56,13 +57,46 @@ fn ran<S: Reasons, C: Clock, N: Names>(
     format!(in alloc; "{status} | {output} | {errors}")
 }
 
-/// The same of a run over a store that removes no file.
-fn ran_stuck<S: Store>(env: &mut On<S>, words: &str) -> Result<String, AllocError> {
-    let stuck = Stuck {
-        store: &mut env.store,
-    };
-    let mut env = on(env.alloc, stuck, env.base.as_str())?;
-    ran(&mut env, words)
+/// The line on what a call tells, or what failed.
+fn listed(
+    alloc: Global,
+    answer: Answered<Result<String, AllocError>>,
+) -> Result<String, AllocError> {
+    match answer {
+        Ok(line) => line,
+        Err(error) => refused(alloc, error),
+    }
+}
+
+/// What a sweep tells.
+fn swept<S: Store>(env: &mut On<S>, cache: &str) -> Answered<Result<String, AllocError>> {
+    let alloc = env.alloc;
+    let Swept {
+        files,
+        bytes,
+        strange,
+    } = sweep(env, cache)?;
+    let count = strange.len();
+    Ok(format!(in alloc; "files {files} bytes {bytes} strange {count}"))
+}
+
+/// What a plan tells.
+fn planned<S: Store>(env: &mut On<S>, cache: &str) -> Answered<Result<String, AllocError>> {
+    let alloc = env.alloc;
+    let Planned { kept, unused } = plan(env, cache)?;
+    let mut line = format!(in alloc; "kept {kept}")?;
+    for Unused { address, bytes } in &unused {
+        line.push_str(format!(in alloc; " unused {address} {bytes}")?.as_str())?;
+    }
+    Ok(Ok(line))
+}
+
+/// What a repair tells.
+fn repaired<S: Store>(env: &mut On<S>, cache: &str) -> Answered<Result<String, AllocError>> {
+    let alloc = env.alloc;
+    let Repaired { damaged, dangling } = repair(env, cache)?;
+    let (contents, keys) = (damaged.len(), dangling.len());
+    Ok(format!(in alloc; "damaged {contents} dangling {keys}"))
 }
 
 /// Removes a content by the text of its integrity.
@@ -75,7 +109,7 @@ fn removed<S: Store>(env: &mut On<S>, cache: &str, text: &str) -> Result<String,
 }
 
 /// What an act gives.
-pub(crate) fn made<S: Reasons>(env: &mut On<S>, act: &str, input: &str) -> Result<String, Flaw> {
+fn acted<S: Reasons>(env: &mut On<S>, act: &str, input: &str) -> Result<String, Flaw> {
     let alloc = env.alloc;
     let (name, words) = cut(act);
     let (cache, rest) = cut(words);
@@ -86,9 +120,29 @@ pub(crate) fn made<S: Reasons>(env: &mut On<S>, act: &str, input: &str) -> Resul
         "remove_hash_sync" => return removed(env, cache, rest),
         "plant" => done(alloc, plant(env, cache, &bytes)?),
         "link" => done(alloc, plant_link(env, rest, cache)?),
+        "sweep" => listed(alloc, swept(env, cache)),
+        "plan" => listed(alloc, planned(env, cache)),
+        "repair" => listed(alloc, repaired(env, cache)),
         "cacache-keep" => ran(env, words),
-        "stuck" => ran_stuck(env, words),
         _ => return Err(Flaw::NotRead),
     };
     Ok(line?)
+}
+
+/// What an act gives; behind `stuck` and a kind of step over a store where these fail.
+pub(crate) fn made<S: Reasons>(env: &mut On<S>, act: &str, input: &str) -> Result<String, Flaw> {
+    let (name, words) = cut(act);
+    if name != "stuck" {
+        return acted(env, act, input);
+    }
+    let (kind, act) = cut(words);
+    let Some(kind) = Kind::named(kind) else {
+        return Err(Flaw::NotRead);
+    };
+    let stuck = Stuck {
+        store: &mut env.store,
+        kind,
+    };
+    let mut env = on(env.alloc, stuck, env.base.as_str())?;
+    acted(&mut env, act, input)
 }

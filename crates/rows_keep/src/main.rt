@@ -3,10 +3,10 @@
 //!
 //!     ACT | INPUT | RESULT
 //!
-//! An act is a call with its cache and its key or integrity; or the words of the program, which behind `stuck` run over a
-//! store that removes no file; or what somebody else does: `plant` makes the file at a path anew with the input, and `link`
+//! An act is a call with its cache and its key or integrity; or the words of the program; or what somebody else does: `plant` makes the file at a path anew with the input, and `link`
 //! puts a link to a target in its place, each with the folders above it. The result of the program is its status, its output
-//! and its errors.
+//! and its errors. Behind `stuck` and a kind of step (`remove`, `size`, `list`, `open`, `append`) an act is made over a store
+//! where these steps fail.
 //!
 //! A row holds if the act with this input gives this result at both places. The rows of a group that hold are counted, and
 //! each other row is printed with what was wanted and what came.

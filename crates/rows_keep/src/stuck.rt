@@ -1,4 +1,4 @@
-//! A store that removes no file.
+//! A store of which one kind of step fails.
 ghost use Rattle.std.specs.Prelude.{None};
 ghost use Rattle.cacache.specs.Stores.{Fits, Logs, plain_step, plain_answer};
 
@@ -8,10 +8,47 @@ use cacache::store::{Answer, Step, Store};
 use cacache_core::keeping::let_go;
 use std::io::ErrorKind;
 
-/// Another store, whose files can't be removed.
+/// A kind of step.
+#[derive(Clone, Copy)]
+pub(crate) enum Kind {
+    Remove,
+    Size,
+    List,
+    Open,
+    Append,
+}
+
+impl Kind {
+    /// The kind that a word names.
+    pub(crate) fn named(word: &str) -> Option<Kind> {
+        match word {
+            "remove" => Some(Kind::Remove),
+            "size" => Some(Kind::Size),
+            "list" => Some(Kind::List),
+            "open" => Some(Kind::Open),
+            "append" => Some(Kind::Append),
+            _ => None,
+        }
+    }
+
+    /// Whether a step is of this kind.
+    fn is_of<F, T>(self, step: &Step<F, T>) -> bool {
+        match step {
+            Step::RemoveFile(_) => matches!(self, Kind::Remove),
+            Step::Size(_) => matches!(self, Kind::Size),
+            Step::ReadDir(_) => matches!(self, Kind::List),
+            Step::Open(_) => matches!(self, Kind::Open),
+            Step::Append(_, _) => matches!(self, Kind::Append),
+            _ => false,
+        }
+    }
+}
+
+/// Another store, of which steps of one kind fail.
 #[derive(Drop)]
 pub(crate) struct Stuck<'a, S> {
     pub(crate) store: &'a mut S,
+    pub(crate) kind: Kind,
 }
 
 impl<'a, S: Store> Store for Stuck<'a, S> {
@@ -27,7 +64,7 @@ impl<'a, S: Store> Store for Stuck<'a, S> {
         ensures logged { Logs None None (plain_step S.File.seen S.Temp.seen step)
             (plain_answer S.File.seen S.Temp.seen result) }
     {
-        if let Step::RemoveFile(_) = &step {
+        if self.kind.is_of(&step) {
             let_go(step);
             return Answer::Failed(Fault::Device);
         }

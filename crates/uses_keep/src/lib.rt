@@ -1,5 +1,5 @@
-//! Functions of a caller's own that verify a cache in memory and collect it. Their contracts are proved
-//! from clauses alone: those of the calls, of `keep_laws` and of `answer_laws`.
+//! Functions of a caller's own that verify a cache in memory, sweep, repair and collect it. Their contracts
+//! are proved from clauses alone: those of the calls, of `keep_laws` and of `answer_laws`.
 #![tactic(auto)]
 
 ghost use Rattle.std.specs.Prelude.{◌≡◌, ℕ, List, [], Some, IfOk, map, string_bytes};
@@ -9,15 +9,20 @@ ghost use Rattle.cacache_memory.specs.Replay.{tree_of};
 ghost use Rattle.cacache_entry.specs.View.{found_view};
 ghost use Rattle.cacache_table.specs.declared.command.Command.TheVariants as commands;
 ghost use Rattle.cacache_table.specs.declared.reply.Reply.TheVariants as replies;
+ghost use Rattle.cacache_value.specs.Placed.{Placed};
 ghost use Rattle.cacache_jobs.specs.Sites.{site_of};
 ghost use Rattle.cacache_keep_laws.specs.Answers.{AnswersOn};
 ghost use Rattle.cacache_keep_laws.specs.Collecting.{LeavesLive, LinksLeadOut};
 ghost use Rattle.cacache_keep_laws.specs.Idle.{Removed};
+ghost use Rattle.cacache_keep_laws.specs.Temporary.{LeavesUntemporary};
 ghost use Rattle.cacache_keep_laws.specs.Verifying.{Judges};
+ghost use Rattle.cacache_keep.specs.Kept.{MendsCache};
 
 use cacache_core::errors::Result;
 use cacache_core::keeping::let_go;
-use cacache_keep::{Collected, Verdict, collect, keep_laws, verify};
+use cacache_keep::{
+    Collected, Planned, Repaired, Swept, Verdict, collect, keep_laws, plan, repair, sweep, verify,
+};
 use cacache_keep_laws::answer_laws;
 use cacache_memory::MemStore;
 use cacache_reads::read_sync;
@@ -94,4 +99,43 @@ pub fn read_after_removal<C: Clock, N: Names>(
     keep_laws(&env.store);
     answer_laws();
     Ok(bytes)
+}
+
+/// Sweeps a cache in memory: its temporary files are gone, and all else is as it was.
+pub fn swept<C: Clock, N: Names>(env: &mut Env<MemStore, C, N>, cache: &str) -> Result<Swept>
+    ensures { (home : PathNames) → home_of cache.now ≡ Some home → IfOk result (λ s.
+        LeavesUntemporary home (tree_of env.old.store) (tree_of env.new.store) s.files) }
+{
+    let swept = sweep(env, cache)?;
+    keep_laws(&env.store);
+    Ok(swept)
+}
+
+/// Plans a collection of a cache in memory and makes it. What it drops is what was planned.
+pub fn collected_as_planned<C: Clock, N: Names>(
+    env: &mut Env<MemStore, C, N>,
+    cache: &str,
+) -> Result<(Planned, Collected)>
+    ensures { (home : PathNames) → home_of cache.now ≡ Some home → IfOk result
+        (λ r. r.1.dropped.items ≡ map (λ u. u.address) r.0.unused.items) }
+{
+    let planned = plan(env, cache)?;
+    keep_laws(&env.store);
+    let collected = collect(env, cache)?;
+    keep_laws(&env.store);
+    Ok((planned, collected))
+}
+
+/// Repairs a cache in memory where each thing lies in its place: the good contents stay, the others go, and
+/// each key leads where it led but those that are told, which lead to nothing.
+pub fn repaired<C: Clock, N: Names>(env: &mut Env<MemStore, C, N>, cache: &str) -> Result<Repaired>
+    ensures { (home : PathNames) → home_of cache.now ≡ Some home
+        → Placed (Some home) (tree_of env.old.store) → IfOk result (λ r.
+        MendsCache (site_of cache.now env.old.base 0) home
+        (tree_of env.old.store) (tree_of env.new.store)
+        r.damaged.items (map found_view r.dangling.items)) }
+{
+    let repaired = repair(env, cache)?;
+    keep_laws(&env.store);
+    Ok(repaired)
 }

@@ -3,11 +3,14 @@ ghost use Rattle.std.specs.Prelude.{◌≡◌, ◌⊎◌, IfOk, length, string_b
 ghost use Rattle.cacache_program.specs.Output.{PutsOut};
 ghost use Rattle.cacache_program.specs.WordVerify.{TellsVerdict, verdict_status, verdict_text as text_of_verdict};
 ghost use Rattle.cacache_program.specs.WordCollect.{collected_text as text_of_collected};
+ghost use Rattle.cacache_program.specs.WordPlan.{planned_text as text_of_planned};
+ghost use Rattle.cacache_program.specs.WordRepair.{repaired_text as text_of_repaired};
+ghost use Rattle.cacache_program.specs.WordSweep.{swept_text as text_of_swept};
 
 use crate::errors::{Errors, tell_failed_call};
 use crate::output::{put_out, put_out_with};
 use cacache::errors::Error;
-use cacache_keep::{Collected, Verdict};
+use cacache_keep::{Collected, Planned, Repaired, Swept, Verdict};
 use std::alloc::{AllocError, Global};
 use std::io::Write;
 
@@ -76,6 +79,87 @@ pub(crate) fn print_collected<W: Write, E: Write>(
     ensures quiet { result ≡ 0 → errors.new ≡ errors.old }
 {
     match collected_text(alloc, collected) {
+        Ok(text) => put_out(output, text.as_bytes(), errors),
+        Err(_) => tell_failed_call(errors, &Error::OutOfMemory, None),
+    }
+}
+
+/// What is printed of a plan.
+fn planned_text(alloc: Global, planned: &Planned) -> Result<String, AllocError>
+    ensures { IfOk result (λ text. string_bytes text
+        ≡ text_of_planned planned.now.kept (length planned.now.unused.items)) }
+{
+    let (kept, unused) = (planned.kept, planned.unused.len());
+    format!(in alloc; "kept {kept}\nunused {unused}\n")
+}
+
+/// Prints what a collection would do, and returns the status: 0, or 1 where the text can't be had or printed.
+pub(crate) fn print_planned<W: Write, E: Write>(
+    alloc: Global,
+    planned: &Planned,
+    output: &mut W,
+    errors: &mut Errors<E>,
+) -> u8
+    ensures tells { PutsOut
+        (text_of_planned planned.now.kept (length planned.now.unused.items))
+        (W.contents output.old) (W.contents output.new) result }
+    ensures quiet { result ≡ 0 → errors.new ≡ errors.old }
+{
+    match planned_text(alloc, planned) {
+        Ok(text) => put_out(output, text.as_bytes(), errors),
+        Err(_) => tell_failed_call(errors, &Error::OutOfMemory, None),
+    }
+}
+
+/// What is printed of a sweep.
+fn swept_text(alloc: Global, swept: &Swept) -> Result<String, AllocError>
+    ensures { IfOk result (λ text. string_bytes text
+        ≡ text_of_swept swept.now.files swept.now.bytes (length swept.now.strange.items)) }
+{
+    let (files, bytes, strange) = (swept.files, swept.bytes, swept.strange.len());
+    format!(in alloc; "files {files}\nbytes {bytes}\nstrange {strange}\n")
+}
+
+/// Prints what a sweep did, and returns the status: 0, or 1 where the text can't be had or printed.
+pub(crate) fn print_swept<W: Write, E: Write>(
+    alloc: Global,
+    swept: &Swept,
+    output: &mut W,
+    errors: &mut Errors<E>,
+) -> u8
+    ensures tells { PutsOut
+        (text_of_swept swept.now.files swept.now.bytes (length swept.now.strange.items))
+        (W.contents output.old) (W.contents output.new) result }
+    ensures quiet { result ≡ 0 → errors.new ≡ errors.old }
+{
+    match swept_text(alloc, swept) {
+        Ok(text) => put_out(output, text.as_bytes(), errors),
+        Err(_) => tell_failed_call(errors, &Error::OutOfMemory, None),
+    }
+}
+
+/// What is printed of a repair.
+fn repaired_text(alloc: Global, repaired: &Repaired) -> Result<String, AllocError>
+    ensures { IfOk result (λ text. string_bytes text ≡ text_of_repaired
+        (length repaired.now.damaged.items) (length repaired.now.dangling.items)) }
+{
+    let (damaged, dangling) = (repaired.damaged.len(), repaired.dangling.len());
+    format!(in alloc; "damaged {damaged}\ndangling {dangling}\n")
+}
+
+/// Prints what a repair did, and returns the status: 0, or 1 where the text can't be had or printed.
+pub(crate) fn print_repaired<W: Write, E: Write>(
+    alloc: Global,
+    repaired: &Repaired,
+    output: &mut W,
+    errors: &mut Errors<E>,
+) -> u8
+    ensures tells { PutsOut (text_of_repaired
+        (length repaired.now.damaged.items) (length repaired.now.dangling.items))
+        (W.contents output.old) (W.contents output.new) result }
+    ensures quiet { result ≡ 0 → errors.new ≡ errors.old }
+{
+    match repaired_text(alloc, repaired) {
         Ok(text) => put_out(output, text.as_bytes(), errors),
         Err(_) => tell_failed_call(errors, &Error::OutOfMemory, None),
     }

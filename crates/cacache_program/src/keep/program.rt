@@ -4,13 +4,18 @@ ghost use Rattle.cacache_program.specs.Words.{Unkeyed, asked_of};
 ghost use Rattle.cacache_program.specs.KeepWords.{IsWrong};
 ghost use Rattle.cacache_program.specs.WordVerify.{Verifies};
 ghost use Rattle.cacache_program.specs.WordCollect.{CollectsUnused};
+ghost use Rattle.cacache_program.specs.WordPlan.{Plans};
+ghost use Rattle.cacache_program.specs.WordRepair.{Repairs};
+ghost use Rattle.cacache_program.specs.WordSweep.{Sweeps};
 
 use crate::errors::{Errors, tell_failed_call, tell_misuse};
 use crate::keep::about::USAGE;
-use crate::keep::output::{print_collected, print_verdict};
+use crate::keep::output::{
+    print_collected, print_planned, print_repaired, print_swept, print_verdict,
+};
 use crate::words::parse_words;
 use cacache::env::{Clock, Env, Names, Reasons};
-use cacache_keep::{collect, verify};
+use cacache_keep::{collect, plan, repair, sweep, verify};
 use std::io::Write;
 
 /// Verifies the cache, and prints how many contents are good and damaged, entries dangle, and other files are there.
@@ -48,6 +53,57 @@ fn collect_and_print<S: Reasons, C: Clock, N: Names, W: Write, E: Write>(
     }
 }
 
+/// Plans a collection of the cache, and prints how many contents it would keep, and how many no entry has.
+fn plan_and_print<S: Reasons, C: Clock, N: Names, W: Write, E: Write>(
+    env: &mut Env<S, C, N>,
+    cache: &str,
+    output: &mut W,
+    errors: &mut Errors<E>,
+) -> u8
+    ensures does { Plans S.log cache.now env.old env.new
+        (W.contents output.old) (W.contents output.new) result }
+    ensures quiet { result ≡ 0 → errors.new ≡ errors.old }
+{
+    match plan(env, cache) {
+        Ok(planned) => print_planned(env.alloc, &planned, output, errors),
+        Err(error) => tell_failed_call(errors, &error, env.store.reason()),
+    }
+}
+
+/// Sweeps the cache, and prints how many temporary files were removed, their bytes, and how many others are there.
+fn sweep_and_print<S: Reasons, C: Clock, N: Names, W: Write, E: Write>(
+    env: &mut Env<S, C, N>,
+    cache: &str,
+    output: &mut W,
+    errors: &mut Errors<E>,
+) -> u8
+    ensures does { Sweeps S.log cache.now env.old env.new
+        (W.contents output.old) (W.contents output.new) result }
+    ensures quiet { result ≡ 0 → errors.new ≡ errors.old }
+{
+    match sweep(env, cache) {
+        Ok(swept) => print_swept(env.alloc, &swept, output, errors),
+        Err(error) => tell_failed_call(errors, &error, env.store.reason()),
+    }
+}
+
+/// Repairs the cache, and prints how many contents were damaged, and how many keys led to none.
+fn repair_and_print<S: Reasons, C: Clock, N: Names, W: Write, E: Write>(
+    env: &mut Env<S, C, N>,
+    cache: &str,
+    output: &mut W,
+    errors: &mut Errors<E>,
+) -> u8
+    ensures does { Repairs S.log cache.now env.old env.new
+        (W.contents output.old) (W.contents output.new) result }
+    ensures quiet { result ≡ 0 → errors.new ≡ errors.old }
+{
+    match repair(env, cache) {
+        Ok(repaired) => print_repaired(env.alloc, &repaired, output, errors),
+        Err(error) => tell_failed_call(errors, &error, env.store.reason()),
+    }
+}
+
 /// Does what the words say, and returns the status: 0; 1 if the call or the output failed, which is printed on `errors`; 2
 /// for wrong words; 3 where `verify` found anything but good contents. A failed write to `errors` changes no status.
 pub fn run<S: Reasons, C: Clock, N: Names, W: Write, E: Write>(
@@ -66,10 +122,22 @@ pub fn run<S: Reasons, C: Clock, N: Names, W: Write, E: Write>(
     ensures collects { Unkeyed (asked_of words.now) (codes "collect") (λ cache.
         CollectsUnused S.log cache env.old env.new
         (W.contents output.old) (W.contents output.new) result) }
+    ensures plans { Unkeyed (asked_of words.now) (codes "plan") (λ cache.
+        Plans S.log cache env.old env.new
+        (W.contents output.old) (W.contents output.new) result) }
+    ensures sweeps { Unkeyed (asked_of words.now) (codes "sweep") (λ cache.
+        Sweeps S.log cache env.old env.new
+        (W.contents output.old) (W.contents output.new) result) }
+    ensures repairs { Unkeyed (asked_of words.now) (codes "repair") (λ cache.
+        Repairs S.log cache env.old env.new
+        (W.contents output.old) (W.contents output.new) result) }
 {
     match parse_words(words) {
         ("verify", cache, None) => verify_and_print(env, cache, output, errors),
         ("collect", cache, None) => collect_and_print(env, cache, output, errors),
+        ("plan", cache, None) => plan_and_print(env, cache, output, errors),
+        ("sweep", cache, None) => sweep_and_print(env, cache, output, errors),
+        ("repair", cache, None) => repair_and_print(env, cache, output, errors),
         _ => tell_misuse(USAGE, errors),
     }
 }

@@ -3,6 +3,9 @@ use Rattle.std.proofs.Common.{codes}
 use Rattle.cacache_program.specs.Words.{asked_of}
 use Rattle.cacache_program.specs.WordVerify.{Verifies}
 use Rattle.cacache_program.specs.WordCollect.{CollectsUnused}
+use Rattle.cacache_program.specs.WordPlan.{Plans}
+use Rattle.cacache_program.specs.WordRepair.{Repairs}
+use Rattle.cacache_program.specs.WordSweep.{Sweeps}
 use Rattle.cacache_program.proofs.Asking.{unkeyed_holds}
 use Rattle.cacache_program.proofs.keep.program.run.Goals as goal
 
@@ -13,3 +16,15 @@ returns-in-verify-default-None-clause-verifies g c =
 pub returns-in-collect-default-None-clause-collects : goal.returns-in-collect-default-None-clause-collects
 returns-in-collect-default-None-clause-collects g c =
     unkeyed_holds (asked_of c.args.words.now) _ (codes "collect") (λ cache. CollectsUnused g.S.Store.log cache c.args.env.now c.collect_and_print.new.env (g.W.Write.contents c.args.output.now) (g.W.Write.contents c.collect_and_print.new.output) c.collect_and_print.result) c.parse_words.ensures c.collect_and_print.ensures.does
+
+pub returns-in-plan-default-None-clause-plans : goal.returns-in-plan-default-None-clause-plans
+returns-in-plan-default-None-clause-plans g c =
+    unkeyed_holds (asked_of c.args.words.now) _ (codes "plan") (λ cache. Plans g.S.Store.log cache c.args.env.now c.plan_and_print.new.env (g.W.Write.contents c.args.output.now) (g.W.Write.contents c.plan_and_print.new.output) c.plan_and_print.result) c.parse_words.ensures c.plan_and_print.ensures.does
+
+pub returns-in-sweep-default-None-clause-sweeps : goal.returns-in-sweep-default-None-clause-sweeps
+returns-in-sweep-default-None-clause-sweeps g c =
+    unkeyed_holds (asked_of c.args.words.now) _ (codes "sweep") (λ cache. Sweeps g.S.Store.log cache c.args.env.now c.sweep_and_print.new.env (g.W.Write.contents c.args.output.now) (g.W.Write.contents c.sweep_and_print.new.output) c.sweep_and_print.result) c.parse_words.ensures c.sweep_and_print.ensures.does
+
+pub returns-in-repair-default-None-clause-repairs : goal.returns-in-repair-default-None-clause-repairs
+returns-in-repair-default-None-clause-repairs g c =
+    unkeyed_holds (asked_of c.args.words.now) _ (codes "repair") (λ cache. Repairs g.S.Store.log cache c.args.env.now c.repair_and_print.new.env (g.W.Write.contents c.args.output.now) (g.W.Write.contents c.repair_and_print.new.output) c.repair_and_print.result) c.parse_words.ensures c.repair_and_print.ensures.does

@@ -1,0 +1,38 @@
+-- The word `plan` of the program `cacache-keep`.
+use Rattle.std.specs.Prelude.{◌≡◌, ◌⊎◌, ◌++◌, ℕ, List, Option, codes, length}
+use Rattle.std.specs.Fmt.{decimal}
+use Rattle.cacache.specs.Stores.{LogItem}
+use Rattle.cacache.specs.Calls.{Env, Error, KeepsRest}
+use Rattle.cacache_jobs.specs.Sites.{site_of}
+use Rattle.cacache_keep.specs.Planning.{PlansCache, Sized, StopsPlanning}
+use Rattle.cacache_program.specs.Output.{PutsOut}
+
+-- how many contents a collection would keep, and how many no entry has, a line each
+abbrev pub planned_text : ℕ → ℕ → List ℕ
+planned_text kept unused =
+    codes "kept " ++ (decimal kept ++ (codes "\nunused " ++ (decimal unused ++ codes "\n")))
+
+module _ {S C N : Type 0} (log : S → Option (List LogItem)) where
+  -- the log gained a plan, and its counts were told
+  abbrev pub PrintsPlan :
+      List ℕ → Env S C N → Env S C N → Option (List ℕ) → Option (List ℕ) → ℕ → Type 0
+  PrintsPlan cache old new before after status =
+      (kept : ℕ) × (unused : List Sized)
+      × PlansCache (site_of cache old.base 0) kept unused (log old.store) (log new.store)
+      × PutsOut (planned_text kept (length unused)) before after status
+
+  -- an error ended the plan, and nothing was put out
+  abbrev pub FailsToPlan :
+      List ℕ → Env S C N → Env S C N → Option (List ℕ) → Option (List ℕ) → ℕ → Type 0
+  FailsToPlan cache old new before after status =
+      (error : Error)
+      × StopsPlanning (site_of cache old.base 0) error (log old.store) (log new.store)
+      × (status ≡ 1) × (after ≡ before)
+
+  -- one of the two, and of the environment only the store may have changed
+  abbrev pub Plans :
+      List ℕ → Env S C N → Env S C N → Option (List ℕ) → Option (List ℕ) → ℕ → Type 0
+  Plans cache old new before after status =
+      KeepsRest old new
+      × (PrintsPlan cache old new before after status
+      ⊎ FailsToPlan cache old new before after status)

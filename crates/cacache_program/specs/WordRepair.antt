@@ -1,0 +1,40 @@
+-- The word `repair` of the program `cacache-keep`.
+use Rattle.std.specs.Prelude.{◌≡◌, ◌⊎◌, ◌++◌, ℕ, List, Option, codes, length}
+use Rattle.std.specs.Fmt.{decimal}
+use Rattle.cacache_core.specs.declared.integrity.digest.Hash.{Hash}
+use Rattle.cacache.specs.Stores.{LogItem}
+use Rattle.cacache.specs.Calls.{Env, Error}
+use Rattle.cacache.specs.Entries.{Found}
+use Rattle.cacache_jobs.specs.Sites.{site_of}
+use Rattle.cacache_keep.specs.Repairing.{RepairsCache, StopsRepairing}
+use Rattle.cacache_program.specs.Output.{PutsOut}
+
+-- how many contents were damaged, and how many keys led to none, a line each
+abbrev pub repaired_text : ℕ → ℕ → List ℕ
+repaired_text damaged dangling =
+    codes "damaged " ++ (decimal damaged ++ (codes "\ndangling " ++ (decimal dangling ++ codes "\n")))
+
+module _ {S C N : Type 0} (log : S → Option (List LogItem)) where
+  -- the log gained a repair, and its counts were told
+  abbrev pub PrintsRepair :
+      List ℕ → Env S C N → Env S C N → Option (List ℕ) → Option (List ℕ) → ℕ → Type 0
+  PrintsRepair cache old new before after status =
+      (damaged : List (List Hash)) × (dangling : List Found)
+      × RepairsCache (site_of cache old.base 0) damaged dangling (log old.store) (log new.store)
+      × PutsOut (repaired_text (length damaged) (length dangling)) before after status
+
+  -- an error ended the repair, and nothing was put out
+  abbrev pub FailsToRepair :
+      List ℕ → Env S C N → Env S C N → Option (List ℕ) → Option (List ℕ) → ℕ → Type 0
+  FailsToRepair cache old new before after status =
+      (error : Error)
+      × StopsRepairing (site_of cache old.base 0) error (log old.store) (log new.store)
+      × (status ≡ 1) × (after ≡ before)
+
+  -- one of the two, and the numbers and the base folder stayed
+  abbrev pub Repairs :
+      List ℕ → Env S C N → Env S C N → Option (List ℕ) → Option (List ℕ) → ℕ → Type 0
+  Repairs cache old new before after status =
+      (new.names ≡ old.names) × (new.base ≡ old.base)
+      × (PrintsRepair cache old new before after status
+      ⊎ FailsToRepair cache old new before after status)

@@ -1,0 +1,38 @@
+-- The word `sweep` of the program `cacache-keep`.
+use Rattle.std.specs.Prelude.{◌≡◌, ◌⊎◌, ◌++◌, ℕ, List, Option, codes, length}
+use Rattle.std.specs.Fmt.{decimal}
+use Rattle.cacache.specs.Stores.{LogItem}
+use Rattle.cacache.specs.Calls.{Env, Error, KeepsRest}
+use Rattle.cacache_keep.specs.Sweeping.{StopsSweeping, SweepsCache}
+use Rattle.cacache_program.specs.Output.{PutsOut}
+
+-- how many files were removed, how many bytes they had, and how many others are there, a line each
+abbrev pub swept_text : ℕ → ℕ → ℕ → List ℕ
+swept_text files bytes strange =
+    codes "files " ++ (decimal files
+    ++ (codes "\nbytes " ++ (decimal bytes
+    ++ (codes "\nstrange " ++ (decimal strange ++ codes "\n")))))
+
+module _ {S C N : Type 0} (log : S → Option (List LogItem)) where
+  -- the log gained a sweep, and its counts were told
+  abbrev pub PrintsSweep :
+      List ℕ → Env S C N → Env S C N → Option (List ℕ) → Option (List ℕ) → ℕ → Type 0
+  PrintsSweep cache old new before after status =
+      (files bytes : ℕ) × (strange : List (List ℕ))
+      × SweepsCache cache files bytes strange (log old.store) (log new.store)
+      × PutsOut (swept_text files bytes (length strange)) before after status
+
+  -- an error ended the sweep, and nothing was put out
+  abbrev pub FailsToSweep :
+      List ℕ → Env S C N → Env S C N → Option (List ℕ) → Option (List ℕ) → ℕ → Type 0
+  FailsToSweep cache old new before after status =
+      (error : Error) × StopsSweeping cache error (log old.store) (log new.store)
+      × (status ≡ 1) × (after ≡ before)
+
+  -- one of the two, and of the environment only the store may have changed
+  abbrev pub Sweeps :
+      List ℕ → Env S C N → Env S C N → Option (List ℕ) → Option (List ℕ) → ℕ → Type 0
+  Sweeps cache old new before after status =
+      KeepsRest old new
+      × (PrintsSweep cache old new before after status
+      ⊎ FailsToSweep cache old new before after status)
