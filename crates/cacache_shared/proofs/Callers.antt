@@ -1,5 +1,5 @@
--- In a legal history each move is one of the callers', so that their counts add up to all moves.
-use Rattle.std.proofs.Common.{◌≡◌, ℕ, zero, suc, ◌+◌, ◌<◌, ◌==◌, List, [], ◌∷◌, refl, sym, ◌∙◌, ap, subst, arith, Option, Some, None, Bool, true, false, cond}
+-- In a legal history each record is one of the callers', so that their counts add up to all records.
+use Rattle.std.proofs.Common.{◌≡◌, ℕ, zero, suc, ◌+◌, ◌<◌, ◌≤◌, ◌==◌, List, [], ◌∷◌, ◌++◌, refl, sym, ◌∙◌, ap, subst, arith, length, Option, Some, None, Bool, true, false, cond}
 use Rattle.std.proofs.lemmas.Bool.{eqb-true}
 use Rattle.std.proofs.lemmas.Bool.Decides.{nat_tests}
 use Rattle.std.proofs.lemmas.List.Sums.{sum_by-cons}
@@ -10,12 +10,13 @@ use Rattle.cacache_history.specs.declared.record.Record.{Record}
 use Rattle.cacache_history.specs.declared.record.Record.TheVariants.{Began, Moved, Stopped}
 use Rattle.cacache_history.specs.Setup.{Setup}
 use Rattle.cacache_history.specs.History.{History, Call, Made, Now, IsLegal, Legal, now_after, initial, set_call}
-use Rattle.cacache_shared.specs.Lines.{is_move, is_move_of, moves, moves_of}
+use Rattle.cacache_shared.specs.Lines.{caller_of, is_record_of, records_of, is_move_of, moves_of}
+use Rattle.cacache_shared.specs.Seats.{Taken, fresh_seat, fresh_seats}
 
--- the moves of the first callers
-abbrev pub moves_below : List Record → ℕ → ℕ
-moves_below rs zero = 0
-moves_below rs (suc n) = moves_below rs n + moves_of n rs
+-- the records of the first callers
+abbrev pub records_below : List Record → ℕ → ℕ
+records_below rs zero = 0
+records_below rs (suc n) = records_below rs n + records_of n rs
 
 -- each call is one of the first n callers'
 abbrev CallsBelow : ℕ → (ℕ → Option Call) → Type 0
@@ -31,42 +32,65 @@ set_below n c new calls lt below k call e = by (k == c) refl e
 one : (p : Record → Bool) (r : Record) (rs : List Record) → count_by p (r ∷ rs) ≡ cond (p r) 1 0 + count_by p rs
 one p r rs = sum_by-cons (λ x. cond (p x) 1 0) r rs
 
--- one that doesn't pass adds none
-none : (p : Record → Bool) (r : Record) (rs : List Record) → p r ≡ false → count_by p (r ∷ rs) ≡ count_by p rs
-none p r rs h = let e = one p r rs ∙ ap (λ t. cond t 1 0 + count_by p rs) h in omega (arith, e)
-
-empty : (n : ℕ) → moves_below [] n ≡ 0
+empty : (n : ℕ) → records_below [] n ≡ 0
 empty zero = refl
 empty (suc n) = omega (arith, empty n)
 
--- a record that is no move adds none
-idle : (k : ℕ) (r : Record) (rs : List Record) → ((j : ℕ) → is_move_of j r ≡ false) → moves_below (r ∷ rs) k ≡ moves_below rs k
-idle zero r rs h = refl
-idle (suc k) r rs h = let a = idle k r rs h in let b = none (is_move_of k) r rs (h k) in omega (arith, a, b)
+-- a record is its caller's, and nobody else's
+mine : (k : ℕ) (r : Record) (rs : List Record)
+    → records_below (r ∷ rs) k ≡ (if nat_lt (caller_of r) k then records_below rs k + 1 else records_below rs k)
+mine zero r rs = grind (arith, nat_tests)
+mine (suc k) r rs =
+    let a = mine k r rs in let b = one (is_record_of k) r rs in grind (arith, nat_tests, a, b)
 
--- a move is its caller's
-busy : (k c : ℕ) (luck : Luck) (made : Option Made) (reply : Option Reply) (rs : List Record)
-    → moves_below (Moved c luck made reply ∷ rs) k ≡ (if nat_lt c k then moves_below rs k + 1 else moves_below rs k)
-busy zero c luck made reply rs = grind (arith, nat_tests)
-busy (suc k) c luck made reply rs =
-    let a = busy k c luck made reply rs in let b = one (is_move_of k) (Moved c luck made reply) rs in grind (arith, nat_tests, a, b)
+-- one of the first callers' adds one
+adds : (k : ℕ) (r : Record) (rs : List Record) → caller_of r < k → records_below (r ∷ rs) k ≡ records_below rs k + 1
+adds k r rs lt = let m = mine k r rs in grind (arith, nat_tests, m, lt)
 
-counted : (s : Setup) (w : Now) (rs : List Record) → CallsBelow s.callers w.calls → Legal s w rs → moves_below rs s.callers ≡ moves rs
+counted : (s : Setup) (w : Now) (rs : List Record) → CallsBelow s.callers w.calls → Legal s w rs → records_below rs s.callers ≡ length rs
 counted s w [] below legal = empty s.callers
 counted s w (Began c command ∷ rs) below legal =
-    idle s.callers (Began c command) rs (λ j. refl)
-    ∙ counted s (now_after s w (Began c command)) rs (set_below s.callers c _ w.calls legal.0.0 below) legal.1
-    ∙ sym (none is_move (Began c command) rs refl)
+    let more = counted s (now_after s w (Began c command)) rs (set_below s.callers c _ w.calls legal.0.0 below) legal.1 in
+    let a = adds s.callers (Began c command) rs legal.0.0 in
+    omega (arith, more, a)
 counted s w (Stopped c ∷ rs) below legal =
-    idle s.callers (Stopped c) rs (λ j. refl)
-    ∙ counted s (now_after s w (Stopped c)) rs (set_below s.callers c None w.calls (below c legal.0.0 legal.0.1) below) legal.1
-    ∙ sym (none is_move (Stopped c) rs refl)
+    let lt : c < s.callers = below c legal.0.0 legal.0.1 in
+    let more = counted s (now_after s w (Stopped c)) rs (set_below s.callers c None w.calls lt below) legal.1 in
+    let a = adds s.callers (Stopped c) rs lt in
+    omega (arith, more, a)
 counted s w (Moved c luck made reply ∷ rs) below legal =
     let lt : c < s.callers = below c legal.0.0 legal.0.1 in
     let more = counted s (now_after s w (Moved c luck made reply)) rs (set_below s.callers c _ w.calls lt below) legal.1 in
-    let all = one is_move (Moved c luck made reply) rs in
-    let mine = busy s.callers c luck made reply rs in
-    grind (arith, nat_tests, more, all, mine, lt)
+    let a = adds s.callers (Moved c luck made reply) rs lt in
+    omega (arith, more, a)
 
-pub all_counted : (h : History) → IsLegal h → moves_below h.records h.setup.callers ≡ moves h.records
+pub all_counted : (h : History) → IsLegal h → records_below h.records h.setup.callers ≡ length h.records
 all_counted h legal = counted h.setup (initial h.setup) h.records (λ k call e. absurd cc) legal.legal
+
+-- a caller's moves are among its records
+pub moves_few : (c : ℕ) (rs : List Record) → moves_of c rs ≤ records_of c rs
+moves_few c [] = omega arith
+moves_few c (r ∷ rs) = by r (moves_few c rs) (one (is_move_of c) r rs) (one (is_record_of c) r rs)
+  where
+    by : (r : Record) → moves_of c rs ≤ records_of c rs
+        → moves_of c (r ∷ rs) ≡ cond (is_move_of c r) 1 0 + moves_of c rs
+        → records_of c (r ∷ rs) ≡ cond (is_record_of c r) 1 0 + records_of c rs
+        → moves_of c (r ∷ rs) ≤ records_of c (r ∷ rs)
+    by (Began b command) few m all = omega (arith, few, m, all)
+    by (Moved b luck made reply) few m all = omega (arith, few, m, all)
+    by (Stopped b) few m all = omega (arith, few, m, all)
+
+-- ---- one caller more
+
+pub below_more : (rs : List Record) (n : ℕ) → records_below rs (n + 1) ≡ records_below rs n + records_of n rs
+below_more rs n = let next : n + 1 ≡ suc n = omega arith in ap (records_below rs) next
+
+pub seats_more : (rs : List Record) (n : ℕ) → fresh_seats rs (n + 1) ≡ fresh_seats rs n ++ fresh_seat rs n ∷ []
+seats_more rs n = let next : n + 1 ≡ suc n = omega arith in ap (fresh_seats rs) next
+
+-- a seat that counts the caller's records and moves, and nothing else yet, is a fresh one
+pub is_fresh : (rs : List Record) (n told moved : ℕ) (seat : Taken) → seat ≡ record { caller = n; records = told; count = moved; commands = []; replies = [] }
+    → told ≡ records_of n rs → moved ≡ moves_of n rs → seat ≡ fresh_seat rs n
+is_fresh rs n told moved seat is own moves =
+    is ∙ ap (λ (x : ℕ). record { caller = n; records = x; count = moved; commands = []; replies = [] }) own
+    ∙ ap (λ (x : ℕ). record { caller = n; records = records_of n rs; count = x; commands = []; replies = [] }) moves

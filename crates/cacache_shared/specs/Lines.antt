@@ -3,7 +3,23 @@ use Rattle.std.specs.Prelude.{ℕ, ◌==◌, Bool, true, false, List, Option, So
 use Rattle.cacache_table.specs.declared.command.Command.{Command}
 use Rattle.cacache_table.specs.declared.reply.Reply.{Reply}
 use Rattle.cacache_history.specs.declared.record.Record.{Record}
-use Rattle.cacache_history.specs.declared.record.Record.TheVariants.{Began, Moved}
+use Rattle.cacache_history.specs.declared.record.Record.TheVariants.{Began, Moved, Stopped}
+
+-- ---- records
+
+-- whose event it tells
+abbrev pub caller_of : Record → ℕ
+caller_of (Began c command) = c
+caller_of (Moved c luck made reply) = c
+caller_of (Stopped c) = c
+
+-- an event of this caller
+abbrev pub is_record_of : ℕ → Record → Bool
+is_record_of caller line = caller_of line == caller
+
+-- how many of them are this caller's
+abbrev pub records_of : ℕ → List Record → ℕ
+records_of caller = count_by (is_record_of caller)
 
 -- ---- moves
 

@@ -12,11 +12,12 @@ use Rattle.cacache_world.specs.WorldKept.{AddsRecord, MovesOn}
 use Rattle.cacache_agree.specs.Said.{said_command, said_reply}
 use Rattle.cacache_shared.specs.declared.seat.Went.{Went}
 use Rattle.cacache_shared.specs.declared.seat.Went.TheVariants.{More, Done}
-use Rattle.cacache_shared.specs.Lines.{moves_of, commands_of, replies_of}
+use Rattle.cacache_shared.specs.Lines.{records_of, moves_of, commands_of, replies_of}
 
--- a caller, how many moves it made, what it began and what it was answered
+-- a caller, how many records and how many moves are its own, what it began and what it was answered
 pub record Taken : Type 0 where
   pub caller : ℕ
+  pub records : ℕ
   pub count : ℕ
   pub commands : List Command
   pub replies : List Reply
@@ -24,7 +25,13 @@ pub record Taken : Type 0 where
 -- a caller that began nothing yet since its seat was made
 abbrev pub fresh_seat : List Record → ℕ → Taken
 fresh_seat records n =
-    record { caller = n; count = moves_of n records; commands = []; replies = [] }
+    record {
+      caller = n;
+      records = records_of n records;
+      count = moves_of n records;
+      commands = [];
+      replies = [];
+    }
 
 -- one for each of the first callers
 abbrev pub fresh_seats : List Record → ℕ → List Taken
@@ -33,19 +40,24 @@ fresh_seats records (suc n) = fresh_seats records n ++ fresh_seat records n ∷ 
 
 -- ---- events
 
--- with one command more
+-- with one record and one command more
 abbrev pub with_command : Command → Taken → Taken
-with_command command seat = record seat { commands = seat.commands ++ command ∷ [] }
+with_command command seat =
+    record seat { records = seat.records + 1; commands = seat.commands ++ command ∷ [] }
 
 -- with the reply of a move, where the call is over
 abbrev pub replies_after : Move → List Reply → List Reply
 replies_after told.More replies = replies
 replies_after (told.Done reply) replies = replies ++ reply ∷ []
 
--- with one move more
+-- with one record and one move more
 abbrev pub after_move : Move → Taken → Taken
 after_move move seat =
-    record seat { count = seat.count + 1; replies = replies_after move seat.replies }
+    record seat {
+      records = seat.records + 1;
+      count = seat.count + 1;
+      replies = replies_after move seat.replies;
+    }
 
 -- what is said of a move
 abbrev pub went_of : Move → Went
@@ -71,7 +83,7 @@ SeatGoes Done old new = (reply : Reply) × (new ≡ after_move (told.Done reply)
 
 -- ---- at the close
 
--- a seat counts its caller's moves, and agrees with the caller's records from this place on
+-- a seat counts its caller's moves, and agrees with its records from this place on
 pub record SeatAgrees (from : ℕ) (records : List Record) (seat : Taken) : Type 0 where
   pub count : seat.count ≡ moves_of seat.caller records
   pub commands : map said_command seat.commands

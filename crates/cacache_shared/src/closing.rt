@@ -57,11 +57,11 @@ fn got_these<L: Ledger>(alloc: Global, later: &[Record], seat: &Seat<L>) -> bool
     }
 }
 
-/// All parts of the seats in one share, which counts all their moves. None of no seats.
+/// All parts of the seats in one share, which counts all their records. None of no seats.
 pub(crate) fn merge_seats<L: Ledger>(seats: Vec<Seat<L>>) -> Option<Share<L>>
     ensures none { IfNone result (vec_len seats ≡ 0) }
     ensures parts { IfSome result (λ all. all.parts ≡ vec_len seats) }
-    ensures amount { IfSome result (λ all. all.amount ≡ sum_by (λ s. s.count) seats.items) }
+    ensures amount { IfSome result (λ all. all.amount ≡ sum_by (λ s. s.records) seats.items) }
 {
     let mut all: Option<Share<L>> = None;
     for seat in seats {

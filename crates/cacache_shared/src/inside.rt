@@ -1,6 +1,5 @@
 //! What lies under the lock: each method is one hold of it.
-ghost use Rattle.std.specs.Prelude.{◌≡◌, ◌+◌, ◌<◌, ◌^◌, IfOk, OnOk, OnErr};
-ghost use Rattle.cacache_shared.specs.Lines.{moves};
+ghost use Rattle.std.specs.Prelude.{◌≡◌, ◌+◌, ◌<◌, ◌^◌, IfOk, OnOk, OnErr, length};
 ghost use Rattle.cacache_shared.specs.Seats.{SeatBegins, SeatMoves};
 
 use crate::seat::{Seat, Went, note, note_reply, room_for};
@@ -10,26 +9,26 @@ use cacache_table::Command;
 use cacache_world::{World, WorldFault};
 use std::sync::ledger::{Book, Ledger};
 
-/// The world, and a book that counts its moves.
+/// The world, and a book that counts its records: what no seat counts can't be added.
 #[derive(Drop)]
 pub(crate) struct Inside<L: Ledger> {
     pub(crate) world: World,
     pub(crate) book: Book<L>,
-    ghost counted: { moves world.records ≡ book.total },
+    ghost counted: { length world.records ≡ book.total },
 }
 
 impl<L: Ledger> Inside<L> {
-    /// A world, and a book that counts its moves.
+    /// A world, and a book that counts its records.
     pub(crate) fn new(world: World, book: Book<L>) -> Inside<L>
-        requires { moves world.records ≡ book.total }
+        requires { length world.records ≡ book.total }
         ensures world { result.world ≡ world }
         ensures book { result.book ≡ book }
     {
         Inside { world, book }
     }
 
-    /// The seat's caller begins a call, which the seat notes.
-    #[tactic(auto, using(crate::proofs::Moves::began_counts))]
+    /// The seat's caller begins a call, which the seat counts and notes.
+    #[tactic(auto, using(crate::proofs::Moves::one_more))]
     pub(crate) fn begin(&mut self, seat: &mut Seat<L>, command: Command) -> Result<(), WorldFault>
         ensures begins { OnOk result
             (SeatBegins command self.old.world self.new.world seat.old seat.new) }
@@ -45,7 +44,10 @@ impl<L: Ledger> Inside<L> {
         };
         match self.world.begin(seat.caller, command) {
             Ok(()) => {
+                // A list has fewer than 2^64 items, so that the count fits.
+                let _records = self.world.history().len();
                 note(&mut seat.commands, kept);
+                seat.count_record(&mut self.book);
                 Ok(())
             }
             Err(fault) => {
@@ -56,7 +58,7 @@ impl<L: Ledger> Inside<L> {
     }
 
     /// The seat's caller makes one move, which the seat counts, with its reply where the call is over.
-    #[tactic(auto, using(crate::proofs::Moves::moved_counts, crate::proofs::Moves::moves_bound))]
+    #[tactic(auto, using(crate::proofs::Moves::one_more, crate::proofs::Moves::moved_adds))]
     pub(crate) fn go(&mut self, seat: &mut Seat<L>, luck: Luck) -> Result<Went, WorldFault>
         ensures moves { IfOk result (λ went.
             SeatMoves luck went self.old.world self.new.world seat.old seat.new) }
@@ -67,11 +69,11 @@ impl<L: Ledger> Inside<L> {
             return Err(WorldFault::OutOfMemory);
         }
         let moved = self.world.move_one(seat.caller, luck)?;
-        // A list has fewer than 2^64 items, so that the count fits.
+        // A list has fewer than 2^64 items, so that the counts fit.
         let _records = self.world.history().len();
-        self.book.add(&mut seat.share, 1);
-        self.book.audit(&mut seat.share);
+        let went = note_reply(&mut seat.replies, moved);
+        seat.count_record(&mut self.book);
         seat.count += 1;
-        Ok(note_reply(&mut seat.replies, moved))
+        Ok(went)
     }
 }

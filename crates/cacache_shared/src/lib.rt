@@ -4,6 +4,7 @@
 mod agreeing;
 mod blank;
 mod closing;
+mod counting;
 mod inside;
 mod lines;
 mod listing;

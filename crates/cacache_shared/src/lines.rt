@@ -1,10 +1,38 @@
 //! What the records of a world say of a caller.
 ghost use Rattle.std.specs.Prelude.{◌≡◌, drop, option_copied};
-ghost use Rattle.cacache_shared.specs.Lines.{is_move_of, moves_of, command_in, reply_given};
+ghost use Rattle.cacache_shared.specs.Lines.{is_record_of, records_of, is_move_of, moves_of, command_in, reply_given};
 
 use cacache_history::Record;
 use cacache_table::{Command, Reply};
 use cacache_world::World;
+
+/// Whether a record is the caller's.
+fn is_record_of(line: &Record, caller: usize) -> bool
+    ensures { result ≡ is_record_of caller line.now }
+{
+    match line {
+        Record::Began(c, _) => *c == caller,
+        Record::Moved(c, _, _, _) => *c == caller,
+        Record::Stopped(c) => *c == caller,
+    }
+}
+
+/// How many of these records are the caller's.
+fn records_of(lines: &[Record], caller: usize) -> usize
+    ensures { result ≡ records_of caller lines.now }
+{
+    lines
+        .iter()
+        .filter(|line| is_record_of(line, caller))
+        .count()
+}
+
+/// How many records of a world are the caller's.
+pub(crate) fn records_in(world: &World, caller: usize) -> u64
+    ensures { result ≡ records_of caller world.now.records }
+{
+    records_of(world.history(), caller) as u64
+}
 
 /// Whether a record is a move of the caller.
 fn is_move_of(line: &Record, caller: usize) -> bool

@@ -1,12 +1,12 @@
 //! One caller of a shared world.
-ghost use Rattle.std.specs.Prelude.{◌≡◌, ◌<◌, ◌++◌, ◌∷◌, [], IfOk, OnOk, vec_len, vec_capacity};
+ghost use Rattle.std.specs.Prelude.{◌≡◌, ◌+◌, ◌<◌, ◌≤◌, ◌^◌, ◌++◌, ◌∷◌, [], IfOk, OnOk, vec_len, vec_capacity};
 ghost use Rattle.cacache_shared.specs.Seats.{replies_after, went_of};
 
 use cacache_table::{Command, Reply};
 use cacache_world::Move;
 use std::alloc::{AllocError, Global};
 use std::marker::Model;
-use std::sync::ledger::{Ledger, Share};
+use std::sync::ledger::{Book, Ledger, Share};
 
 /// What came of a move.
 #[derive(Clone, Copy, Debug, PartialEq, Eq)]
@@ -17,11 +17,12 @@ pub enum Went {
     Done,
 }
 
-/// One caller of a shared world. It can't be copied. Contracts see the caller, how many moves it made,
-/// what it began and what it was answered.
+/// One caller of a shared world. It can't be copied. Contracts see the caller, how many records and how
+/// many moves are its own, what it began and what it was answered.
 #[derive(Drop)]
 pub struct Seat<L: Ledger> {
     pub(crate) caller: usize,
+    pub(crate) records: u64,
     pub(crate) count: u64,
     pub(crate) commands: Vec<Command>,
     pub(crate) replies: Vec<Reply>,
@@ -29,7 +30,7 @@ pub struct Seat<L: Ledger> {
 }
 
 impl<L: Ledger> Model for Seat<L> {
-    ghost use Rattle.std.specs.Prelude.{◌≡◌};
+    ghost use Rattle.std.specs.Prelude.{◌≡◌, ◌≤◌};
     ghost use Rattle.std.specs.Coded.{codes};
     ghost use Rattle.cacache_table.specs.JsonCode.{data_code};
     ghost use Rattle.cacache_shared.specs.Seats.{Taken};
@@ -40,23 +41,39 @@ impl<L: Ledger> Model for Seat<L> {
 
     ghost view = { λ s. record {
       caller = s.caller;
+      records = s.records;
       count = s.count;
       commands = s.commands.items;
       replies = s.replies.items;
     } };
 
-    ghost invariant = { λ s. (s.share.parts ≡ 1) × (s.share.amount ≡ s.count) };
+    ghost invariant = { λ s.
+        (s.share.parts ≡ 1) × (s.share.amount ≡ s.records) × (s.count ≤ s.records) };
 }
 
 impl<L: Ledger> Seat<L> {
-    /// The seat of a caller that made so many moves.
-    pub(crate) fn new(alloc: Global, caller: usize, count: u64, share: Share<L>) -> Seat<L>
+    /// The seat of a caller that has so many records, of which so many are moves.
+    pub(crate) fn new(
+        alloc: Global,
+        caller: usize,
+        records: u64,
+        count: u64,
+        share: Share<L>,
+    ) -> Seat<L>
         requires parts { share.parts ≡ 1 }
-        requires amount { share.amount ≡ count }
-        ensures { result ≡ record { caller = caller; count = count; commands = []; replies = [] } }
+        requires amount { share.amount ≡ records }
+        requires moves { count ≤ records }
+        ensures { result ≡ record {
+          caller = caller;
+          records = records;
+          count = count;
+          commands = [];
+          replies = [];
+        } }
     {
         Seat {
             caller,
+            records,
             count,
             commands: Vec::new(alloc),
             replies: Vec::new(alloc),
@@ -69,6 +86,13 @@ impl<L: Ledger> Seat<L> {
         ensures { result ≡ self.now.caller }
     {
         self.caller
+    }
+
+    /// How many records of the world are the caller's: beginnings, moves and, from before the seat was made, stops.
+    pub fn records(&self) -> u64
+        ensures { result ≡ self.now.records }
+    {
+        self.records
     }
 
     /// How many moves the caller made, since the world was made.
@@ -92,12 +116,24 @@ impl<L: Ledger> Seat<L> {
         self.replies.as_slice()
     }
 
+    /// One record more is the caller's, which the book counts too.
+    pub(crate) fn count_record(&mut self, book: &mut Book<L>)
+        requires fits { book.old.total + 1 < 2 ^ 64 }
+        ensures total { book.new.total ≡ book.old.total + 1 }
+        ensures seat { self.new ≡ record self.old { records = self.old.records + 1 } }
+    {
+        book.audit(&mut self.share);
+        book.add(&mut self.share, 1);
+        self.records += 1;
+    }
+
     /// Its part of the ledger.
     pub(crate) fn into_share(self) -> Share<L>
-        ensures { (result.parts ≡ 1) × (result.amount ≡ self.count) }
+        ensures { (result.parts ≡ 1) × (result.amount ≡ self.records) }
     {
         let Seat {
             caller: _,
+            records: _,
             count: _,
             commands: _,
             replies: _,

@@ -5,8 +5,9 @@ ghost use Rattle.cacache_shared.specs.Seats.{SeatAgrees, SeatGoes, fresh_seats, 
 
 use crate::blank::Blank;
 use crate::closing::{all_agree, merge_seats};
+use crate::counting::count_all;
 use crate::inside::Inside;
-use crate::lines::moves_in;
+use crate::lines::{moves_in, records_in};
 use crate::seat::{Seat, Went};
 use cacache_core::keeping::let_go;
 use cacache_disk::Luck;
@@ -103,13 +104,15 @@ impl<L: Ledger> SharedWorld<L> {
     }
 
     /// The world again, where each seat is here and agrees with its caller's records: it counts the
-    /// caller's moves, and since it was made holds the commands and replies, JSON values by their texts.
+    /// caller's moves, and since it was made holds the commands and replies, JSON values by their texts. No
+    /// record is there but those that the seats count.
     ///
     /// # Errors
     ///
     /// The shared world and the seats as they were, where memory is refused, a seat is missing, or one
     /// doesn't agree.
     pub fn close(self, seats: Vec<Seat<L>>) -> Result<World, (SharedWorld<L>, Vec<Seat<L>>)>
+        ensures told { IfOk result (λ w. sum_by (λ s. s.records) seats.items ≡ length w.records) }
         ensures sum { IfOk result (λ w. sum_by (λ s. s.count) seats.items ≡ moves w.records) }
         ensures each { IfOk result (λ w. All (SeatAgrees self.from w.records) seats.items) }
         ensures same { IfErr result (λ r. (r.1.items ≡ seats.items) × (r.0.from ≡ self.from)) }
@@ -122,6 +125,7 @@ impl<L: Ledger> SharedWorld<L> {
         } = self;
         let inside = inside.into_inner();
         if seats.len() as u64 != callers.count
+            || !count_all(&inside.world, seats.as_slice())
             || !all_agree(alloc, &inside.world, from, seats.as_slice())
         {
             let shared = SharedWorld {
@@ -141,24 +145,27 @@ impl<L: Ledger> SharedWorld<L> {
     }
 }
 
-/// Makes a seat for each caller of a world, for which there is room, and the book that counts all moves.
-#[tactic(auto, using(crate::proofs::Callers::all_counted))]
+/// Makes a seat for each caller of a world, for which there is room, and the book that counts all records.
+#[tactic(auto, using(crate::proofs::Callers::all_counted, crate::proofs::Callers::moves_few))]
 fn make_seats<L: Ledger>(blank: Blank<L>, world: &World, seats: &mut Vec<Seat<L>>) -> Book<L>
     requires each { blank.blank.parts ≡ world.now.setup.callers }
     requires none { seats.old.items ≡ [] }
     requires room { world.now.setup.callers ≤ vec_capacity seats.old }
     ensures seats { seats.new.items ≡ fresh_seats world.now.records world.now.setup.callers }
-    ensures total { result.total ≡ moves world.now.records }
+    ensures total { result.total ≡ length world.now.records }
 {
     let alloc = world.allocator();
     let count = world.callers();
     world.stands();
     let (mut book, mut rest) = blank.open();
     for caller in 0..count {
+        let records = records_in(world, caller);
         let moves = moves_in(world, caller);
         let mut share = rest.split_off(1, 0);
-        book.add(&mut share, moves);
-        seats.push(Seat::new(alloc, caller, moves, share)).unwrap();
+        book.add(&mut share, records);
+        seats
+            .push(Seat::new(alloc, caller, records, moves, share))
+            .unwrap();
     }
     book
 }

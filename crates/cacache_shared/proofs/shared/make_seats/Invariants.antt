@@ -1,5 +1,5 @@
 use Rattle.std.proofs.Common.{◌≡◌, ◌+◌, ◌≤◌, vec_len, vec_capacity}
-use Rattle.cacache_shared.proofs.Callers.{moves_below}
+use Rattle.cacache_shared.proofs.Callers.{records_below}
 use Rattle.cacache_shared.specs.Seats.{fresh_seats}
 use Rattle.cacache_shared.proofs.shared.make_seats.Given as goal
 
@@ -10,5 +10,5 @@ invariant-loop-caller g l = record {
   seats : l.seats.items ≡ fresh_seats l.world.records l.caller;
   len : vec_len l.seats ≡ l.caller;
   room : l.count ≤ vec_capacity l.seats;
-  total : l.book.total ≡ moves_below l.world.records l.caller;
+  total : l.book.total ≡ records_below l.world.records l.caller;
 }
