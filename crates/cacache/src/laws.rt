@@ -1,16 +1,21 @@
 //! Laws that a caller's own proof may cite: functions without a body, whose contracts say what follows of the calls, of
 //! entries and of histories. Those named `after_..` are called behind a call on a store in memory, with what it was handed and
-//! what it answered: they say what it left. The words of their contracts are those of `specs/Laws`.
+//! what it answered: they say what it left. The words of their contracts are those of `specs/Laws`, and where they speak of
+//! worlds and losses of `specs/Histories`.
 pub use cacache_core::laws::{integrity_laws, path_laws, text_laws};
+pub use cacache_durable::durable_laws;
 pub use cacache_entry::{bucket_laws, entry_laws, lookup_laws};
-pub use cacache_history::history_laws;
+pub use cacache_history::{digest_laws, history_laws};
 pub use cacache_polled::laws::event_laws;
 pub use cacache_results::{
     after_clear, after_copy, after_exists, after_find, after_insert, after_link, after_link_hash,
-    after_list, after_read, after_read_hash, after_remove, after_remove_fully, after_remove_hash,
-    after_share, after_write, after_write_hash, joining_laws, writer_laws,
+    after_list, after_read, after_read_hash, after_read_left, after_remove, after_remove_fully,
+    after_remove_hash, after_share, after_write, after_write_hash, joining_laws, loss_results,
+    writer_laws,
 };
-pub use cacache_sequence::{cache_laws, handle_laws, look_laws, parts_laws, sequence_laws};
+pub use cacache_sequence::{
+    cache_laws, handle_laws, look_laws, parts_laws, sequence_laws, standing_laws,
+};
 pub use cacache_table::{
     effect_laws, licence_laws, promise_laws, reply_laws, row_laws, run_laws, sound_laws,
 };

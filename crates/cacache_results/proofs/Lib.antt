@@ -7,3 +7,4 @@ pub mod LinkResults
 pub mod WriterResults
 pub mod JoinedResults
 pub mod ListResults
+pub mod LossResults

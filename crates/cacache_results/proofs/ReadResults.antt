@@ -32,7 +32,7 @@ use Rattle.cacache_results.proofs.Told.{called, excused, looks_leave, of_memory,
 
 -- ---- reads
 
-given : (r : Result (Vec ℕ Global) Error) (Stays : Type 0) (bytes : List ℕ) (old new : List LogItem) → GivesBytes Stays bytes (reply_of bytes_read r) old new → GivesJust bytes r old new
+pub given : (r : Result (Vec ℕ Global) Error) (Stays : Type 0) (bytes : List ℕ) (old new : List LogItem) → GivesBytes Stays bytes (reply_of bytes_read r) old new → GivesJust bytes r old new
 given (Ok v) Stays bytes old new h = h.0
 given (Err e) Stays bytes old new h = excused e old new h
 

@@ -6,3 +6,4 @@ pub mod Links
 pub mod Handles
 pub mod Joins
 pub mod Lists
+pub mod Losses

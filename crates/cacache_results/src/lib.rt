@@ -8,6 +8,7 @@ mod handles;
 mod joins;
 mod listing;
 mod looks;
+mod losses;
 mod outside;
 
 pub use changes::{
@@ -18,4 +19,5 @@ pub use handles::writer_laws;
 pub use joins::joining_laws;
 pub use listing::after_list;
 pub use looks::{after_exists, after_find, after_read, after_read_hash};
+pub use losses::{after_read_left, loss_results};
 pub use outside::{after_copy, after_link, after_link_hash, after_share};

@@ -1,16 +1,8 @@
 -- What a user says of many callers follows from the laws of places.
 use Rattle.std.proofs.Common.{◌≡◌, ◌⊎◌, inl, inr, ◌<◌, ◌≤◌, ℕ, suc, List, [], ◌∷◌, Option, None, Some, slice_get, refl, sym, ap, subst, ◌∙◌, arith}
-use Rattle.cacache_core.specs.Integrity.{Meets}
-use Rattle.cacache_entry.specs.Latest.{Found}
-use Rattle.cacache_table.specs.declared.command.Put.{Put}
-use Rattle.cacache_history.specs.declared.record.Record.TheVariants.{Moved}
-use Rattle.cacache_history.specs.Commits.{IsCase}
-use Rattle.cacache_history.specs.Headline.{Headline}
-use Rattle.cacache_history.specs.History.{History, Call}
-use Rattle.cacache_history.specs.Lookups.{FoundOfPuts, SparesKey, found_of_put}
-use Rattle.cacache_history.specs.Places.{MoveAt, now_before}
-use Rattle.cacache_history.specs.Setup.{call_site}
-use Rattle.cacache_history.specs.Values.{MetDigestsAreSame}
+use Rattle.cacache.specs.Entries.{Found}
+use Rattle.cacache.specs.Histories.{Call, FoundOfPuts, Headline, History, IsCase, MetDigestsAreSame, MoveAt, Moved, Put, SparesKey, call_site, found_of_put, now_before}
+use Rattle.cacache.specs.Integrities.{Meets}
 use Rattle.uses_worlds.specs.Callers.{CrashesAreSafe, OneOfTwo, PutThenGet, ReadersNeverLie}
 
 -- ---- puts

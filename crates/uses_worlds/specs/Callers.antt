@@ -1,19 +1,10 @@
 -- What a user says of many callers.
 use Rattle.std.specs.Prelude.{◌≡◌, ◌⊎◌, ◌≤◌, ℕ, suc, List, [], ◌∷◌, Option, None, Some}
-use Rattle.cacache_core.specs.declared.integrity.digest.Hash.{Hash}
-use Rattle.cacache_core.specs.Digests.{digest}
-use Rattle.cacache_core.specs.Integrity.{Meets}
-use Rattle.cacache_entry.specs.Latest.{Found}
-use Rattle.cacache_table.specs.declared.command.Command.TheVariants as commands
-use Rattle.cacache_table.specs.declared.command.Put.{Put}
-use Rattle.cacache_table.specs.declared.reply.Reply.{Reply}
-use Rattle.cacache_table.specs.declared.reply.Reply.TheVariants.{Stored, Read, LookedUp}
-use Rattle.cacache_table.specs.Storing.{put_commit}
-use Rattle.cacache_value.specs.Acts.{PutBytes}
-use Rattle.cacache_history.specs.Commits.{CommitsAs, deeds}
-use Rattle.cacache_history.specs.History.{History, Call, Reaches}
-use Rattle.cacache_history.specs.Lookups.{SparesKey, IsOneOfPuts, WasWritten, found_of_put, lookup_at}
-use Rattle.cacache_history.specs.Places.{CallIn, MoveAt, MovesAre, now_before}
+use Rattle.cacache.specs.Calls.{LookedUp, Read, Reply, Stored}
+use Rattle.cacache.specs.Calls as commands
+use Rattle.cacache.specs.Entries.{Found}
+use Rattle.cacache.specs.Histories.{Call, CallIn, CommitsAs, History, IsOneOfPuts, MoveAt, MovesAre, Put, PutBytes, Reaches, SparesKey, WasWritten, deeds, digest, found_of_put, lookup_at, now_before, put_commit}
+use Rattle.cacache.specs.Integrities.{Hash, Meets}
 
 -- a put is answered, and since it began each other call spares its key; then a read of the key
 -- begins, and is answered bytes: they have the digest of what was put

@@ -1,8 +1,11 @@
 //! What a caller of worlds can prove of many callers at one cache, with the clauses of a world and of a few laws alone.
 //!
+//! - [`survives`] says what is read after a loss of power.
 //! - [`put_then_get`], [`one_of_two`], [`crash_safe`] and [`readers_never_lie`] say what many callers see of one cache, of each world.
 #![tactic(auto)]
 
+mod losing;
 mod worlds;
 
+pub use losing::survives;
 pub use worlds::{crash_safe, one_of_two, put_then_get, readers_never_lie};

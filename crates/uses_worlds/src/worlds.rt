@@ -1,8 +1,8 @@
 //! What many callers see of one cache, in words of their user. Nothing is done: a world has these facts.
 ghost use Rattle.uses_worlds.specs.Callers.{CrashesAreSafe, OneOfTwo, PutThenGet, ReadersNeverLie};
 
-use cacache_history::digest_laws;
-use cacache_world::World;
+use cacache::laws::digest_laws;
+use cacache::world::World;
 
 /// A put was answered; since it began, every other call spared its key. Then a read of the key began: the bytes that it
 /// was answered have the digest of those that were put.

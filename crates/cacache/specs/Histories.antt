@@ -1,0 +1,25 @@
+-- The words of histories, for the crates above: what many callers did in a world, what a lookup found at each place, and
+-- what a loss of power left.
+pub use Rattle.cacache_core.specs.Digests.{digest}
+pub use Rattle.cacache_core.specs.PathNames.{Names}
+pub use Rattle.cacache_disk.specs.Tree.{Tree}
+pub use Rattle.cacache_entry.specs.Latest.{NoneAnswers}
+pub use Rattle.cacache_table.specs.declared.command.Command.{Command}
+pub use Rattle.cacache_table.specs.declared.command.Put.{Put}
+pub use Rattle.cacache_table.specs.Storing.{put_commit}
+pub use Rattle.cacache_value.specs.Acts.{PutBytes}
+pub use Rattle.cacache_loss.specs.declared.loss.Loss.{Loss}
+pub use Rattle.cacache_loss.specs.Chosen.{chosen}
+pub use Rattle.cacache_history.specs.declared.record.Record.TheVariants.{Began, Moved, Stopped}
+pub use Rattle.cacache_history.specs.Commits.{CommitsAs, IsCase, deeds}
+pub use Rattle.cacache_history.specs.Headline.{Headline}
+pub use Rattle.cacache_history.specs.History.{History, Call, Reaches}
+pub use Rattle.cacache_history.specs.Lookups.{FoundOfPuts, IsOneOfPuts, SparesKey, WasWritten, found_of_put, lookup_at}
+pub use Rattle.cacache_history.specs.Places.{CallIn, MoveAt, MovesAre, now_before}
+pub use Rattle.cacache_history.specs.Setup.{call_site, home}
+pub use Rattle.cacache_history.specs.Values.{MetDigestsAreSame}
+pub use Rattle.cacache_durable.specs.FewCalls.{FewCalls}
+pub use Rattle.cacache_durable.specs.Outlasting.{DurableInsert, DurablePut, Outlives}
+pub use Rattle.cacache_world.specs.Losses.{LeftBy}
+pub use Rattle.cacache_sequence.specs.Standing.{IsStanding}
+pub use Rattle.cacache_results.specs.Losses.{IsLeft, LeadsToDigest, LeftRead, LeftReadMeans, LossesLeavePuts, LossesLeaveStanding, PutIsLeft, StandsBefore}

@@ -1,0 +1,110 @@
+-- What a loss of power left of durable puts, and what a read of it gives.
+use Rattle.std.proofs.Common.{◌≡◌, ℕ, List, [], ◌∷◌, ◌++◌, Option, None, Some, Vec, Global, Result, Contains, arith, refl, sym, ap, subst, ◌∙◌}
+use Rattle.sha1.specs.Sha1.{sha1}
+use Rattle.cacache_core.specs.declared.errors.Error.{Error}
+use Rattle.cacache_core.specs.declared.integrity.digest.Hash.{Hash}
+use Rattle.cacache_core.specs.Digests.{digest}
+use Rattle.cacache_core.specs.Integrity.{Meets, hash_of, integrity_under}
+use Rattle.cacache_core.specs.PathNames.{Names, home_of}
+use Rattle.cacache_core.specs.Texts.{integrity_text}
+use Rattle.cacache_core.proofs.Printed.{printed}
+use Rattle.cacache_store.specs.declared.env.Env.{Env}
+use Rattle.cacache_store.specs.declared.store.log.LogItem.{LogItem}
+use Rattle.cacache_disk.specs.Rooted.{Rooted}
+use Rattle.cacache_disk.specs.Tree.{Tree}
+use Rattle.cacache_memory.specs.Replay.{IsLog, tree_of}
+use Rattle.cacache_entry.specs.Entry.{Entry}
+use Rattle.cacache_entry.specs.Latest.{Found, NoneAnswers, answer_to, latest}
+use Rattle.cacache_entry.proofs.Lookups.{last_answer_decides}
+use Rattle.cacache_table.specs.declared.command.Command.TheVariants as commands
+use Rattle.cacache_table.specs.declared.command.Put.{Put}
+use Rattle.cacache_table.specs.Inserting.{given_or}
+use Rattle.cacache_table.specs.Runs.{reply_of}
+use Rattle.cacache_value.specs.Acts.{list_of}
+use Rattle.cacache_value.specs.Placed.{Placed}
+use Rattle.cacache_value.specs.Value.{Value, value_of_tree}
+use Rattle.cacache_loss.specs.Loss.{Loss, Lost}
+use Rattle.cacache_loss.specs.LostValues.{HoldsContent}
+use Rattle.cacache_history.specs.AddedEntries.{address_of_put}
+use Rattle.cacache_history.specs.History.{History}
+use Rattle.cacache_history.specs.Lookups.{found_of_put}
+use Rattle.cacache_history.specs.Setup.{home}
+use Rattle.cacache_history.proofs.Digests.{own_integrity}
+use Rattle.cacache_history.proofs.PlacedAnswers.{answers_so}
+use Rattle.cacache_durable.specs.FewCalls.{FewCalls}
+use Rattle.cacache_durable.specs.Outlasting.{DurablePut, EntryOutlasts, KeyOutlasts, Outlives, moment_at}
+use Rattle.cacache_reads.specs.Reads.{bytes_read}
+use Rattle.cacache_sequence.specs.Caches.{HasContent, HasKey}
+use Rattle.cacache_sequence.specs.Standing.{IsStanding}
+use Rattle.cacache_sequence.proofs.Looks.{tree_stays}
+use Rattle.cacache_sequence.proofs.Standing.{standing_reads}
+use Rattle.cacache_results.specs.Losses.{IsLeft, LeadsToDigest, LeftReadMeans, LossesLeavePuts, LossesLeaveStanding, PutIsLeft, entry_written}
+use Rattle.cacache_results.proofs.ReadResults.{given}
+use Rattle.cacache_results.proofs.Told.{called}
+
+pub losses_leave_standing : LossesLeaveStanding
+losses_leave_standing h loss log outlives left =
+    let cache = outlives.caches loss in
+    let same : cache.one.tree ≡ tree_of log = sym (cache.one.only (tree_of log) left) in
+    record { placed = subst (Placed (home h.setup)) same cache.placed; rooted = subst Rooted same cache.rooted }
+
+-- ---- durable puts
+
+-- where no integrity was expected, the put's entry answers to its key
+put_answers : (cache key : List ℕ) (p : Put) → p.options.integrity ≡ None → answer_to key (entry_written cache key p) ≡ Some (Some (found_of_put cache key p))
+put_answers cache key p none =
+    let own = integrity_under p.options.algorithm p.data in
+    answers_so key (integrity_text own) (entry_written cache key p) own refl (ap (λ o. Some (integrity_text (given_or own o))) none)
+    (printed own (own_integrity p.options.algorithm p.data))
+
+-- bytes that have the digest of the put's meet its integrity
+met_by : (p : Put) (bytes : List ℕ) → digest p.options.algorithm bytes ≡ digest p.options.algorithm p.data → Meets (integrity_under p.options.algorithm p.data) bytes
+met_by p bytes same =
+    let own = hash_of p.options.algorithm (digest p.options.algorithm p.data) in
+    let is : own ≡ hash_of p.options.algorithm (digest p.options.algorithm bytes) = ap (hash_of p.options.algorithm) (sym same) in
+    subst (Contains (own ∷ [])) is (0, omega arith, refl)
+
+-- the content at the put's address is what the key leads to
+leads : (cache key : List ℕ) (p : Put) (folder : Names) (t : Tree) (before more : List Entry) → home_of cache ≡ Some folder → p.options.integrity ≡ None
+    → HoldsContent (address_of_put p) (value_of_tree (Some folder) t)
+    → list_of ((value_of_tree (home_of cache) t).buckets (sha1 key)) ≡ before ++ entry_written cache key p ∷ more → NoneAnswers key more
+    → (log : List LogItem) → tree_of log ≡ t → LeadsToDigest cache key p log
+leads cache key p folder t before more here none content bucket last log is =
+    let same : digest p.options.algorithm content.0 ≡ digest p.options.algorithm p.data = ap (λ (x : Hash). x.digest) (sym content.2) in
+    record {
+      bytes = content.0;
+      same = same;
+      held = record {
+        found = found_of_put cache key p;
+        finds = ap (λ (x : Tree). latest key (list_of ((value_of_tree (home_of cache) x).buckets (sha1 key)))) is ∙ ap (latest key) bucket ∙ last_answer_decides key before more (entry_written cache key p) (Some (found_of_put cache key p)) (put_answers cache key p none) last;
+        integrity = refl;
+        content = record {
+          content = ap (λ (x : Tree). (value_of_tree (home_of cache) x).contents (address_of_put p)) is ∙ ap (λ (o : Option Names). (value_of_tree o t).contents (address_of_put p)) here ∙ content.1;
+          formed = own_integrity p.options.algorithm p.data;
+          meets = met_by p content.0 same;
+        };
+      };
+    }
+
+pub losses_leave_puts : LossesLeavePuts
+losses_leave_puts h loss folder key p t outlives few left here put keyed none =
+    let v = value_of_tree (Some folder) t in
+    let now = moment_at h h.records in
+    let both = outlives.puts few folder p loss t here put (subst (λ (o : Option Names). Lost o now.tree now.fixed loss t) here left) in
+    let entry : EntryOutlasts h put.before put.rest put.call.caller key (entry_written h.setup.cache key p) v
+    = subst (λ (k : Option (List ℕ)). KeyOutlasts h put.before put.rest put.call.caller p k v) keyed both.1 in
+    let bucket = ap (λ (o : Option Names). list_of ((value_of_tree o t).buckets (sha1 key))) here ∙ ap list_of entry.outlasts.bucket in (
+      entry.outlasts.more,
+      record { before = _; bucket = bucket },
+      λ last. leads h.setup.cache key p folder t _ entry.outlasts.more here none both.0 bucket last,
+    )
+
+-- ---- reads
+
+pub left_read_means : {C N : Type 0} (cache key : List ℕ) (r : Result (Vec ℕ Global) Error) (new : Env (List LogItem) C N) → IsLog new.store → LeftReadMeans cache key r new
+left_read_means cache key r new logged old standing ran =
+    let c = called bytes_read (λ b. refl) r cache old.base 0 (commands.Get key) old.store new.store ran.0.0 logged in
+    record {
+      same = tree_stays cache (commands.Get key) (reply_of bytes_read r) old.store new.store tt c;
+      gives = λ i bytes has. given r (HasKey cache key i bytes new.store) bytes old.store new.store (standing_reads cache key bytes i (reply_of bytes_read r) old.store new.store standing has c);
+    }

@@ -1,0 +1,93 @@
+-- What a store in memory holds that began with what a loss of power left, and what a read of it gives.
+use Rattle.std.specs.Prelude.{◌≡◌, ℕ, List, ◌∷◌, ◌++◌, None, Some, Vec, Result}
+use Rattle.std.specs.Global.{Global}
+use Rattle.cacache_core.specs.declared.errors.Error.{Error}
+use Rattle.cacache_core.specs.declared.integrity.digest.Hash.{Hash}
+use Rattle.cacache_core.specs.Digests.{digest}
+use Rattle.cacache_core.specs.Integrity.{integrity_under}
+use Rattle.cacache_core.specs.PathNames.{Names, home_of}
+use Rattle.cacache_store.specs.declared.env.Env.{Env}
+use Rattle.cacache_store.specs.declared.store.log.LogItem.{LogItem}
+use Rattle.cacache_disk.specs.Tree.{Tree}
+use Rattle.cacache_memory.specs.Replay.{tree_of}
+use Rattle.cacache_entry.specs.Entry.{Entry}
+use Rattle.cacache_entry.specs.Latest.{NoneAnswers}
+use Rattle.cacache_table.specs.declared.command.Command.TheVariants as commands
+use Rattle.cacache_table.specs.declared.command.Put.{Put}
+use Rattle.cacache_table.specs.Runs.{reply_of}
+use Rattle.cacache_table.specs.Storing.{insertion_of, put_commit}
+use Rattle.cacache_loss.specs.Loss.{Loss, Lost}
+use Rattle.cacache_history.specs.History.{History}
+use Rattle.cacache_history.specs.Setup.{home}
+use Rattle.cacache_durable.specs.FewCalls.{FewCalls}
+use Rattle.cacache_durable.specs.Outlasting.{DurablePut, Outlives, moment_at}
+use Rattle.cacache_jobs.specs.Environment.{Calls}
+use Rattle.cacache_reads.specs.Reads.{bytes_read}
+use Rattle.cacache_sequence.specs.Caches.{HasKey}
+use Rattle.cacache_sequence.specs.ReadAnswers.{entries_on}
+use Rattle.cacache_sequence.specs.Standing.{IsStanding}
+use Rattle.cacache_results.specs.Reads.{GivesJust}
+
+-- ---- what is left
+
+-- a tree is what this loss leaves where the history ends
+abbrev pub IsLeft : History → Loss → Tree → Type 0
+IsLeft h loss t =
+    Lost (home h.setup) (moment_at h h.records).tree (moment_at h h.records).fixed loss t
+
+-- the entry that a put writes under the key
+abbrev pub entry_written : List ℕ → List ℕ → Put → Entry
+entry_written cache key p = (insertion_of (put_commit cache p) key).entry
+
+-- the put's entry stands in the bucket of the key, and these behind it
+pub record StandsBefore (cache key : List ℕ) (p : Put) (more : List Entry) (t : Tree)
+    : Type 0 where
+  pub before : List Entry
+  pub bucket : entries_on (home_of cache) t key ≡ before ++ entry_written cache key p ∷ more
+
+-- the key leads to bytes that have the digest of the put's
+pub record LeadsToDigest (cache key : List ℕ) (p : Put) (log : List LogItem) : Type 0 where
+  pub bytes : List ℕ
+  pub same : digest p.options.algorithm bytes ≡ digest p.options.algorithm p.data
+  pub held : HasKey cache key (integrity_under p.options.algorithm p.data) bytes log
+
+-- the put's entry stands there; where none behind it answers to the key, the key leads to its bytes
+-- in each store with this tree
+abbrev pub PutIsLeft : List ℕ → List ℕ → Put → Tree → Type 0
+PutIsLeft cache key p t =
+    (more : List Entry) × StandsBefore cache key p more t
+    × (NoneAnswers key more → (log : List LogItem) → tree_of log ≡ t → LeadsToDigest cache key p log)
+
+-- ---- reads
+
+-- a read by key gives what the key leads to, and leaves everything
+pub record LeftRead (cache key : List ℕ) (r : Result (Vec ℕ Global) Error) (old new : List LogItem)
+    : Type 0 where
+  pub same : tree_of new ≡ tree_of old
+  pub gives : (i : List Hash) (bytes : List ℕ) → HasKey cache key i bytes old
+      → GivesJust bytes r old new
+
+-- ---- laws
+
+-- in what a loss leaves everything stands where it may
+abbrev pub LossesLeaveStanding : Type 0
+LossesLeaveStanding =
+    (h : History) (loss : Loss) (log : List LogItem) → Outlives h → IsLeft h loss (tree_of log)
+    → IsStanding h.setup.cache log
+
+-- what a durable put stored that answered is left, of which no integrity was expected
+abbrev pub LossesLeavePuts : Type 0
+LossesLeavePuts =
+    (h : History) (loss : Loss) (folder : Names) (key : List ℕ) (p : Put) (t : Tree)
+    → Outlives h → FewCalls h → IsLeft h loss t → home h.setup ≡ Some folder
+    → DurablePut h folder p → p.key ≡ Some key → p.options.integrity ≡ None
+    → PutIsLeft h.setup.cache key p t
+
+module _ {C N : Type 0} where
+  -- a read by key of a store that stands, of this result, is one
+  abbrev pub LeftReadMeans :
+      List ℕ → List ℕ → Result (Vec ℕ Global) Error → Env (List LogItem) C N → Type 0
+  LeftReadMeans cache key r new =
+      (old : Env (List LogItem) C N) → IsStanding cache old.store
+      → Calls (λ log. Some log) old new cache (commands.Get key) (reply_of bytes_read r)
+      → LeftRead cache key r old.store new.store

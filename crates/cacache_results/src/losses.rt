@@ -1,0 +1,27 @@
+//! Behind a loss of power: a store in memory that began with what it left.
+ghost use Rattle.cacache_results.specs.Losses.{LeftReadMeans, LossesLeavePuts, LossesLeaveStanding};
+
+use cacache_core::errors::Result;
+use cacache_memory::MemStore;
+use cacache_store::env::{Clock, Env, Names};
+
+/// What a loss of power left of a history: everything stands where it may, and what a durable put stored that answered is
+/// left. Its entry stands in its bucket; where none behind it answers to the key, the key leads to bytes with the digest
+/// of the put's.
+pub fn loss_results()
+    ensures stands { LossesLeaveStanding }
+    ensures puts { LossesLeavePuts }
+{}
+
+/// Behind `read_sync` of a store of which no more is known than that everything stands where it may, as after a loss: the
+/// bytes that the key leads to were read, unless the error is excused. The tree stays.
+pub fn after_read_left<C: Clock, N: Names>(
+    env: &Env<MemStore, C, N>,
+    cache: &str,
+    key: &str,
+    read: &Result<Vec<u8>>,
+)
+    ensures { LeftReadMeans cache.now key.now read.now env.now }
+{
+    let _log = env.store.log();
+}

@@ -1,0 +1,28 @@
+-- What a user says of a loss of power follows from the laws of what it leaves.
+use Rattle.std.proofs.Common.{◌≡◌, inl, inr, ℕ, List, None, Some, Vec, Global, Result, Ok, Err, refl, sym, ap, subst, ◌∙◌}
+use Rattle.cacache.specs.Calls.{Error}
+use Rattle.cacache.specs.Entries.{Entry}
+use Rattle.cacache.specs.Histories.{FewCalls, History, IsStanding, LeadsToDigest, LeftBy, LeftRead, Loss, LossesLeavePuts, LossesLeaveStanding, NoneAnswers, Outlives, Put, Tree, chosen, digest}
+use Rattle.cacache.specs.Laws.{GivesJust, IsExcused, OutOfMemory, tree_of}
+use Rattle.cacache.specs.Stores.{LogItem}
+use Rattle.uses_worlds.specs.Losses.{GivesPut, Survives}
+
+-- where memory is refused before the read
+pub refused : (h : History) (loss : Loss) (key : List ℕ) → Outlives h → FewCalls h → LossesLeavePuts → Survives h loss key (Err OutOfMemory)
+refused h loss key outlives few puts folder p here put keyed none =
+    let lost = chosen loss.undone.items loss.tails.items in
+    let one = (outlives.caches lost).one in
+    let left = puts h lost folder key p one.tree outlives few one.left here put keyed none in
+    (one.tree, one.left, left.0, left.1, λ last. inl refl)
+
+-- the put's bytes are read
+gives : (cache key : List ℕ) (p : Put) (r : Result (Vec ℕ Global) Error) (old new : List LogItem) → LeadsToDigest cache key p old → LeftRead cache key r old new → GivesPut p r (tree_of old)
+gives cache key p (Ok v) old new leads read = ap (digest p.options.algorithm) (read.gives _ leads.bytes leads.held) ∙ leads.same
+gives cache key p (Err e) old new leads read = inr (old, new, refl, read.gives _ leads.bytes leads.held)
+
+pub survives_here : (h : History) (loss : Loss) (key : List ℕ) (r : Result (Vec ℕ Global) Error) (old new : List LogItem) → Outlives h → FewCalls h → LossesLeavePuts → LossesLeaveStanding
+    → LeftBy h loss (tree_of old) → (IsStanding h.setup.cache old → LeftRead h.setup.cache key r old new) → Survives h loss key r
+survives_here h loss key r old new outlives few puts stands lost read folder p here put keyed none =
+    let chosen_loss = chosen loss.undone.items loss.tails.items in
+    let left = puts h chosen_loss folder key p (tree_of old) outlives few lost here put keyed none in
+    (tree_of old, lost, left.0, left.1, λ last. gives h.setup.cache key p r old new (left.2 last old refl) (read (stands h chosen_loss old outlives lost)))

@@ -1,0 +1,29 @@
+-- What a user says of a loss of power.
+use Rattle.std.specs.Prelude.{◌≡◌, ◌⊎◌, ℕ, List, None, Some, Vec, Result, MatchResult}
+use Rattle.std.specs.Global.{Global}
+use Rattle.cacache.specs.Calls.{Error}
+use Rattle.cacache.specs.Entries.{Entry}
+use Rattle.cacache.specs.Histories.{DurablePut, History, LeftBy, Loss, Names, NoneAnswers, Put, StandsBefore, Tree, digest, home}
+use Rattle.cacache.specs.Laws.{IsExcused, OutOfMemory, tree_of}
+use Rattle.cacache.specs.Stores.{LogItem}
+
+-- memory was refused, or a step failed on a store with this tree that excuses the error
+abbrev pub FailsOn : Tree → Error → Type 0
+FailsOn t e =
+    (e ≡ OutOfMemory)
+    ⊎ ((old new : List LogItem) × (tree_of old ≡ t) × IsExcused e old new)
+
+-- bytes with the digest of the put's, or an error that is excused
+abbrev pub GivesPut : Put → Result (Vec ℕ Global) Error → Tree → Type 0
+GivesPut p r t =
+    MatchResult r (λ v. digest p.options.algorithm v.items ≡ digest p.options.algorithm p.data)
+    (FailsOn t)
+
+-- what a durable put stored that answered is read after a loss of power, where in what is left no
+-- entry behind its own answers to its key
+abbrev pub Survives : History → Loss → List ℕ → Result (Vec ℕ Global) Error → Type 0
+Survives h loss key r =
+    (folder : Names) (p : Put) → home h.setup ≡ Some folder → DurablePut h folder p
+    → p.key ≡ Some key → p.options.integrity ≡ None
+    → (left : Tree) × LeftBy h loss left × (more : List Entry)
+    × StandsBefore h.setup.cache key p more left × (NoneAnswers key more → GivesPut p r left)

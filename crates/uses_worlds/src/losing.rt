@@ -1,0 +1,57 @@
+//! What is read after a loss of power, in words of a user.
+ghost use Rattle.std.specs.Prelude.{◌≡◌, IfOk, IfErr};
+ghost use Rattle.cacache.specs.Histories.{IsStanding, LeftBy, LeftRead};
+ghost use Rattle.cacache.specs.Laws.{OutOfMemory, tree_of};
+ghost use Rattle.uses_worlds.specs.Losses.{Survives};
+
+use cacache::env::{Clock, Env, Names};
+use cacache::laws::{after_read_left, loss_results};
+use cacache::store::MemStore;
+use cacache::world::{Loss, World};
+use cacache::{Error, Result, read_sync};
+
+/// A store that begins with what is left of a world's disk where the power goes now.
+fn left_store(world: &World, loss: &Loss) -> Result<MemStore>
+    ensures tree { IfOk result (λ store. LeftBy world.now loss.now (tree_of store)) }
+    ensures memory { IfErr result (λ e. e ≡ OutOfMemory) }
+{
+    match world.lose(loss) {
+        Ok(disk) => MemStore::of(world.allocator(), &disk),
+        Err(_) => Err(Error::OutOfMemory),
+    }
+}
+
+/// Reads the key from a store of which no more is known than that everything stands where it may.
+fn read_left<C: Clock, N: Names>(
+    env: &mut Env<MemStore, C, N>,
+    cache: &str,
+    key: &str,
+) -> Result<Vec<u8>>
+    ensures { IsStanding cache.now env.old.store
+        → LeftRead cache.now key.now result env.old.store env.new.store }
+{
+    let read = read_sync(env, cache, key);
+    after_read_left(env, cache, key, &read);
+    read
+}
+
+/// The power goes in a world, and the key is read from what is left of its disk.
+pub fn survives<C: Clock, N: Names>(
+    world: &World,
+    loss: &Loss,
+    key: &str,
+    clock: C,
+    names: N,
+) -> Result<Vec<u8>>
+    ensures { Survives world.now loss.now key.now result }
+{
+    world.stands();
+    loss_results();
+    let Ok(store) = left_store(world, loss) else {
+        return Err(Error::OutOfMemory);
+    };
+    let Ok(mut env) = Env::new(world.allocator(), store, clock, names, "/") else {
+        return Err(Error::OutOfMemory);
+    };
+    read_left(&mut env, world.cache(), key)
+}
