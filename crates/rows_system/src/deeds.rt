@@ -27,7 +27,8 @@ fn asked_at(
 }
 
 impl World {
-    /// Keeps what was written to the file at a path, under each of its names.
+    /// Keeps what was written to the file at a path, under each of its names. A new link counts as a file, so that two names of
+    /// one link are known.
     fn wrote(&mut self, path: &str) -> Result<(), Bad> {
         let bytes = self.bytes_at(path)?;
         match self.inodes.number_of(path) {
@@ -46,7 +47,7 @@ impl World {
     fn keep_names(&mut self, act: Act, one: &str, two: &str) -> Result<(), Bad> {
         match act {
             Act::Append | Act::CreateTemp => self.wrote(one),
-            Act::Copy => self.wrote(two),
+            Act::Copy | Act::Symlink => self.wrote(two),
             Act::RemoveFile => {
                 self.inodes.forget(one);
                 Ok(())

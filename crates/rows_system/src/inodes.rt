@@ -1,9 +1,9 @@
-//! Which names share one file, and what each file holds, also where it has no name any more.
+//! Which names share one file or link, and what each file holds, also where it has no name any more.
 use cacache_core::bytes::Bytes;
 use cacache_core::keeping::set;
 use std::alloc::{AllocError, Global};
 
-/// A file: its bytes, and its names, which are paths without links.
+/// A file, or a link, which has no bytes: its bytes, and its names, which are paths without links.
 #[derive(Drop)]
 struct Inode {
     bytes: Bytes,
@@ -22,7 +22,7 @@ impl Inode {
     }
 }
 
-/// All files, by number.
+/// All files and links, by number.
 #[derive(Drop)]
 pub(crate) struct Inodes {
     alloc: Global,

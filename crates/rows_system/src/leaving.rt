@@ -92,6 +92,7 @@ impl World {
             Err(_) => return Err(Bad::Flaw(Flaw::NoMemory)),
         };
         let bytes = self.bytes_at(from)?;
+        let number = self.inodes.number_of(from);
         match what {
             What::Link(target) => {
                 self.remove(to)?;
@@ -99,10 +100,9 @@ impl World {
                 let target = Text::new(target);
                 let step = Step::Symlink(target, Text::from_str(self.alloc, to)?);
                 let_go(applied(self.alloc, &mut self.disk, step)?);
-                Ok(())
+                self.rename(number, to)
             }
             What::File => {
-                let number = self.inodes.number_of(from);
                 self.remove(to)?;
                 self.remove(from)?;
                 let_go(self.disk.plant(to, &bytes)?);
@@ -115,7 +115,7 @@ impl World {
         }
     }
 
-    /// Gives a file a name.
+    /// Gives a file or link a name.
     fn rename(&mut self, number: Option<usize>, to: &str) -> Result<(), Bad> {
         if let Some(number) = number {
             self.inodes.name(number, to)?;

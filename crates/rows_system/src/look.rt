@@ -1,5 +1,5 @@
 //! Where a path leads on Linux, name by name, over all that stands on the disk.
-use crate::odds::Odds;
+use crate::odds::{MOST_ON_DISK, Odds};
 use cacache_core::keeping::set;
 use cacache_core::paths::join;
 use cacache_disk::{Disk, Node, Path};
@@ -201,6 +201,7 @@ impl<'a> Look<'a> {
             return Err(Halt::Fails(ErrorKind::FilesystemLoop));
         }
         self.odds.links = self.odds.links.saturating_add(1);
+        self.odds.many |= self.odds.links > MOST_ON_DISK;
         if names.is_empty() {
             self.odds.last = true;
         } else {
@@ -290,8 +291,9 @@ impl<'a> Look<'a> {
         Ok(false)
     }
 
-    /// Where a path leads.
+    /// Where a path leads. Each path has a count of links of its own.
     pub(crate) fn walk(&mut self, text: &str, follow: Follow) -> Result<End, Halt> {
+        self.odds.links = 0;
         let mut names: Vec<String> = Vec::new(self.alloc);
         self.push(&mut names, text)?;
         let mut end = End {

@@ -62,7 +62,7 @@ impl Odd {
 }
 
 /// The most links that the disk follows.
-const MOST_ON_DISK: u8 = 16;
+pub(crate) const MOST_ON_DISK: u8 = 16;
 
 /// What of a step's paths may make for a difference.
 #[derive(Clone, Copy)]
@@ -79,8 +79,10 @@ pub(crate) struct Odds {
     pub(crate) relative: bool,
     /// A link as the last name, which was followed.
     pub(crate) last: bool,
-    /// How many links were followed.
+    /// How many links were followed on one path, the last that was looked at.
     pub(crate) links: u8,
+    /// More links on one path than the disk follows.
+    pub(crate) many: bool,
     /// What the step has of its own.
     pub(crate) own: Option<Odd>,
 }
@@ -95,6 +97,7 @@ impl Odds {
         relative: false,
         last: false,
         links: 0,
+        many: false,
         own: None,
     };
 
@@ -113,7 +116,7 @@ impl Odds {
             Some(Odd::Way)
         } else if self.relative {
             Some(Odd::Relative)
-        } else if self.links > MOST_ON_DISK {
+        } else if self.many {
             Some(Odd::ManyLinks)
         } else {
             self.of_last(act)

@@ -14,13 +14,28 @@ fn millis(rt: HostRuntime) -> io::Result<u64> {
     }
 }
 
+/// Waits until std's time is another one, and returns it.
+fn next_after(rt: HostRuntime, last: u64) -> io::Result<u64> {
+    for _ in 0..u64::MAX {
+        let now = millis(rt)?;
+        if now != last {
+            return Ok(now);
+        }
+    }
+    Ok(last)
+}
+
 #[test]
-fn the_clock_tells_the_systems_time(rt: HostRuntime) -> Result<(), Fail> {
-    let before = millis(rt)?;
-    let now = SystemClock::new(rt).now();
-    let after = millis(rt)?;
-    let is_between = before <= now && now <= after;
-    // where the clock was set back meanwhile, there is no between
-    assert!(rt; is_between || after < before, "{before} {now} {after}");
+fn each_ask_of_a_clock_tells_the_systems_time(rt: HostRuntime) -> Result<(), Fail> {
+    let mut clock = SystemClock::new(rt);
+    let mut last = 0;
+    for _ in 0..3 {
+        let before = next_after(rt, last)?;
+        let now = clock.now();
+        last = millis(rt)?;
+        let is_between = before <= now && now <= last;
+        // where the clock was set back meanwhile, there is no between
+        assert!(rt; is_between || last < before, "{before} {now} {last}");
+    }
     Ok(())
 }

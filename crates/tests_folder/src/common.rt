@@ -8,9 +8,40 @@ use std::env::temp_dir;
 use std::rt::HostRuntime;
 use std::{fs, io};
 
-/// The bytes of a text.
+/// So many bytes, in which no two pieces of 64 KiB are alike.
+fn many(alloc: Global, count: usize) -> Result<Vec<u8>, AllocError> {
+    let mut bytes = Vec::with_capacity(alloc, count)?;
+    for number in 0..count {
+        bytes.push((number % 251) as u8)?;
+    }
+    Ok(bytes)
+}
+
+/// How many bytes a text stands for that is a `*` with their number.
+fn count_in(text: &str) -> Option<usize> {
+    text.strip_prefix('*')?.parse::<usize>().ok()
+}
+
+/// The bytes of a text: its own, or those that it stands for.
 pub fn bytes_of(alloc: Global, text: &str) -> Result<Bytes, AllocError> {
-    Bytes::new(alloc, Vec::from_slice(alloc, text.as_bytes())?)
+    let bytes = match count_in(text) {
+        Some(count) => many(alloc, count)?,
+        None => Vec::from_slice(alloc, text.as_bytes())?,
+    };
+    Bytes::new(alloc, bytes)
+}
+
+/// Bytes as they are shown: short ones as the text, and others by their number if they are those that it stands for.
+pub fn text_of(alloc: Global, bytes: &[u8]) -> Result<String, AllocError> {
+    if bytes.len() < 100 {
+        return String::from_str(alloc, std::str::from_utf8(bytes).unwrap_or("?"));
+    }
+    let wanted = many(alloc, bytes.len())?;
+    if wanted.as_slice() == bytes {
+        format!(in alloc; "*{}", bytes.len())
+    } else {
+        String::from_str(alloc, "other bytes")
+    }
 }
 
 /// A path below a folder.

@@ -1,13 +1,8 @@
 //! What the system is asked for at each step of one store that makes folders.
-use crate::common::fresh;
-use crate::rows::told;
-use crate::watched::{Notes, Watched};
-use crate::ways::{PLAIN, asked_of};
-use cacache_folder::FolderStore;
-use std::alloc::AllocError;
+use crate::runs::all_come;
+use crate::ways::PLAIN;
 use std::rt::HostRuntime;
 use std::test::Fail;
-use std::{fs, io};
 
 /// Steps of one store, one after another, each with its answer and what it asks for.
 const GUESSED: &str = "\
@@ -22,7 +17,7 @@ MakeDirs /a/b/c: Done after metadata;create_dir;create_dir;create_dir;create_dir
 MakeDirs /a/b/d: Done after create_dir;
 MakeDirs /a/c/d: Done after create_dir;create_dir;create_dir;
 MakeDirs /a/c/d: Done after create_dir;metadata;
-Append /a/c/e : Took 0 after OpenOptions { read: false, write: false, append: true, truncate: false, create: true, create_new: false, mode: 438 };write;
+Append /a/c/e : Took 0 after append;write;
 MakeDirs /a/c/e: Failed AlreadyExists after metadata;
 MakeDirs /a/c/f: Done after metadata;create_dir;
 MakeDirs /a/c/e: Failed AlreadyExists after create_dir;metadata;
@@ -31,34 +26,7 @@ MakeDirs /ten: Done after create_dir;
 MakeDirs /shy: Done after create_dir;metadata;
 MakeDirs /p/q/: Done after metadata;create_dir;create_dir;create_dir;create_dir;create_dir;metadata;";
 
-/// The first line that comes otherwise.
-fn first_other(
-    rt: HostRuntime,
-    root: &str,
-    store: &mut FolderStore<Watched>,
-    notes: &Notes,
-) -> Result<Option<String>, AllocError> {
-    let alloc = rt.alloc();
-    for line in GUESSED.lines() {
-        let (words, wanted) = line.split_once(": ").unwrap_or((line, ""));
-        let came = asked_of(alloc, root, store, notes, words)?;
-        if came.as_str() != wanted {
-            return Ok(Some(format!(in alloc; "{words}: {came}")?));
-        }
-    }
-    Ok(None)
-}
-
-/// The same below a fresh folder.
-fn other_below(rt: HostRuntime) -> io::Result<Option<String>> {
-    let root = fresh(rt, "guessed")?;
-    let (watched, notes) = Watched::new(rt, PLAIN)?;
-    let other = first_other(rt, root.as_str(), &mut FolderStore::new(watched), &notes);
-    fs::remove_dir_all(&rt, root.as_str())?;
-    Ok(other?)
-}
-
 #[test]
 fn what_was_missing_last_is_made_first(rt: HostRuntime) -> Result<(), Fail> {
-    told(other_below(rt)?)
+    all_come(rt, "guessed", PLAIN, GUESSED)
 }

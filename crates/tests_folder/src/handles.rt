@@ -7,15 +7,16 @@ use cacache_core::text::Text;
 use cacache_folder::FolderStore;
 use cacache_store::store::{Answer, Step, Store};
 use std::alloc::{AllocError, Global};
+use std::io::Write;
 use std::os::unix::fs::MetadataExt;
 use std::rt::HostRuntime;
 use std::test::Fail;
 use std::{fs, io};
 
 /// The temporary file of an answer.
-fn temp_of<F: Drop, T: Drop>(answer: Answer<F, T>) -> Option<T> {
+pub fn temp_of<F: Drop, T: Drop>(answer: Answer<F, T>) -> Option<T> {
     match answer {
-        Answer::Temp(temp) | Answer::Wrote(temp, _) => Some(temp),
+        Answer::Temp(temp) | Answer::Wrote(temp, _) | Answer::Synced(temp) => Some(temp),
         other => {
             let_go(other);
             None
@@ -87,6 +88,49 @@ pub fn persisted<S: Store>(
     }
 }
 
+/// Makes an empty temporary file and moves it to the target. Returns how the line of the move ends.
+pub fn persisted_empty<S: Store>(
+    alloc: Global,
+    root: &str,
+    store: &mut S,
+    path: &str,
+    target: &str,
+) -> Result<String, AllocError> {
+    let target = below(alloc, root, target)?;
+    match empty(alloc, root, store, path)? {
+        Some(temp) => moved(alloc, store, temp, target),
+        None => String::from_str(alloc, "no file"),
+    }
+}
+
+/// Hands a temporary file these bytes as a `Write`. Returns how many it took, and how the line of reading it ends.
+fn taken_by<S: Store>(
+    alloc: Global,
+    store: &mut S,
+    temp: &mut S::Temp,
+    path: Text,
+    bytes: &[u8],
+) -> Result<String, AllocError> {
+    let count = temp.write(bytes).ok();
+    let end = end_of(alloc, store.step(Step::ReadAll(path)))?;
+    format!(in alloc; "{count:?} {end}")
+}
+
+/// Makes a temporary file and hands it these bytes as a `Write`.
+pub fn given_bytes<S: Store>(
+    alloc: Global,
+    store: &mut S,
+    path: Text,
+    text: &str,
+) -> Result<String, AllocError> {
+    let bytes = bytes_of(alloc, text)?;
+    let again = path.clone()?;
+    match temp_of(store.step(Step::CreateTemp(path))) {
+        Some(mut temp) => taken_by(alloc, store, &mut temp, again, bytes.as_slice()),
+        None => String::from_str(alloc, "no file"),
+    }
+}
+
 /// Syncs a temporary file, and returns how the line of that step ends.
 fn sync_end<S: Store>(
     alloc: Global,
@@ -142,11 +186,26 @@ fn noted_and_moved<S: Store>(
     noted
 }
 
-/// What is seen of a temporary file `/temp` that is moved to `/file`: its mode and number before, those after, and
+/// Where a cache has a temporary file, and a content.
+const TEMP: &str = "/c/tmp/.tmp0000000000000001";
+
+const CONTENT: &str =
+    "/c/content-v2/sha256/2c/f2/4dba5fb0a30e26e83b2ac5b9e29e1b161e5c1fa7425e73043362938b9824";
+
+/// Makes the folders that both lie in.
+fn make_folders(rt: HostRuntime, root: &str) -> io::Result<()> {
+    for path in ["/c/tmp", "/c/content-v2/sha256/2c/f2"] {
+        fs::create_dir_all(&rt, below(rt.alloc(), root, path)?.as_str())?;
+    }
+    Ok(())
+}
+
+/// What is seen of a temporary file of a cache that becomes a content: its mode and number before, those after, and
 /// whether the first path is still taken.
 fn seen_below(rt: HostRuntime, root: &str) -> io::Result<((u32, u64), (u32, u64), bool)> {
-    let path = below(rt.alloc(), root, "/temp")?;
-    let target = below(rt.alloc(), root, "/file")?;
+    make_folders(rt, root)?;
+    let path = below(rt.alloc(), root, TEMP)?;
+    let target = below(rt.alloc(), root, CONTENT)?;
     let to = target.clone()?;
     let before = noted_and_moved(rt, &mut FolderStore::new(rt), path.as_str(), to)?;
     let after = mode_and_number(rt, target.as_str())?;

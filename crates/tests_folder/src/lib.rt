@@ -2,7 +2,11 @@
 #![tactic(auto)]
 
 #[cfg(test)]
+mod asked;
+#[cfg(test)]
 mod clock;
+#[cfg(test)]
+mod closed;
 #[cfg(test)]
 mod common;
 #[cfg(test)]
@@ -10,13 +14,19 @@ mod dirs;
 #[cfg(test)]
 mod handles;
 #[cfg(test)]
+mod held;
+#[cfg(test)]
 mod listing;
+#[cfg(test)]
+mod made_up;
 #[cfg(test)]
 mod names;
 #[cfg(test)]
 mod pieces;
 #[cfg(test)]
 mod rows;
+#[cfg(test)]
+mod runs;
 #[cfg(test)]
 mod steps;
 #[cfg(test)]

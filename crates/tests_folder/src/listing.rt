@@ -1,4 +1,4 @@
-//! A folder whose names don't fit into one read.
+//! Folders whose names don't fit into one read.
 use crate::common::fresh;
 use crate::steps::end_after;
 use cacache_folder::FolderStore;
@@ -13,16 +13,17 @@ const FILL: &str = "\
 0000000000000000000000000000000000000000000000000000000000000000\
 0000000000000000000000000000000000000000000000000000000000000";
 
-/// Makes forty files with the longest names.
+/// Makes forty files with the longest names, and 2,000 with short ones.
 fn fill(rt: HostRuntime, root: &str) -> io::Result<()> {
-    for number in 10..50 {
-        let path = format!(in rt.alloc(); "{root}/{FILL}{number}")?;
+    for number in 10..2050 {
+        let fill = if number < 50 { FILL } else { "" };
+        let path = format!(in rt.alloc(); "{root}/{fill}{number}")?;
         fs::write(&rt, path.as_str(), b"")?;
     }
     Ok(())
 }
 
-/// How the listing of a folder with forty files ends.
+/// How the listing of a folder with these files ends.
 fn end_below(rt: HostRuntime, root: &str) -> io::Result<String> {
     fill(rt, root)?;
     Ok(end_after(rt.alloc(), root, &mut FolderStore::new(rt), "ReadDir /")?)
@@ -33,6 +34,6 @@ fn a_long_listing_is_whole(rt: HostRuntime) -> Result<(), Fail> {
     let root = fresh(rt, "listed")?;
     let end = end_below(rt, root.as_str());
     fs::remove_dir_all(&rt, root.as_str())?;
-    assert_eq!(rt; end?.as_str(), "Names 40 0 0");
+    assert_eq!(rt; end?.as_str(), "Names 2040 0 0");
     Ok(())
 }

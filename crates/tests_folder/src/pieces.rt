@@ -1,4 +1,5 @@
 //! Files that are read piece by piece.
+use crate::common::text_of;
 use cacache_core::bytes::Bytes;
 use cacache_core::keeping::let_go;
 use cacache_core::text::Text;
@@ -68,6 +69,32 @@ pub fn pieces<S: Store>(
     Ok(shown)
 }
 
+/// Reads one piece, adds it, and returns the file unless it is at its end.
+fn add_next<S: Store>(
+    store: &mut S,
+    file: S::File,
+    all: &mut Vec<u8>,
+) -> Result<Option<S::File>, AllocError> {
+    let Some((file, bytes)) = piece_of(store.step(Step::Read(file, usize::MAX))) else {
+        return Ok(None);
+    };
+    all.extend_from_slice(bytes.as_slice())?;
+    Ok(if bytes.is_empty() { None } else { Some(file) })
+}
+
+/// Opens the file and reads it in steps to its end.
+pub fn whole<S: Store>(alloc: Global, store: &mut S, path: Text) -> Result<String, AllocError> {
+    let mut all = Vec::new(alloc);
+    let mut file = file_of(store.step(Step::Open(path)));
+    for _ in 0..99 {
+        let Some(open) = file else {
+            break;
+        };
+        file = add_next(store, open, &mut all)?;
+    }
+    text_of(alloc, all.as_slice())
+}
+
 /// What a file gives to three reads of at most three bytes, each put into a bracket.
 fn read_of<F: Read>(alloc: Global, file: &mut F) -> Result<String, AllocError> {
     let mut shown = String::new(alloc);
@@ -80,7 +107,28 @@ fn read_of<F: Read>(alloc: Global, file: &mut F) -> Result<String, AllocError> {
     Ok(shown)
 }
 
-/// Opens the file, and reads it as a `Read`.
+/// What a file gives as a `Read` to its end.
+fn rest_of<F: Read>(alloc: Global, file: &mut F) -> Result<String, AllocError> {
+    let mut all = Vec::new(alloc);
+    match file.read_to_end(&mut all) {
+        Ok(_) => text_of(alloc, all.as_slice()),
+        Err(_) => String::from_str(alloc, "failed"),
+    }
+}
+
+/// Opens the file, and reads it as a `Read` to its end.
+pub fn given_whole<S: Store>(
+    alloc: Global,
+    store: &mut S,
+    path: Text,
+) -> Result<String, AllocError> {
+    match file_of(store.step(Step::Open(path))) {
+        Some(mut file) => rest_of(alloc, &mut file),
+        None => String::from_str(alloc, "no file"),
+    }
+}
+
+/// Opens the file, and reads it as a `Read` three times.
 pub fn given<S: Store>(alloc: Global, store: &mut S, path: Text) -> Result<String, AllocError> {
     match file_of(store.step(Step::Open(path))) {
         Some(mut file) => read_of(alloc, &mut file),

@@ -74,7 +74,12 @@ Copy /none /x: Failed NotFound
 Copy /a /x: Failed InvalidInput
 Copy /a /a: Failed InvalidInput
 Copy /file /a: Failed IsADirectory
-Reflink /file /x: Failed Unsupported";
+Reflink /file /x: Failed Unsupported
+Append /hard !: Took 1
+ReadAll /file: Bytes hello world!
+RemoveFile /file: Done
+ReadAll /hard: Bytes hello world!
+ReadDir /: Names 2 1 0";
 
 const LINKED: &str = "\
 MakeDirs /a: Done
@@ -151,6 +156,19 @@ Pieces /file 0: ()
 Append /short hello: Took 5
 Gives /short: (hel)(lo)()";
 
+/// `*10240` stands for so many bytes.
+const LONG: &str = "\
+Append /line *10240: Took 10240
+ReadAll /line: Bytes *10240
+Append /file *1048677: Took 1048677
+Size /file: Length 1048677
+ReadAll /file: Bytes *1048677
+Whole /file: *1048677
+GivesWhole /file: *1048677
+Copy /file /copy: Took 1048677
+ReadAll /copy: Bytes *1048677
+Takes /temp *204800: Some(204800) Bytes *204800";
+
 const DEVICES: &str = "\
 Append /dev/full one: Failed Device
 ReadAll /proc/self/mem: Failed Device
@@ -211,6 +229,11 @@ fn what_is_synced_stays_as_it_is(rt: HostRuntime) -> Result<(), Fail> {
 #[test]
 fn an_open_file_is_read_in_pieces(rt: HostRuntime) -> Result<(), Fail> {
     all_come(rt, "opened", OPENED)
+}
+
+#[test]
+fn a_long_file_is_whole_however_it_is_read(rt: HostRuntime) -> Result<(), Fail> {
+    all_come(rt, "long-rows", LONG)
 }
 
 #[test]

@@ -1,7 +1,7 @@
 //! Steps as lines of text: `Append /file one: Took 3` is a step, its paths below a folder, and its answer.
-use crate::common::{below, bytes_of};
-use crate::handles::{persisted, synced, synced_empty, wrote};
-use crate::pieces::{given, pieces};
+use crate::common::{below, bytes_of, text_of};
+use crate::handles::{given_bytes, persisted, persisted_empty, synced, synced_empty, wrote};
+use crate::pieces::{given, given_whole, pieces, whole};
 use cacache_core::keeping::let_go;
 use cacache_core::text::Text;
 use cacache_store::store::{Answer, Kind, Listing, Step, Store};
@@ -71,7 +71,7 @@ fn counted(alloc: Global, names: &Listing) -> Result<String, AllocError> {
 }
 
 /// An answer as a line ends with it.
-fn shown<F, T>(alloc: Global, answer: &Answer<F, T>) -> Result<String, AllocError> {
+pub fn shown<F, T>(alloc: Global, answer: &Answer<F, T>) -> Result<String, AllocError> {
     match answer {
         Answer::Done => String::from_str(alloc, "Done"),
         Answer::NoMemory(_) => String::from_str(alloc, "NoMemory"),
@@ -85,7 +85,7 @@ fn shown<F, T>(alloc: Global, answer: &Answer<F, T>) -> Result<String, AllocErro
         Answer::Failed(fault) => format!(in alloc; "Failed {fault:?}"),
         Answer::Names(names) => counted(alloc, names),
         Answer::Bytes(bytes) => {
-            let text = std::str::from_utf8(bytes.as_slice()).unwrap_or("?");
+            let text = text_of(alloc, bytes.as_slice())?;
             format!(in alloc; "Bytes {text}")
         }
         _ => String::from_str(alloc, "other"),
@@ -113,10 +113,28 @@ fn stepped<S: Store>(
 }
 
 /// The first word, the second and the rest.
-fn split(words: &str) -> (&str, &str, &str) {
+pub fn split(words: &str) -> (&str, &str, &str) {
     let (ask, rest) = words.split_once(' ').unwrap_or((words, ""));
     let (path, other) = rest.split_once(' ').unwrap_or((rest, ""));
     (ask, path, other)
+}
+
+/// Does what the words say that read or write by a handle, and returns how their line ends.
+fn by_handle<S: Store>(
+    alloc: Global,
+    root: &str,
+    store: &mut S,
+    words: (&str, &str, &str),
+) -> Result<String, AllocError> {
+    let (ask, path, other) = words;
+    let at = below(alloc, root, path)?;
+    match ask {
+        "Pieces" => pieces(alloc, store, at, other),
+        "Whole" => whole(alloc, store, at),
+        "Gives" => given(alloc, store, at),
+        "GivesWhole" => given_whole(alloc, store, at),
+        _ => given_bytes(alloc, store, at, other),
+    }
 }
 
 /// Does what the words say, and returns how their line ends.
@@ -132,8 +150,10 @@ pub fn end_after<S: Store>(
         "SyncTemp" => synced(alloc, root, store, path),
         "SyncEmpty" => synced_empty(alloc, root, store, path),
         "Write" => wrote(alloc, root, store, path),
-        "Pieces" => pieces(alloc, store, below(alloc, root, path)?, other),
-        "Gives" => given(alloc, store, below(alloc, root, path)?),
+        "PersistEmpty" => persisted_empty(alloc, root, store, path, other),
+        "Pieces" | "Whole" | "Gives" | "GivesWhole" | "Takes" => {
+            by_handle(alloc, root, store, (ask, path, other))
+        }
         _ => stepped(alloc, root, store, (ask, path, other)),
     }
 }

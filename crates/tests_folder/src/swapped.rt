@@ -1,4 +1,5 @@
-//! Folders in whose place somebody puts a link, while a walk goes through them.
+//! What somebody else does between two steps: a link in the place of a folder that a walk goes through, folders that are removed,
+//! and a file that is made anew.
 use crate::common::{below, fresh};
 use crate::steps::end_after;
 use cacache_core::text::Text;
@@ -60,8 +61,8 @@ fn add_removals<S: Store>(
     Ok(())
 }
 
-/// How some steps on one store end, one after another; `swap` is the exchange, and `RemoveFiles` removes all of a
-/// folder.
+/// How some steps on one store end, one after another; `swap` is the exchange, `RemoveFiles` removes all of a folder, and
+/// behind `Else` stands a step of somebody else.
 fn ends(rt: HostRuntime, root: &str, steps: &[&str]) -> io::Result<String> {
     let mut store = FolderStore::new(rt);
     let mut ends = String::new(rt.alloc());
@@ -70,6 +71,9 @@ fn ends(rt: HostRuntime, root: &str, steps: &[&str]) -> io::Result<String> {
             None => swap(rt, root)?,
             Some(("RemoveFiles", folder)) => {
                 add_removals(rt.alloc(), root, &mut store, folder, &mut ends)?
+            }
+            Some(("Else", step)) => {
+                add_end(rt.alloc(), root, &mut FolderStore::new(rt), step, &mut ends)?
             }
             Some(_) => add_end(rt.alloc(), root, &mut store, step, &mut ends)?,
         }
@@ -133,5 +137,30 @@ fn a_folder_that_stays_is_cleared(rt: HostRuntime) -> Result<(), Fail> {
     ];
     let (came, _) = ends_and_left(rt, "cleared", &steps)?;
     assert!(rt; !came.contains("Failed"), "{came}");
+    Ok(())
+}
+
+#[test]
+fn what_somebody_else_removed_or_wrote_is_seen(rt: HostRuntime) -> Result<(), Fail> {
+    let steps = [
+        "MakeDirs /cache/tmp",
+        "MakeDirs /cache/tmp",
+        "Append /cache/b one",
+        "ReadAll /cache/b",
+        "Else RemoveFile /cache/b",
+        "Else Append /cache/b two",
+        "ReadAll /cache/b",
+        "Else RemoveDir /cache/tmp",
+        "CreateTemp /cache/tmp/t",
+        "MakeDirs /cache/tmp",
+        "CreateTemp /cache/tmp/t",
+        "Else RemoveFile /cache/b",
+        "Append /cache/b three",
+        "Size /cache/b",
+    ];
+    let wanted =
+        "Done;Done;Took 3;Bytes one;Done;Took 3;Bytes two;Done;Failed NotFound;Done;Temp;Done;Took 5;Length 5;";
+    let (came, _) = ends_and_left(rt, "else", &steps)?;
+    assert_eq!(rt; came.as_str(), wanted);
     Ok(())
 }

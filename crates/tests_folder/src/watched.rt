@@ -1,6 +1,7 @@
 //! A runtime of its own, which hands each call on to the system's and notes what was asked.
 ghost use Rattle.std.specs.Prelude.{◌≤◌, IfOk};
 
+use crate::made_up::MadeUp;
 use crate::ways::Ways;
 use std::alloc::{Alloc, AllocError, Allocator, Global};
 use std::cell::RefCell;
@@ -13,13 +14,22 @@ use std::rt::{Files, HostRuntime};
 /// What was asked, with a `;` behind each call.
 pub type Notes = Rc<RefCell<String>>;
 
-/// Notes a call.
-fn note(notes: &Notes, call: &str) -> io::Result<()> {
+/// Notes a call with its paths.
+fn note_paths(notes: &Notes, call: &str, paths: &[&str]) -> io::Result<()> {
     if let Ok(mut notes) = notes.try_borrow_mut() {
         notes.push_str(call)?;
+        for path in paths {
+            notes.push(' ')?;
+            notes.push_str(path)?;
+        }
         notes.push(';')?;
     }
     Ok(())
+}
+
+/// Notes a call.
+fn note(notes: &Notes, call: &str) -> io::Result<()> {
+    note_paths(notes, call, &[])
 }
 
 /// The notes so far, which begin anew.
@@ -30,9 +40,8 @@ pub fn taken(notes: &Notes, alloc: Global) -> String {
 }
 
 /// The system's runtime, but its files behave in ways of their own. No memory is found to open a file `full`, a file whose
-/// name begins with `bare` has five bytes and no number, a file `kept` isn't removed, and a folder `shy` is made and said to be
-/// refused. The names of each
-/// folder are made up: `a`, and more in a folder `odd`, `slow`, `torn` or `late`.
+/// name begins with `bare` has five bytes and no number, a file `kept` isn't removed, a folder `shy` is made and said to be
+/// refused, and a device stands in a folder `special`. The names of each folder are made up.
 #[derive(Clone, Drop)]
 pub struct Watched {
     host: HostRuntime,
@@ -51,6 +60,19 @@ impl Watched {
             notes: notes.clone()?,
         };
         Ok((watched, notes))
+    }
+
+    /// Notes a call on some paths, and refuses it where such calls are refused.
+    fn asked(&self, call: &str, paths: &[&str]) -> io::Result<()> {
+        if self.ways.paths {
+            note_paths(&self.notes, call, paths)?;
+        } else {
+            note(&self.notes, call)?;
+        }
+        match self.ways.refused {
+            Some(kind) => Err(io::Error::from(kind)),
+            None => Ok(()),
+        }
     }
 }
 
@@ -141,70 +163,6 @@ impl OpenFile for WatchedFile {
     }
 }
 
-/// The names of a folder.
-const NAMES: &[u8] = b".\0..\0a\0";
-
-/// How an open folder gives its names.
-#[derive(Clone, Copy)]
-pub enum Giving {
-    /// All in one read.
-    Whole,
-    /// All in one read, and one more that isn't UTF-8.
-    Odd,
-    /// Some in each read, fewer than there is room for.
-    Slow,
-    /// All, but a further read fails.
-    Torn,
-    /// All, after a signal interrupted the first read.
-    Late,
-}
-
-/// An open folder with made-up names, of which so many reads were made.
-#[derive(Drop)]
-pub struct MadeUp {
-    giving: Giving,
-    made: usize,
-}
-
-/// What the read after so many others gives.
-fn read_after(giving: Giving, made: usize) -> Result<&'static [u8], ErrorKind> {
-    match (giving, made) {
-        (Giving::Whole, 0) | (Giving::Torn, 0) | (Giving::Late, 1) => Ok(NAMES),
-        (Giving::Odd, 0) => Ok(b".\0..\0a\0\xff\0"),
-        (Giving::Slow, 0) => Ok(b".\0..\0"),
-        (Giving::Slow, 1) => Ok(b"longer\0"),
-        (Giving::Slow, 2) => Ok(b"a\0"),
-        (Giving::Torn, _) => Err(ErrorKind::Other),
-        (Giving::Late, 0) => Err(ErrorKind::Interrupted),
-        _ => Ok(b""),
-    }
-}
-
-impl Read for MadeUp {
-    fn read(&mut self, buf: &mut [u8]) -> io::Result<usize> {
-        let read = read_after(self.giving, self.made);
-        self.made = self.made.saturating_add(1);
-        match read {
-            Ok(names) => {
-                let mut rest = names;
-                rest.read(buf)
-            }
-            Err(kind) => Err(io::Error::from(kind)),
-        }
-    }
-}
-
-/// How the folder at this path gives its names.
-fn giving_of(path: &str) -> Giving {
-    match path.trim_end_matches('/').rsplit_once('/') {
-        Some((_, "odd")) => Giving::Odd,
-        Some((_, "slow")) => Giving::Slow,
-        Some((_, "torn")) => Giving::Torn,
-        Some((_, "late")) => Giving::Late,
-        _ => Giving::Whole,
-    }
-}
-
 impl Files for Watched {
     type File = WatchedFile;
 
@@ -212,7 +170,7 @@ impl Files for Watched {
 
     fn open_file(&self, how: &OpenOptions, path: &str) -> io::Result<WatchedFile> {
         let asked = format!(in self.host.alloc(); "{how:?}")?;
-        note(&self.notes, asked.as_str())?;
+        self.asked(asked.as_str(), &[path])?;
         if path.ends_with("/full") {
             return Err(io::Error::from(ErrorKind::OutOfMemory));
         }
@@ -228,13 +186,12 @@ impl Files for Watched {
         } else {
             "open_dir"
         };
-        note(&self.notes, call)?;
-        let giving = giving_of(path);
-        Ok(MadeUp { giving, made: 0 })
+        self.asked(call, &[path])?;
+        Ok(MadeUp::new(path, self.notes.clone()?))
     }
 
     fn metadata(&self, path: &str) -> io::Result<Metadata> {
-        note(&self.notes, "metadata")?;
+        self.asked("metadata", &[path])?;
         if path.contains("/bare") {
             return Ok(Metadata::of_file(5));
         }
@@ -242,20 +199,31 @@ impl Files for Watched {
     }
 
     fn symlink_metadata(&self, path: &str) -> io::Result<Metadata> {
-        note(&self.notes, "symlink_metadata")?;
+        self.asked("symlink_metadata", &[path])?;
         match self.ways.fault {
             Some(kind) => Err(io::Error::from(kind)),
+            None if path.contains("/special/") => self.host.symlink_metadata("/dev/null"),
             None => self.host.symlink_metadata(path),
         }
     }
 
+    fn hard_link(&self, from: &str, to: &str) -> io::Result<()> {
+        self.asked("hard_link", &[from, to])?;
+        self.host.hard_link(from, to)
+    }
+
+    fn symlink(&self, target: &str, path: &str) -> io::Result<()> {
+        self.asked("symlink", &[target, path])?;
+        self.host.symlink(target, path)
+    }
+
     fn copy(&self, from: &str, to: &str) -> io::Result<u64> {
-        note(&self.notes, "copy")?;
+        self.asked("copy", &[from, to])?;
         self.host.copy(from, to)
     }
 
     fn rename(&self, from: &str, to: &str) -> io::Result<()> {
-        note(&self.notes, "rename")?;
+        self.asked("rename", &[from, to])?;
         match self.ways.rename {
             Some(kind) => Err(io::Error::from(kind)),
             None => self.host.rename(from, to),
@@ -263,7 +231,7 @@ impl Files for Watched {
     }
 
     fn remove_file(&self, path: &str) -> io::Result<()> {
-        note(&self.notes, "remove_file")?;
+        self.asked("remove_file", &[path])?;
         if path.ends_with("/kept") {
             return Err(io::Error::from(ErrorKind::PermissionDenied));
         }
@@ -271,7 +239,7 @@ impl Files for Watched {
     }
 
     fn create_dir(&self, path: &str) -> io::Result<()> {
-        note(&self.notes, "create_dir")?;
+        self.asked("create_dir", &[path])?;
         self.host.create_dir(path)?;
         if path.ends_with("/shy") {
             return Err(io::Error::from(ErrorKind::PermissionDenied));
@@ -280,12 +248,12 @@ impl Files for Watched {
     }
 
     fn remove_dir(&self, path: &str) -> io::Result<()> {
-        note(&self.notes, "remove_dir")?;
+        self.asked("remove_dir", &[path])?;
         self.host.remove_dir(path)
     }
 
     fn remove_dir_all<B: Allocator>(&self, alloc: B, path: &str) -> io::Result<()> {
-        note(&self.notes, "remove_dir_all")?;
+        self.asked("remove_dir_all", &[path])?;
         self.host.remove_dir_all(alloc, path)
     }
 }
