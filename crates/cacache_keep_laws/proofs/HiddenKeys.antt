@@ -60,11 +60,11 @@ module _ (site : Site) (d : Delete) where
   i = deletion site.cache d
 
   -- it makes the bucket's folder and appends the whole line
-  record Buried (moves : Moves) : Type 0 where
-    fits : refused_cause i ≡ None
-    count : ℕ
-    whole : length (bucket_line i) ≤ count
-    are : moves ≡ (steps.MakeDirs (bucket_folder site.cache d.key), answers.Done) ∷ (steps.Append (bucket_path site.cache d.key) (bucket_line i), answers.Took count) ∷ []
+  pub record Buried (moves : Moves) : Type 0 where
+    pub fits : refused_cause i ≡ None
+    pub count : ℕ
+    pub whole : length (bucket_line i) ≤ count
+    pub are : moves ≡ (steps.MakeDirs (bucket_folder site.cache d.key), answers.Done) ∷ (steps.Append (bucket_path site.cache d.key) (bucket_line i), answers.Took count) ∷ []
 
   took_all : (b : Bool) (n : ℕ) (moves : Moves) → nat_le (length (bucket_line i)) n ≡ b → Runs (cond b (recorded i) (fails ShortAppend)) moves Done → (length (bucket_line i) ≤ n) × (moves ≡ [])
   took_all true n moves e run = (leb-true (length (bucket_line i)) n e, (ended moves Done run).0)
@@ -98,7 +98,7 @@ module _ (site : Site) (d : Delete) where
       let rest = append_run more first.1 in
       record { fits = e; count = rest.0; whole = rest.1; are = pair m (steps.MakeDirs (bucket_folder site.cache d.key)) answers.Done more _ (sym step) first.0 rest.2 }
 
-  buried : (moves : Moves) → Runs (opening site (commands.Delete d)) moves Done → Buried moves
+  pub buried : (moves : Moves) → Runs (opening site (commands.Delete d)) moves Done → Buried moves
   buried moves run = inserted (refused_cause i) moves refl run
 
 -- ---- lookups
@@ -141,11 +141,11 @@ module _ (site : Site) (d : Delete) (formed : calls.FormedIfWritten (deletion si
   x = setup_at site.cache site.base
 
   -- each step of a run is proper
-  abbrev AllProper : Moves → Type 0
+  abbrev pub AllProper : Moves → Type 0
   AllProper [] = Unit {0}
   AllProper (m ∷ moves) = Proper (home_of site.cache) m.0 × AllProper moves
 
-  proper_run : (s : State) (moves : Moves) (r : Reply) → calls.Sound site (may_export x) (is_outside x) s → Runs s moves r → AllProper moves
+  pub proper_run : (s : State) (moves : Moves) (r : Reply) → calls.Sound site (may_export x) (is_outside x) s → Runs s moves r → AllProper moves
   proper_run s [] r sound run = tt
   proper_run s (m ∷ moves) r sound run = (
     sound_proper x site.number tt s m.0 sound run.0,

@@ -27,3 +27,7 @@ pub mod Agreed
 pub mod Tombstones
 pub mod Mended
 pub mod HiddenKeys
+pub mod StillThere
+pub mod Led
+pub mod Housed
+pub mod CompactLines

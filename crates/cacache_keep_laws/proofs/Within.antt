@@ -20,17 +20,17 @@ use Rattle.cacache_keep_laws.proofs.Agreeing.{said, answer_of}
 abbrev pub Within : Tree → Tree → Type 0
 Within part whole = (q : Names) (node : Node) → look part q ≡ Some node → look whole q ≡ Some node
 
-through_none : (here : Option Node) (later : Option Fault) → through here later ≡ None → (here ≡ Some Folder) × (later ≡ None)
+pub through_none : (here : Option Node) (later : Option Fault) → through here later ≡ None → (here ≡ Some Folder) × (later ≡ None)
 through_none None later e = absurd cc
 through_none (Some Folder) later e = (refl, e)
 through_none (Some (File bytes)) later e = absurd cc
 through_none (Some (Link target)) later e = absurd cc
 
-something_there : (here : Option Node) (old new : Names) → where_there here old ≡ Ok new → (node : Node) × (here ≡ Some node)
+pub something_there : (here : Option Node) (old new : Names) → where_there here old ≡ Ok new → (node : Node) × (here ≡ Some node)
 something_there None old new e = absurd cc
 something_there (Some node) old new e = (node, refl)
 
-file_there : (here : Option Node) (bytes : List ℕ) → bytes_there IsADirectory here ≡ Ok bytes → here ≡ Some (File bytes)
+pub file_there : (here : Option Node) (bytes : List ℕ) → bytes_there IsADirectory here ≡ Ok bytes → here ≡ Some (File bytes)
 file_there None bytes e = absurd cc
 file_there (Some Folder) bytes e = absurd cc
 file_there (Some (File b)) bytes e = let same : b ≡ bytes = cc in ap (λ x. Some (File x)) same

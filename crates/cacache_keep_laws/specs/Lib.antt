@@ -8,3 +8,5 @@ pub mod Removing
 pub mod Idle
 pub mod Temporary
 pub mod Mending
+pub mod Housed
+pub mod Compacting

@@ -1,7 +1,9 @@
 //! Laws, on functions that do nothing.
 ghost use Rattle.cacache_keep_laws.specs.Answers.{AnswersAgree, LooksAnswer, TreesAreRooted};
 ghost use Rattle.cacache_keep_laws.specs.Collecting.{CachesLinkOut, CollectionsKeepLookups, CollectionsKeepReads, RemovalsLeave};
+ghost use Rattle.cacache_keep_laws.specs.Compacting.{CompactTextsAnswer};
 ghost use Rattle.cacache_keep_laws.specs.Contents.{ContentsShown, HoldingsAgree, ListingsHold};
+ghost use Rattle.cacache_keep_laws.specs.Housed.{CachesAreHoused, IndexesLead, TombstonesHouse};
 ghost use Rattle.cacache_keep_laws.specs.Idle.{IdleIsUnseen, StillLacksIdle};
 ghost use Rattle.cacache_keep_laws.specs.Index.{IndexesAgree, IndexesFind, ListsEachKey};
 ghost use Rattle.cacache_keep_laws.specs.Mending.{RepairsLeave, TombstonesHide, TombstonesKeepContents};
@@ -66,9 +68,19 @@ pub fn sweep_laws()
 {}
 
 /// A call that adds a tombstone leaves the contents, and hides its key alone; and so removals of damaged
-/// contents and tombstones behind them leave the good contents.
+/// contents and tombstones behind them leave the good contents. Where each thing lies in its place, as in a cache
+/// that only calls wrote to, it does so after such a call, and the index lists what lookups find.
 pub fn repair_laws()
     ensures contents { TombstonesKeepContents }
     ensures leaves { RepairsLeave }
     ensures hides { TombstonesHide }
+    ensures houses { TombstonesHouse }
+    ensures caches { CachesAreHoused }
+    ensures leads { IndexesLead }
+{}
+
+/// A bucket's bytes that are compacted answer each lookup as before, and list the same, with one entry for
+/// each item.
+pub fn compact_laws()
+    ensures answer { CompactTextsAnswer }
 {}

@@ -1,4 +1,6 @@
 use Rattle.cacache_keep_laws.proofs.HiddenKeys.{tombstones_hide}
+use Rattle.cacache_keep_laws.proofs.Housed.{tombstones_house}
+use Rattle.cacache_keep_laws.proofs.Led.{caches_are_housed, indexes_lead}
 use Rattle.cacache_keep_laws.proofs.Mended.{repairs_leave}
 use Rattle.cacache_keep_laws.proofs.Tombstones.{tombstones_keep_contents}
 use Rattle.cacache_keep_laws.proofs.laws.repair_laws.Goals as goal
@@ -8,4 +10,7 @@ returns c = record {
   contents = tombstones_keep_contents;
   leaves = repairs_leave;
   hides = tombstones_hide;
+  houses = tombstones_house;
+  caches = caches_are_housed;
+  leads = indexes_lead;
 }
