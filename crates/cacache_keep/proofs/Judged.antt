@@ -230,7 +230,7 @@ says_so (answers.Failed fault) b e = cc
 says_so other b e = cc
 
 module _ (site : Site) (t : Tree) where
-  there_told : (f : Found) (b : Bool) → AnswersOn site t (commands.Exists f.integrity) (replies.Exists b) → b ≡ has_content site.cache t f
+  pub there_told : (f : Found) (b : Bool) → AnswersOn site t (commands.Exists f.integrity) (replies.Exists b) → b ≡ has_content site.cache t f
   there_told f b on = elim (exists_shown site f.integrity on.0 (replies.Exists b) on.1) [
     | inl memory ↦ absurd cc
     | inr shown ↦

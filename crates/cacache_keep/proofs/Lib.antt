@@ -13,4 +13,10 @@ mod Sweeps
 mod SweptCaches
 mod Sizes
 mod Tombs
+mod Buried
 mod Mends
+mod Whole
+mod LineLoops
+mod IndexParts
+mod Rewrites
+mod Compactions

@@ -1,9 +1,6 @@
 -- A repair leaves the good contents, and hides the keys that led to none.
-use Rattle.std.proofs.Common.{◌≡◌, ◌<◌, ◌^◌, inl, inr, ℕ, Bool, true, false, cond, List, [], ◌∷◌, ◌++◌, Option, None, Some, map, filter, refl, sym, ap, ap₂, subst, ◌∙◌, arith}
-use Rattle.std.specs.Prelude.{All, IsUtf8, bytes_eq, not}
-use Rattle.std.specs.List.{flat_map}
-use Rattle.std.proofs.lemmas.List.Elements.{All-head, All-tail}
-use Rattle.std.proofs.lemmas.Slice.Eq.{bytes_eq-Decides}
+use Rattle.std.proofs.Common.{◌≡◌, inl, inr, ℕ, Bool, true, false, cond, List, [], ◌∷◌, ◌++◌, Option, None, Some, map, filter, refl, sym, ap, ap₂, subst, ◌∙◌}
+use Rattle.std.specs.Prelude.{not}
 use Rattle.sha1.specs.Sha1.{sha1}
 use Rattle.cacache_core.specs.declared.integrity.digest.Hash.{Hash}
 use Rattle.cacache_core.specs.PathNames.{Names, home_of}
@@ -16,53 +13,37 @@ use Rattle.cacache_disk.specs.Tree.{Tree}
 use Rattle.cacache_disk.specs.Apply.{apply}
 use Rattle.cacache_memory.specs.Replay.{tree_of, IsLog}
 use Rattle.cacache_entry.specs.Latest.{Found, latest}
-use Rattle.cacache_table.specs.declared.command.Command.{Command}
 use Rattle.cacache_table.specs.declared.command.Command.TheVariants as commands
-use Rattle.cacache_table.specs.declared.command.Delete.{Delete}
-use Rattle.cacache_table.specs.declared.reply.Reply.{Reply}
 use Rattle.cacache_table.specs.declared.reply.Reply.TheVariants as replies
-use Rattle.cacache_table.specs.Inserting.{deletion, refused_cause}
-use Rattle.cacache_table.specs.Sound.{FormedIfWritten}
 use Rattle.cacache_table.specs.State.{Site}
-use Rattle.cacache_table.specs.Runs.{Moves, Gains}
 use Rattle.cacache_value.specs.Placed.{Placed}
 use Rattle.cacache_value.specs.Acts.{list_of}
 use Rattle.cacache_value.proofs.Traces.{steps_keep_placed}
 use Rattle.cacache_sequence.specs.Sequence.{tree_on, AreAnswered}
-use Rattle.cacache_sequence.proofs.Forms.{bare_written}
 use Rattle.cacache_sequence.proofs.InParts.{logs_lead}
-use Rattle.cacache_reads.specs.Lookups.{delete_of}
 use Rattle.cacache_walks.specs.Listing.{content_area_in}
 use Rattle.cacache_walks.specs.Reading.{top_folder}
 use Rattle.cacache_keep_laws.specs.Collecting.{Removes}
-use Rattle.cacache_keep_laws.specs.Contents.{HoldsJust, content_in}
-use Rattle.cacache_keep_laws.specs.Mending.{KeepsContents, found_in}
-use Rattle.cacache_keep_laws.specs.Verifying.{is_good}
+use Rattle.cacache_keep_laws.specs.Contents.{HoldsJust}
+use Rattle.cacache_keep_laws.specs.Index.{IndexLists}
+use Rattle.cacache_keep_laws.specs.Mending.{found_in}
+use Rattle.cacache_keep_laws.specs.Verifying.{has_content, is_good}
 use Rattle.cacache_keep_laws.proofs.Collected.{from_kept, kept_in, leaves}
 use Rattle.cacache_keep_laws.proofs.Held.{holds_just}
-use Rattle.cacache_keep_laws.proofs.HiddenKeys.{tombstones_hide}
 use Rattle.cacache_keep_laws.proofs.Logged.{answered_rest, answered_split, gains_join, log_rooted, looked, tree_rest, tree_split, walked}
 use Rattle.cacache_keep_laws.proofs.Members.{Member, contains_member, member_contains}
 use Rattle.cacache_keep_laws.proofs.Mended.{repairs_leave}
-use Rattle.cacache_keep_laws.proofs.Tombstones.{tombstones_keep_contents}
-use Rattle.cacache_keep.specs.Calls.{MadeCalls, removal}
+use Rattle.cacache_keep.specs.Calls.{MadeCalls, question_of, removal}
 use Rattle.cacache_keep.specs.Kept.{IsKeyOf, MendsCache, RepairsMend}
 use Rattle.cacache_keep.specs.Reading.{Judged}
-use Rattle.cacache_keep.specs.Repairing.{Fate, IsFateOf, Led, RepairsCache, calls_for, is_buried, looks_of, tombstone}
-use Rattle.cacache_keep.proofs.Chosen.{looks_keep}
-use Rattle.cacache_keep.proofs.Judged.{others_named, reads_judged}
+use Rattle.cacache_keep.specs.Repairing.{Fate, RepairsCache, is_buried}
+use Rattle.cacache_keep.proofs.Buried.{After, all_told}
+use Rattle.cacache_keep.proofs.Judged.{asks_told, index_lists, others_named, reads_judged}
 use Rattle.cacache_keep.proofs.Leaving.{removals, removals_gain, removed_by}
-use Rattle.cacache_keep.proofs.Parts.{AllLook, gains_none}
+use Rattle.cacache_keep.proofs.Parts.{made_looks}
 use Rattle.cacache_keep.proofs.Verdicts.{all_questions}
-use Rattle.cacache_keep.specs.Calls.{question_of}
 
--- ---- what tombstones do to a tree
-
-formed : (cache key : List ℕ) (moment : ℕ) → IsUtf8 key → moment < 2 ^ 64 → FormedIfWritten (deletion cache (delete_of key moment))
-unfolding refused_cause
-formed cache key moment utf8 early = λ none. (bare_written key None moment 0 utf8 tt early (omega arith)).formed
-
-map_from : {X Y : Type 0} (f : X → Y) (y : Y) (xs : List X) → Member y (map f xs) → (x : X) × Member x xs × (f x ≡ y)
+pub map_from : {X Y : Type 0} (f : X → Y) (y : Y) (xs : List X) → Member y (map f xs) → (x : X) × Member x xs × (f x ≡ y)
 map_from f y [] m = absurd m
 map_from f y (x ∷ xs) (inl same) = (x, inl refl, sym same)
 map_from f y (x ∷ xs) (inr m) = let k = map_from f y xs m in (k.0, inr k.1, k.2)
@@ -71,10 +52,6 @@ map_in : {X Y : Type 0} (f : X → Y) (x : X) (xs : List X) → Member x xs → 
 map_in f x [] m = absurd m
 map_in f x (z ∷ xs) (inl same) = inl (ap f same)
 map_in f x (z ∷ xs) (inr m) = inr (map_in f x xs m)
-
-made_parts : (site : Site) (calls more : List (Command × Reply)) (old new : Option (List LogItem)) → MadeCalls site (calls ++ more) old new → (mid : Option (List LogItem)) × MadeCalls site calls old mid × MadeCalls site more mid new
-made_parts site [] more old new made = (old, refl, made)
-made_parts site (c ∷ calls) more old new made = let rest = made_parts site calls more made.0 new made.2 in (rest.0, (made.0, made.1, rest.1), rest.2)
 
 -- what a filter leaves of reads at addresses of one hash
 singles : (p : Judged → Bool) (reads : List Judged) (hs : List Hash) → map (λ r. r.0) reads ≡ map (λ h. h ∷ []) hs → (gone : List Hash) × (map (λ r. r.0) (filter p reads) ≡ map (λ h. h ∷ []) gone)
@@ -99,103 +76,7 @@ same_singles (x ∷ xs) (y ∷ ys) e =
     let later : map (λ (h : Hash). h ∷ []) xs ≡ map (λ h. h ∷ []) ys = cc in
     ap₂ (λ (h : Hash) (l : List Hash). h ∷ l) first (same_singles xs ys later)
 
-all_look : (key : List ℕ) (led : Led) → AllLook (looks_of key led)
-all_look key None = (tt, tt)
-all_look key (Some led) = (tt, (tt, tt))
-
 module _ (site : Site) (home : Names) (is : home_of site.cache ≡ Some home) where
-  -- the keys that got tombstones lead to nothing, and all else stays
-  record After (fates : List (Found × Fate)) (t new : Tree) : Type 0 where
-    keeps : KeepsContents home t new
-    none : (key : List ℕ) → found_in home t key ≡ None → found_in home new key ≡ None
-    hidden : (f : Found × Fate) → Member f fates → is_buried f.1 ≡ true → found_in home new f.0.key ≡ None
-    keys : (key : List ℕ) → ((f : Found × Fate) → Member f fates → is_buried f.1 ≡ true → key ≡ f.0.key → ⊥) → found_in home new key ≡ found_in home t key
-
-  -- moves that a log gained, and what they do to a tree that answers them
-  record Told (fates : List (Found × Fate)) (old new : Option (List LogItem)) : Type 0 where
-    moves : Moves
-    gains : Gains old new moves
-    tells : (t : Tree) → Placed (Some home) t → AreAnswered t moves → After fates t (tree_on t moves)
-
-  none_behind : (key own : List ℕ) (t new : Tree) (b : Bool) → bytes_eq key own ≡ b → found_in home new own ≡ None → ((other : List ℕ) → (other ≡ own → ⊥) → found_in home new other ≡ found_in home t other) → found_in home t key ≡ None → found_in home new key ≡ None
-  none_behind key own t new true e hidden others none = ap (found_in home new) ((bytes_eq-Decides key own).0 e) ∙ hidden
-  none_behind key own t new false e hidden others none =
-      others key (λ same. let wrong : false ≡ true = sym e ∙ (bytes_eq-Decides key own).1 same in cc) ∙ none
-
-  spares : (f : Found × Fate) (t new : Tree) → is_buried f.1 ≡ false → Placed (Some home) t → new ≡ t → After (f ∷ []) t new
-  spares f t new b placed same = record {
-    keeps = record { placed = subst (Placed (Some home)) (sym same) placed; contents = λ h. ap (λ x. content_in home x h) same };
-    none = λ key e. ap (λ x. found_in home x key) same ∙ e;
-    hidden = λ g m buried. elim m [ inl e ↦ absurd (let wrong : false ≡ true = sym b ∙ ap (λ (x : Found × Fate). is_buried x.1) (sym e) ∙ buried in cc) | inr n ↦ absurd n ];
-    keys = λ key apart. ap (λ x. found_in home x key) same;
-  }
-
-  hides_one : (f : Found × Fate) (t new : Tree) → IsFateOf f → is_buried f.1 ≡ true → KeepsContents home t new → found_in home new f.1.key ≡ None → ((other : List ℕ) → (other ≡ f.1.key → ⊥) → found_in home new other ≡ found_in home t other) → After (f ∷ []) t new
-  hides_one f t new of b keeps own others = record {
-    keeps = keeps;
-    none = λ key e. none_behind key f.1.key t new (bytes_eq key f.1.key) refl own others e;
-    hidden = λ g m buried. elim m [ inl e ↦ ap (λ (x : Found × Fate). found_in home new x.0.key) e ∙ ap (found_in home new) (sym of.0) ∙ own | inr n ↦ absurd n ];
-    keys = λ key apart. others key (λ same. apart f (inl refl) b (same ∙ of.0));
-  }
-
-  one_told : (f : Found × Fate) (old new : Option (List LogItem)) (b : Bool) → is_buried f.1 ≡ b → IsFateOf f → MadeCalls site (looks_of f.1.key f.1.led ++ cond b (tombstone f.1.key f.1.moment ∷ []) []) old new → Told (f ∷ []) old new
-  one_told f old new false e of made =
-      let parts = made_parts site (looks_of f.1.key f.1.led) [] old new made in
-      let looks = looks_keep site (looks_of f.1.key f.1.led) old parts.0 (all_look f.1.key f.1.led) parts.1 in
-      record {
-        moves = looks.moves;
-        gains = subst (λ (log : Option (List LogItem)). Gains old log looks.moves) (sym parts.2) looks.gains;
-        tells = λ t placed a. spares f t (tree_on t looks.moves) e placed (looks.stays t);
-      }
-  one_told f old new true e of made =
-      let parts = made_parts site (looks_of f.1.key f.1.led) (tombstone f.1.key f.1.moment ∷ []) old new made in
-      let looks = looks_keep site (looks_of f.1.key f.1.led) old parts.0 (all_look f.1.key f.1.led) parts.1 in
-      let d : Delete = delete_of f.1.key f.1.moment in
-      let ran = parts.2.1 in
-      let behind = subst (λ (log : Option (List LogItem)). Gains parts.0 log ran.0) (sym parts.2.2) ran.2 in
-      record {
-        moves = looks.moves ++ ran.0;
-        gains = gains_join old parts.0 new looks.moves ran.0 looks.gains behind;
-        tells = λ t placed a.
-            let answered = answered_rest t looks.moves ran.0 (looks.stays t) a in
-            let may = formed site.cache f.1.key f.1.moment of.1 of.2 in
-            let keeps = tombstones_keep_contents site home (delete_of f.1.key f.1.moment) replies.Done ran.0 t is may ran.1 answered placed in
-            let hides = tombstones_hide site home (delete_of f.1.key f.1.moment) ran.0 t is may ran.1 answered placed in
-            subst (After (f ∷ []) t) (sym (tree_rest t looks.moves ran.0 (looks.stays t))) (hides_one f t (tree_on t ran.0) of e keeps hides.own hides.others);
-      }
-
-  two_told : (f : Found × Fate) (fates : List (Found × Fate)) (t mid new : Tree) → After (f ∷ []) t mid → After fates mid new → After (f ∷ fates) t new
-  two_told f fates t mid new one rest = record {
-    keeps = record { placed = rest.keeps.placed; contents = λ h. rest.keeps.contents h ∙ one.keeps.contents h };
-    none = λ key e. rest.none key (one.none key e);
-    hidden = λ g m b. elim m [ inl e ↦ rest.none g.0.key (one.hidden g (inl e) b) | inr n ↦ rest.hidden g n b ];
-    keys = λ key apart. rest.keys key (λ g m b. apart g (inr m) b) ∙ one.keys key (λ g m b. elim m [ inl e ↦ apart g (inl e) b | inr n ↦ absurd n ]);
-  }
-
-  all_told : (fates : List (Found × Fate)) (old new : Option (List LogItem)) → All IsFateOf fates → MadeCalls site (flat_map (λ f. calls_for f.1) fates) old new → Told fates old new
-  all_told [] old new of made = record {
-    moves = [];
-    gains = gains_none old new made;
-    tells = λ t placed a. record {
-      keeps = record { placed = placed; contents = λ h. refl };
-      none = λ key e. e;
-      hidden = λ f m b. absurd m;
-      keys = λ key apart. refl;
-    };
-  }
-  all_told (f ∷ fates) old new of made =
-      let parts = made_parts site (calls_for f.1) (flat_map (λ f. calls_for f.1) fates) old new made in
-      let one = one_told f old parts.0 (is_buried f.1) refl (All-head IsFateOf f fates of) parts.1 in
-      let rest = all_told fates parts.0 new (All-tail IsFateOf f fates of) parts.2 in
-      record {
-        moves = one.moves ++ rest.moves;
-        gains = gains_join old parts.0 new one.moves rest.moves one.gains rest.gains;
-        tells = λ t placed a.
-            let both = answered_split t one.moves rest.moves a in
-            let first = one.tells t placed both.0 in
-            subst (After (f ∷ fates) t) (sym (tree_split t one.moves rest.moves)) (two_told f fates t (tree_on t one.moves) (tree_on (tree_on t one.moves) rest.moves) first (rest.tells (tree_on t one.moves) first.keeps.placed both.1));
-      }
-
   -- removals leave all else in its place
   removals_placed : (hs : List Hash) (t : Tree) → Placed (Some home) t → Placed (Some home) (tree_on t (removals site.cache hs))
   removals_placed [] t placed = placed
@@ -215,14 +96,16 @@ module _ (site : Site) (home : Names) (is : home_of site.cache ≡ Some home) wh
     bad = filter (λ h. not (is_good home (tree_of old) h)) hashes
 
     -- what its steps come to
-    record Repaired : Type 0 where
-      holds : HoldsJust site.cache home (tree_of old) hashes v.strange
-      broken : damaged ≡ map (λ h. h ∷ []) bad
-      mid : Tree
-      removes : Removes site.cache bad (tree_of old) mid
-      after : After v.burying.fates mid (tree_of new)
+    pub record Repaired : Type 0 where
+      pub holds : HoldsJust site.cache home (tree_of old) hashes v.strange
+      pub broken : damaged ≡ map (λ h. h ∷ []) bad
+      pub mid : Tree
+      pub removes : Removes site.cache bad (tree_of old) mid
+      pub index : IndexLists site mid v.entries
+      pub absent : v.dangling ≡ filter (λ f. not (has_content site.cache mid f)) v.entries
+      pub after : After site home is v.burying.fates mid (tree_of new)
 
-    steps_done : Repaired
+    pub steps_done : Repaired
     steps_done =
         let c = v.contents in
         let r = reads_judged site home (tree_of old) is (log_rooted old) hashes v.reading.reads v.found v.read (v.reading.each ∙ v.order.single) v.reading.reading in
@@ -230,9 +113,10 @@ module _ (site : Site) (home : Names) (is : home_of site.cache ≡ Some home) wh
         let ones : damaged ≡ map (λ h. h ∷ []) gone.0 = v.reading.broken ∙ gone.1 in
         let rem = removals_gain site gone.0 v.read v.removed (subst (λ d. MadeCalls site (map removal d) v.read v.removed) ones v.removing) in
         let l = v.listing.2 in
-        let a = looks_keep site (map question_of v.asking.asks) v.listed v.asked (all_questions v.asking.asks) v.asking.asking in
-        let b = all_told v.burying.fates v.asked (Some new) v.burying.keys v.burying.calls in
         let cut = removals site.cache gone.0 in
+        let mid = tree_on (tree_of old) cut in
+        let a = made_looks site mid (map question_of v.asking.asks) v.listed v.asked (all_questions v.asking.asks) v.asking.asking in
+        let b = all_told site home is v.burying.fates v.asked (Some new) v.burying.keys v.burying.calls in
         let late = l.0 ++ (a.moves ++ b.moves) in
         let gains = gains_join (Some old) v.found (Some new) c.0 (r.moves ++ (cut ++ late)) c.1
         (gains_join v.found v.read (Some new) r.moves (cut ++ late) r.gains
@@ -249,20 +133,22 @@ module _ (site : Site) (home : Names) (is : home_of site.cache ≡ Some home) wh
         = v.reading.broken ∙ ap (λ (l : List Judged). map (λ (x : Judged). x.0) (filter (λ (x : Judged). not x.1) l)) reads.0 ∙ others_named site home (tree_of old) is (log_rooted old) hashes in
         let same : gone.0 ≡ bad = same_singles gone.0 bad (sym ones ∙ broken) in
         let split = answered_split (tree_of old) cut late after_reads in
-        let mid = tree_on (tree_of old) cut in
         let placed_mid = removals_placed gone.0 (tree_of old) placed in
         let index = looked site mid commands.Ls (replies.Listed v.listing.0) l.0 tt l.1 (answered_split mid l.0 (a.moves ++ b.moves) split.1).0 in
         let asked = answered_rest mid l.0 (a.moves ++ b.moves) index.1 split.1 in
-        let told = b.tells mid placed_mid (answered_rest mid a.moves b.moves (a.stays mid) asked) in
+        let questions = a.tells (answered_split mid a.moves b.moves asked).0 in
+        let told = b.tells mid placed_mid (answered_rest mid a.moves b.moves questions.1 asked) in
         let leads : tree_of new ≡ tree_on mid b.moves
         = lead.1 ∙ tree_rest (tree_of old) c.0 (r.moves ++ (cut ++ late)) walk.1 ∙ tree_rest (tree_of old) r.moves (cut ++ late) reads.1 ∙ tree_split (tree_of old) cut late
-        ∙ tree_rest mid l.0 (a.moves ++ b.moves) index.1 ∙ tree_rest mid a.moves b.moves (a.stays mid) in
+        ∙ tree_rest mid l.0 (a.moves ++ b.moves) index.1 ∙ tree_rest mid a.moves b.moves questions.1 in
         record {
           holds = holds;
           broken = broken;
           mid = mid;
           removes = subst (λ (hs : List Hash). Removes site.cache hs (tree_of old) mid) same (removed_by site.cache gone.0 (tree_of old) split.0);
-          after = subst (After v.burying.fates mid) (sym leads) told;
+          index = index_lists site mid v.listing.0 v.entries v.listing.1 index.0;
+          absent = v.asking.absent ∙ asks_told site mid v.asking.asks questions.0 ∙ ap (λ l. filter (λ f. not (has_content site.cache mid f)) l) v.asking.each;
+          after = subst (After site home is v.burying.fates mid) (sym leads) told;
         }
 
     -- a key of an entry that is told is that of a fate that was buried
@@ -277,7 +163,7 @@ module _ (site : Site) (home : Names) (is : home_of site.cache ≡ Some home) wh
         let k = map_in (λ (x : Found × Fate). x.0) f (filter (λ (x : Found × Fate). is_buried x.1) v.burying.fates) (kept_in (λ (x : Found × Fate). is_buried x.1) f v.burying.fates b m) in
         (f.0, contains_member f.0 buried (subst (Member f.0) (sym v.burying.which) k), sym e)
 
-    repaired : MendsCache site home (tree_of old) (tree_of new) damaged buried
+    pub repaired : MendsCache site home (tree_of old) (tree_of new) damaged buried
     repaired =
         let d = steps_done in
         let removed = leaves site home (tree_of old) d.mid hashes v.strange (is_good home (tree_of old)) is d.holds d.removes in

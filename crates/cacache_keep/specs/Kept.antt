@@ -1,6 +1,7 @@
 -- What the calls come to on a store in memory.
-use Rattle.std.specs.Prelude.{◌≡◌, ℕ, List, [], ◌∷◌, None, Some, Contains, filter, map, not}
+use Rattle.std.specs.Prelude.{◌≡◌, ℕ, List, [], ◌∷◌, true, None, Some, Contains, filter, map, not}
 use Rattle.cacache_core.specs.declared.integrity.digest.Hash.{Hash}
+use Rattle.cacache_core.specs.Integrity.{address as address_of}
 use Rattle.cacache_core.specs.PathNames.{Names, home_of}
 use Rattle.cacache_store.specs.declared.store.log.LogItem.{LogItem}
 use Rattle.cacache_disk.specs.Tree.{Tree}
@@ -13,7 +14,8 @@ use Rattle.cacache_value.specs.Placed.{Placed}
 use Rattle.cacache_sequence.specs.Caches.{Called}
 use Rattle.cacache_sequence.specs.Looks.{OnlyLooks}
 use Rattle.cacache_walks.specs.Listing.{IsByHash, ListsContents}
-use Rattle.cacache_keep_laws.specs.Contents.{HoldsJust}
+use Rattle.cacache_keep_laws.specs.Contents.{HoldsJust, content_in}
+use Rattle.cacache_keep_laws.specs.Housed.{Housed}
 use Rattle.cacache_keep_laws.specs.Verifying.{Judges, is_good}
 use Rattle.cacache_keep_laws.specs.Collecting.{LeavesLive, LinksLeadOut, ReadsAsBefore}
 use Rattle.cacache_keep_laws.specs.Idle.{LacksIdle, Removed}
@@ -117,6 +119,38 @@ RepairsMend =
     → home_of site.cache ≡ Some home → IsLog new → Placed (Some home) (tree_of old)
     → RepairsCache site damaged dangling (Some old) (Some new)
     → MendsCache site home (tree_of old) (tree_of new) damaged dangling
+
+-- ---- a verification behind a repair
+
+-- where each thing lies in its place, a verification of what a repair left finds no damaged content
+-- and no entry whose content isn't there
+abbrev pub RepairsVerify : Type 0
+RepairsVerify =
+    (site : Site) (home : Names) (damaged broken : List (List Hash)) (hidden dangling : List Found)
+    (good : ℕ) (strange : List (List ℕ)) (old repaired later verified : List LogItem)
+    → home_of site.cache ≡ Some home → IsLog repaired → IsLog verified
+    → Housed (Some home) (tree_of old) → LeavesTree repaired later
+    → RepairsCache site damaged hidden (Some old) (Some repaired)
+    → VerifiesCache site good broken dangling strange (Some later) (Some verified)
+    → (broken ≡ []) × (dangling ≡ [])
+
+-- the key leads to this entry, whose content is good
+pub record LeadsToGood (home : Names) (t : Tree) (key : List ℕ) (found : Found) : Type 0 where
+  pub leads : found_in home t key ≡ Some found
+  pub hash : Hash
+  pub address : address_of found.integrity ≡ Some hash
+  pub good : is_good home t hash ≡ true
+
+-- so it does behind a repair, where each thing lies in its place, and the content is what it was
+abbrev pub RepairsKeepGood : Type 0
+RepairsKeepGood =
+    (site : Site) (home : Names) (damaged : List (List Hash)) (hidden : List Found)
+    (old repaired : List LogItem) (key : List ℕ) (found : Found)
+    → home_of site.cache ≡ Some home → IsLog repaired → Housed (Some home) (tree_of old)
+    → RepairsCache site damaged hidden (Some old) (Some repaired)
+    → (led : LeadsToGood home (tree_of old) key found)
+    → LeadsToGood home (tree_of repaired) key found
+    × (content_in home (tree_of repaired) led.hash ≡ content_in home (tree_of old) led.hash)
 
 -- ---- calls behind a collection
 

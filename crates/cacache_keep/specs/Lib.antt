@@ -5,3 +5,7 @@ pub mod Reading
 pub mod Sweeping
 pub mod Planning
 pub mod Repairing
+pub mod Lines
+pub mod Buckets
+pub mod Rewriting
+pub mod Compacting

@@ -24,7 +24,8 @@ pub struct Collected {
 ///
 /// A folder of the index that isn't there has no items, so every content is removed then; a link in
 /// its place that leads to nothing is an `IoError`. Collect a cache while nobody writes to it: a
-/// content is stored before its entry.
+/// content is stored before its entry. It asks no content for its size: `plan`, called before it, tells the bytes of
+/// each that it will remove.
 ///
 /// Errors are those of `content::read::list`, and the first error among the items of the index, both
 /// before anything is removed. A removal that failed ends the call, and those before it stay done.

@@ -1,6 +1,6 @@
 //! What `list`, `verify`, `collect`, `plan`, `sweep` and `repair` come to on a store in memory.
 ghost use Rattle.cacache_memory.specs.Replay.{IsLog};
-ghost use Rattle.cacache_keep.specs.Kept.{CachesAreSwept, CollectionsLackIdle, CollectionsLeave, LaterReadsStay, ListsHold, PlansForetell, PlansLeave, RepairsMend, VerdictsJudge};
+ghost use Rattle.cacache_keep.specs.Kept.{CachesAreSwept, CollectionsLackIdle, CollectionsLeave, LaterReadsStay, ListsHold, PlansForetell, PlansLeave, RepairsKeepGood, RepairsMend, RepairsVerify, VerdictsJudge};
 
 use cacache_memory::MemStore;
 
@@ -8,7 +8,8 @@ use cacache_memory::MemStore;
 /// before: a listing lists what the cache holds. A verification counts the contents whose bytes meet
 /// their address, and names the others. A collection leaves the contents that an entry has, and a plan
 /// tells which it drops. A sweep leaves all but the temporary files. A repair leaves the good
-/// contents and the keys that lead to one, where nothing strange lies in the cache's folder.
+/// contents and the keys that lead to one, where nothing strange lies in the cache's folder. Where also each
+/// entry lies in its key's bucket, a verification behind it finds no damaged content and no entry without one.
 ///
 /// If links lead out of the cache, lookups and reads by key answer up to the next insertion as they
 /// might have without the collection: calls that look may come in between, and removals that are
@@ -30,6 +31,8 @@ pub fn keep_laws(store: &MemStore)
     ensures plans { PlansForetell }
     ensures sweeps { CachesAreSwept }
     ensures repairs { RepairsMend }
+    ensures verified { RepairsVerify }
+    ensures good { RepairsKeepGood }
 {
     let _log = store.log();
 }

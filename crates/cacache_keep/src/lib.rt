@@ -2,20 +2,25 @@
 #![tactic(auto)]
 
 mod asking;
+mod buckets;
 mod burying;
 mod choosing;
 mod collecting;
+mod compacting;
 mod index;
 mod laws;
+mod lines;
 mod live;
 mod planning;
 mod reading;
 mod removing;
 mod repairing;
+mod rewriting;
 mod sweeping;
 mod verifying;
 
 pub use collecting::{Collected, collect};
+pub use compacting::{Compacted, compact};
 pub use laws::keep_laws;
 pub use planning::{Planned, Unused, plan};
 pub use repairing::{Repaired, repair};

@@ -39,8 +39,13 @@ struct Parts {
     strange: Vec<String>,
 }
 
-/// The names in a folder; one that isn't there has none.
-fn names_in<S: Store>(alloc: Global, store: &mut S, folder: &str) -> Result<Vec<Name>>
+/// The names in a folder of these things; one that isn't there has none.
+pub(crate) fn names_in<S: Store>(
+    alloc: Global,
+    store: &mut S,
+    folder: &str,
+    things: &str,
+) -> Result<Vec<Name>>
     ensures lists { IfOk result
         (λ names. ListsFolder folder.now names.items (S.log store.old) (S.log store.new)) }
     ensures stops { IfErr result (λ e. (is_gone e ≡ false)
@@ -53,14 +58,14 @@ fn names_in<S: Store>(alloc: Global, store: &mut S, folder: &str) -> Result<Vec<
             if says_gone(refusal) {
                 return Ok(Vec::new(alloc));
             }
-            Err(refused(refusal, unlisted(alloc, folder)))
+            Err(refused(refusal, unlisted(alloc, folder, things)))
         }
     }
 }
 
 /// The folder couldn't be listed.
-fn unlisted(alloc: Global, folder: &str) -> std::result::Result<Text, AllocError> {
-    Ok(Text::new(format!(in alloc; "Failed to list temporary files in {folder}")?))
+fn unlisted(alloc: Global, folder: &str, things: &str) -> std::result::Result<Text, AllocError> {
+    Ok(Text::new(format!(in alloc; "Failed to list {things} in {folder}")?))
 }
 
 /// Whether what stands in the folder of temporary files is one: a file whose name begins with `.tmp`.
@@ -151,7 +156,7 @@ pub fn sweep<S: Store, C: Clock, N: Names>(env: &mut Env<S, C, N>, cache: &str) 
 {
     let alloc = env.alloc;
     let folder = join(alloc, cache, TEMP_AREA)?;
-    let names = names_in(alloc, &mut env.store, folder.as_str())?;
+    let names = names_in(alloc, &mut env.store, folder.as_str(), "temporary files")?;
     let Parts { files, strange } = tell_apart(alloc, folder.as_str(), names)?;
     let bytes = remove_files(alloc, &mut env.store, folder.as_str(), files.as_slice())?;
     let files = files.len() as u64;

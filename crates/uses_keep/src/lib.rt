@@ -13,6 +13,7 @@ ghost use Rattle.cacache_value.specs.Placed.{Placed};
 ghost use Rattle.cacache_jobs.specs.Sites.{site_of};
 ghost use Rattle.cacache_keep_laws.specs.Answers.{AnswersOn};
 ghost use Rattle.cacache_keep_laws.specs.Collecting.{LeavesLive, LinksLeadOut};
+ghost use Rattle.cacache_keep_laws.specs.Housed.{Housed};
 ghost use Rattle.cacache_keep_laws.specs.Idle.{Removed};
 ghost use Rattle.cacache_keep_laws.specs.Temporary.{LeavesUntemporary};
 ghost use Rattle.cacache_keep_laws.specs.Verifying.{Judges};
@@ -138,4 +139,21 @@ pub fn repaired<C: Clock, N: Names>(env: &mut Env<MemStore, C, N>, cache: &str) 
     let repaired = repair(env, cache)?;
     keep_laws(&env.store);
     Ok(repaired)
+}
+
+/// Repairs a cache in memory where each thing lies in its place, and verifies it: no content is damaged then, and no entry
+/// lacks its content.
+pub fn repaired_whole<C: Clock, N: Names>(
+    env: &mut Env<MemStore, C, N>,
+    cache: &str,
+) -> Result<Verdict>
+    ensures { (home : PathNames) → home_of cache.now ≡ Some home
+        → Housed (Some home) (tree_of env.old.store) → IfOk result (λ v.
+        (v.damaged.items ≡ []) × (map found_view v.dangling.items ≡ [])) }
+{
+    let_go(repair(env, cache)?);
+    keep_laws(&env.store);
+    let after = verify(env, cache)?;
+    keep_laws(&env.store);
+    Ok(after)
 }

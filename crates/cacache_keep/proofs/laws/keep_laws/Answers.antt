@@ -3,6 +3,7 @@ use Rattle.cacache_keep.proofs.Leaving.{collections_lack_idle, collections_leave
 use Rattle.cacache_keep.proofs.Mends.{repairs_mend}
 use Rattle.cacache_keep.proofs.SweptCaches.{caches_are_swept}
 use Rattle.cacache_keep.proofs.Verdicts.{lists_hold, verdicts_judge}
+use Rattle.cacache_keep.proofs.Whole.{repairs_keep_good, repairs_verify}
 use Rattle.cacache_keep.proofs.laws.keep_laws.Goals as goal
 
 pub returns-clause-lists : goal.returns-clause-lists
@@ -31,3 +32,9 @@ returns-clause-sweeps c = caches_are_swept
 
 pub returns-clause-repairs : goal.returns-clause-repairs
 returns-clause-repairs c = repairs_mend
+
+pub returns-clause-verified : goal.returns-clause-verified
+returns-clause-verified c = repairs_verify
+
+pub returns-clause-good : goal.returns-clause-good
+returns-clause-good c = repairs_keep_good

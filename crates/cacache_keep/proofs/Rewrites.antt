@@ -1,0 +1,131 @@
+-- A file that is written anew, step by step, and why that ends.
+use Rattle.std.proofs.Common.{◌≡◌, ℕ, List, [], ◌∷◌, ◌++◌, drop, Option, Result, Ok, Err, IfErr, inl, inr, refl, sym, ap, subst}
+use Rattle.cacache_core.specs.declared.errors.Error.{Error}
+use Rattle.cacache_core.specs.declared.errors.Error.TheVariants.{OutOfMemory}
+use Rattle.cacache_core.specs.declared.errors.Fault.TheVariants as faults
+use Rattle.cacache_store.specs.declared.store.answer.Answer.TheVariants as answers
+use Rattle.cacache_store.specs.declared.store.log.LogItem.{LogItem}
+use Rattle.cacache_store.specs.declared.store.plain.PlainTemp.{PlainTemp}
+use Rattle.cacache_store.specs.declared.store.step.Step.TheVariants as steps
+use Rattle.cacache_store.specs.Fits.{Fits, Logs}
+use Rattle.cacache_store.specs.Plain.{PlainStep, PlainAnswer}
+use Rattle.cacache_table.specs.declared.answers.Refusal.{Refusal}
+use Rattle.cacache_table.specs.declared.answers.Refusal.TheVariants as refusals
+use Rattle.cacache_table.specs.Answers.{bytes_in, done_in, temp_in, written_in}
+use Rattle.cacache_table.specs.Common.{fails, refuse}
+use Rattle.cacache_table.specs.Runs.{EndsAs, Moves}
+use Rattle.cacache_table.specs.SingleSteps.{Does, FailsAt}
+use Rattle.cacache_table.proofs.Going.{no_gain}
+use Rattle.cacache_keep_laws.proofs.Logged.{gains_join}
+use Rattle.cacache_jobs.specs.Brought.{Brings, EndsRefused}
+use Rattle.cacache_keep.specs.Rewriting.{StopsWriting, Takes, Took}
+use Rattle.cacache_keep.proofs.Sweeps.{Refuses, step_fails}
+
+-- ---- a step that was refused
+
+pub folder_refused : (path : List ℕ) (t : PlainAnswer) (refusal : Refusal) → Err refusal ≡ done_in t → Fits (steps.MakeDirs path) t → Refuses t refusal
+folder_refused path (answers.Failed fault) refusal is fits = cc
+folder_refused path (answers.NoMemory b) refusal is fits = cc
+folder_refused path answers.Done refusal is fits = absurd cc
+folder_refused path t refusal is fits = absurd fits
+
+pub move_refused : (file : PlainTemp) (path : List ℕ) (t : PlainAnswer) (refusal : Refusal) → Err refusal ≡ done_in t → Fits (steps.Persist file path) t → Refuses t refusal
+move_refused file path (answers.Failed fault) refusal is fits = cc
+move_refused file path (answers.NoMemory b) refusal is fits = cc
+move_refused file path answers.Done refusal is fits = absurd cc
+move_refused file path t refusal is fits = absurd fits
+
+pub read_refused : (path : List ℕ) (t : PlainAnswer) (refusal : Refusal) → Err refusal ≡ bytes_in t → Fits (steps.ReadAll path) t → Refuses t refusal
+read_refused path (answers.Failed fault) refusal is fits = cc
+read_refused path (answers.NoMemory b) refusal is fits = cc
+read_refused path (answers.Bytes b) refusal is fits = absurd cc
+read_refused path t refusal is fits = absurd fits
+
+pub making_refused : (path : List ℕ) (t : PlainAnswer) (refusal : Refusal) → temp_in t ≡ Err refusal → Fits (steps.CreateTemp path) t → Refuses t refusal
+making_refused path (answers.Failed fault) refusal is fits = cc
+making_refused path (answers.NoMemory b) refusal is fits = cc
+making_refused path (answers.Temp file) refusal is fits = absurd cc
+making_refused path t refusal is fits = absurd fits
+
+pub write_refused : (file : PlainTemp) (bytes : List ℕ) (t : PlainAnswer) (refusal : Refusal) → Err refusal ≡ written_in t → Fits (steps.Write file bytes) t → Refuses t refusal
+write_refused file bytes (answers.Failed fault) refusal is fits = cc
+write_refused file bytes (answers.NoMemory b) refusal is fits = cc
+write_refused file bytes (answers.Wrote g n) refusal is fits = absurd cc
+write_refused file bytes t refusal is fits = absurd fits
+
+-- ---- a step that was done
+
+pub was_done : (a : PlainStep) (t : PlainAnswer) (u : Unit {0}) (old new : Option (List LogItem)) → Ok u ≡ done_in t → Logs old new a t → Does a answers.Done old new
+was_done a answers.Done u old new is logs = logs
+was_done a t u old new is logs = absurd cc
+
+pub was_read : (a : PlainStep) (t : PlainAnswer) (bytes : List ℕ) (old new : Option (List LogItem)) → Ok bytes ≡ bytes_in t → Logs old new a t → Does a (answers.Bytes bytes) old new
+was_read a (answers.Bytes b) bytes old new is logs = let same : b ≡ bytes = cc in rw same at logs
+was_read a t bytes old new is logs = absurd cc
+
+pub was_made : (a : PlainStep) (t : PlainAnswer) (file : PlainTemp) (old new : Option (List LogItem)) → temp_in t ≡ Ok file → Logs old new a t → Does a (answers.Temp file) old new
+was_made a (answers.Temp f) file old new is logs = let same : f ≡ file = cc in rw same at logs
+was_made a t file old new is logs = absurd cc
+
+-- ---- writes
+
+takes_on : (file last g : PlainTemp) (n : ℕ) (moves : Moves) (bytes rest : List ℕ) → Takes file bytes moves last rest → Takes file bytes (moves ++ (steps.Write last rest, answers.Wrote g n) ∷ []) g (drop n rest)
+takes_on file last g n [] bytes rest h = (h.0, h.1, (refl, ap (drop n) h.1))
+takes_on file last g n ((steps.Write f b, answers.Wrote k m) ∷ moves) bytes rest h = (h.0, h.1, takes_on k last g n moves (drop m bytes) rest h.2)
+takes_on file last g n moves bytes rest h = absurd h
+
+pub took_none : (file : PlainTemp) (bytes : List ℕ) (log : Option (List LogItem)) → Took file bytes file bytes log log
+took_none file bytes log = ([], (refl, refl), no_gain log)
+
+-- what a write brought
+abbrev wrote_ok : PlainTemp × ℕ → Result (PlainTemp × ℕ) Refusal
+wrote_ok x = Ok x
+
+same_wrote : (x y : PlainTemp × ℕ) → wrote_ok x ≡ wrote_ok y → x ≡ y
+same_wrote x y e = cc
+
+pub was_written : (a : PlainStep) (t : PlainAnswer) (g : PlainTemp) (n : ℕ) (old new : Option (List LogItem)) → Ok (g, n) ≡ written_in t → Logs old new a t → Does a (answers.Wrote g n) old new
+was_written a (answers.Wrote k m) g n old new is logs =
+    let same = same_wrote (g, n) (k, m) is in
+    let file_is : k ≡ g = sym (ap (λ (x : PlainTemp × ℕ). x.0) same) in
+    let count_is : m ≡ n = sym (ap (λ (x : PlainTemp × ℕ). x.1) same) in
+    rw (file_is, count_is) at logs
+was_written a t g n old new is logs = absurd cc
+
+-- one write more
+pub took_more : (file last g : PlainTemp) (bytes rest : List ℕ) (n : ℕ) (old mid new : Option (List LogItem)) → Took file bytes last rest old mid → Does (steps.Write last rest) (answers.Wrote g n) mid new → Took file bytes g (drop n rest) old new
+took_more file last g bytes rest n old mid new h does =
+    (h.0 ++ (steps.Write last rest, answers.Wrote g n) ∷ [], takes_on file last g n h.0 bytes rest h.1, gains_join old mid new h.0 ((steps.Write last rest, answers.Wrote g n) ∷ []) h.2 does)
+
+module _ (file last g : PlainTemp) (bytes rest shared : List ℕ) (t : PlainAnswer) (old mid new : Option (List LogItem)) (h : Took file bytes last rest old mid) (same : shared ≡ rest) (logs : Logs mid new (steps.Write last shared) t) where
+  brought : (n : ℕ) → Ok (g, n) ≡ written_in t → Does (steps.Write last rest) (answers.Wrote g n) mid new
+  brought n is = subst (λ (b : List ℕ). Does (steps.Write last b) (answers.Wrote g n) mid new) same (was_written (steps.Write last shared) t g n mid new is logs)
+
+  -- a write that took some of the bytes
+  pub write_more : (n : ℕ) (left : List ℕ) → Ok (g, n) ≡ written_in t → left ≡ drop n rest → Took file bytes g left old new
+  write_more n left is leaves = subst (λ (l : List ℕ). Took file bytes g l old new) (sym leaves) (took_more file last g bytes rest n old mid new h (brought n is))
+
+  -- one that took none
+  pub write_none : (n : ℕ) (e : Error) → Ok (g, n) ≡ written_in t → n ≡ 0 → EndsAs e (fails faults.WriteZero) → StopsWriting file bytes e old new
+  write_none n e is none ends = (last, rest, mid, h, inr (g, subst (λ (k : ℕ). Does (steps.Write last rest) (answers.Wrote g k) mid new) none (brought n is), ends))
+
+-- one that was refused
+pub write_stops : (file last : PlainTemp) (bytes rest shared : List ℕ) (t : PlainAnswer) (refusal : Refusal) (e : Error) (old mid new : Option (List LogItem)) → Took file bytes last rest old mid → shared ≡ rest → Err refusal ≡ written_in t → Fits (steps.Write last shared) t → Logs mid new (steps.Write last shared) t
+    → EndsAs e (refuse refusal fails) → StopsWriting file bytes e old new
+write_stops file last bytes rest shared t refusal e old mid new h same is fits logs ends =
+    (last, rest, mid, h, inl (subst (λ (b : List ℕ). FailsAt (steps.Write last b) e mid new) same (step_fails (steps.Write last shared) t refusal e mid new (write_refused last shared t refusal is fits) logs ends)))
+
+-- memory ran out before one
+pub write_lost : (file last : PlainTemp) (bytes rest : List ℕ) (old mid : Option (List LogItem)) → Took file bytes last rest old mid → StopsWriting file bytes OutOfMemory old mid
+write_lost file last bytes rest old mid h = (last, rest, mid, h, inl (inl refl))
+
+-- ---- a temporary file that was to be made
+
+made_stops : (path : List ℕ) (t : PlainAnswer) (r : Result PlainTemp Refusal) (e : Error) (old new : Option (List LogItem)) → temp_in t ≡ r → EndsRefused r e → Fits (steps.CreateTemp path) t → Logs old new (steps.CreateTemp path) t → FailsAt (steps.CreateTemp path) e old new
+made_stops path t (Ok file) e old new is ends fits logs = absurd ends
+made_stops path t (Err refusal) e old new is ends fits logs = step_fails (steps.CreateTemp path) t refusal e old new (making_refused path t refusal is fits) logs ends
+
+pub brings_stops : {X : Type 0} (seen : X → PlainTemp) (path : List ℕ) (t : PlainAnswer) (r : Result X Error) (old new : Option (List LogItem)) → Brings seen (temp_in t) r → Fits (steps.CreateTemp path) t → Logs old new (steps.CreateTemp path) t
+    → IfErr r (λ e. FailsAt (steps.CreateTemp path) e old new)
+brings_stops seen path t (Ok x) old new brings fits logs = tt
+brings_stops seen path t (Err e) old new brings fits logs = made_stops path t (temp_in t) e old new refl brings fits logs

@@ -1,0 +1,128 @@
+//! A file that is written anew: a temporary file is moved over it.
+ghost use Rattle.std.specs.Prelude.{◌≡◌, [], IfOk, IfErr, OnOk};
+ghost use Rattle.cacache_store.specs.declared.store.answer.Answer.TheVariants as answers;
+ghost use Rattle.cacache_store.specs.declared.store.step.Step.TheVariants as steps;
+ghost use Rattle.cacache_table.specs.SingleSteps.{Does, FailsAt};
+ghost use Rattle.cacache_table.specs.StepPaths.{temp_folder as temp_folder_of, temp_path as temp_path_of};
+ghost use Rattle.cacache_keep.specs.Rewriting.{MakesTemp, Rewrites, StopsMaking, StopsRewriting, StopsWriting, Took};
+
+use cacache_core::bytes::Bytes;
+use cacache_core::errors::{Fault, Result};
+use cacache_core::text::Text;
+use cacache_jobs::{made_temp, messages, refused, temp_folder, temp_path};
+use cacache_store::store::{Step, Store};
+use cacache_table::Refusal;
+use cacache_table::answers::{Written, done_of, written_of};
+use std::alloc::{AllocError, Global};
+
+/// Makes the folder of temporary files.
+fn make_folder<S: Store>(alloc: Global, store: &mut S, cache: &str) -> Result<()>
+    ensures makes { OnOk result (Does (steps.MakeDirs (temp_folder_of cache.now)) answers.Done
+        (S.log store.old) (S.log store.new)) }
+    ensures stops { IfErr result (λ e. FailsAt (steps.MakeDirs (temp_folder_of cache.now)) e
+        (S.log store.old) (S.log store.new)) }
+{
+    let folder = temp_folder(alloc, cache)?;
+    match done_of(store.step(Step::MakeDirs(folder))) {
+        Ok(()) => Ok(()),
+        Err(refusal) => Err(refused(refusal, messages::making_temps(alloc, cache))),
+    }
+}
+
+/// Makes a temporary file there.
+fn make_file<S: Store>(alloc: Global, store: &mut S, cache: &str, number: u64) -> Result<S::Temp>
+    ensures makes { IfOk result (λ file. Does (steps.CreateTemp (temp_path_of cache.now number))
+        (answers.Temp (S.Temp.seen file)) (S.log store.old) (S.log store.new)) }
+    ensures stops { IfErr result (λ e. FailsAt (steps.CreateTemp (temp_path_of cache.now number)) e
+        (S.log store.old) (S.log store.new)) }
+{
+    let path = temp_path(alloc, cache, number)?;
+    made_temp(alloc, cache, store.step(Step::CreateTemp(path)))
+}
+
+/// Makes both.
+fn make_temp<S: Store>(alloc: Global, store: &mut S, cache: &str, number: u64) -> Result<S::Temp>
+    ensures makes { IfOk result (λ file. MakesTemp cache.now (S.Temp.seen file)
+        (S.log store.old) (S.log store.new)) }
+    ensures stops { IfErr result
+        (λ e. StopsMaking cache.now e (S.log store.old) (S.log store.new)) }
+{
+    match make_folder(alloc, store, cache) {
+        Ok(()) => make_file(alloc, store, cache, number),
+        Err(error) => Err(error),
+    }
+}
+
+/// The file wasn't written anew.
+fn unwritten(alloc: Global, path: &Text) -> std::result::Result<Text, AllocError> {
+    Ok(Text::new(format!(in alloc; "Failed to write bucket {path} anew")?))
+}
+
+/// Writes the bytes to the temporary file, in as many writes as that takes.
+fn write_all<S: Store>(
+    alloc: Global,
+    store: &mut S,
+    path: &Text,
+    file: S::Temp,
+    bytes: Bytes,
+) -> Result<S::Temp>
+    ensures writes { IfOk result (λ full. Took (S.Temp.seen file) bytes (S.Temp.seen full) []
+        (S.log store.old) (S.log store.new)) }
+    ensures stops { IfErr result
+        (λ e. StopsWriting (S.Temp.seen file) bytes e (S.log store.old) (S.log store.new)) }
+{
+    let mut file = file;
+    let mut rest = bytes;
+    'writes: loop {
+        if rest.is_empty() {
+            return Ok(file);
+        }
+        let shared = rest.share()?;
+        match written_of(store.step(Step::Write(file, shared))) {
+            Ok(written) => {
+                let Written { file: next, count } = written;
+                if count == 0 {
+                    let refusal = Refusal::Fault(Fault::WriteZero);
+                    return Err(refused(refusal, unwritten(alloc, path)));
+                }
+                rest = rest.rest(count);
+                file = next;
+            }
+            Err(refusal) => return Err(refused(refusal, unwritten(alloc, path))),
+        }
+    }
+}
+
+/// Moves the temporary file to the path.
+fn move_to<S: Store>(alloc: Global, store: &mut S, file: S::Temp, path: &Text) -> Result<()>
+    ensures moves { OnOk result (Does (steps.Persist (S.Temp.seen file) path.now) answers.Done
+        (S.log store.old) (S.log store.new)) }
+    ensures stops { IfErr result (λ e. FailsAt (steps.Persist (S.Temp.seen file) path.now) e
+        (S.log store.old) (S.log store.new)) }
+{
+    let place = path.clone()?;
+    match done_of(store.step(Step::Persist(file, place))) {
+        Ok(()) => Ok(()),
+        Err(refusal) => Err(refused(refusal, unwritten(alloc, path))),
+    }
+}
+
+/// Writes the bytes to a temporary file of this number and moves that to the path. A file there is
+/// whole at any time: it has its old bytes, or these.
+pub(crate) fn rewrite<S: Store>(
+    alloc: Global,
+    store: &mut S,
+    cache: &str,
+    number: u64,
+    path: &Text,
+    bytes: Bytes,
+) -> Result<()>
+    ensures rewrites { OnOk result
+        (Rewrites cache.now path.now bytes (S.log store.old) (S.log store.new)) }
+    ensures stops { IfErr result
+        (λ e. StopsRewriting cache.now path.now bytes e (S.log store.old) (S.log store.new)) }
+{
+    let file = make_temp(alloc, store, cache, number)?;
+    let file = write_all(alloc, store, path, file, bytes)?;
+    move_to(alloc, store, file, path)
+}
