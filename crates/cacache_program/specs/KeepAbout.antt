@@ -10,6 +10,8 @@ abbrev pub words_text : List ℕ
 words_text =
     codes "  verify CACHE   counts good and damaged contents, entries without one, and other files;\n"
     ++ codes "                 the status is 3 if there are any but good contents\n"
+    ++ codes "  verify --list CACHE\n"
+    ++ codes "                 the same, and behind it a line for each but the good contents, which names it\n"
     ++ codes "  collect CACHE  removes the contents that no entry has, and counts the kept and the dropped\n"
     ++ codes "  plan CACHE     counts what collect would keep and drop, and changes nothing\n"
     ++ codes "  sweep CACHE    removes temporary files, and counts them, their bytes, and other files there\n"

@@ -12,6 +12,7 @@ pub mod WordStorm
 pub mod Lines
 pub mod KeepWords
 pub mod WordVerify
+pub mod WordList
 pub mod WordCollect
 pub mod KeepAbout
 pub mod WordPlan

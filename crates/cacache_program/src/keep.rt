@@ -1,9 +1,11 @@
 //! What the program `cacache-keep` does with its words and its streams.
 //!
 //! - `about`: what the program says of itself
+//! - `naming`: the list of what a verification found
 //! - `output`: what goes to the output
 //! - `program`: what the program does with its words
 mod about;
+mod naming;
 mod output;
 mod program;
 

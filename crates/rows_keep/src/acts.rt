@@ -2,8 +2,10 @@
 use crate::stuck::{Kind, Stuck};
 use cacache::env::{Clock, Env, Names, Reasons};
 use cacache::store::Store;
-use cacache::{Integrity, Result as Answered};
-use cacache_keep::{Planned, Repaired, Swept, Unused, plan, repair, sweep};
+use cacache::{Integrity, Result as Answered, WriteOpts};
+use cacache_keep::{
+    Collected, Compacted, Planned, Repaired, Swept, Unused, collect, compact, plan, repair, sweep,
+};
 use cacache_program::keep::{run, said};
 use cacache_program::{Errors, asks_why, tell};
 use row_places::planting::{plant, plant_link};
@@ -91,12 +93,45 @@ fn planned<S: Store>(env: &mut On<S>, cache: &str) -> Answered<Result<String, Al
     Ok(Ok(line))
 }
 
+/// What a collection tells.
+fn collected<S: Store>(env: &mut On<S>, cache: &str) -> Answered<Result<String, AllocError>> {
+    let alloc = env.alloc;
+    let Collected { kept, dropped } = collect(env, cache)?;
+    let mut line = format!(in alloc; "kept {kept}")?;
+    for address in &dropped {
+        line.push_str(format!(in alloc; " dropped {address}")?.as_str())?;
+    }
+    Ok(Ok(line))
+}
+
 /// What a repair tells.
 fn repaired<S: Store>(env: &mut On<S>, cache: &str) -> Answered<Result<String, AllocError>> {
     let alloc = env.alloc;
     let Repaired { damaged, dangling } = repair(env, cache)?;
     let (contents, keys) = (damaged.len(), dangling.len());
     Ok(format!(in alloc; "damaged {contents} dangling {keys}"))
+}
+
+/// What a compaction tells.
+fn compacted<S: Store>(env: &mut On<S>, cache: &str) -> Answered<Result<String, AllocError>> {
+    let alloc = env.alloc;
+    let Compacted { buckets, bytes } = compact(env, cache)?;
+    Ok(format!(in alloc; "buckets {buckets} bytes {bytes}"))
+}
+
+/// The text of what a key leads to.
+fn read<S: Store>(env: &mut On<S>, cache: &str, key: &str) -> Answered<Result<String, AllocError>> {
+    let alloc = env.alloc;
+    let bytes = cacache::read_sync(env, cache, key)?;
+    Ok(written_out(alloc, word_of(&bytes)))
+}
+
+/// Writes bytes of which another size is expected: the key, and the size.
+fn sized<S: Store>(env: &mut On<S>, cache: &str, words: &str, bytes: &[u8]) -> Answered<Integrity> {
+    let (key, size) = cut(words);
+    let opts = WriteOpts::new().size(size.parse::<usize>().unwrap_or(0));
+    let writer = opts.open_sync(env, cache, key)?;
+    writer.write_or_abandon(env, bytes)?.commit(env)
 }
 
 /// Removes a content by the text of its integrity.
@@ -123,6 +158,10 @@ fn acted<S: Reasons>(env: &mut On<S>, act: &str, input: &str) -> Result<String, 
         "sweep" => listed(alloc, swept(env, cache)),
         "plan" => listed(alloc, planned(env, cache)),
         "repair" => listed(alloc, repaired(env, cache)),
+        "collect" => listed(alloc, collected(env, cache)),
+        "compact" => listed(alloc, compacted(env, cache)),
+        "read_sync" => listed(alloc, read(env, cache, rest)),
+        "sized" => told(alloc, sized(env, cache, rest, &bytes)),
         "cacache-keep" => ran(env, words),
         _ => return Err(Flaw::NotRead),
     };

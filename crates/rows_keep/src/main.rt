@@ -3,8 +3,9 @@
 //!
 //!     ACT | INPUT | RESULT
 //!
-//! An act is a call with its cache and its key or integrity; or the words of the program; or what somebody else does: `plant` makes the file at a path anew with the input, and `link`
-//! puts a link to a target in its place, each with the folders above it. The result of the program is its status, its output
+//! An act is a call with its cache and its key or integrity; or the words of the program; or what somebody else does: `plant`
+//! makes the file at a path anew with the input, and `link` puts a link to a target in its place, each with the folders above it.
+//! `sized` writes the input where so many bytes are expected. The result of the program is its status, its output
 //! and its errors. Behind `stuck` and a kind of step (`remove`, `size`, `list`, `open`, `append`) an act is made over a store
 //! where these steps fail.
 //!

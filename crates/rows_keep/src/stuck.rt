@@ -16,6 +16,11 @@ pub(crate) enum Kind {
     List,
     Open,
     Append,
+    Read,
+    Make,
+    Create,
+    Write,
+    Persist,
 }
 
 impl Kind {
@@ -27,6 +32,11 @@ impl Kind {
             "list" => Some(Kind::List),
             "open" => Some(Kind::Open),
             "append" => Some(Kind::Append),
+            "read" => Some(Kind::Read),
+            "make" => Some(Kind::Make),
+            "create" => Some(Kind::Create),
+            "write" => Some(Kind::Write),
+            "persist" => Some(Kind::Persist),
             _ => None,
         }
     }
@@ -39,6 +49,11 @@ impl Kind {
             Step::ReadDir(_) => matches!(self, Kind::List),
             Step::Open(_) => matches!(self, Kind::Open),
             Step::Append(_, _) => matches!(self, Kind::Append),
+            Step::ReadAll(_) => matches!(self, Kind::Read),
+            Step::MakeDirs(_) => matches!(self, Kind::Make),
+            Step::CreateTemp(_) => matches!(self, Kind::Create),
+            Step::Write(_, _) => matches!(self, Kind::Write),
+            Step::Persist(_, _) => matches!(self, Kind::Persist),
             _ => false,
         }
     }

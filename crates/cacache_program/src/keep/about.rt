@@ -11,6 +11,8 @@ pub const USAGE: &str = "usage: cacache-keep verify|collect|plan|sweep|repair CA
 pub const HELP: &str = "usage: cacache-keep verify|collect|plan|sweep|repair CACHE
   verify CACHE   counts good and damaged contents, entries without one, and other files;
                  the status is 3 if there are any but good contents
+  verify --list CACHE
+                 the same, and behind it a line for each but the good contents, which names it
   collect CACHE  removes the contents that no entry has, and counts the kept and the dropped
   plan CACHE     counts what collect would keep and drop, and changes nothing
   sweep CACHE    removes temporary files, and counts them, their bytes, and other files there

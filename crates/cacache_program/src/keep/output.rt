@@ -15,7 +15,7 @@ use std::alloc::{AllocError, Global};
 use std::io::Write;
 
 /// What is printed of a verification.
-fn verdict_text(alloc: Global, verdict: &Verdict) -> Result<String, AllocError>
+pub(crate) fn verdict_text(alloc: Global, verdict: &Verdict) -> Result<String, AllocError>
     ensures { IfOk result (λ text. string_bytes text ≡ text_of_verdict verdict.now.good
         (length verdict.now.damaged.items) (length verdict.now.dangling.items)
         (length verdict.now.strange.items)) }
@@ -26,7 +26,7 @@ fn verdict_text(alloc: Global, verdict: &Verdict) -> Result<String, AllocError>
 }
 
 /// The status of a verification: 0 where all is good, else 3.
-fn status_of(verdict: &Verdict) -> u8
+pub(crate) fn status_of(verdict: &Verdict) -> u8
     ensures status { result ≡ verdict_status (length verdict.now.damaged.items)
         (length verdict.now.dangling.items) (length verdict.now.strange.items) }
     ensures known { (result ≡ 0) ⊎ (result ≡ 3) }

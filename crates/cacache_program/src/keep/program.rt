@@ -1,8 +1,9 @@
 //! What the program does with its words.
 ghost use Rattle.std.specs.Prelude.{◌≡◌, ◌≢◌, ◌≤◌, codes};
-ghost use Rattle.cacache_program.specs.Words.{Unkeyed, asked_of};
+ghost use Rattle.cacache_program.specs.Words.{Keyed, Unkeyed, asked_of};
 ghost use Rattle.cacache_program.specs.KeepWords.{IsWrong};
 ghost use Rattle.cacache_program.specs.WordVerify.{Verifies};
+ghost use Rattle.cacache_program.specs.WordList.{ListsVerdict};
 ghost use Rattle.cacache_program.specs.WordCollect.{CollectsUnused};
 ghost use Rattle.cacache_program.specs.WordPlan.{Plans};
 ghost use Rattle.cacache_program.specs.WordRepair.{Repairs};
@@ -10,6 +11,7 @@ ghost use Rattle.cacache_program.specs.WordSweep.{Sweeps};
 
 use crate::errors::{Errors, tell_failed_call, tell_misuse};
 use crate::keep::about::USAGE;
+use crate::keep::naming::print_list;
 use crate::keep::output::{
     print_collected, print_planned, print_repaired, print_swept, print_verdict,
 };
@@ -32,6 +34,24 @@ fn verify_and_print<S: Reasons, C: Clock, N: Names, W: Write, E: Write>(
 {
     match verify(env, cache) {
         Ok(verdict) => print_verdict(env.alloc, &verdict, output, errors),
+        Err(error) => tell_failed_call(errors, &error, env.store.reason()),
+    }
+}
+
+/// Verifies the cache, and prints the same counts, and behind them a line for each of what isn't a good content.
+fn verify_and_list<S: Reasons, C: Clock, N: Names, W: Write, E: Write>(
+    env: &mut Env<S, C, N>,
+    cache: &str,
+    output: &mut W,
+    errors: &mut Errors<E>,
+) -> u8
+    ensures does { ListsVerdict S.log cache.now env.old env.new
+        (W.contents output.old) (W.contents output.new) result }
+    ensures status { (result ≤ 3) × (result ≢ 2) }
+    ensures quiet { result ≡ 0 → errors.new ≡ errors.old }
+{
+    match verify(env, cache) {
+        Ok(verdict) => print_list(env.alloc, verdict, output, errors),
         Err(error) => tell_failed_call(errors, &error, env.store.reason()),
     }
 }
@@ -119,6 +139,9 @@ pub fn run<S: Reasons, C: Clock, N: Names, W: Write, E: Write>(
     ensures verifies { Unkeyed (asked_of words.now) (codes "verify") (λ cache.
         Verifies S.log cache env.old env.new
         (W.contents output.old) (W.contents output.new) result) }
+    ensures lists { Keyed (asked_of words.now) (codes "verify") (λ word cache.
+        word ≡ codes "--list" → ListsVerdict S.log cache env.old env.new
+        (W.contents output.old) (W.contents output.new) result) }
     ensures collects { Unkeyed (asked_of words.now) (codes "collect") (λ cache.
         CollectsUnused S.log cache env.old env.new
         (W.contents output.old) (W.contents output.new) result) }
@@ -134,6 +157,7 @@ pub fn run<S: Reasons, C: Clock, N: Names, W: Write, E: Write>(
 {
     match parse_words(words) {
         ("verify", cache, None) => verify_and_print(env, cache, output, errors),
+        ("verify", "--list", Some(cache)) => verify_and_list(env, cache, output, errors),
         ("collect", cache, None) => collect_and_print(env, cache, output, errors),
         ("plan", cache, None) => plan_and_print(env, cache, output, errors),
         ("sweep", cache, None) => sweep_and_print(env, cache, output, errors),

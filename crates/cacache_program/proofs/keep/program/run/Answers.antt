@@ -1,12 +1,14 @@
 -- The word that was parsed did what it does.
-use Rattle.std.proofs.Common.{codes}
+use Rattle.std.proofs.Common.{◌≡◌, ap, codes, subst}
+use Rattle.std.specs.Prelude.{option_map}
 use Rattle.cacache_program.specs.Words.{asked_of}
 use Rattle.cacache_program.specs.WordVerify.{Verifies}
 use Rattle.cacache_program.specs.WordCollect.{CollectsUnused}
 use Rattle.cacache_program.specs.WordPlan.{Plans}
 use Rattle.cacache_program.specs.WordRepair.{Repairs}
 use Rattle.cacache_program.specs.WordSweep.{Sweeps}
-use Rattle.cacache_program.proofs.Asking.{unkeyed_holds}
+use Rattle.cacache_program.specs.WordList.{ListsVerdict}
+use Rattle.cacache_program.proofs.Asking.{keyed_by, unkeyed_holds}
 use Rattle.cacache_program.proofs.keep.program.run.Goals as goal
 
 pub returns-in-verify-default-None-clause-verifies : goal.returns-in-verify-default-None-clause-verifies
@@ -28,3 +30,9 @@ returns-in-sweep-default-None-clause-sweeps g c =
 pub returns-in-repair-default-None-clause-repairs : goal.returns-in-repair-default-None-clause-repairs
 returns-in-repair-default-None-clause-repairs g c =
     unkeyed_holds (asked_of c.args.words.now) _ (codes "repair") (λ cache. Repairs g.S.Store.log cache c.args.env.now c.repair_and_print.new.env (g.W.Write.contents c.args.output.now) (g.W.Write.contents c.repair_and_print.new.output) c.repair_and_print.result) c.parse_words.ensures c.repair_and_print.ensures.does
+
+pub returns-in-verify-text-Some-clause-lists : goal.returns-in-verify-text-Some-clause-lists
+returns-in-verify-text-Some-clause-lists g c =
+    keyed_by (asked_of c.args.words.now) _ (codes "verify") c.in-verify-text-Some.cache.now (λ word cache. word ≡ codes "--list" → ListsVerdict g.S.Store.log cache c.args.env.now c.verify_and_list.new.env (g.W.Write.contents c.args.output.now) (g.W.Write.contents c.verify_and_list.new.output) c.verify_and_list.result) c.parse_words.ensures
+    (ap (option_map (λ k. k.now)) c.in-verify-text-Some.is-2)
+    (λ is. subst (λ cache. ListsVerdict g.S.Store.log cache.now c.args.env.now c.verify_and_list.new.env (g.W.Write.contents c.args.output.now) (g.W.Write.contents c.verify_and_list.new.output) c.verify_and_list.result) c.in-verify-text-Some.cache-is c.verify_and_list.ensures.does)

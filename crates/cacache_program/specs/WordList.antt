@@ -1,0 +1,63 @@
+-- The words `verify --list` of the program `cacache-keep`.
+use Rattle.std.specs.Prelude.{◌≡◌, ◌⊎◌, ◌++◌, ℕ, List, [], ◌∷◌, Option, codes, length}
+use Rattle.std.specs.List.{flat_map}
+use Rattle.cacache_core.specs.declared.integrity.digest.Hash.{Hash}
+use Rattle.cacache.specs.Stores.{LogItem}
+use Rattle.cacache.specs.Calls.{Env, KeepsRest}
+use Rattle.cacache.specs.Entries.{Found}
+use Rattle.cacache.specs.Integrities.{integrity_text}
+use Rattle.cacache_jobs.specs.Sites.{site_of}
+use Rattle.cacache_keep.specs.Keeping.{VerifiesCache}
+use Rattle.cacache_program.specs.Output.{PutsOutWith}
+use Rattle.cacache_program.specs.PrintedEntries.{entry_text}
+use Rattle.cacache_program.specs.WordVerify.{FailsToVerify, verdict_status, verdict_text}
+
+-- the line of a damaged content: its address
+abbrev pub damaged_line : List Hash → List ℕ
+damaged_line i = codes "damaged " ++ (integrity_text i ++ 10 ∷ [])
+
+-- the line of an entry whose content isn't there: its text, as `ls` prints it
+abbrev pub dangling_line : Found → List ℕ
+dangling_line f = codes "dangling " ++ (entry_text f ++ 10 ∷ [])
+
+-- the line of what lies among the contents and is none: its path
+abbrev pub strange_line : List ℕ → List ℕ
+strange_line path = codes "strange " ++ (path ++ 10 ∷ [])
+
+-- a line each
+abbrev pub list_text : List (List Hash) → List Found → List (List ℕ) → List ℕ
+list_text damaged dangling strange =
+    flat_map damaged_line damaged
+    ++ (flat_map dangling_line dangling ++ flat_map strange_line strange)
+
+-- what `verify` prints, and the list behind it
+abbrev pub listed_text : ℕ → List (List Hash) → List Found → List (List ℕ) → List ℕ
+listed_text good damaged dangling strange =
+    verdict_text good (length damaged) (length dangling) (length strange)
+    ++ list_text damaged dangling strange
+
+-- that was put out with the verdict's status, or a beginning of it with status 1
+abbrev pub TellsList : ℕ → List (List Hash) → List Found → List (List ℕ)
+    → Option (List ℕ) → Option (List ℕ) → ℕ → Type 0
+TellsList good damaged dangling strange before after status =
+    PutsOutWith (verdict_status (length damaged) (length dangling) (length strange))
+    (listed_text good damaged dangling strange) before after status
+
+module _ {S C N : Type 0} (log : S → Option (List LogItem)) where
+  -- the log gained a verification, and what it found was told and named
+  abbrev pub PrintsList :
+      List ℕ → Env S C N → Env S C N → Option (List ℕ) → Option (List ℕ) → ℕ → Type 0
+  PrintsList cache old new before after status =
+      (good : ℕ) × (damaged : List (List Hash)) × (dangling : List Found)
+      × (strange : List (List ℕ))
+      × VerifiesCache (site_of cache old.base 0) good damaged dangling strange
+      (log old.store) (log new.store)
+      × TellsList good damaged dangling strange before after status
+
+  -- that, or an error ended the verification; of the environment only the store may have changed
+  abbrev pub ListsVerdict :
+      List ℕ → Env S C N → Env S C N → Option (List ℕ) → Option (List ℕ) → ℕ → Type 0
+  ListsVerdict cache old new before after status =
+      KeepsRest old new
+      × (PrintsList cache old new before after status
+      ⊎ FailsToVerify log cache old new before after status)

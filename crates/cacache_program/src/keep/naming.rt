@@ -1,0 +1,111 @@
+//! The list of what a verification found.
+ghost use Rattle.std.specs.Prelude.{◌≡◌, ◌⊎◌, IfOk, map, string_bytes};
+ghost use Rattle.std.specs.List.{flat_map};
+ghost use Rattle.cacache.specs.Entries.{found_view};
+ghost use Rattle.cacache_program.specs.WordList.{TellsList, damaged_line as line_of_damaged, dangling_line as line_of_dangling, listed_text as text_of_list, strange_line as line_of_strange};
+
+use crate::entries::entry_text;
+use crate::errors::{Errors, tell_failed_call};
+use crate::keep::output::{status_of, verdict_text};
+use crate::output::put_out_with;
+use cacache::{Integrity, Metadata, Result};
+use cacache_keep::Verdict;
+use std::alloc::{AllocError, Global};
+use std::io::Write;
+
+/// The line of a damaged content: its address.
+fn damaged_line(alloc: Global, address: &Integrity) -> std::result::Result<String, AllocError>
+    ensures { IfOk result (λ line. string_bytes line ≡ line_of_damaged address.now) }
+{
+    format!(in alloc; "damaged {address}\n")
+}
+
+/// A line for each of these contents.
+fn damaged_lines(alloc: Global, damaged: Vec<Integrity>) -> std::result::Result<Vec<u8>, AllocError>
+    ensures { IfOk result (λ text. text.items ≡ flat_map line_of_damaged damaged.items) }
+{
+    let mut text = Vec::new(alloc);
+    for address in damaged {
+        text.extend_from_slice(damaged_line(alloc, &address)?.as_bytes())?;
+    }
+    Ok(text)
+}
+
+/// The line of an entry whose content isn't there. Memory alone can fail.
+fn dangling_line(alloc: Global, entry: Metadata) -> Result<Vec<u8>>
+    ensures { IfOk result (λ line. line.items ≡ line_of_dangling (found_view entry)) }
+{
+    let text = entry_text(alloc, entry)?;
+    let mut line = Vec::from_slice(alloc, b"dangling ")?;
+    line.extend_from_slice(&text)?;
+    line.push(b'\n')?;
+    Ok(line)
+}
+
+/// A line for each of these entries. Memory alone can fail.
+fn dangling_lines(alloc: Global, dangling: Vec<Metadata>) -> Result<Vec<u8>>
+    ensures { IfOk result (λ text. text.items ≡ flat_map line_of_dangling (map found_view dangling.items)) }
+{
+    let mut text = Vec::new(alloc);
+    for entry in dangling {
+        text.extend_from_slice(&dangling_line(alloc, entry)?)?;
+    }
+    Ok(text)
+}
+
+/// The line of what lies among the contents and is none: its path.
+fn strange_line(alloc: Global, path: &str) -> std::result::Result<String, AllocError>
+    ensures { IfOk result (λ line. string_bytes line ≡ line_of_strange path.now) }
+{
+    format!(in alloc; "strange {path}\n")
+}
+
+/// A line for each of these paths.
+fn strange_lines(alloc: Global, strange: Vec<String>) -> std::result::Result<Vec<u8>, AllocError>
+    ensures { IfOk result (λ text. text.items ≡ flat_map line_of_strange (map string_bytes strange.items)) }
+{
+    let mut text = Vec::new(alloc);
+    for path in strange {
+        text.extend_from_slice(strange_line(alloc, path.as_str())?.as_bytes())?;
+    }
+    Ok(text)
+}
+
+/// What is printed of a verification, and the list of what it found but good contents. Memory alone can fail.
+fn listed_text(alloc: Global, verdict: Verdict) -> Result<Vec<u8>>
+    ensures { IfOk result (λ text. text.items ≡ text_of_list verdict.good verdict.damaged.items
+        (map found_view verdict.dangling.items) (map string_bytes verdict.strange.items)) }
+{
+    let mut text = verdict_text(alloc, &verdict)?.into_bytes();
+    let Verdict {
+        good: _,
+        damaged,
+        dangling,
+        strange,
+    } = verdict;
+    text.extend_from_slice(&damaged_lines(alloc, damaged)?)?;
+    text.extend_from_slice(&dangling_lines(alloc, dangling)?)?;
+    text.extend_from_slice(&strange_lines(alloc, strange)?)?;
+    Ok(text)
+}
+
+/// Prints what a verification found and the list of it, and returns the status: the verdict's, or 1 where the text can't be
+/// had or printed.
+pub(crate) fn print_list<W: Write, E: Write>(
+    alloc: Global,
+    verdict: Verdict,
+    output: &mut W,
+    errors: &mut Errors<E>,
+) -> u8
+    ensures tells { TellsList verdict.good verdict.damaged.items
+        (map found_view verdict.dangling.items) (map string_bytes verdict.strange.items)
+        (W.contents output.old) (W.contents output.new) result }
+    ensures known { (result ≡ 0) ⊎ (result ≡ 1) ⊎ (result ≡ 3) }
+    ensures quiet { result ≡ 0 → errors.new ≡ errors.old }
+{
+    let status = status_of(&verdict);
+    match listed_text(alloc, verdict) {
+        Ok(text) => put_out_with(output, &text, status, errors),
+        Err(error) => tell_failed_call(errors, &error, None),
+    }
+}
