@@ -3,6 +3,7 @@
 //!
 //!     random LISTS SEED CALLERS EVENTS | RESULT
 //!     PUTS | LOSS | RESULT
+//!     moves CALLS | RESULT
 //!
 //! The first plays so many random lists of calls, each up to a random event, and has a random loss at its end: each name that
 //! changed since its folder was synced stands as it stood then, or as it stands, and a file that wasn't synced since its last
@@ -11,10 +12,14 @@
 //! were lost, and how many lookups found something else than before.
 //!
 //! The second makes puts of one caller, `durable KEY DATA` or `plain KEY DATA`, with a number where the caller stops after so many
-//! moves. The loss undoes `all` names, the `content` of the data `one`, or `none`; a tail of that content and one of a path follow,
-//! `-` for none. The result is what is left of `one`, of the lookup of `a`, and of its bucket.
+//! moves, and a `!` behind it where the next move fails. The loss undoes `all` names, the `content` of the data `one`, or `none`; a
+//! tail of that content and one of a path follow, `-` for none. The result is what a `Get` of `a` answers in a store that begins
+//! with the disk that was left, and what is left of `one`, of the lookup of `a`, and of its bucket. The third tells how many moves
+//! each call takes: such a put, `ls` or `clear`.
 #![tactic(auto)]
 
+mod acting;
+mod getting;
 mod history;
 mod loss;
 mod places;

@@ -1,13 +1,14 @@
 //! What a row asks for, and what came.
-use crate::history::{HOME, play, put_of, world_of};
+use crate::acting::{counted, make};
+use crate::getting::got_from;
+use crate::history::{HOME, play, world_of};
 use crate::loss::Loss;
 use crate::places::Places;
 use crate::promised::{Story, looked_up, path_of_content};
-use crate::worlds::differs;
+use crate::worlds::{differs, disk_after};
 use cacache_core::keeping::let_go;
-use cacache_disk::Luck;
 use cacache_jobs::bucket_path;
-use cacache_world::{Move, World};
+use cacache_world::World;
 use rows::random::Random;
 use rows::words::{cut, number_of, string_of, written_out};
 use rows::{Flaw, Outcome, Trial};
@@ -128,48 +129,6 @@ fn all_lost(alloc: Global, asked: Lists) -> Result<String, Flaw> {
     Ok(format!(in alloc; "{contents} contents and {lookups} lookups lost")?)
 }
 
-/// The caller makes a move: whether its call is over.
-fn is_over(world: &mut World) -> Result<bool, Flaw> {
-    match world.move_one(0, Luck::Plain) {
-        Ok(moved) => {
-            let over = matches!(&moved, Move::Done(_));
-            let_go(moved);
-            Ok(over)
-        }
-        Err(_) => Err(Flaw::Refused),
-    }
-}
-
-/// The caller makes so many moves, and stops where its call isn't over then.
-fn move_on(world: &mut World, moves: usize) -> Result<(), Flaw> {
-    for _ in 0..moves {
-        if is_over(world)? {
-            return Ok(());
-        }
-    }
-    match world.stop(0) {
-        Ok(()) => Ok(()),
-        Err(_) => Err(Flaw::Refused),
-    }
-}
-
-/// A caller makes a put, or so many of its moves.
-fn put(alloc: Global, world: &mut World, act: &str, moment: u128) -> Result<(), Flaw> {
-    let (kind, rest) = cut(act);
-    let (key, rest) = cut(rest);
-    let (text, moves) = cut(rest);
-    let moves = if moves.is_empty() {
-        99
-    } else {
-        number_of(moves)?
-    };
-    let command = put_of(alloc, key, text, moment, kind == "durable")?;
-    match world.begin(0, command) {
-        Ok(()) => move_on(world, moves),
-        Err(_) => Err(Flaw::Refused),
-    }
-}
-
 /// What a loss leaves of the file at a path.
 fn left_at(alloc: Global, places: &Places, loss: &Loss, path: &str) -> Result<String, AllocError> {
     match places.lost(loss, HOME, path)? {
@@ -202,6 +161,14 @@ fn seen(alloc: Global, places: &Places, loss: &Loss) -> Result<String, AllocErro
     }
 }
 
+/// What a `Get` of the key `a` answers on the disk that a loss leaves.
+fn got_after(alloc: Global, world: &World, places: &Places, loss: &Loss) -> Result<String, Flaw> {
+    let disk = disk_after(world, places, loss)?;
+    let line = got_from(alloc, &disk);
+    let_go(disk);
+    line
+}
+
 /// The loss that these words ask for.
 fn loss_of(alloc: Global, places: &Places, words: &str) -> Result<Loss, AllocError> {
     let (undone, rest) = cut(words);
@@ -223,30 +190,35 @@ fn loss_of(alloc: Global, places: &Places, words: &str) -> Result<Loss, AllocErr
 }
 
 /// What is seen after the loss that these words ask for.
-fn seen_after(
-    alloc: Global,
-    world: &World,
-    places: &Places,
-    words: &str,
-) -> Result<String, AllocError> {
+fn seen_after(alloc: Global, world: &World, places: &Places, words: &str) -> Result<String, Flaw> {
     let loss = loss_of(alloc, places, words)?;
-    match differs(world, places, &loss)? {
-        Some(text) => Ok(text),
-        None => seen(alloc, places, &loss),
+    if let Some(text) = differs(world, places, &loss)? {
+        return Ok(text);
     }
+    let got = got_after(alloc, world, places, &loss)?;
+    let seen = seen(alloc, places, &loss)?;
+    Ok(format!(in alloc; "{got}; {seen}")?)
 }
 
-/// What is seen of some puts in a world after a loss.
-fn case_in(alloc: Global, world: &mut World, acts: &str, loss: &str) -> Result<String, Flaw> {
+/// What is seen of some calls in a world after a loss; where there is none, how many moves each of them takes.
+fn case_in(
+    alloc: Global,
+    world: &mut World,
+    acts: &str,
+    loss: Option<&str>,
+) -> Result<String, Flaw> {
+    let Some(loss) = loss else {
+        return counted(alloc, world, acts);
+    };
     for (number, act) in acts.split("; ").enumerate() {
-        put(alloc, world, act, number as u128)?;
+        make(alloc, world, act, number as u128)?;
     }
     let story = Story::of(alloc, world)?;
-    Ok(seen_after(alloc, world, &story.places, loss)?)
+    seen_after(alloc, world, &story.places, loss)
 }
 
-/// What is seen of some puts after a loss.
-fn case(alloc: Global, acts: &str, loss: &str) -> Result<String, Flaw> {
+/// The same in a world of their own.
+fn case(alloc: Global, acts: &str, loss: Option<&str>) -> Result<String, Flaw> {
     let Some(mut world) = world_of(alloc, 1) else {
         return Err(Flaw::Refused);
     };
@@ -255,12 +227,12 @@ fn case(alloc: Global, acts: &str, loss: &str) -> Result<String, Flaw> {
 
 /// What came of a row.
 fn tried(alloc: Global, act: &str) -> Result<String, Flaw> {
-    match act.split_once(" | ") {
-        Some((acts, loss)) => case(alloc, acts, loss),
-        None => {
-            let (_, words) = cut(act);
-            all_lost(alloc, lists_of(words)?)
-        }
+    if let Some((acts, loss)) = act.split_once(" | ") {
+        return case(alloc, acts, Some(loss));
+    }
+    match cut(act) {
+        ("moves", acts) => case(alloc, acts, None),
+        (_, words) => all_lost(alloc, lists_of(words)?),
     }
 }
 

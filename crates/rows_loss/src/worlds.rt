@@ -44,7 +44,7 @@ fn told(places: &Places, loss: &Loss) -> Result<cacache_loss::Loss, AllocError> 
 }
 
 /// The disk that a loss leaves of a world.
-fn disk_after(world: &World, places: &Places, loss: &Loss) -> Result<Disk, AllocError> {
+pub(crate) fn disk_after(world: &World, places: &Places, loss: &Loss) -> Result<Disk, AllocError> {
     let told = told(places, loss)?;
     match world.lose(&told) {
         Ok(disk) => Ok(disk),

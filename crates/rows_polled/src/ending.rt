@@ -45,11 +45,12 @@ where
     }
 }
 
-/// What the commit gives, and the steps behind it.
+/// What the commit gives, or a close, and the steps behind it.
 pub(crate) fn committed<R, S, T>(
     rt: &R,
     env: &mut On<S>,
     desk: Desk<T>,
+    closes: bool,
     after: &str,
     mut line: String,
 ) -> Result<String, Flaw>
@@ -63,7 +64,11 @@ where
         writer,
         mut worker,
     } = desk;
-    let mut commit = writer.commit(rt, env);
+    let mut commit = if closes {
+        writer.close(rt, env)
+    } else {
+        writer.commit(rt, env)
+    };
     add(
         &mut line,
         ended(rt.alloc(), task.poll(&mut commit))?.as_str(),

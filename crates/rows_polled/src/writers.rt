@@ -79,7 +79,7 @@ fn stepped_in_turn<R: Wait + AllocGlobal, T: RemovableTemp>(
     Ok(line)
 }
 
-/// What the steps give up to the end of the writer, its end, and the steps behind it: a commit, or a drop.
+/// What the steps give up to the end of the writer, its end, and the steps behind it: a commit, a close (`shut`), or a drop.
 fn made_with<R, S, T>(
     rt: &R,
     env: &mut On<S>,
@@ -93,7 +93,11 @@ where
 {
     if let Some((before, after)) = steps.split_once("; commit") {
         let line = stepped_in_turn(rt, &mut desk, before)?;
-        return committed(rt, env, desk, after, line);
+        return committed(rt, env, desk, false, after, line);
+    }
+    if let Some((before, after)) = steps.split_once("; shut") {
+        let line = stepped_in_turn(rt, &mut desk, before)?;
+        return committed(rt, env, desk, true, after, line);
     }
     if let Some((before, after)) = steps.split_once("; drop") {
         let line = stepped_in_turn(rt, &mut desk, before)?;

@@ -2,17 +2,19 @@
 use crate::calls::called;
 use crate::exports::exported;
 use crate::linkers::linked;
-use crate::program::without;
+use crate::program::{ended, without};
 use crate::puts::{driven, put};
 use crate::readers::read;
 use crate::row::Row;
 use crate::words::{bytes_of, shown};
 use crate::writers::written;
 use cacache::store::Store;
+use cacache::text::Text;
+use cacache_core::keeping::{let_go, set};
 use row_places::planting::{held, make_folder, make_link, names_in, plant, remove_file};
 use row_places::{MOMENT, On};
 use rows::Flaw;
-use rows::words::cut;
+use rows::words::{cut, number_of};
 use std::alloc::AllocError;
 
 /// What a file holds, as a row says it.
@@ -99,13 +101,81 @@ fn made_of<S: Store>(env: &mut On<S>, row: Row<'_>) -> Result<String, Flaw> {
     }
 }
 
+/// What an act gives in an environment whose base is the folder that the act begins with.
+fn made_from<S: Store>(env: &mut On<S>, act: &str, row: Row<'_>) -> Result<String, Flaw> {
+    let (base, act) = cut(act);
+    let here = env.base.clone()?;
+    let base = Text::from_str(env.alloc, base)?;
+    set(&mut env.base, base);
+    let made = made_of(env, Row { act, ..row });
+    set(&mut env.base, here);
+    made
+}
+
+/// The descriptors that the program has open, on real folders.
+const OPEN: &str = "/proc/self/fd";
+
+/// How much memory the program has, on real folders: its first number is that of pages.
+const MEMORY: &str = "/proc/self/statm";
+
+/// The most pages that calls may add which are made again and again.
+const FEW: usize = 256;
+
+/// How many pages of memory the program has, and how many descriptors are open, if both can be had.
+fn kept<S: Store>(env: &mut On<S>) -> Result<Option<(usize, usize)>, Flaw> {
+    let text = file(env, MEMORY)?;
+    let (pages, _) = cut(text.as_str());
+    match (pages.parse::<usize>(), names_in(env, OPEN)?) {
+        (Ok(pages), Some(open)) => Ok(Some((pages, open))),
+        _ => Ok(None),
+    }
+}
+
+/// What an act gives that is made so many times, and must give the same each time.
+fn made_often<S: Store>(env: &mut On<S>, row: Row<'_>, count: usize) -> Result<String, Flaw> {
+    let first = made_of(env, row)?;
+    for number in 1..count {
+        let line = made_of(env, row)?;
+        if line != first {
+            return Ok(format!(in env.alloc; "{first}, but at {number} {line}")?);
+        }
+    }
+    Ok(first)
+}
+
+/// What an act gives that is made a few times and then so many times more, and whether these keep memory or a descriptor.
+fn again<S: Store>(env: &mut On<S>, act: &str, row: Row<'_>) -> Result<String, Flaw> {
+    let (count, act) = cut(act);
+    let count = number_of(count)?;
+    let row = Row { act, ..row };
+    let_go(made_often(env, row, 8)?);
+    let before = kept(env)?;
+    let line = made_often(env, row, count)?;
+    let told = match (before, kept(env)?) {
+        (Some((pages, open)), Some((more, still))) => {
+            if open != still {
+                "descriptors are kept"
+            } else if more.saturating_sub(pages) > FEW {
+                "memory is kept"
+            } else {
+                "nothing is kept"
+            }
+        }
+        _ => "what is kept isn't known",
+    };
+    Ok(format!(in env.alloc; "{line}; {told}")?)
+}
+
 /// What the row's act gives.
 pub(crate) fn made<S: Store>(env: &mut On<S>, row: Row<'_>) -> Result<String, Flaw> {
     let (name, act) = cut(row.act);
     match name {
         "at" => made_at(env, act, row),
+        "from" => made_from(env, act, row),
         "asked" => asked(env, act, row),
+        "again" => again(env, act, row),
         "without" => without(env.alloc, act),
+        "ended" => ended(env.alloc, act),
         _ => made_of(env, row),
     }
 }

@@ -1,6 +1,6 @@
 //! Public calls that give one answer. A call's name is followed by the cache and what else the call is given. Each function
 //! knows some of the names and hands on the others.
-use crate::lines::{contents, done, exists, found, has, listed, read};
+use crate::lines::{contents, done, exists, first, found, has, listed, read};
 use crate::options::options_of;
 use crate::row::Row;
 use crate::words::bytes_of;
@@ -210,6 +210,7 @@ fn on_cache<S: Store>(
     let line = match name {
         "clear_sync" => done(alloc, cacache::clear_sync(env, cache)),
         "ls" => listed(alloc, ls(env, cache)),
+        "first" => first(alloc, ls(env, cache)),
         "list_sync" => listed(alloc, cacache::list_sync(env, cache)),
         "list" => contents(alloc, list(env, cache)),
         _ => return added(env, name, words, input),

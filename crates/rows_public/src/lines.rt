@@ -144,6 +144,22 @@ fn joined(alloc: Global, mut lines: Vec<String>) -> Result<String, AllocError> {
     Ok(line)
 }
 
+/// The line on the first item of a listing, which is dropped then.
+pub(crate) fn first<S: Store, C, N>(
+    alloc: Global,
+    answer: Answered<Ls<S, C, N>>,
+) -> Result<String, AllocError>
+    requires { IfOk answer (λ ls. IsListing S.log ls) }
+{
+    match answer {
+        Ok(mut items) => match items.next() {
+            Some(found) => item(alloc, found),
+            None => String::from_str(alloc, "Listed"),
+        },
+        Err(error) => refused(alloc, error),
+    }
+}
+
 /// The line on a listing: its items in the order of their lines.
 pub(crate) fn listed<S: Store, C, N>(
     alloc: Global,

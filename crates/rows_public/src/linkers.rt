@@ -65,11 +65,12 @@ fn opened<S: Store>(
     }
 }
 
-/// The line on a linker of which so many bytes are read, and on its commit; or why it wasn't opened.
+/// The line on a linker of which so many bytes are read, and on its commit, but after `drop`; or why it wasn't opened.
 fn committed<S: Store>(
     env: &mut On<S>,
     opened: Answered<SyncToLinker<S::File>>,
     count: usize,
+    then: &str,
 ) -> Result<String, AllocError> {
     let alloc = env.alloc;
     let mut linker = match opened {
@@ -77,6 +78,10 @@ fn committed<S: Store>(
         Err(error) => return refused(alloc, error),
     };
     let first = first_of(alloc, &mut linker, count);
+    if then == "drop" {
+        let_go(linker);
+        return first;
+    }
     let line = stored(alloc, linker.commit(env));
     pair(alloc, first, line)
 }
@@ -88,5 +93,5 @@ pub(crate) fn linked<S: Store>(env: &mut On<S>, words: &str) -> Result<String, F
     let (count, options) = cut(words);
     let count = number_of(count)?;
     let opened = opened(env, way, link, options)?;
-    Ok(committed(env, opened, count)?)
+    Ok(committed(env, opened, count, options)?)
 }

@@ -11,6 +11,7 @@ mod acts;
 mod awaited;
 mod calls;
 mod exports;
+mod failing;
 mod lines;
 mod linkers;
 mod options;
@@ -23,6 +24,7 @@ mod readers;
 mod row;
 mod streams;
 mod told;
+mod trials;
 mod words;
 mod writers;
 

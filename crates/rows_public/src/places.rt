@@ -3,6 +3,7 @@ use crate::polled::polled;
 use crate::program::ran_or_made;
 use crate::row::{Row, row_of};
 use crate::told::{counted, told};
+use crate::trials;
 use cacache::store::{FolderStore, MemStore};
 use row_places::{Numbers, On, in_both, in_folders, in_memory};
 use rows::words::cut;
@@ -19,6 +20,8 @@ use std::time::Clock;
 pub(crate) struct Places {
     memory: On<MemStore>,
     folders: On<FolderStore<HostRuntime>>,
+    /// The same folders, for somebody else.
+    beside: On<FolderStore<HostRuntime>>,
     futures: On<MemStore>,
 }
 
@@ -26,11 +29,13 @@ impl Places {
     /// Empty ones. The folders are those below the one where the program runs.
     pub(crate) fn new(rt: &HostRuntime) -> io::Result<Places> {
         let folders = in_folders(rt)?;
+        let beside = in_folders(rt)?;
         let memory = in_memory(rt.alloc())?;
         let futures = in_memory(rt.alloc())?;
         Ok(Places {
             memory,
             folders,
+            beside,
             futures,
         })
     }
@@ -50,6 +55,7 @@ fn made_in_memory<R: Threads + Wait + Clock + AllocGlobal + Sync>(
     row: Row<'_>,
 ) -> Result<String, Flaw> {
     match cut(row.act) {
+        ("beside", act) => ran_or_made(rt, memory, Row { act, ..row }),
         ("told", act) => told(memory, Row { act, ..row }),
         ("count", act) => counted(memory, Row { act, ..row }),
         _ => ran_or_made(rt, memory, row),
@@ -87,6 +93,18 @@ fn in_both_memories<R: Threads + Wait + Clock + RandomSource + AllocGlobal + Syn
     Ok(format!(in rt.alloc(); "{line}, but as a future {of_future}")?)
 }
 
+/// What the row's act gives on real folders, where behind `beside` somebody else makes it.
+fn made_in_folders<R: Threads + Wait + Clock + AllocGlobal + Sync>(
+    rt: &R,
+    places: &mut Places,
+    row: Row<'_>,
+) -> Result<String, Flaw> {
+    match cut(row.act) {
+        ("beside", act) => ran_or_made(rt, &mut places.beside, Row { act, ..row }),
+        _ => ran_or_made(rt, &mut places.folders, row),
+    }
+}
+
 /// What the row's act gives at all places.
 fn everywhere<R: Threads + Wait + Clock + RandomSource + AllocGlobal + Sync>(
     rt: &R,
@@ -94,11 +112,12 @@ fn everywhere<R: Threads + Wait + Clock + RandomSource + AllocGlobal + Sync>(
     row: Row<'_>,
 ) -> Result<String, Flaw> {
     let in_memory = in_both_memories(rt, places, row)?;
-    let in_folders = ran_or_made(rt, &mut places.folders, row)?;
+    let in_folders = made_in_folders(rt, places, row)?;
     Ok(in_both(rt.alloc(), in_memory, in_folders)?)
 }
 
-/// What the row's act gives: after the words `in memory` or `in folders` there alone, else everywhere.
+/// What the row's act gives: after the words `in memory` or `in folders` there alone, after `failing` on disks in memory of
+/// its own, else everywhere.
 fn tried<R: Threads + Wait + Clock + RandomSource + AllocGlobal + Sync>(
     rt: &R,
     places: &mut Places,
@@ -107,8 +126,11 @@ fn tried<R: Threads + Wait + Clock + RandomSource + AllocGlobal + Sync>(
     if let Some(act) = row.act.strip_prefix("in memory ") {
         return in_both_memories(rt, places, Row { act, ..row });
     }
+    if let Some(act) = row.act.strip_prefix("failing ") {
+        return trials::tried(rt.alloc(), Row { act, ..row });
+    }
     match row.act.strip_prefix("in folders ") {
-        Some(act) => ran_or_made(rt, &mut places.folders, Row { act, ..row }),
+        Some(act) => made_in_folders(rt, places, Row { act, ..row }),
         None => everywhere(rt, places, row),
     }
 }

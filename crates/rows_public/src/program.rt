@@ -3,8 +3,10 @@ use crate::acts::made;
 use crate::row::Row;
 use crate::streams::{End, Input, Output};
 use crate::words::{bytes_of, shown, words_of};
+use cacache::Error;
 use cacache::env::Reasons;
-use cacache_program::{Errors, USAGE, asks_why, run, said, tell, without_words};
+use cacache::world::{StormFault, WorldFault};
+use cacache_program::{Errors, USAGE, asks_why, run, said, tell, tell_failed_storm, without_words};
 use row_places::On;
 use rows::Flaw;
 use rows::words::{cut, number_of};
@@ -96,6 +98,21 @@ pub(crate) fn ran_or_made<T: Threads + Wait + Clock + AllocGlobal + Sync, S: Rea
         ("cacache", act) => ran(rt, env, Row { act, ..row }),
         _ => made(env, row),
     }
+}
+
+/// What is told of a storm that ends early.
+pub(crate) fn ended(alloc: Global, why: &str) -> Result<String, Flaw> {
+    let fault = match why {
+        "count" => StormFault::Count,
+        "mismatch" => StormFault::Mismatch,
+        "quit" => StormFault::Quit,
+        "failed" => StormFault::Failed(Error::OutOfMemory),
+        "world" => StormFault::World(WorldFault::Idle),
+        _ => return Err(Flaw::NotRead),
+    };
+    let mut errors = Errors::new(Vec::new(alloc));
+    let status = tell_failed_storm(&mut errors, fault);
+    Ok(told(alloc, status, b"", &errors.output)?)
 }
 
 /// What is told where the words can't be had, since memory ran out or a word isn't UTF-8.

@@ -5,6 +5,7 @@ use crate::words::shown;
 use cacache::content::read::open;
 use cacache::store::{OpenedFile, Store};
 use cacache::{Result as Answered, SyncReader};
+use cacache_core::keeping::let_go;
 use row_places::On;
 use row_places::planting::{plant, remove_file};
 use rows::Flaw;
@@ -63,7 +64,7 @@ fn spoil<S: Store>(env: &mut On<S>, then: &str, path: &str) -> Result<bool, Allo
     }
 }
 
-/// The lines on the first bytes of a reader, and on the rest, which `stop` leaves out.
+/// The lines on the first bytes of a reader, and on the rest, which `stop` and `drop` leave out.
 fn parts_of<S: Store>(
     env: &mut On<S>,
     reader: &mut SyncReader<S::File>,
@@ -73,14 +74,14 @@ fn parts_of<S: Store>(
 ) -> Result<String, AllocError> {
     let alloc = env.alloc;
     let first = first_of(alloc, reader, count);
-    if then == "stop" {
+    if matches!(then, "stop" | "drop") {
         return first;
     }
     let _is_spoilt = spoil(env, then, path)?;
     pair(alloc, first, rest_of(alloc, reader))
 }
 
-/// The line on the parts of a reader and on its check; or why it wasn't opened.
+/// The line on the parts of a reader and on its check, but after `drop`; or why it wasn't opened.
 fn told<S: Store>(
     env: &mut On<S>,
     opened: Answered<SyncReader<S::File>>,
@@ -93,6 +94,10 @@ fn told<S: Store>(
         Err(error) => return refused(env.alloc, error),
     };
     let parts = parts_of(env, &mut reader, then, count, path);
+    if then == "drop" {
+        let_go(reader);
+        return parts;
+    }
     pair(env.alloc, parts, checked(env.alloc, reader.check()))
 }
 

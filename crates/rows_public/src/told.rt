@@ -18,7 +18,10 @@ fn asked(alloc: Global, step: &PlainStep) -> Result<String, AllocError> {
         Step::SyncDir(path) => ("SyncDir", path, None),
         Step::Append(path, bytes) => ("Append", path, Some(bytes.len())),
         Step::Write(file, bytes) => ("Write", &file.path, Some(bytes.len())),
+        Step::Size(path) => ("Size", path, None),
+        Step::Open(path) => ("Open", path, None),
         Step::Persist(file, path) => return format!(in alloc; "Persist {} {path}", file.path),
+        Step::Symlink(target, path) => return format!(in alloc; "Symlink {target} {path}"),
         _ => return String::from_str(alloc, "another step"),
     };
     match count {

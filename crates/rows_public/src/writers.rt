@@ -73,7 +73,7 @@ fn failed(alloc: Global) -> Result<String, AllocError> {
     String::from_str(alloc, "a write failed")
 }
 
-/// The line on the end of a writer: `commit`, `abandon`, or the path of its file, which is gone when it is abandoned.
+/// The line on the end of a writer: `commit`, `abandon`, `drop`, or the path of its file, which is gone when it is abandoned.
 fn ended<S: Store>(
     env: &mut On<S>,
     writer: SyncWriter<S::Temp>,
@@ -81,6 +81,10 @@ fn ended<S: Store>(
 ) -> Result<String, AllocError> {
     if end == "commit" {
         return stored(env.alloc, writer.commit(env));
+    }
+    if end == "drop" {
+        let_go(writer);
+        return String::from_str(env.alloc, "Dropped");
     }
     if end != "abandon" {
         let_go(remove_file(env, end));
