@@ -1,4 +1,5 @@
-//! Tests with threads: at one world, each with a seat of its own, and at one real folder. There is nothing else here.
+//! Tests with threads: at one world, each with a seat of its own, at one real folder, and at polled writers. There is nothing
+//! else here.
 #![tactic(auto)]
 
 #[cfg(test)]
@@ -11,3 +12,5 @@ mod meetings;
 mod seats;
 #[cfg(test)]
 mod storms;
+#[cfg(test)]
+mod workers;

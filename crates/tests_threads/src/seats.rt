@@ -31,7 +31,9 @@ fn fails_at_once<L: Ledger, R: Wait>(
         return false;
     }
     match shared.go(rt, seat, Luck::Fail(Fault::Device, None)) {
-        Ok(Went::Done) => seat.replies().len() == 1 && is_device(seat.replies().last()),
+        Ok(Went::Done) => {
+            seat.records() == 2 && seat.replies().len() == 1 && is_device(seat.replies().last())
+        }
         _ => false,
     }
 }

@@ -1,0 +1,42 @@
+//! Tries rows on the steps of a disk, and on calls, which ask for steps. A row of standard input that has five columns is
+//! one on a disk, and any other one is one on a call; `disk` and `calls` say how they are read. The rows of a group that
+//! hold are counted, and each other row is printed with what was wanted and what came.
+#![tactic(auto)]
+
+mod calls;
+mod disk;
+
+use calls::trial::Calls;
+use disk::scene::Stage;
+use rows::{Flaw, Outcome, Trial, run};
+use std::process::ExitCode;
+
+/// Tries rows of both kinds.
+#[derive(Drop)]
+struct Steps {
+    disk: Stage,
+    calls: Calls,
+}
+
+impl Trial for Steps {
+    fn begin(&mut self) {
+        self.disk.begin();
+    }
+
+    fn outcome(&mut self, row: &str) -> Result<Outcome, Flaw> {
+        if row.split(" | ").count() == 5 {
+            self.disk.outcome(row)
+        } else {
+            self.calls.outcome(row)
+        }
+    }
+}
+
+fn main(rt: HostRuntime) -> ExitCode {
+    let alloc = rt.alloc();
+    let mut steps = Steps {
+        disk: Stage::new(alloc),
+        calls: Calls { alloc },
+    };
+    run(&rt, &mut steps)
+}

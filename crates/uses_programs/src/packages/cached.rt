@@ -1,0 +1,88 @@
+//! Packages in a cache. They are asked for by their integrity, and need no keys.
+use crate::packages::lock::Package;
+use crate::packages::registry::tarball;
+use cacache::bytes::Bytes;
+use cacache::content::path::content_path;
+use cacache::env::{Clock, Env, Names};
+use cacache::store::{Step, Store};
+use cacache::{
+    Error, Result, exists_sync, read_hash_sync, remove_hash_sync, write_hash_sync_with_algo,
+};
+
+/// The folder of the cache.
+const CACHE: &str = "packages";
+
+/// What became of a package.
+#[derive(Clone, Copy, Debug)]
+enum Outcome {
+    /// It wasn't in the cache.
+    Fetched,
+    /// It was in the cache, and meets its integrity.
+    Verified,
+    /// It was in the cache, and didn't meet its integrity.
+    Repaired,
+}
+
+/// Packages in a cache, and a report of what became of them.
+#[derive(Drop)]
+pub(crate) struct Packages<S, C, N> {
+    env: Env<S, C, N>,
+    pub(crate) report: String,
+}
+
+impl<S: Store, C: Clock, N: Names> Packages<S, C, N> {
+    /// The packages that the store of this environment has.
+    pub(crate) fn new(env: Env<S, C, N>) -> Packages<S, C, N> {
+        let report = String::new(env.alloc);
+        Packages { env, report }
+    }
+
+    /// Fetches a package and stores it, unless its tarball isn't the one that was locked.
+    fn fetch(&mut self, package: &Package) -> Result<()> {
+        let tarball = tarball(self.env.alloc, package.name.as_str())?;
+        let algorithm = package.integrity.check(self.env.alloc, tarball)?;
+        write_hash_sync_with_algo(&mut self.env, algorithm, CACHE, tarball)?;
+        Ok(())
+    }
+
+    /// Reads a package, which verifies it. A damaged one is removed, and fetched again.
+    fn verify(&mut self, package: &Package) -> Result<Outcome> {
+        match read_hash_sync(&mut self.env, CACHE, &package.integrity) {
+            Ok(_tarball) => Ok(Outcome::Verified),
+            Err(Error::IntegrityError(_)) => {
+                remove_hash_sync(&mut self.env, CACHE, &package.integrity)?;
+                self.fetch(package)?;
+                Ok(Outcome::Repaired)
+            }
+            Err(error) => Err(error),
+        }
+    }
+
+    /// Gets a package: from the cache if it is there, and else from the registry.
+    fn get(&mut self, package: &Package) -> Result<Outcome> {
+        if exists_sync(&mut self.env, CACHE, &package.integrity)? {
+            return self.verify(package);
+        }
+        self.fetch(package)?;
+        Ok(Outcome::Fetched)
+    }
+
+    /// Gets the packages of a lock file.
+    pub(crate) fn get_all(&mut self, locked: &[Package]) -> Result<()> {
+        for package in locked {
+            let outcome = self.get(package)?;
+            writeln!(self.report, "{}: {outcome:?}", package.name)?;
+        }
+        Ok(())
+    }
+
+    /// Appends a byte to the file of a package, as a fault of the disk might. This is one step of the store.
+    pub(crate) fn damage(&mut self, package: &Package) -> Result<()> {
+        let alloc = self.env.alloc;
+        let path = content_path(alloc, CACHE, &package.integrity)?;
+        let stray = Bytes::new(alloc, Vec::from_slice(alloc, b"?")?)?;
+        drop(self.env.store.step(Step::Append(path, stray)));
+        writeln!(self.report, "{}: a byte more", package.name)?;
+        Ok(())
+    }
+}

@@ -1,0 +1,48 @@
+//! A cache of responses. The body of a response is a content, and its headers stand in the entry of its path. By the
+//! entry's time and the headers' `max-age` it is fresh, and answers requests, or stale, and is removed.
+mod cached;
+mod clock;
+mod origin;
+
+use crate::responses::cached::Responses;
+use crate::responses::clock::SetClock;
+use cacache::Result;
+use cacache::env::{Env, Names, ProcessNames};
+use cacache::errors::IoErrorExt;
+use cacache::store::{MemStore, Store};
+
+/// The requests: at which second each comes, and for which path.
+const REQUESTS: [(u64, &str); 8] = [
+    (0, "/news"),
+    (0, "/logo"),
+    (10, "/icon"),
+    (20, "/time"),
+    (59, "/news"),
+    (60, "/news"),
+    (80, "/icon"),
+    (80, "/logo"),
+];
+
+/// Answers the requests, and tells what the cache has then.
+fn answer_all<S: Store, N: Names>(responses: &mut Responses<S, N>) -> Result<()> {
+    for (second, path) in REQUESTS {
+        responses.get(second, path)?;
+    }
+    responses.head("/news")?;
+    responses.count()
+}
+
+/// Answers the requests from a cache, and prints what became of them.
+pub(crate) fn run(rt: HostRuntime) -> Result<()> {
+    let alloc = rt.alloc();
+    // `FolderStore::new(rt)` in the place of this store keeps the responses in real folders.
+    let store = MemStore::new(alloc)?;
+    let clock = SetClock { second: 0 };
+    let names = ProcessNames::new(rt);
+    let mut responses = Responses::new(Env::new(alloc, store, clock, names, "/")?);
+    answer_all(&mut responses)?;
+    print!(rt; "{}", responses.report).with_context(|| Ok(String::from_str(
+        alloc,
+        "Failed to print the report",
+    )?))
+}
