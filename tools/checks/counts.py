@@ -84,12 +84,14 @@ def documents():
 
 
 def rows():
-    """The numbers of rows that PROMISES states, against what the programs of rows print."""
-    text = " ".join(read("docs/PROMISES.md").split())
-    for stated, crate in re.findall(r"by ([\d,]+) rows[^(]*\(`(rows_\w+)/stdin`", text):
+    """The numbers of rows that PROMISES states, those of one program added up, against what the programs of rows print."""
+    text, stated = " ".join(read("docs/PROMISES.md").split()), {}
+    for count, crate in re.findall(r"by ([\d,]+) rows[^(]*\(`(rows_\w+)/stdin`", text):
+        stated[crate] = stated.get(crate, 0) + number(count)
+    for crate, count in stated.items():
         there = told(f"crates/{crate}/stdout", r"(?m)^all: (\d+) rows hold$")
-        if number(stated) != int(there):
-            yield f"docs/PROMISES.md: {stated} rows of {crate}, and there are {there}"
+        if count != int(there):
+            yield f"docs/PROMISES.md: {count} rows of {crate}, and there are {there}"
 
 
 def lists(name):
