@@ -1,5 +1,5 @@
 -- Which content a path is of.
-use Rattle.std.specs.Prelude.{◌≡◌, ◌≢◌, ◌==◌, ◌++◌, ◌∷◌, ℕ, List, [], Option, None, Some, Ok, if◌then◌else◌, take, drop}
+use Rattle.std.specs.Prelude.{◌≡◌, ◌≢◌, ◌==◌, ◌++◌, ◌∷◌, ◌≤◌, ℕ, List, [], Option, None, Some, Ok, if◌then◌else◌, take, drop, length}
 use Rattle.base64.specs.GeneralPurpose.{IsBytes}
 use Rattle.hex.specs.Hex.{decode_of, encode_lower}
 use Rattle.cacache_core.specs.declared.integrity.algorithm.Algorithm.{Algorithm}
@@ -46,3 +46,10 @@ names_text h = slashed (name_of h.algorithm ∷ cut_digits (encode_lower h.diges
 -- the text is that of no content's names
 abbrev pub HasNoNames : List ℕ → Type 0
 HasNoNames text = (h : Hash) → IsHash h → text ≢ names_text h
+
+-- the digest isn't short; it and the algorithm are those of every content whose names the text is
+abbrev pub HasParts : List ℕ → Algorithm → List ℕ → Type 0
+HasParts text algorithm digest =
+    (3 ≤ length digest)
+    × ((h : Hash) → IsHash h → text ≡ names_text h
+    → (algorithm ≡ h.algorithm) × (digest ≡ h.digest))

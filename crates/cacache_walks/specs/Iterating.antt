@@ -105,6 +105,12 @@ module _ {S C N : Type 0} (log : S → Option (List LogItem)) where
   WentOn (Err e) cache old ls items =
       (e ≡ OutOfMemory) × Ran (listing_state cache) (Refused OutOfMemory) old (log ls.env.now.store)
 
+  -- what one visit does, whatever was given before
+  abbrev pub VisitGives : Visit → Ls S C N → Result (Unit {0}) Error → Ls S C N → Type 0
+  VisitGives v before result after =
+      (cache : List ℕ) (old : Option (List LogItem)) (items : List Item)
+      → StandsBy (Some v) cache old before items → WentOn result cache old after items
+
   -- the visit left fewer steps to be made, and no more items to be given
   abbrev pub Shortens : Visit → Ls S C N → Ls S C N → Type 0
   Shortens v old new =

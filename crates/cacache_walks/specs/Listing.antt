@@ -1,5 +1,5 @@
 -- What a listing of the contents holds.
-use Rattle.std.specs.Prelude.{◌≡◌, ◌↔◌, ℕ, List, [], ◌∷◌, Option, Contains, map}
+use Rattle.std.specs.Prelude.{◌≡◌, ◌↔◌, ℕ, List, [], ◌∷◌, Option, Contains, map, string_bytes}
 use Rattle.std.specs.declared.cmp.Ordering.{Ordering}
 use Rattle.std.specs.Ordering.{nat_cmp, on, then_cmp}
 use Rattle.std.specs.Cmp.Lexicographic.{slice_cmp}
@@ -11,6 +11,7 @@ use Rattle.cacache_core.specs.Paths.{join, joined, content_area, content_names}
 use Rattle.cacache_store.specs.declared.store.log.LogItem.{LogItem}
 use Rattle.cacache_table.specs.Runs.{Moves, Gains}
 use Rattle.cacache_table.specs.Walking.{most}
+use Rattle.cacache_walks.specs.declared.contents.Contents.{Contents}
 use Rattle.cacache_walks.specs.Addresses.{IsContentPath, IsStrange}
 use Rattle.cacache_walks.specs.Reading.{Folder, ReadsFolders, StopsWalk, top_folder, files_shown}
 
@@ -36,6 +37,19 @@ ListsContents cache addresses strange old new =
     (moves : Moves) × Gains old new moves × ReadsFolders
     (top_folder (content_area_in cache) ∷ []) moves
     × Sorts cache (files_shown moves) addresses strange
+
+-- so it did with the contents that were answered
+abbrev pub AnswersContents : List ℕ → Contents
+    → Option (List LogItem) → Option (List LogItem) → Type 0
+AnswersContents cache c old new =
+    ListsContents cache c.addresses.items (map string_bytes c.strange.items) old new
+
+-- the log gained a walk through this folder, and these are the files that it shows
+abbrev pub ShowsBelow : List ℕ → List (List ℕ)
+    → Option (List LogItem) → Option (List LogItem) → Type 0
+ShowsBelow path files old new =
+    (moves : Moves) × Gains old new moves
+    × ReadsFolders (top_folder path ∷ []) moves × (files ≡ files_shown moves)
 
 -- ---- its order
 

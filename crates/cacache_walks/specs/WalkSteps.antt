@@ -6,7 +6,7 @@ use Rattle.cacache_store.specs.declared.store.log.LogItem.{LogItem}
 use Rattle.cacache_store.specs.declared.store.answer.Name.{Name}
 use Rattle.cacache_store.specs.declared.store.answer.Answer.TheVariants.{Names, Failed}
 use Rattle.cacache_store.specs.declared.store.step.Step.TheVariants.{ReadDir}
-use Rattle.cacache_store.specs.Plain.{PlainAnswer}
+use Rattle.cacache_store.specs.Plain.{PlainAnswer, plain_answer}
 use Rattle.cacache_store.specs.Fits.{Fits}
 use Rattle.cacache_table.specs.declared.visit.Task.{Task}
 use Rattle.cacache_table.specs.declared.visit.Task.TheVariants.{Make, Stumble}
@@ -36,6 +36,12 @@ Answered (Enter path level) t old new before after =
     × ((shown : PlainAnswer) × AnswerShows shown names path old new)
     × (after ≡ before ++ file_paths path names)
 Answered v t old new before after = (t ≡ Failed NotFound) × (new ≡ old) × (after ≡ before)
+
+-- so is a visit answered, where the answer holds plain files
+abbrev pub AnsweredBy : Visit → PlainAnswer → Option (List LogItem) → Option (List LogItem)
+    → List (List ℕ) → List (List ℕ) → Type 0
+AnsweredBy v answer old new before after =
+    Answered v (plain_answer (λ f. f) (λ t. t) answer) old new before after
 
 -- this error ended the reading of the folder, wherever the walk was
 abbrev pub StopsIn : List ℕ → Error
@@ -83,6 +89,13 @@ pub record GoesFrom
   pub reads : (more : Moves) → ReadsFolders rest more → ReadsFolders fs (moves ++ more)
   pub stops : (more : Moves) (e : Error)
       → StopsWalk w.left rest more e → StopsWalk left fs (moves ++ more) e
+
+-- so it went on by this visit, from any folders before which it stood
+abbrev pub GoesOnBy : Visit → Walk → Option Visit → Walk
+    → Option (List LogItem) → Option (List LogItem) → List (List ℕ) → List (List ℕ) → Type 0
+GoesOnBy v was next w old new before after =
+    (fs : List Folder) → WalkStands (Some v) was fs
+    → GoesFrom was.left fs next w old new before after
 
 -- how many steps may still come
 abbrev pub steps_left : Option Visit → Walk → ℕ

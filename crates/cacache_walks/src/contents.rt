@@ -1,7 +1,7 @@
 //! The call that lists the contents.
 ghost use Rattle.std.specs.Prelude.{◌≡◌, IfOk, IfErr, map, string_bytes};
 ghost use Rattle.cacache_core.specs.declared.errors.Error.TheVariants.{OutOfMemory};
-ghost use Rattle.cacache_walks.specs.Listing.{IsByBytes, IsByHash, ListedAreShown, ListsContents, Sorts, StopsListing, content_area_in};
+ghost use Rattle.cacache_walks.specs.Listing.{AnswersContents, IsByBytes, IsByHash, ListedAreShown, Sorts, StopsListing, content_area_in};
 
 mod address;
 mod order;
@@ -99,9 +99,8 @@ fn contents_from(alloc: Global, cache: &str, top: &str, files: Vec<Text>) -> Res
 /// more than sixteen levels below the folder of contents, or there are more than 2^63 names.
 /// `OutOfMemory` is the only other error. Clock and numbers aren't asked.
 pub fn list<S: Store, C: Clock, N: Names>(env: &mut Env<S, C, N>, cache: &str) -> Result<Contents>
-    ensures lists { IfOk result (λ c. ListsContents cache.now
-        c.addresses.items (map string_bytes c.strange.items)
-        (S.log env.old.store) (S.log env.new.store)) }
+    ensures lists { IfOk result
+        (λ c. AnswersContents cache.now c (S.log env.old.store) (S.log env.new.store)) }
     ensures by_hash { IfOk result (λ c. IsByHash c.addresses.items) }
     ensures by_bytes { IfOk result (λ c. IsByBytes (map string_bytes c.strange.items)) }
     ensures stops { IfErr result

@@ -7,7 +7,7 @@ ghost use Rattle.cacache_store.specs.declared.store.log.LogItem.{LogItem};
 ghost use Rattle.cacache_table.specs.Runs.{plain_item};
 ghost use Rattle.cacache_table.specs.State.{Item};
 ghost use Rattle.cacache_walks.specs.Lending.{EnvRests};
-ghost use Rattle.cacache_walks.specs.Iterating.{Filled, Gave, IsListing, KeepsEnv, NextGives, Shortens, StandsBy, WentOn, item_view, left};
+ghost use Rattle.cacache_walks.specs.Iterating.{Filled, Gave, IsListing, KeepsEnv, NextGives, Shortens, VisitGives, item_view, left};
 
 use crate::walk::Walk;
 use cacache_core::errors::{self, Error};
@@ -85,9 +85,7 @@ impl<'a, S: Store, C, N> Ls<'a, S, C, N> {
     fn go_on(&mut self, visit: Visit) -> errors::Result<()>
         requires { self.old.ready.items ≡ [] }
         ensures keeps { KeepsEnv self.old self.new }
-        ensures went { (cache : List ℕ) (old : Option (List LogItem)) (items : List Item)
-            → StandsBy S.log (Some visit) cache old self.old items
-            → WentOn S.log result cache old self.new items }
+        ensures went { VisitGives S.log visit self.old result self.new }
         ensures shrinks { OnOk result (Shortens S.log visit self.old self.new) }
         ensures rests { IfErr result (λ e.
             (self.new.visit ≡ self.old.visit) × (self.new.ready.items ≡ [])) }

@@ -2,9 +2,7 @@
 ghost use Rattle.std.specs.Prelude.{◌≡◌, ◌+◌, ◌<◌, ◌≤◌, Some, Ok, IfOk, IfErr, MatchOption, length, slice_index};
 ghost use Rattle.hex.specs.Hex.{decode_of};
 ghost use Rattle.cacache_core.specs.declared.errors.Error.TheVariants.{OutOfMemory};
-ghost use Rattle.cacache_core.specs.declared.integrity.digest.Hash.{Hash};
-ghost use Rattle.cacache_core.specs.Integrity.{IsHash};
-ghost use Rattle.cacache_walks.specs.Addresses.{HasNoBytes, HasNoNames, IsContentPath, IsStrange, by_letter, digits_of, names_text};
+ghost use Rattle.cacache_walks.specs.Addresses.{HasNoBytes, HasNoNames, HasParts, IsContentPath, IsStrange, by_letter, digits_of};
 ghost use Rattle.cacache_walks.specs.Listing.{content_area_in};
 
 use cacache_core::errors::{Error, Result};
@@ -61,9 +59,7 @@ fn decode_hex(alloc: Global, digits: &[u8]) -> Result<Option<Vec<u8>>>
 /// The algorithm and the digest's bytes of the content whose names a text may be.
 fn hash_in(alloc: Global, text: &[u8]) -> Result<Option<(Algorithm, Vec<u8>)>>
     ensures hash { IfOk result (λ r. MatchOption r (HasNoNames text.now)
-        (λ p. (3 ≤ length p.1.items)
-        × ((h : Hash) → IsHash h → text.now ≡ names_text h
-        → (p.0 ≡ h.algorithm) × (p.1.items ≡ h.digest)))) }
+        (λ p. HasParts text.now p.0 p.1.items)) }
     ensures memory { IfErr result (λ e. e ≡ OutOfMemory) }
 {
     let Some(algorithm) = algorithm_in(text) else {

@@ -1,12 +1,11 @@
 //! A walk that keeps the files and links below a folder.
-ghost use Rattle.std.specs.Prelude.{◌≡◌, ◌≢◌, ◌++◌, ◌∷◌, ◌<◌, [], List, IfOk, OnOk, IfErr, Some};
+ghost use Rattle.std.specs.Prelude.{◌≡◌, ◌≢◌, ◌++◌, ◌<◌, [], List, IfOk, OnOk, IfErr, Some};
 ghost use Rattle.cacache_core.specs.declared.errors.Fault.TheVariants.{NotFound};
 ghost use Rattle.cacache_store.specs.declared.store.answer.Answer.TheVariants.{Failed};
-ghost use Rattle.cacache_store.specs.Plain.{PlainAnswer, plain_answer};
-ghost use Rattle.cacache_table.specs.Runs.{Moves, Gains};
-ghost use Rattle.cacache_walks.specs.Reading.{Folder, IsErrorOf, ReadsFolders, top_folder, file_paths, files_shown};
-ghost use Rattle.cacache_walks.specs.Listing.{StopsAt, StopsBelow};
-ghost use Rattle.cacache_walks.specs.WalkSteps.{AnswerShows, Answered, GoesFrom, WalkStands, StopsIn, StopsVisit, steps_left};
+ghost use Rattle.cacache_store.specs.Plain.{PlainAnswer};
+ghost use Rattle.cacache_walks.specs.Reading.{Folder, IsErrorOf, file_paths};
+ghost use Rattle.cacache_walks.specs.Listing.{ShowsBelow, StopsAt, StopsBelow};
+ghost use Rattle.cacache_walks.specs.WalkSteps.{AnswerShows, AnsweredBy, GoesOnBy, WalkStands, StopsIn, StopsVisit, steps_left};
 
 use crate::walk::Walk;
 use cacache_core::errors::{Error, Fault, Result};
@@ -83,8 +82,7 @@ fn answer_visit<S: Store>(
     files: &mut Vec<Text>,
     visit: &Visit,
 ) -> Result<Answer<PlainFile, PlainTemp>>
-    ensures answers { IfOk result
-        (λ answer. Answered visit.now (plain_answer (λ f. f) (λ t. t) answer)
+    ensures answers { IfOk result (λ answer. AnsweredBy visit.now answer
         (S.log store.old) (S.log store.new) files.old.items files.new.items) }
     ensures stops { IfErr result
         (λ e. StopsVisit visit.now e (S.log store.old) (S.log store.new)) }
@@ -108,9 +106,8 @@ fn make<S: Store>(
     files: &mut Vec<Text>,
     visit: Visit,
 ) -> Result<Option<Visit>>
-    ensures goes { IfOk result (λ next. (fs : List Folder) → WalkStands (Some visit) walk.old fs
-        → GoesFrom walk.old.left fs next walk.new (S.log store.old) (S.log store.new)
-        files.old.items files.new.items) }
+    ensures goes { IfOk result (λ next. GoesOnBy visit walk.old next walk.new
+        (S.log store.old) (S.log store.new) files.old.items files.new.items) }
     ensures smaller { IfOk result (λ next. (fs : List Folder) → WalkStands (Some visit) walk.old fs
         → steps_left next walk.new < steps_left (Some visit) walk.old) }
     ensures stops { IfErr result (λ e. (fs : List Folder) → WalkStands (Some visit) walk.old fs
@@ -130,8 +127,7 @@ fn make<S: Store>(
 /// The paths of all files and links below a folder, as far as a store shows them.
 pub(crate) fn files_below<S: Store>(store: &mut S, alloc: Global, top: &str) -> Result<Vec<Text>>
     ensures reads { IfOk result
-        (λ files. (moves : Moves) × Gains (S.log store.old) (S.log store.new) moves
-        × ReadsFolders (top_folder top.now ∷ []) moves × (files.items ≡ files_shown moves)) }
+        (λ files. ShowsBelow top.now files.items (S.log store.old) (S.log store.new)) }
     ensures stops { IfErr result
         (λ e. StopsBelow top.now e (S.log store.old) (S.log store.new)) }
 {
