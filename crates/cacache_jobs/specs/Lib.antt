@@ -1,4 +1,5 @@
 pub mod JobStates
+pub mod LeadsOn
 pub mod Sites
 pub mod Environment
 pub mod Jobs

@@ -1,16 +1,11 @@
 //! Files that are read to their end, each byte hashed once and none kept: contents to verify, and targets of links.
-ghost use Rattle.std.specs.Prelude.{◌≡◌, ℕ, List, [], ◌++◌, length};
-ghost use Rattle.cacache_store.specs.Plain.{plain_answer};
-ghost use Rattle.cacache_table.specs.Answers.{file_in};
-ghost use Rattle.cacache_table.specs.Common.{go_on, fails};
+ghost use Rattle.std.specs.Prelude.{◌≡◌, ℕ, List, ◌++◌, length};
 ghost use Rattle.cacache_table.specs.Linking.{after_read as after_read_of, hashed as hashed_of};
 ghost use Rattle.cacache_table.specs.StepPaths.{content_path as content_path_of};
-ghost use Rattle.cacache_table.specs.Exporting.{verified as verified_of};
-ghost use Rattle.cacache_core.specs.Pieces.{Compares};
-ghost use Rattle.cacache_table.specs.State.{Hashing as Purpose, opening_file, hashing as hashing_state, to_verify};
-ghost use Rattle.cacache_table.specs.declared.carried.Content.{Content as Named};
-ghost use Rattle.cacache_table.specs.Seen.{seen_by, got_as};
+ghost use Rattle.cacache_table.specs.State.{Hashing as Purpose, opening_file, to_verify};
+ghost use Rattle.cacache_table.specs.Seen.{got_as};
 ghost use Rattle.cacache_jobs.specs.JobStates.{Leads, HashesFor};
+ghost use Rattle.cacache_jobs.specs.LeadsOn.{LeadsOpened, LeadsRead, LeadsVerified};
 
 use crate::brought::opened_file;
 use crate::phase::{Phase, refused};
@@ -74,9 +69,7 @@ pub(crate) fn after_open<F: FileHandle, T: TempHandle>(
     hashing: Box<Hashing>,
     answer: Answer<F, T>,
 ) -> errors::Result<Phase<F, T>>
-    ensures { (h : Purpose) → HashesFor hashing.value h []
-        → Leads F.seen T.seen result
-        (go_on (file_in (plain_answer F.seen T.seen answer)) fails (λ f. hashing_state h f [])) }
+    ensures { LeadsOpened F.seen T.seen hashing.value answer result }
 {
     match opened_file(alloc, hashing.path(), answer) {
         Ok(file) => Ok(Phase::Wanting(Stage::Hashing(hashing, 0), Step::Read(file, PIECE))),
@@ -92,9 +85,7 @@ fn export_verified<F: FileHandle, T: TempHandle>(
     export: Export,
     size: usize,
 ) -> errors::Result<Phase<F, T>>
-    ensures { (k : Named) (bytes : List ℕ) → Compares checker k.integrity bytes
-        → from ≡ content_path_of k.cache k.integrity → size ≡ length bytes
-        → Leads F.seen T.seen result (verified_of k export bytes) }
+    ensures { LeadsVerified F.seen T.seen checker from export size result }
 {
     match checker.result(alloc) {
         Ok(_) => exporting::export_from(export.how, from, export.to, Some(size as u64)),
@@ -172,9 +163,7 @@ pub(crate) fn after_read<F: FileHandle, T: TempHandle>(
     size: usize,
     got: Result<Got<F>, Refusal>,
 ) -> errors::Result<Phase<F, T>>
-    ensures { (h : Purpose) (bytes : List ℕ) → HashesFor hashing.value h bytes → size ≡ length bytes
-        → Leads F.seen T.seen result
-        (go_on (seen_by (got_as F.seen) got) fails (after_read_of h bytes)) }
+    ensures { LeadsRead F.seen T.seen hashing.value size got result }
 {
     match got {
         Ok(got) => hash_piece(alloc, hashing, size, got),

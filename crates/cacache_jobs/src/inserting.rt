@@ -9,6 +9,7 @@ ghost use Rattle.cacache_entry.specs.View.{entry_view};
 ghost use Rattle.cacache_table.specs.Runs.{EndsAs};
 ghost use Rattle.cacache_jobs.specs.IntoBuckets.{entry_with, into_bucket};
 ghost use Rattle.cacache_jobs.specs.JobStates.{Leads, PhaseAt, IsInsertion, insertion_reply};
+ghost use Rattle.cacache_jobs.specs.LeadsOn.{LeadsInsert};
 
 use crate::messages;
 use crate::phase::{Phase, refused};
@@ -152,9 +153,7 @@ pub(crate) fn insert<F: FileHandle, T: TempHandle>(
     durable: bool,
     integrity: Option<Integrity>,
 ) -> errors::Result<Phase<F, T>>
-    ensures { (j : Inserted) → j.cache ≡ cache → j.entry ≡ entry_view entry
-        → j.durable ≡ durable → j.reply ≡ insertion_reply integrity
-        → Leads F.seen T.seen result (insert_of j) }
+    ensures { LeadsInsert F.seen T.seen cache entry durable integrity result }
 {
     let line = line_of(alloc, &entry, durable)?;
     let key = key_of(entry);

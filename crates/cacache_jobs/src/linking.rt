@@ -1,15 +1,14 @@
 //! Links: the target is read to its end, and a link to it becomes the content.
-ghost use Rattle.std.specs.Prelude.{◌≡◌, ℕ, List, length};
-ghost use Rattle.cacache_core.specs.Integrity.{integrity_under};
+ghost use Rattle.std.specs.Prelude.{◌≡◌};
 ghost use Rattle.cacache_store.specs.Plain.{plain_answer};
 ghost use Rattle.cacache_table.specs.Answers.{length_in};
 ghost use Rattle.cacache_table.specs.Common.{go_on, fails};
-ghost use Rattle.cacache_table.specs.Linking.{link_target as link_target_of, after_size as after_size_of, commit_for};
+ghost use Rattle.cacache_table.specs.Linking.{after_size as after_size_of};
 ghost use Rattle.cacache_table.specs.StepPaths.{content_path as content_path_of};
-ghost use Rattle.cacache_jobs.specs.Sites.{site_of};
-ghost use Rattle.cacache_table.specs.State.{sizing, opening_file, to_link, linking as linking_state};
+ghost use Rattle.cacache_table.specs.State.{opening_file, to_link, linking as linking_state};
 ghost use Rattle.cacache_table.specs.Storing.{link as link_of};
 ghost use Rattle.cacache_jobs.specs.JobStates.{Leads};
+ghost use Rattle.cacache_jobs.specs.LeadsOn.{LeadsHashed, LeadsSizing};
 
 use crate::brought::told_size;
 use crate::hashing::Hashing;
@@ -32,9 +31,7 @@ pub(crate) fn link_target<F: FileHandle, T: TempHandle>(
     computed: Integrity,
     count: usize,
 ) -> errors::Result<Phase<F, T>>
-    ensures { (bytes : List ℕ)
-        → computed ≡ integrity_under target.options.algorithm bytes → count ≡ length bytes
-        → Leads F.seen T.seen result (link_of (commit_for target bytes) target.path) }
+    ensures { LeadsHashed F.seen T.seen target computed count result }
 {
     let (commit, path) = target.into_commit(computed, count);
     link(alloc, commit, path)
@@ -64,9 +61,7 @@ pub(crate) fn start<F: FileHandle, T: TempHandle>(
     base: &str,
     link: Link,
 ) -> errors::Result<Phase<F, T>>
-    ensures { (number : ℕ)
-        → Leads F.seen T.seen result
-        (sizing (link_target_of (site_of cache.now base.now number) link)) }
+    ensures { LeadsSizing F.seen T.seen cache.now base.now link result }
 {
     let Link {
         key,
@@ -100,8 +95,8 @@ pub(crate) fn after_size<F: FileHandle, T: TempHandle>(
     target: Box<Target<u128>>,
     answer: Answer<F, T>,
 ) -> errors::Result<Phase<F, T>>
-    ensures { Leads F.seen T.seen result (go_on (length_in (plain_answer F.seen T.seen answer)) fails
-        (after_size_of target.value)) }
+    ensures { Leads F.seen T.seen result
+        (go_on (length_in (plain_answer F.seen T.seen answer)) fails (after_size_of target.value)) }
 {
     let size = told_size(alloc, &target.path, answer)?;
     open_target(alloc, Box::into_inner(target).with_size(size as usize))

@@ -1,7 +1,7 @@
 //! Runs a call on a store.
 ghost use Rattle.std.specs.Prelude.{◌≡◌};
 ghost use Rattle.cacache_core.specs.declared.errors.Error.TheVariants.{OutOfMemory};
-ghost use Rattle.cacache_store.specs.Fits.{Fits, Logs};
+ghost use Rattle.cacache_store.specs.Fits.{Fits};
 ghost use Rattle.cacache_store.specs.Plain.{plain_step, plain_answer};
 ghost use Rattle.cacache_table.specs.Promises.{Answers};
 ghost use Rattle.cacache_table.specs.Runs.{Ran, plain_reply};
@@ -12,6 +12,7 @@ ghost use Rattle.cacache_jobs.specs.ReadFirst.{FindsBytes, ReadsFirst};
 ghost use Rattle.cacache_jobs.specs.Jobs.{Stands};
 ghost use Rattle.cacache_jobs.specs.Sites.{site_of};
 ghost use Rattle.cacache_jobs.specs.JobStates.{Leads, PhaseAt};
+ghost use Rattle.cacache_jobs.specs.LeadsOn.{LogsSeen};
 
 use crate::job::{Job, over_on_error};
 use crate::opening::open;
@@ -27,9 +28,8 @@ use std::alloc::Global;
 fn ask<S: Store>(store: &mut S, step: Step<S::File, S::Temp>) -> Answer<S::File, S::Temp>
     ensures fits { Fits (plain_step S.File.seen S.Temp.seen step)
         (plain_answer S.File.seen S.Temp.seen result) }
-    ensures logged { Logs (S.log store.old) (S.log store.new)
-        (plain_step S.File.seen S.Temp.seen step)
-        (plain_answer S.File.seen S.Temp.seen result) }
+    ensures logged { LogsSeen S.File.seen S.Temp.seen (S.log store.old) (S.log store.new)
+        step result }
 {
     store.step(step)
 }

@@ -10,6 +10,7 @@ ghost use Rattle.cacache_table.specs.State.{Site, creating, syncing, persisting,
 ghost use Rattle.cacache_table.specs.Storing.{persist as persist_of, write_rest as write_rest_of, placed as placed_of, secured as secured_of, secured_found as secured_found_of, move_in as move_in_of, indexed, after_write as after_write_of, after_confirm as after_confirm_of, put_commit, store as store_of};
 ghost use Rattle.cacache_table.specs.Seen.{seen_by, written_as};
 ghost use Rattle.cacache_jobs.specs.JobStates.{Leads, PhaseAt};
+ghost use Rattle.cacache_jobs.specs.LeadsOn.{LeadsSynced};
 
 use crate::brought::made_temp;
 use crate::comparing::{compare_integrity, compare_size};
@@ -228,9 +229,7 @@ pub(crate) fn after_sync<F: FileHandle, T: TempHandle>(
     path: Text,
     synced: Result<T, Refusal>,
 ) -> errors::Result<Phase<F, T>>
-    ensures { path ≡ content_path_of commit.value.cache commit.value.computed
-        → Leads F.seen T.seen result
-        (go_on (seen_by T.seen synced) fails (persisting commit.value)) }
+    ensures { LeadsSynced F.seen T.seen commit.value path synced result }
 {
     match synced {
         Ok(file) => Ok(persist(commit, file, path)),

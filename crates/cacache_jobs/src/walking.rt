@@ -1,10 +1,10 @@
 //! Walks through folders as calls: a clearing removes all, a listing reads each bucket.
 ghost use Rattle.std.specs.Prelude.{[]};
-ghost use Rattle.cacache_store.specs.Plain.{plain_answer};
 ghost use Rattle.cacache_table.specs.State.{State};
-ghost use Rattle.cacache_table.specs.Walking.{walk as walk_from, after_visit};
-ghost use Rattle.cacache_walks.specs.WalkStates.{Counts, WalksAt, pending, walk_of};
+ghost use Rattle.cacache_table.specs.Walking.{walk as walk_from};
+ghost use Rattle.cacache_walks.specs.WalkStates.{WalksAt};
 ghost use Rattle.cacache_jobs.specs.JobStates.{Leads};
+ghost use Rattle.cacache_jobs.specs.LeadsOn.{LeadsVisited};
 
 use crate::phase::Phase;
 use crate::stage::Stage;
@@ -51,9 +51,7 @@ pub(crate) fn resume<F: FileHandle, T: TempHandle>(
     visit: Visit,
     answer: Answer<F, T>,
 ) -> errors::Result<Phase<F, T>>
-    ensures { Counts [] walk → Leads F.seen T.seen result
-        (after_visit (walk_of [] walk) visit (pending walk.todo.items)
-        (plain_answer F.seen T.seen answer)) }
+    ensures { LeadsVisited F.seen T.seen walk visit answer result }
 {
     let mut walk = walk;
     match walk.resume(alloc, visit, answer) {
