@@ -12,6 +12,7 @@ use Rattle.cacache_history.specs.Setup.{Setup, call_site, may_export, is_outside
 use Rattle.cacache_history.specs.History.{NamesIntegrity}
 use Rattle.cacache_world.specs.declared.event.WorldFault.{WorldFault}
 use Rattle.cacache_world.specs.declared.event.WorldFault.TheVariants as faults
+use Rattle.cacache_world.specs.WorldKept.{setup_of}
 
 -- a command that a call may begin with
 abbrev pub MayAsk : Setup → ℕ → Command → Type 0
@@ -29,6 +30,11 @@ IsBad s command = ⊥
 abbrev pub Judges : Bool → Setup → ℕ → Command → Type 0
 Judges true s number command = MayAsk s number command
 Judges false s number command = IsBad s command
+
+-- so it says in a world, whatever the number and however many callers there are
+abbrev pub JudgesIn : Bool → List ℕ → List (List ℕ × List ℕ) → Command → Type 0
+JudgesIn may cache outside command =
+    (callers n : ℕ) → Judges may (setup_of cache outside callers) n command
 
 -- why a command is turned away: it is bad, or memory was refused
 abbrev pub IsTurnedAway : Setup → Command → WorldFault → Type 0

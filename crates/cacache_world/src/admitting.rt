@@ -7,7 +7,7 @@ ghost use Rattle.cacache_table.specs.declared.command.Command.TheVariants as com
 ghost use Rattle.cacache_history.specs.History.{NamesSource};
 ghost use Rattle.cacache_history.specs.Setup.{Setup, is_outside as is_outside_of};
 ghost use Rattle.cacache_world.specs.WorldKept.{setup_of};
-ghost use Rattle.cacache_world.specs.Admitted.{MayAsk, Judges, IsTurnedAway, FormsEntries};
+ghost use Rattle.cacache_world.specs.Admitted.{MayAsk, Judges, JudgesIn, IsTurnedAway, FormsEntries};
 
 use crate::entries::form;
 use crate::event::WorldFault;
@@ -90,8 +90,7 @@ fn may_begin_export(
     source: &Source,
     export: &Export,
 ) -> Result<bool, AllocError>
-    ensures { IfOk result (λ may. (callers n : ℕ)
-        → Judges may (setup_of cache.now outside.now callers) n
+    ensures { IfOk result (λ may. JudgesIn may cache.now outside.now
         (commands.Export source.now export.now)) }
 {
     known_source(source);

@@ -1,11 +1,10 @@
 //! What a loss of power leaves of a world's disk.
-ghost use Rattle.std.specs.Prelude.{◌≡◌, ◌∷◌, [], ℕ, IfOk};
+ghost use Rattle.std.specs.Prelude.{◌≡◌, ◌∷◌, [], IfOk};
 ghost use Rattle.cacache_history.specs.Values.{steps_of};
 ghost use Rattle.cacache_loss.specs.ChangedNames.{opening};
 ghost use Rattle.cacache_loss.specs.Moments.{after};
 ghost use Rattle.cacache_loss.specs.Running.{moment_of};
-ghost use Rattle.cacache_world.specs.Losses.{LeftBy};
-ghost use Rattle.cacache_world.specs.WorldKept.{history_of, setup_of};
+ghost use Rattle.cacache_world.specs.Losses.{LeftAfter};
 
 use crate::outside::plant_all;
 use cacache_core::bytes::Bytes;
@@ -46,9 +45,8 @@ pub(crate) fn nodes_left(
     records: &[Record],
     loss: &Loss,
 ) -> Result<Nodes, AllocError>
-    ensures { IfOk result (λ nodes. (callers : ℕ)
-        → LeftBy (history_of (setup_of cache.now outside.now callers) records.now)
-        loss.now nodes) }
+    ensures { IfOk result
+        (λ nodes. LeftAfter cache.now outside.now records.now loss.now nodes) }
 {
     // The world was made of these files, so that only memory can be lacking now.
     let Ok(disk) = plant_all(alloc, cache, outside) else {

@@ -32,7 +32,8 @@ fn home_names(alloc: Global, text: &str) -> Result<Option<Vec<Text>>, AllocError
 
 /// The names of a path's text, none where it names nothing.
 fn path_names(alloc: Global, text: &str) -> Result<Option<Vec<Text>>, AllocError>
-    ensures { IfOk result (λ names. option_map (λ v. v.items) names ≡ result_ok (names_of text.now)) }
+    ensures { IfOk result
+        (λ names. option_map (λ v. v.items) names ≡ result_ok (names_of text.now)) }
 {
     if text.is_empty() {
         return Ok(None);
