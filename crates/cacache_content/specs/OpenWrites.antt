@@ -11,9 +11,11 @@ use Rattle.cacache_core.specs.Integrity.{integrity_under}
 use Rattle.cacache_store.specs.Failures as io
 use Rattle.cacache_table.specs.Blank.{blank}
 use Rattle.cacache_store.specs.declared.store.answer.Answer.TheVariants as answers
+use Rattle.cacache_store.specs.declared.env.Env.{Env}
 use Rattle.cacache_store.specs.declared.store.log.LogItem.{LogItem}
 use Rattle.cacache_store.specs.declared.store.plain.PlainTemp.{PlainTemp}
 use Rattle.cacache_store.specs.declared.store.step.Step.TheVariants as steps
+use Rattle.cacache_store.specs.Given.{AddsAnswer}
 use Rattle.cacache_store.specs.Plain.{PlainStep, PlainAnswer}
 use Rattle.cacache_table.specs.declared.command.Options.{Options}
 use Rattle.cacache_table.specs.declared.reply.Reply.{Reply}
@@ -129,6 +131,15 @@ module _ (cache : List ℕ) (number : ℕ) where
   OpensTemp temp a (Ok w) old new = IsFresh cache number a w × Makes (temp w.file) old new
   OpensTemp temp a (Err e) old new = FailsToMake e old new
 
+-- such a writer was opened, with a number that was asked for once
+abbrev pub OpensNumbered :
+    {T S C N : Type 0} → (T → PlainTemp) → (S → Option (List LogItem)) → (N → Option (List ℕ))
+    → Env S C N → Env S C N → List ℕ → Algorithm → Result (Writer T) Error → Type 0
+OpensNumbered temp log numbers old new cache a r =
+    (number : ℕ)
+    × AddsAnswer (numbers old.names) (numbers new.names) number
+    × OpensTemp cache number temp a r (log old.store) (log new.store)
+
 -- ---- the end
 
 -- the commit of a writer that took these bytes
@@ -173,3 +184,19 @@ given_up removed e = e
 -- the commit of a writer without a key, of which nothing was said
 abbrev pub unkeyed : {T : Type 0} → Writer T → List ℕ → Commit
 unkeyed w bytes = content_commit w bytes None 0 (blank (algorithm_of w.hasher))
+
+-- whatever the writer took, it ended by the commit of that
+abbrev pub EndsByCommit :
+    {T : Type 0} → (T → PlainTemp) → Writer T → Option (List ℕ) → ℕ → Options → Reply
+    → Option (List LogItem) → Option (List LogItem) → Type 0
+EndsByCommit temp w key moment options reply old new =
+    (bytes : List ℕ) → HasTaken w bytes
+    → EndsWriter temp w (content_commit w bytes key moment options) reply old new
+
+-- so it ended without a key
+abbrev pub EndsUnkeyed :
+    {T : Type 0} → (T → PlainTemp) → Writer T → Reply
+    → Option (List LogItem) → Option (List LogItem) → Type 0
+EndsUnkeyed temp w reply old new =
+    (bytes : List ℕ) → HasTaken w bytes
+    → EndsWriter temp w (unkeyed w bytes) reply old new

@@ -5,14 +5,13 @@ ghost use Rattle.std.specs.Io.KnownBytes.{Appends, WriteAppends};
 ghost use Rattle.cacache_core.specs.Hashers.{algorithm_of};
 ghost use Rattle.cacache_core.specs.Integrity.{integrity_under};
 ghost use Rattle.cacache_store.specs.declared.store.answer.Answer.TheVariants.{Done};
-ghost use Rattle.cacache_store.specs.Given.{AddsAnswer};
 ghost use Rattle.cacache_table.specs.declared.reply.Reply.TheVariants.{Stored};
 ghost use Rattle.cacache_table.specs.Promises.{Stores};
 ghost use Rattle.cacache_table.specs.Runs.{reply_of};
 ghost use Rattle.cacache_table.specs.SingleSteps.{Does, FailsAt};
 ghost use Rattle.cacache_table.specs.StepPaths.{temp_path as temp_path_of};
 ghost use Rattle.cacache_content.specs.Passed.{passed};
-ghost use Rattle.cacache_content.specs.OpenWrites.{HasTaken, IsSameWriter, MakesTemp, OpensTemp, EndsWriter, RemovesTemp, TriesToRemove, given_up, Takes, TakesPart, WholeFails, IsWriteError, IsRetried, make_folder as making_folder, content_commit, unkeyed};
+ghost use Rattle.cacache_content.specs.OpenWrites.{HasTaken, IsSameWriter, MakesTemp, OpensTemp, OpensNumbered, EndsByCommit, EndsUnkeyed, RemovesTemp, TriesToRemove, given_up, Takes, TakesPart, WholeFails, IsWriteError, IsRetried, make_folder as making_folder, content_commit};
 
 use cacache_core::errors::{Error, Fault, Result};
 use cacache_core::hasher::Hasher;
@@ -108,8 +107,7 @@ pub fn commit<S: Store, C, N>(
 ) -> Result<Integrity>
     ensures stored { (bytes : List ℕ) → HasTaken writer bytes
         → Stores (content_commit writer bytes key moment options) (reply_of Stored result) }
-    ensures ran { (bytes : List ℕ) → HasTaken writer bytes
-        → EndsWriter S.Temp.seen writer (content_commit writer bytes key moment options)
+    ensures ran { EndsByCommit S.Temp.seen writer key moment options
         (reply_of Stored result) (S.log env.old.store) (S.log env.new.store) }
     ensures clock { env.new.clock ≡ env.old.clock }
     ensures names { env.new.names ≡ env.old.names }
@@ -217,10 +215,7 @@ impl<T: TempFile> Writer<T> {
         algo: Algorithm,
         size: Option<usize>,
     ) -> Result<Writer<T>>
-        ensures opens { (number : ℕ)
-            × AddsAnswer (N.given env.old.names) (N.given env.new.names) number
-            × OpensTemp cache.now number T.seen algo result
-            (S.log env.old.store) (S.log env.new.store) }
+        ensures opens { OpensNumbered T.seen S.log N.given env.old env.new cache.now algo result }
         ensures clock { env.new.clock ≡ env.old.clock }
         ensures base { env.new.base ≡ env.old.base }
     {
@@ -239,8 +234,7 @@ impl<T: TempFile> Writer<T> {
     ) -> Result<Integrity>
         ensures stored { (bytes : List ℕ) → HasTaken self bytes
             → IfOk result (λ i. i ≡ integrity_under (algorithm_of self.hasher) bytes) }
-        ensures ran { (bytes : List ℕ) → HasTaken self bytes
-            → EndsWriter T.seen self (unkeyed self bytes) (reply_of Stored result)
+        ensures ran { EndsUnkeyed T.seen self (reply_of Stored result)
             (S.log env.old.store) (S.log env.new.store) }
         ensures clock { env.new.clock ≡ env.old.clock }
         ensures names { env.new.names ≡ env.old.names }
