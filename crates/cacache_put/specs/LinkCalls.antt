@@ -1,15 +1,23 @@
 -- What a link is asked to do, and what its integrity is that of.
-use Rattle.std.specs.Prelude.{◌≡◌, ℕ, List, ◌∷◌, Option}
+use Rattle.std.specs.Prelude.{◌≡◌, ℕ, List, ◌∷◌, Option, None}
 use Rattle.cacache_core.specs.declared.integrity.algorithm.Algorithm.TheVariants.{Sha256}
 use Rattle.cacache_core.specs.declared.integrity.digest.Hash.{Hash}
 use Rattle.cacache_core.specs.Integrity.{integrity_under}
+use Rattle.cacache_store.specs.declared.env.Env.{Env}
 use Rattle.cacache_store.specs.declared.store.step.Step.TheVariants as steps
 use Rattle.cacache_store.specs.declared.store.answer.Answer.TheVariants as answers
 use Rattle.cacache_store.specs.declared.store.log.LogItem.{LogItem}
+use Rattle.cacache_table.specs.declared.command.Command.TheVariants as commands
 use Rattle.cacache_table.specs.declared.command.Link.{Link}
+use Rattle.cacache_table.specs.declared.reply.Reply.{Reply}
+use Rattle.cacache_table.specs.declared.reply.Reply.TheVariants.{Stored}
+use Rattle.cacache_table.specs.Linking.{link_target}
 use Rattle.cacache_table.specs.Runs.{Moves, Gains}
 use Rattle.cacache_table.specs.Verifying.{ReadsWhole}
 use Rattle.cacache_table.specs.Blank.{blank}
+use Rattle.cacache_jobs.specs.Environment.{RunsTimed}
+use Rattle.cacache_jobs.specs.ReadFirst.{Linked}
+use Rattle.cacache_jobs.specs.Sites.{site_of}
 
 -- a link to a file; without a key the moment has no effect
 abbrev pub link_to : Option (List ℕ) → List ℕ → ℕ → Link
@@ -25,3 +33,18 @@ IsOfWhole path i moves =
 -- a log that is kept gained such moves
 abbrev pub HoldsTarget : List ℕ → List Hash → Option (List LogItem) → Option (List LogItem) → Type 0
 HoldsTarget path i old new = (moves : Moves) × Gains old new moves × IsOfWhole path i moves
+
+-- a log that is kept gained moves that read the whole target of such a link, which stored this integrity
+abbrev pub LinkedTo :
+    List ℕ → List ℕ → Option (List ℕ) → List ℕ → ℕ → List Hash
+    → Option (List LogItem) → Option (List LogItem) → Type 0
+LinkedTo cache base key target moment i old new =
+    Linked (link_target (site_of cache base 0) (link_to key target moment)) (Stored i) old new
+
+-- the log gained a run of such a link, with a moment that the clock was asked for once
+abbrev pub RunsLink :
+    {S C N : Type 0} → (S → Option (List LogItem)) → (C → Option (List ℕ))
+    → Env S C N → Env S C N → List ℕ → Option (List ℕ) → List ℕ → Reply → Type 0
+RunsLink log moments old new cache key target reply =
+    RunsTimed log moments None old new cache
+    (λ moment. commands.Link (link_to key target moment)) reply

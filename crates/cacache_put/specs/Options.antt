@@ -29,6 +29,10 @@ nothing_said = record {
   time = None;
 }
 
+-- what options say of which the algorithm alone was set
+abbrev pub saying : Algorithm → Said
+saying a = record nothing_said { algorithm = a }
+
 -- the same as the options of a command, which has its moment beside them
 abbrev pub options_of : Said → Options
 options_of s = record {

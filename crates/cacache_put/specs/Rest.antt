@@ -1,10 +1,13 @@
 -- What reading the rest of a target does.
 use Rattle.std.specs.Prelude.{◌≡◌, ℕ, List, Option, Result, Ok, Err, length}
 use Rattle.cacache_core.specs.declared.errors.Error.{Error}
+use Rattle.cacache_core.specs.declared.integrity.digest.Hash.{Hash}
 use Rattle.cacache_core.specs.declared.integrity.hasher.Hasher.{Hasher}
 use Rattle.cacache_core.specs.Hashers.{Holds, algorithm_of}
+use Rattle.cacache_core.specs.Integrity.{integrity_under}
 use Rattle.cacache_store.specs.declared.store.log.LogItem.{LogItem}
 use Rattle.cacache_store.specs.declared.store.plain.PlainFile.{PlainFile}
+use Rattle.cacache_table.specs.declared.reply.Reply.{Reply}
 use Rattle.cacache_table.specs.declared.reply.Reply.TheVariants.{Refused}
 use Rattle.cacache_table.specs.Linking.{commit_for}
 use Rattle.cacache_table.specs.Runs.{Gone, Ran, without_message}
@@ -29,3 +32,30 @@ ReadsRest t file bytes hasher next (Ok n) old new =
     × Gone (hashing (to_link t) file bytes) (links t all) old new
 ReadsRest t file bytes hasher next (Err e) old new =
     Ran (hashing (to_link t) file bytes) (Refused (without_message e)) old new
+
+-- so it was whatever the target, and whatever bytes were hashed, which are so many
+abbrev pub ReadsOn :
+    ℕ → PlainFile → Hasher → Hasher → Result ℕ Error
+    → Option (List LogItem) → Option (List LogItem) → Type 0
+ReadsOn before file hasher next r old new =
+    (t : Target ℕ) (bytes : List ℕ) → Holds hasher bytes → before ≡ length bytes
+    → ReadsRest t file bytes hasher next r old new
+
+-- the link was made of a target that was read to its end, and has this integrity and size
+abbrev pub LinksWhole :
+    Target ℕ → List Hash → ℕ → Reply
+    → Option (List LogItem) → Option (List LogItem) → Type 0
+LinksWhole t computed count reply old new =
+    (bytes : List ℕ)
+    → computed ≡ integrity_under t.options.algorithm bytes → count ≡ length bytes
+    → Ran (links t bytes) reply old new
+
+-- the rest of the target was read, of which so many bytes were hashed, and the link was made
+abbrev pub LinksRest :
+    Target ℕ → Hasher → ℕ → PlainFile → Reply
+    → Option (List LogItem) → Option (List LogItem) → Type 0
+LinksRest t hasher count file reply old new =
+    (bytes : List ℕ)
+    → Holds hasher bytes → algorithm_of hasher ≡ t.options.algorithm
+    → count ≡ length bytes
+    → Ran (hashing (to_link t) file bytes) reply old new

@@ -24,8 +24,8 @@ impl WriteOpts {
         key: &str,
         target: &str,
     ) -> Result<SyncToLinker<S::File>>
-        ensures opens { OpensLink S.File.seen S.log env.old env.new (linked_by env.old.base cache.now
-            (Some key.now) target.now self) result }
+        ensures opens { OpensLink S.File.seen S.log env.old env.new (linked_by env.old.base
+            cache.now (Some key.now) target.now self) result }
         ensures begins { BeginsLink S.File.seen S.log env.old env.new asks_file (linked_to
             env.old.base cache.now (Some key.now) target.now self.time (options_of self)) result }
     {
@@ -44,8 +44,8 @@ impl WriteOpts {
         cache: &str,
         target: &str,
     ) -> Result<SyncToLinker<S::File>>
-        ensures opens { OpensLink S.File.seen S.log env.old env.new (linked_by env.old.base cache.now
-            None target.now self) result }
+        ensures opens { OpensLink S.File.seen S.log env.old env.new (linked_by env.old.base
+            cache.now None target.now self) result }
         ensures begins { BeginsLink S.File.seen S.log env.old env.new asks_file
             (linked_to env.old.base cache.now None target.now (Some 0) (options_of self)) result }
     {

@@ -3,18 +3,15 @@ ghost use Rattle.std.specs.Prelude.{◌≡◌, ◌++◌, ℕ, List, None, Some, 
 ghost use Rattle.std.specs.Io.{ReadsAtMost};
 ghost use Rattle.std.specs.Io.KnownBytes.{ReadConsumes};
 ghost use Rattle.cacache_core.specs.declared.integrity.algorithm.Algorithm.TheVariants.{Sha256};
-ghost use Rattle.cacache_core.specs.Integrity.{integrity_under};
 ghost use Rattle.cacache_store.specs.Handles.{LeftFalls};
 ghost use Rattle.cacache_table.specs.declared.reply.Reply.TheVariants.{Stored};
-ghost use Rattle.cacache_table.specs.Runs.{Ran, reply_of};
-ghost use Rattle.cacache_table.specs.State.{hashing, to_link};
-ghost use Rattle.cacache_core.specs.Hashers.{Holds, algorithm_of};
+ghost use Rattle.cacache_table.specs.Runs.{reply_of};
 ghost use Rattle.cacache_content.specs.Passed.{passed};
 ghost use Rattle.cacache_put.specs.OpenLinkers.{AsksSize, BeginsLink, CommitsLink, HasHashed, OpensLink, OpensLinker, OpensSized, OpensTarget, OpensWithSize, Sizes, StoresWhole, asks_file, asks_size, linked_by};
 ghost use Rattle.cacache_table.specs.Linking.{linked_to};
 ghost use Rattle.cacache_table.specs.Blank.{blank};
-ghost use Rattle.cacache_put.specs.Options.{nothing_said};
-ghost use Rattle.cacache_put.specs.Rest.{links};
+ghost use Rattle.cacache_put.specs.Options.{nothing_said, saying};
+ghost use Rattle.cacache_put.specs.Rest.{LinksRest, LinksWhole};
 
 use crate::opts::WriteOpts;
 use crate::rest::read_rest;
@@ -142,9 +139,7 @@ fn finish<S: Store, C, N>(
     computed: Integrity,
     count: usize,
 ) -> Result<Integrity>
-    ensures ran { (bytes : List ℕ)
-        → computed ≡ integrity_under target.options.algorithm bytes → count ≡ length bytes
-        → Ran (links target bytes) (reply_of Stored result)
+    ensures ran { LinksWhole target computed count (reply_of Stored result)
         (S.log env.old.store) (S.log env.new.store) }
     ensures clock { env.new.clock ≡ env.old.clock }
     ensures names { env.new.names ≡ env.old.names }
@@ -162,11 +157,8 @@ fn link_rest<S: Store, C, N>(
     count: usize,
     file: S::File,
 ) -> Result<Integrity>
-    ensures ran { (bytes : List ℕ)
-        → Holds hasher bytes → algorithm_of hasher ≡ target.options.algorithm
-        → count ≡ length bytes
-        → Ran (hashing (to_link target) (S.File.seen file) bytes)
-        (reply_of Stored result) (S.log env.old.store) (S.log env.new.store) }
+    ensures ran { LinksRest target hasher count (S.File.seen file) (reply_of Stored result)
+        (S.log env.old.store) (S.log env.new.store) }
     ensures clock { env.new.clock ≡ env.old.clock }
     ensures names { env.new.names ≡ env.old.names }
     ensures base { env.new.base ≡ env.old.base }
@@ -192,8 +184,8 @@ impl<F: OpenedFile> SyncToLinker<F> {
         algo: Algorithm,
         target: &str,
     ) -> Result<SyncToLinker<F>>
-        ensures opens { OpensLink F.seen S.log env.old env.new (linked_by env.old.base cache.now None
-            target.now (record nothing_said { algorithm = algo })) result }
+        ensures opens { OpensLink F.seen S.log env.old env.new (linked_by env.old.base cache.now
+            None target.now (saying algo)) result }
         ensures begins { BeginsLink F.seen S.log env.old env.new asks_file
             (linked_to env.old.base cache.now None target.now (Some 0) (blank algo)) result }
     {
@@ -221,8 +213,8 @@ impl<F: OpenedFile> SyncToLinker<F> {
     ) -> Result<SyncToLinker<F>>
         ensures opens { OpensWithSize F.seen S.log env.old env.new (linked_by env.old.base cache.now
             (Some key.now) target.now nothing_said) result }
-        ensures begins { BeginsLink F.seen S.log env.old env.new asks_size
-            (linked_to env.old.base cache.now (Some key.now) target.now None (blank Sha256)) result }
+        ensures begins { BeginsLink F.seen S.log env.old env.new asks_size (linked_to
+            env.old.base cache.now (Some key.now) target.now None (blank Sha256)) result }
     {
         let key = Some(Text::from_str(env.alloc, key)?);
         open_blank(env, cache, key, target, None)

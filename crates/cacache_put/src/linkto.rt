@@ -3,12 +3,10 @@ ghost use Rattle.std.specs.Prelude.{None, Some, IfOk};
 ghost use Rattle.cacache_core.specs.declared.integrity.algorithm.Algorithm.TheVariants.{Sha256};
 ghost use Rattle.cacache_table.specs.declared.command.Command.TheVariants as commands;
 ghost use Rattle.cacache_table.specs.declared.reply.Reply.TheVariants.{Stored};
-ghost use Rattle.cacache_table.specs.Linking.{based, link_target};
+ghost use Rattle.cacache_table.specs.Linking.{based};
 ghost use Rattle.cacache_table.specs.Runs.{reply_of};
-ghost use Rattle.cacache_jobs.specs.ReadFirst.{Linked};
-ghost use Rattle.cacache_jobs.specs.Sites.{site_of};
-ghost use Rattle.cacache_put.specs.LinkCalls.{link_to, HoldsTarget};
-ghost use Rattle.cacache_jobs.specs.Environment.{Calls, RunsTimed};
+ghost use Rattle.cacache_put.specs.LinkCalls.{link_to, HoldsTarget, LinkedTo, RunsLink};
+ghost use Rattle.cacache_jobs.specs.Environment.{Calls};
 
 use cacache_core::errors::Result;
 use cacache_core::integrity::{Algorithm, Integrity};
@@ -26,9 +24,8 @@ fn make_link<S: Store, C, N>(
     target: &str,
     moment: u128,
 ) -> Result<Integrity>
-    ensures linked { IfOk result (λ i. Linked
-        (link_target (site_of cache.now env.old.base 0) (link_to key target.now moment))
-        (Stored i) (S.log env.old.store) (S.log env.new.store)) }
+    ensures linked { IfOk result (λ i. LinkedTo cache.now env.old.base key target.now moment i
+        (S.log env.old.store) (S.log env.new.store)) }
     ensures ran { Calls S.log env.old env.new cache.now
         (commands.Link (link_to key target.now moment)) (reply_of Stored result) }
 {
@@ -65,8 +62,7 @@ pub fn link_to_sync<S: Store, C: Clock, N: Names>(
 ) -> Result<Integrity>
     ensures whole { IfOk result (λ i. HoldsTarget (based env.old.base target.now) i
         (S.log env.old.store) (S.log env.new.store)) }
-    ensures ran { RunsTimed S.log C.given None env.old env.new cache.now
-        (λ moment. commands.Link (link_to (Some key.now) target.now moment))
+    ensures ran { RunsLink S.log C.given env.old env.new cache.now (Some key.now) target.now
         (reply_of Stored result) }
 {
     let moment = moment(&mut env.clock, None);

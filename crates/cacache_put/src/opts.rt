@@ -169,8 +169,8 @@ impl WriteOpts {
         cache: &str,
         key: &str,
     ) -> errors::Result<SyncWriter<S::Temp>>
-        ensures opens { OpensKeyed S.Temp.seen S.log N.given env.old env.new cache.now (Some key.now)
-            self result }
+        ensures opens { OpensKeyed S.Temp.seen S.log N.given env.old env.new cache.now
+            (Some key.now) self result }
     {
         let number = env.names.fresh();
         let (key, opts) = beside(Text::from_str(env.alloc, key), self)?;

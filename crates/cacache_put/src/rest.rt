@@ -1,8 +1,5 @@
 //! The rest of a target, which a commit reads.
-ghost use Rattle.std.specs.Prelude.{◌≡◌, ℕ, List, length};
-ghost use Rattle.cacache_core.specs.Hashers.{Holds};
-ghost use Rattle.cacache_table.specs.declared.target.Target.{Target};
-ghost use Rattle.cacache_put.specs.Rest.{ReadsRest};
+ghost use Rattle.cacache_put.specs.Rest.{ReadsOn};
 
 use cacache_core::errors::{Error, Result};
 use cacache_core::hasher::Hasher;
@@ -19,8 +16,7 @@ pub(crate) fn read_rest<S: Store>(
     hasher: &mut Hasher,
     before: usize,
 ) -> Result<usize>
-    ensures { (t : Target ℕ) (bytes : List ℕ) → Holds hasher.old bytes → before ≡ length bytes
-        → ReadsRest t (S.File.seen file) bytes hasher.old hasher.new result
+    ensures { ReadsOn before (S.File.seen file) hasher.old hasher.new result
         (S.log store.old) (S.log store.new) }
 {
     let mut file = file;

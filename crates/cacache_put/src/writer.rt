@@ -121,8 +121,8 @@ impl<T: TempFile> SyncWriter<T> {
     ) -> Result<Integrity>
         ensures stored { (bytes : List ℕ) → HasTaken self.writer bytes
             → (moment : ℕ) × Stores (writer_commit self bytes moment) (reply_of Stored result) }
-        ensures ran { (bytes : List ℕ) → HasTaken self.writer bytes
-            → CommitsWriter T.seen S.log C.given env.old env.new self bytes (reply_of Stored result) }
+        ensures ran { (bytes : List ℕ) → HasTaken self.writer bytes → CommitsWriter T.seen S.log
+            C.given env.old env.new self bytes (reply_of Stored result) }
         ensures names { env.new.names ≡ env.old.names }
         ensures base { env.new.base ≡ env.old.base }
     {
