@@ -3,6 +3,7 @@ use Rattle.std.specs.Prelude.{◌≡◌, ◌≢◌, ◌⊎◌, ℕ, List, Option
 use Rattle.cacache_core.specs.declared.errors.Error.{Error}
 use Rattle.cacache_core.specs.declared.errors.Error.TheVariants.{IoError, OutOfMemory}
 use Rattle.cacache_core.specs.declared.errors.Fault.TheVariants.{NotFound}
+use Rattle.cacache_store.specs.declared.env.Env.{Env}
 use Rattle.cacache_store.specs.declared.store.answer.Answer.TheVariants as answers
 use Rattle.cacache_store.specs.declared.store.log.LogItem.{LogItem}
 use Rattle.cacache_store.specs.declared.store.step.Step.TheVariants as steps
@@ -11,13 +12,24 @@ use Rattle.cacache_entry.specs.declared.metadata.Metadata.{Metadata}
 use Rattle.cacache_entry.specs.Bucket.{entries_of}
 use Rattle.cacache_entry.specs.Latest.{Found, latest}
 use Rattle.cacache_entry.specs.View.{found_view}
+use Rattle.cacache_table.specs.declared.command.Command.TheVariants as commands
 use Rattle.cacache_table.specs.declared.command.Delete.{Delete}
+use Rattle.cacache_table.specs.declared.reply.Reply.{Reply}
 use Rattle.cacache_table.specs.StepPaths.{bucket_path}
 use Rattle.cacache_table.specs.SingleSteps.{Does}
+use Rattle.cacache_jobs.specs.Environment.{RunsTimed}
 
 -- a tombstone of the key
 abbrev pub delete_of : List ℕ → ℕ → Delete
 delete_of key moment = record { key = key; moment = moment }
+
+-- the log gained a run of the deletion, with a moment that the clock was asked for once
+abbrev pub RunsDelete :
+    {S C N : Type 0} → (S → Option (List LogItem)) → (C → Option (List ℕ))
+    → Env S C N → Env S C N → List ℕ → List ℕ → Reply → Type 0
+RunsDelete log moments old new cache key reply =
+    RunsTimed log moments None old new cache
+    (λ moment. commands.Delete (delete_of key moment)) reply
 
 module _ (cache key : List ℕ) (old new : Option (List LogItem)) where
   -- the log gained one read of the key's whole bucket, with this answer

@@ -70,8 +70,8 @@ pub fn copy_content<S: Store, C, N>(
     to: &str,
 ) -> Result<u64>
     ensures formed { IsFormed named.entry }
-    ensures verified { checked ≡ true → IfOk result (λ count. Verified cache.now (named_source named.entry)
-        (Copied count) (S.log env.old.store) (S.log env.new.store)) }
+    ensures verified { checked ≡ true → IfOk result (λ count. Verified cache.now
+        (named_source named.entry) (Copied count) (S.log env.old.store) (S.log env.new.store)) }
     ensures ran { Calls S.log env.old env.new cache.now
         (exporting Copy checked (named_source named.entry) to.now) (reply_of Copied result) }
 {
@@ -93,8 +93,8 @@ pub fn link_content<S: Store, C, N>(
 ) -> Result<()>
     requires { how ≢ Copy }
     ensures formed { IsFormed named.entry }
-    ensures verified { checked ≡ true → IfOk result (λ _. Verified cache.now (named_source named.entry)
-        Done (S.log env.old.store) (S.log env.new.store)) }
+    ensures verified { checked ≡ true → IfOk result (λ _. Verified cache.now
+        (named_source named.entry) Done (S.log env.old.store) (S.log env.new.store)) }
     ensures ran { Calls S.log env.old env.new cache.now
         (exporting how checked (named_source named.entry) to.now) (reply_of says_done result) }
 {

@@ -101,7 +101,8 @@ pub fn exists_sync<S: Store, C: Clock, N: Names>(
     cache: &str,
     sri: &Integrity,
 ) -> Result<bool>
-    ensures asks { AsksContent cache.now sri.now (S.log env.old.store) (S.log env.new.store) result }
+    ensures asks { AsksContent cache.now sri.now (S.log env.old.store) (S.log env.new.store)
+        result }
     ensures memory { IfErr result (λ e. e ≡ OutOfMemory) }
     ensures formed { IsIntegrity sri.now }
     ensures ran { Calls S.log env.old env.new cache.now (commands.Exists sri.now)

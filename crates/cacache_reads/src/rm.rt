@@ -1,11 +1,11 @@
 //! Calls that remove.
-ghost use Rattle.std.specs.Prelude.{◌≡◌, None, true, false};
+ghost use Rattle.std.specs.Prelude.{◌≡◌, true, false};
 ghost use Rattle.cacache_core.specs.Integrity.{IsIntegrity};
 ghost use Rattle.cacache_table.specs.declared.command.Command.TheVariants as commands;
 ghost use Rattle.cacache_table.specs.Replies.{done};
 ghost use Rattle.cacache_table.specs.Runs.{reply_of};
-ghost use Rattle.cacache_jobs.specs.Environment.{Calls, RunsTimed};
-ghost use Rattle.cacache_reads.specs.Lookups.{delete_of};
+ghost use Rattle.cacache_jobs.specs.Environment.{Calls};
+ghost use Rattle.cacache_reads.specs.Lookups.{RunsDelete};
 
 use crate::index::delete;
 use cacache_core::errors::Result;
@@ -119,9 +119,8 @@ impl RemoveOpts {
     ) -> Result<()>
         ensures fully { self.remove_fully ≡ true → Calls S.log env.old env.new cache.now
             (commands.RemoveFully key.now) (reply_of done result) }
-        ensures tombstone { self.remove_fully ≡ false →
-            RunsTimed S.log C.given None env.old env.new cache.now
-            (λ moment. commands.Delete (delete_of key.now moment)) (reply_of done result) }
+        ensures tombstone { self.remove_fully ≡ false → RunsDelete S.log C.given env.old env.new
+            cache.now key.now (reply_of done result) }
     {
         if self.remove_fully {
             remove_fully(env, cache, key)
