@@ -60,8 +60,8 @@ impl<'a, S, C, N, K: Call<S, C, N>> Future for CallFuture<'a, S, C, N, K> {
         // What each future owes.
         ensures value { IfReady result (MayAnswer K.makes self.old.call self.old.env.now) }
         ensures again { OnPending result ⊤ }
-        ensures same { OnPending result ((r : _) → MayAnswer K.makes self.new.call self.new.env.now r
-            → MayAnswer K.makes self.old.call self.old.env.now r) }
+        ensures same { OnPending result ((r : _) → MayAnswer K.makes self.new.call
+            self.new.env.now r → MayAnswer K.makes self.old.call self.old.env.now r) }
         ensures registered { OnPending result (Covers cx.new (λ _. ⊥)) }
         ensures kept { Keeps cx.old cx.new }
     {

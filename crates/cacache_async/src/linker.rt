@@ -9,7 +9,7 @@ ghost use Rattle.cacache_table.specs.declared.reply.Reply.TheVariants.{Stored};
 ghost use Rattle.cacache_table.specs.Runs.{reply_of};
 ghost use Rattle.cacache_content.specs.Passed.{passed};
 ghost use Rattle.cacache_put.specs.OpenLinkers.{CommitsLink, HasHashed, StoresWhole};
-ghost use Rattle.cacache_put.specs.Options.{nothing_said};
+ghost use Rattle.cacache_put.specs.Options.{saying};
 ghost use Rattle.cacache_async.specs.Waiting.{Waits};
 ghost use Rattle.cacache_async.specs.Polling.{TellsRead};
 
@@ -71,12 +71,7 @@ impl<F: OpenedFile> ToLinker<F> {
         target: &'a str,
     ) -> AsyncToLinkerNewFuture<'a, S, C, N>
         ensures waits { Waits result env.entry
-            (record {
-              cache = cache.entry;
-              key = None;
-              target = target.entry;
-              opts = record nothing_said { algorithm = algo };
-            }) }
+            (record { cache = cache.entry; key = None; target = target.entry; opts = saying algo }) }
     {
         let call = TargetCall {
             cache,

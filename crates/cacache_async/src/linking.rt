@@ -127,8 +127,8 @@ impl LinkAsync for WriteOpts {
         key: &'a str,
         target: &'a str,
     ) -> WriteOptsLinkToFuture<'a, S, C, N>
-        ensures waits { Waits result env.entry
-            (record { cache = cache.entry; key = Some key.entry; target = target.entry; opts = self }) }
+        ensures waits { Waits result env.entry (record
+            { cache = cache.entry; key = Some key.entry; target = target.entry; opts = self }) }
     {
         let call = TargetCall {
             cache,

@@ -11,7 +11,7 @@ ghost use Rattle.cacache_store.specs.Handles.{LeftFalls};
 ghost use Rattle.cacache_content.specs.OpenReads.{HasRead, OpensHash, OpensKey};
 ghost use Rattle.cacache_content.specs.Passed.{passed};
 ghost use Rattle.cacache_async.specs.Waiting.{Waits};
-ghost use Rattle.cacache_async.specs.Polling.{TellsRead, reader_in};
+ghost use Rattle.cacache_async.specs.Polling.{ReadsMore, TellsRead, reader_in};
 
 use crate::call::Call;
 use crate::future::{CallFuture, polling};
@@ -144,9 +144,8 @@ impl<F: OpenedFile> Reader<F> {
             (F.seen self.new.reader.file).left r) }
         ensures earned { IfReady result (λ r. TellsRead F.reads self.old.reader.file
             (length buf.old) r self.new.reader.file) }
-        ensures so_far { IfReady result (λ r. (i : List Hash) (bytes : List ℕ)
-            → HasRead self.old.reader i bytes
-            → HasRead self.new.reader i (bytes ++ passed r buf.new)) }
+        ensures so_far { IfReady result (λ r.
+            ReadsMore self.old.reader self.new.reader (passed r buf.new)) }
     {
         let _ = cx;
         match self.reader.read(buf) {
