@@ -22,6 +22,17 @@ pub record Taken : Type 0 where
   pub commands : List Command
   pub replies : List Reply
 
+-- a caller with so many records and moves, which began nothing
+abbrev pub blank_seat : ℕ → ℕ → ℕ → Taken
+blank_seat caller records count =
+    record {
+      caller = caller;
+      records = records;
+      count = count;
+      commands = [];
+      replies = [];
+    }
+
 -- a caller that began nothing yet since its seat was made
 abbrev pub fresh_seat : List Record → ℕ → Taken
 fresh_seat records n =

@@ -1,6 +1,6 @@
 //! One caller of a shared world.
 ghost use Rattle.std.specs.Prelude.{◌≡◌, ◌+◌, ◌<◌, ◌≤◌, ◌^◌, ◌++◌, ◌∷◌, [], IfOk, OnOk, vec_len, vec_capacity};
-ghost use Rattle.cacache_shared.specs.Seats.{replies_after, went_of};
+ghost use Rattle.cacache_shared.specs.Seats.{blank_seat, replies_after, went_of};
 
 use cacache_table::{Command, Reply};
 use cacache_world::Move;
@@ -63,13 +63,7 @@ impl<L: Ledger> Seat<L> {
         requires parts { share.parts ≡ 1 }
         requires amount { share.amount ≡ records }
         requires moves { count ≤ records }
-        ensures { result ≡ record {
-          caller = caller;
-          records = records;
-          count = count;
-          commands = [];
-          replies = [];
-        } }
+        ensures { result ≡ blank_seat caller records count }
     {
         Seat {
             caller,
