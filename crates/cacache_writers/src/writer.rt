@@ -2,7 +2,7 @@
 ghost use Rattle.std.specs.Prelude.{◌≡◌, None, Some};
 ghost use Rattle.futures.specs.Poll.{OnPending};
 ghost use Rattle.futures.specs.Task.{IsArmed, Keeps};
-ghost use Rattle.cacache_put.specs.Options.{nothing_said};
+ghost use Rattle.cacache_put.specs.Options.{nothing_said, saying};
 ghost use Rattle.cacache_async.specs.Waiting.{Waits};
 
 use crate::about::About;
@@ -39,11 +39,8 @@ impl<T: Drop> Writer<T> {
         algo: Algorithm,
         size: Option<usize>,
     ) -> AsyncWriterNewFuture<'a, S, C, N>
-        ensures waits { Waits result env.entry (record {
-          cache = cache.entry;
-          key = None;
-          opts = record nothing_said { algorithm = algo };
-        }) }
+        ensures waits { Waits result env.entry
+            (record { cache = cache.entry; key = None; opts = saying algo }) }
     {
         let _size = size;
         let key = None;
@@ -80,11 +77,8 @@ impl<T: Drop> Writer<T> {
         cache: &'a str,
         key: &'a str,
     ) -> WriterCreateWithAlgoFuture<'a, S, C, N>
-        ensures waits { Waits result env.entry (record {
-          cache = cache.entry;
-          key = Some key.entry;
-          opts = record nothing_said { algorithm = algo };
-        }) }
+        ensures waits { Waits result env.entry
+            (record { cache = cache.entry; key = Some key.entry; opts = saying algo }) }
     {
         let key = Some(key);
         let opts = WriteOpts::new().algorithm(algo);
