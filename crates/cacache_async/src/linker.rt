@@ -70,8 +70,8 @@ impl<F: OpenedFile> ToLinker<F> {
         algo: Algorithm,
         target: &'a str,
     ) -> AsyncToLinkerNewFuture<'a, S, C, N>
-        ensures waits { Waits result env.entry
-            (record { cache = cache.entry; key = None; target = target.entry; opts = saying algo }) }
+        ensures waits { Waits result env.entry (record
+            { cache = cache.entry; key = None; target = target.entry; opts = saying algo }) }
     {
         let call = TargetCall {
             cache,

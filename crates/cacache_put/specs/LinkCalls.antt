@@ -34,7 +34,7 @@ IsOfWhole path i moves =
 abbrev pub HoldsTarget : List ℕ → List Hash → Option (List LogItem) → Option (List LogItem) → Type 0
 HoldsTarget path i old new = (moves : Moves) × Gains old new moves × IsOfWhole path i moves
 
--- a log that is kept gained moves that read the whole target of such a link, which stored this integrity
+-- a log that is kept gained moves that read such a link's whole target, to store this integrity
 abbrev pub LinkedTo :
     List ℕ → List ℕ → Option (List ℕ) → List ℕ → ℕ → List Hash
     → Option (List LogItem) → Option (List LogItem) → Type 0

@@ -33,7 +33,7 @@ ReadsRest t file bytes hasher next (Ok n) old new =
 ReadsRest t file bytes hasher next (Err e) old new =
     Ran (hashing (to_link t) file bytes) (Refused (without_message e)) old new
 
--- so it was whatever the target, and whatever bytes were hashed, which are so many
+-- so it was of any target, of which any bytes were hashed before that are so many
 abbrev pub ReadsOn :
     ℕ → PlainFile → Hasher → Hasher → Result ℕ Error
     → Option (List LogItem) → Option (List LogItem) → Type 0
@@ -42,10 +42,10 @@ ReadsOn before file hasher next r old new =
     → ReadsRest t file bytes hasher next r old new
 
 -- the link was made of a target that was read to its end, and has this integrity and size
-abbrev pub LinksWhole :
+abbrev pub LinksHashed :
     Target ℕ → List Hash → ℕ → Reply
     → Option (List LogItem) → Option (List LogItem) → Type 0
-LinksWhole t computed count reply old new =
+LinksHashed t computed count reply old new =
     (bytes : List ℕ)
     → computed ≡ integrity_under t.options.algorithm bytes → count ≡ length bytes
     → Ran (links t bytes) reply old new

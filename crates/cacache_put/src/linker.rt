@@ -11,7 +11,7 @@ ghost use Rattle.cacache_put.specs.OpenLinkers.{AsksSize, BeginsLink, CommitsLin
 ghost use Rattle.cacache_table.specs.Linking.{linked_to};
 ghost use Rattle.cacache_table.specs.Blank.{blank};
 ghost use Rattle.cacache_put.specs.Options.{nothing_said, saying};
-ghost use Rattle.cacache_put.specs.Rest.{LinksRest, LinksWhole};
+ghost use Rattle.cacache_put.specs.Rest.{LinksRest, LinksHashed};
 
 use crate::opts::WriteOpts;
 use crate::rest::read_rest;
@@ -139,7 +139,7 @@ fn finish<S: Store, C, N>(
     computed: Integrity,
     count: usize,
 ) -> Result<Integrity>
-    ensures ran { LinksWhole target computed count (reply_of Stored result)
+    ensures ran { LinksHashed target computed count (reply_of Stored result)
         (S.log env.old.store) (S.log env.new.store) }
     ensures clock { env.new.clock ≡ env.old.clock }
     ensures names { env.new.names ≡ env.old.names }
