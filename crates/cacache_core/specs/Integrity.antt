@@ -1,6 +1,7 @@
 -- What an integrity is, and which bytes meet it.
 use Rattle.std.specs.Prelude.{◌≡◌, ◌<◌, ◌≤◌, ◌++◌, ◌==◌, ℕ, List, [], ◌∷◌, Bool, Option, None, Some, length, filter, All, Contains}
 use Rattle.base64.specs.GeneralPurpose.{IsBytes}
+use Rattle.hex.specs.Hex.{encode_lower}
 use Rattle.cacache_core.specs.declared.integrity.algorithm.Algorithm.{Algorithm}
 use Rattle.cacache_core.specs.declared.integrity.algorithm.Algorithm.TheVariants.{Sha1, Sha256, Sha384, Sha512}
 use Rattle.cacache_core.specs.declared.integrity.digest.Hash.{Hash}
@@ -42,6 +43,14 @@ pub record IsIntegrity (i : List Hash) : Type 0 where
 abbrev pub address : List Hash → Option Hash
 address [] = None
 address (h ∷ hs) = Some h
+
+-- a digest of the algorithm stands among the hashes
+abbrev pub HasDigest : List Hash → Algorithm → List ℕ → Type 0
+HasDigest i a d = Contains i (hash_of a d)
+
+-- the hash's algorithm, and its digest in lower-case hex digits
+abbrev pub IsHexOf : Hash → Algorithm → List ℕ → Type 0
+IsHexOf h a digits = (a ≡ h.algorithm) × (digits ≡ encode_lower h.digest)
 
 -- the bytes' digest under the strongest algorithm stands beside it
 abbrev pub Meets : List Hash → List ℕ → Type 0

@@ -61,6 +61,18 @@ folder_names [] = []
 folder_names (n ∷ []) = []
 folder_names (n ∷ m ∷ ns) = n ∷ folder_names (m ∷ ns)
 
+-- the folder that holds a hash's content, below the cache folder
+abbrev pub folder_of_hash : List ℕ → Hash → List ℕ
+folder_of_hash cache h = joined cache (folder_names (content_names h))
+
+-- the names of the folders of a digest's first byte and of its second
+abbrev pub digest_folders : List ℕ → List (List ℕ)
+digest_folders digest = folder_names (cut_digits (encode_lower digest))
+
+-- the name of all other bytes of a digest
+abbrev pub digest_file : List ℕ → List ℕ
+digest_file digest = drop 4 (encode_lower digest)
+
 -- a path, and the path of each name below it but the last
 abbrev pub folders_to : List ℕ → List (List ℕ) → List (List ℕ)
 folders_to path [] = []
@@ -74,3 +86,11 @@ pub record Begins (ns ms : List (List ℕ)) : Type 0 where
 -- neither is a beginning of the other
 abbrev pub AreApart : List (List ℕ) → List (List ℕ) → Type 0
 AreApart ns ms = (¬ Begins ns ms) × (¬ Begins ms ns)
+
+-- the folders of a digest below a path: the path itself, those of its first byte and of its second
+abbrev pub folders_of_digest : List ℕ → List ℕ → List (List ℕ)
+folders_of_digest path digest = folders_to path (cut_digits (encode_lower digest))
+
+-- the folders that lead from the cache folder to a hash's content
+abbrev pub content_folders_of : List ℕ → Hash → List (List ℕ)
+content_folders_of cache h = folders_to cache (content_names h)

@@ -4,7 +4,7 @@ ghost use Rattle.std.specs.Prelude.{◌≡◌, ◌≤◌, ◌<◌, ◌++◌, ◌
 ghost use Rattle.hex.specs.Hex.{encode_lower, lower_digits};
 ghost use Rattle.cacache_core.specs.Integrity.{address as address_of};
 ghost use Rattle.cacache_core.specs.PathNames.{is_above, is_name};
-ghost use Rattle.cacache_core.specs.Paths.{join as join_of, joined, cut_digits, content_names, bucket_names_of, bucket_names, temp_names, folder_names};
+ghost use Rattle.cacache_core.specs.Paths.{join as join_of, joined, content_names, folder_of_hash, bucket_names_of, bucket_names, temp_names, folder_names, digest_folders, digest_file};
 
 mod leading;
 
@@ -88,8 +88,7 @@ pub fn content_path(alloc: Global, cache: &str, sri: &Integrity) -> Result<Text,
 /// Where that content lies.
 pub fn content_place(alloc: Global, cache: &str, sri: &Integrity) -> Result<Place, AllocError>
     ensures folder { IfOk result
-        (λ p. IfSome (address_of sri.now)
-        (λ h. p.folder ≡ joined cache.now (folder_names (content_names h)))) }
+        (λ p. IfSome (address_of sri.now) (λ h. p.folder ≡ folder_of_hash cache.now h)) }
     ensures path { IfOk result
         (λ p. IfSome (address_of sri.now) (λ h. p.path ≡ joined cache.now (content_names h))) }
 {
@@ -182,8 +181,7 @@ fn folder_of_bucket(alloc: Global, cache: &str, digest: &[u8]) -> Result<String,
 fn push_first_names(path: &mut String, digest: &[u8]) -> Result<(), AllocError>
     requires { 2 ≤ length digest.now }
     ensures { OnOk result
-        (string_bytes path.new ≡ joined (string_bytes path.old)
-        (folder_names (cut_digits (encode_lower digest.now)))) }
+        (string_bytes path.new ≡ joined (string_bytes path.old) (digest_folders digest.now)) }
 {
     push_hex(path, &digest[..1])?;
     push_hex(path, &digest[1..2])
@@ -193,8 +191,7 @@ fn push_first_names(path: &mut String, digest: &[u8]) -> Result<(), AllocError>
 fn push_last_name(path: &mut String, digest: &[u8]) -> Result<(), AllocError>
     requires { 2 ≤ length digest.now }
     ensures { OnOk result
-        (string_bytes path.new ≡ join_of (string_bytes path.old)
-        (drop 4 (encode_lower digest.now))) }
+        (string_bytes path.new ≡ join_of (string_bytes path.old) (digest_file digest.now)) }
 {
     push_hex(path, &digest[2..])
 }

@@ -1,5 +1,5 @@
 -- What a step answers on a tree, and the tree after it.
-use Rattle.std.specs.Prelude.{ℕ, ◌-◌, ◌==◌, Bool, true, false, if◌then◌else◌, List, [], ◌∷◌, ◌++◌, Option, None, Some, Result, Ok, Err, length, take, drop, min, max}
+use Rattle.std.specs.Prelude.{◌≡◌, ℕ, ◌-◌, ◌==◌, Bool, true, false, if◌then◌else◌, List, [], ◌∷◌, ◌++◌, Option, None, Some, Result, Ok, Err, length, take, drop, min, max}
 use Rattle.std.specs.Result.{result_ok}
 use Rattle.cacache_core.specs.declared.errors.Fault.{Fault}
 use Rattle.cacache_core.specs.declared.errors.Fault.TheVariants.{NotFound, NotADirectory, IsADirectory, InvalidInput, Closed, Device}
@@ -187,6 +187,11 @@ planted t path bytes =
     and_then (or_fault (dirs_fault t [] (above_last names)) names) (λ names.
     and_then (suited wanted.NoFolder (look t names) names) (λ names.
     Ok (put (make_some t [] (above_last names) (length (above_last names))) names (File bytes)))))
+
+-- somebody else puts a file at a path and leaves the new tree, or a fault says why not
+abbrev pub Plants : {A : Type 0} → Tree → List ℕ → List ℕ → Result A Fault → Tree → Type 0
+Plants old path bytes (Ok done) new = planted old path bytes ≡ Ok new
+Plants old path bytes (Err fault) new = planted old path bytes ≡ Err fault
 
 -- the bytes of the file that a path leads to, none where there is no such file
 abbrev pub bytes_at : Tree → List ℕ → Option (List ℕ)

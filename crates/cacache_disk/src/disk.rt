@@ -4,7 +4,7 @@ ghost use Rattle.std.specs.Arc.{arc_value};
 ghost use Rattle.cacache_store.specs.Fits.{Fits, is_no_memory};
 ghost use Rattle.cacache_disk.specs.Rooted.{Rooted};
 ghost use Rattle.cacache_disk.specs.Tree.{bare};
-ghost use Rattle.cacache_disk.specs.Apply.{apply, planted, bytes_at};
+ghost use Rattle.cacache_disk.specs.Apply.{apply, Plants, bytes_at};
 
 use crate::change::Plan;
 use crate::luck::Luck;
@@ -133,9 +133,7 @@ impl Disk {
     /// `AllocError` means that memory was refused. On a fault and on an error nothing changed.
     #[tactic(auto, unfolding(crate::specs::Apply::planted))]
     pub fn plant(&mut self, path: &str, bytes: &Bytes) -> Result<Result<(), Fault>, AllocError>
-        ensures done { IfOk result (λ r. MatchResult r
-            (λ _. planted self.old path.now bytes.now ≡ Ok self.new)
-            (λ fault. planted self.old path.now bytes.now ≡ Err fault)) }
+        ensures done { IfOk result (λ r. Plants self.old path.now bytes.now r self.new) }
         ensures fault { IfOk result (λ r. OnErr r (self.new ≡ self.old)) }
         ensures rooted { IfOk result (λ r. OnOk r (Rooted self.new)) }
         ensures err { OnErr result (self.new ≡ self.old) }
@@ -153,8 +151,7 @@ impl Disk {
     /// `AllocError` means that memory was refused.
     pub fn shared(&self, path: &str) -> Result<Option<&Arc<Vec<u8>, Global>>, AllocError>
         ensures { IfOk result (λ found.
-            option_map (λ v. v.items) (option_map arc_value (option_copied found))
-            ≡ bytes_at self.now path.now) }
+            option_map (λ v. (arc_value v).items) (option_copied found) ≡ bytes_at self.now path.now) }
     {
         match self.file_at(path, Fault::IsADirectory) {
             Ok(contents) => Ok(Some(contents.shared())),

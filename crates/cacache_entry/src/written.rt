@@ -11,8 +11,9 @@ use std::alloc::{AllocError, Global};
 
 /// The entry of these parts.
 fn entry_of(alloc: Global, parts: Parts<'_>) -> Result<SerializableMetadata, AllocError>
-    ensures { IfOk result (λ e. entry_view e
-        ≡ bare_entry parts.entry.key.now (option_map (λ t. t.now) parts.entry.integrity) parts.entry.time parts.entry.size) }
+    ensures { IfOk result (λ e. entry_view e ≡ bare_entry
+        parts.entry.key.now (option_map (λ t. t.now) parts.entry.integrity)
+        parts.entry.time parts.entry.size) }
 {
     let key = String::from_str(alloc, parts.key)?;
     let integrity = match parts.integrity {

@@ -21,6 +21,17 @@ use Rattle.cacache_loss.specs.Reached.{is_among}
 abbrev pub files_in : Tree → BTreeMap Names Fixing → Names → Fixing
 files_in first files path = unwrap_or (get names_cmp files path) (synced (bytes_of (look first path)))
 
+-- the files here are fixed so far, whatever the first tree was, and all others as before
+abbrev pub FixesFiles : BTreeMap Names Fixing → BTreeMap Names Fixing → (Names → Bool)
+    → (Names → Fixing) → Type 0
+FixesFiles old new here fixing = (first : Tree) (q : Names)
+    → files_in first new q ≡ if here q then fixing q else files_in first old q
+
+-- what was at a path is kept where its name changed and nothing is kept yet; of no other path more is kept
+abbrev pub KeepsPlace : BTreeMap Names Place → BTreeMap Names Place → Names → Bool → Place → Type 0
+KeepsPlace old new path renames was = (q : Names) → get names_cmp new q
+    ≡ if same_path q path then renamed renames was (get names_cmp old path) else get names_cmp old q
+
 -- what is fixed, where the first tree was and these changed since
 abbrev pub fixed_in : Tree → BTreeMap Names Fixing → BTreeMap Names Place → Fixed
 fixed_in first files names = record {

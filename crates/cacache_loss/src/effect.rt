@@ -4,7 +4,7 @@ ghost use Rattle.std.specs.BTreeMap.{get};
 ghost use Rattle.cacache_store.specs.declared.store.step.Step.TheVariants.{Persist};
 ghost use Rattle.cacache_disk.specs.Tree.{Tree, Names, names_cmp, look, same_path};
 ghost use Rattle.cacache_loss.specs.Fixing.{renamed, moves_file};
-ghost use Rattle.cacache_loss.specs.Running.{files_in, is_done, arrival, effect_of, arrived, fixing_by, renames};
+ghost use Rattle.cacache_loss.specs.Running.{files_in, FixesFiles, KeepsPlace, is_done, arrival, effect_of, arrived, fixing_by, renames};
 
 use crate::fixing::{Fixing, Place, same_node, same_thing};
 use crate::reached::named;
@@ -100,8 +100,8 @@ pub(crate) fn fix(
     path: Path,
     fixing: Fixing,
 ) -> Result<(), AllocError>
-    ensures { OnOk result ((first : Tree) (q : Names) → files_in first files.new q
-        ≡ if same_path q path then fixing else files_in first files.old q) }
+    ensures { OnOk result
+        (FixesFiles files.old files.new (λ q. same_path q path) (λ _. fixing)) }
 {
     files.insert(path, fixing)?;
     Ok(())
@@ -114,9 +114,7 @@ fn keep(
     was: &Place,
     renames: bool,
 ) -> Result<(), AllocError>
-    ensures { OnOk result ((q : Names) → get names_cmp names.new q ≡ if same_path q path.now
-        then renamed renames was.now (get names_cmp names.old path.now)
-        else get names_cmp names.old q) }
+    ensures { OnOk result (KeepsPlace names.old names.new path.now renames was.now) }
 {
     if !renames {
         return Ok(());
@@ -168,15 +166,10 @@ impl Effect {
         files: &mut BTreeMap<Path, Fixing>,
         names: &mut BTreeMap<Path, Place>,
     ) -> Result<(), AllocError>
-        ensures files { OnOk result ((first : Tree) (q : Names)
-            → files_in first files.new q ≡ if same_path q path.now
-            then fixing_by self.now was.now (look disk.now path.now) path.now
-            else files_in first files.old q) }
-        ensures names { OnOk result ((q : Names)
-            → get names_cmp names.new q ≡ if same_path q path.now
-            then renamed (renames self.now was.now (look disk.now path.now) path.now) was.now
-            (get names_cmp names.old path.now)
-            else get names_cmp names.old q) }
+        ensures files { OnOk result (FixesFiles files.old files.new (λ q. same_path q path.now)
+            (λ _. fixing_by self.now was.now (look disk.now path.now) path.now)) }
+        ensures names { OnOk result (KeepsPlace names.old names.new path.now
+            (renames self.now was.now (look disk.now path.now) path.now) was.now) }
     {
         let now = disk.nodes().node(path);
         keep(names, path, was, self.renames(path, was, now))?;

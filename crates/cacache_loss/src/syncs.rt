@@ -5,7 +5,7 @@ ghost use Rattle.cacache_core.specs.PathNames.{names_of};
 ghost use Rattle.cacache_disk.specs.LedTo.{leads};
 ghost use Rattle.cacache_disk.specs.Tree.{Tree, Names, names_cmp, look, bytes_of};
 ghost use Rattle.cacache_loss.specs.Fixing.{is_at, is_child_of, is_sync, is_synced, synced, fixed_after};
-ghost use Rattle.cacache_loss.specs.Running.{files_in, fixed_in};
+ghost use Rattle.cacache_loss.specs.Running.{FixesFiles, fixed_in};
 
 use crate::effect::fix;
 use crate::fixing::{Fixing, Place};
@@ -38,9 +38,8 @@ fn temp_synced(
     temp: &PlainTemp,
     files: &mut BTreeMap<Path, Fixing>,
 ) -> Result<(), AllocError>
-    ensures { OnOk result ((first : Tree) (q : Names) → files_in first files.new q
-        ≡ if is_at (names_of temp.now.path) q then synced (unwrap_or temp.now.bytes [])
-        else files_in first files.old q) }
+    ensures { OnOk result (FixesFiles files.old files.new
+        (is_at (names_of temp.now.path)) (λ _. synced (unwrap_or temp.now.bytes []))) }
 {
     if let Some(path) = named(alloc, temp.path.as_str())? {
         let kept = match &temp.bytes {
@@ -58,9 +57,8 @@ fn file_synced(
     path: &str,
     files: &mut BTreeMap<Path, Fixing>,
 ) -> Result<(), AllocError>
-    ensures { OnOk result ((first : Tree) (q : Names) → files_in first files.new q
-        ≡ if is_at (leads disk.now path.now) q then synced (bytes_of (look disk.now q))
-        else files_in first files.old q) }
+    ensures { OnOk result (FixesFiles files.old files.new
+        (is_at (leads disk.now path.now)) (λ q. synced (bytes_of (look disk.now q)))) }
 {
     match disk.leads(path) {
         Ok((end, node)) => {

@@ -1,5 +1,7 @@
 -- Links: the target is read to its end, and a link to it becomes the content.
-use Rattle.std.specs.Prelude.{ℕ, ◌==◌, List, [], ◌∷◌, ◌++◌, Option, Some, false, if◌then◌else◌, length}
+use Rattle.std.specs.Prelude.{◌≡◌, ℕ, ◌==◌, List, [], ◌∷◌, ◌++◌, Option, Some, false, if◌then◌else◌, length}
+use Rattle.cacache_core.specs.declared.integrity.algorithm.Algorithm.{Algorithm}
+use Rattle.cacache_core.specs.declared.integrity.digest.Hash.{Hash}
 use Rattle.cacache_core.specs.Integrity.{integrity_under}
 use Rattle.cacache_core.specs.Paths.{join}
 use Rattle.cacache_store.specs.declared.store.plain.PlainFile.{PlainFile}
@@ -49,6 +51,11 @@ with_size t n = record t { options = record t.options { size = Some n } }
 -- once its size is known, the target is opened
 abbrev pub after_size : Target ℕ → ℕ → State
 after_size t n = opening_file (to_link (with_size t n))
+
+-- of all bytes that have this integrity under the algorithm and are so many
+abbrev pub OnceRead : Algorithm → List Hash → ℕ → (List ℕ → Type 0) → Type 0
+OnceRead algorithm computed count Goal = (bytes : List ℕ)
+    → computed ≡ integrity_under algorithm bytes → count ≡ length bytes → Goal bytes
 
 -- the content is what was read from the target; links are never durable
 abbrev pub commit_for : Target ℕ → List ℕ → Commit

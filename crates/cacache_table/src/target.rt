@@ -1,7 +1,7 @@
 //! What is to be linked, and what becomes of it.
 ghost use Rattle.std.specs.Prelude.{◌≡◌, ℕ, List, IfOk, length};
 ghost use Rattle.cacache_core.specs.Integrity.{integrity_under};
-ghost use Rattle.cacache_table.specs.Linking.{based as based_of, commit_for, linked_to, target_at, with_size as with_size_of};
+ghost use Rattle.cacache_table.specs.Linking.{OnceRead, based as based_of, commit_for, linked_to, target_at, with_size as with_size_of};
 
 use crate::carried::Commit;
 use crate::command::Options;
@@ -112,9 +112,8 @@ impl Target<u128> {
     /// The commit of a link to the target, with the integrity and the size that were read, and the target's path. It is
     /// never durable.
     pub fn into_commit(self, computed: Integrity, count: usize) -> (Commit, Text)
-        ensures commit { (bytes : List ℕ)
-            → computed ≡ integrity_under self.options.algorithm bytes → count ≡ length bytes
-            → result.0 ≡ commit_for self bytes }
+        ensures commit { OnceRead self.options.algorithm computed count
+            (λ bytes. result.0 ≡ commit_for self bytes) }
         ensures path { result.1 ≡ self.path }
     {
         let Target {

@@ -113,6 +113,12 @@ pub record AppendCases (home : Names) (v : Value) (path digest : List ℕ) (e : 
   pub no_folder : (luck : Luck)
       → value_after home v (Append path (line_of e)) luck (Failed NotFound) ≡ v
 
+-- so it is for the line of each entry that fits, at the path of each bucket
+abbrev pub LinesAppend : Type 0
+LinesAppend = (home : Names) (v : Value) (path digest : List ℕ) (e : Entry)
+    → IsEntry e → IsWritable e → names_of path ≡ Ok (home ++ bucket_names_of digest)
+    → AppendCases home v path digest e
+
 -- every other bucket keeps its entries
 abbrev pub OtherBucketsKeep : Type 0
 OtherBucketsKeep =

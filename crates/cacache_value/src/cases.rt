@@ -8,7 +8,7 @@ ghost use Rattle.cacache_disk.specs.Tree.{Tree};
 ghost use Rattle.cacache_entry.specs.Entry.{Entry};
 ghost use Rattle.cacache_entry.specs.FittingEntries.{IsEntry, IsWritable};
 ghost use Rattle.cacache_value.specs.Value.{Value};
-ghost use Rattle.cacache_value.specs.SingleCases.{KindCases, TreeCases, LinkCases, AppendCases};
+ghost use Rattle.cacache_value.specs.SingleCases.{KindCases, TreeCases, LinkCases, LinesAppend};
 ghost use Rattle.cacache_value.specs.SingleCases.{ContentCases, RemovedBucketsGo, OtherBucketsKeep};
 ghost use Rattle.cacache_value.specs.SingleCases.{FolderCases, row_folder};
 
@@ -30,9 +30,7 @@ pub fn link_cases()
 /// Appends to a bucket that took all of a line, took less, failed and left all or less of it, only
 /// made the file, or changed nothing.
 pub fn append_cases()
-    ensures bucket { (home : Names) (v : Value) (path digest : List ℕ) (e : Entry)
-        → IsEntry e → IsWritable e → names_of path ≡ Ok (home ++ bucket_names_of digest)
-        → AppendCases home v path digest e }
+    ensures bucket { LinesAppend }
     ensures others { OtherBucketsKeep }
 {}
 

@@ -4,7 +4,7 @@ ghost use Rattle.std.specs.Cmp;
 ghost use Rattle.base64.specs.GeneralPurpose.{IsBytes};
 ghost use Rattle.hex.specs.Hex.{encode_lower};
 ghost use Rattle.cacache_core.specs.Hashers.{finished_bytes, Holds, algorithm_of};
-ghost use Rattle.cacache_core.specs.Integrity.{IsIntegrity, IsHash, Meets, ShareDigest, hash_of, strongest, address as address_of, actual, integrity_under};
+ghost use Rattle.cacache_core.specs.Integrity.{IsIntegrity, IsHash, HasDigest, IsHexOf, Meets, ShareDigest, hash_of, strongest, address as address_of, actual, integrity_under};
 ghost use Rattle.cacache_core.specs.Refusals.{IsCheckFailure, IsReadFailure};
 ghost use Rattle.cacache_core.specs.Same.{same_hashes, same_hashes-equiv};
 ghost use Rattle.cacache_core.specs.Texts.{integrity_text, long_hash, read_integrity};
@@ -180,10 +180,8 @@ impl Integrity {
         requires bytes { IsBytes (finished_bytes finished.now) }
         requires long_enough { 3 ≤ length (finished_bytes finished.now) }
         ensures ok { IfOk result
-            (λ a. (a ≡ algorithm)
-            × Contains self.now (hash_of algorithm (finished_bytes finished.now))) }
-        ensures met { Contains self.now (hash_of algorithm (finished_bytes finished.now))
-            → IsOk result }
+            (λ a. (a ≡ algorithm) × HasDigest self.now algorithm (finished_bytes finished.now)) }
+        ensures met { HasDigest self.now algorithm (finished_bytes finished.now) → IsOk result }
         ensures err { IfErr result
             (IsCheckFailure self.now (hash_of algorithm (finished_bytes finished.now) ∷ [])) }
     {
@@ -215,8 +213,7 @@ impl Integrity {
     /// The address's algorithm and its digest in lower-case hex digits.
     pub fn to_hex(&self, alloc: Global) -> Result<(Algorithm, String)>
         ensures ok { IfOk result
-            (λ p. IfSome (address_of self.now)
-            (λ h. (p.0 ≡ h.algorithm) × (string_bytes p.1 ≡ encode_lower h.digest))) }
+            (λ p. IfSome (address_of self.now) (λ h. IsHexOf h p.0 (string_bytes p.1))) }
         ensures err { IfErr result (λ e. e ≡ Error.OutOfMemory) }
     {
         let address = self.address();
@@ -226,7 +223,7 @@ impl Integrity {
 
     /// Whether a digest of the algorithm stands among the hashes.
     fn lists(&self, algorithm: Algorithm, digest: &[u8]) -> bool
-        ensures { IsTrue result ↔ Contains self.now (hash_of algorithm digest.now) }
+        ensures { IsTrue result ↔ HasDigest self.now algorithm digest.now }
     {
         self.hashes.iter().any(|hash| hash.algorithm == algorithm
             && hash.digest.as_slice() == digest)

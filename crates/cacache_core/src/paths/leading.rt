@@ -2,7 +2,7 @@
 ghost use Rattle.std.specs.Prelude.{◌≡◌, ◌≤◌, ◌++◌, IfOk, OnOk, IfSome, length, take, drop};
 ghost use Rattle.hex.specs.Hex.{encode_lower};
 ghost use Rattle.cacache_core.specs.Integrity.{address as address_of};
-ghost use Rattle.cacache_core.specs.Paths.{join as join_of, cut_digits, content_names, bucket_names, folders_to};
+ghost use Rattle.cacache_core.specs.Paths.{join as join_of, content_names, bucket_names, folders_to, folders_of_digest, content_folders_of};
 
 use crate::digest::Hash;
 use crate::integrity::Integrity;
@@ -41,7 +41,7 @@ fn push_folders(
 ) -> Result<(), AllocError>
     requires { 2 ≤ length digest.now }
     ensures { OnOk result
-        (folders.new.items ≡ folders.old.items ++ folders_to path (cut_digits (encode_lower digest.now))) }
+        (folders.new.items ≡ folders.old.items ++ folders_of_digest path digest.now) }
 {
     let first = join_first(alloc, path.as_str(), digest)?;
     let second = join_second(alloc, first.as_str(), digest)?;
@@ -54,7 +54,7 @@ fn push_folders(
 /// The folders that lead to the content of a hash.
 fn folders_of_content(alloc: Global, cache: &str, address: &Hash) -> Result<Vec<Text>, AllocError>
     requires { 2 ≤ length address.now.digest }
-    ensures { IfOk result (λ folders. folders.items ≡ folders_to cache.now (content_names address.now)) }
+    ensures { IfOk result (λ folders. folders.items ≡ content_folders_of cache.now address.now) }
 {
     let mut folders = Vec::with_capacity(alloc, 5)?;
     folders.push(Text::from_str(alloc, cache)?)?;
