@@ -1,5 +1,5 @@
 -- What a compaction does, over any store.
-use Rattle.std.specs.Prelude.{◌≡◌, ◌⊎◌, ◌++◌, ◌-◌, ◌^◌, ℕ, List, [], ◌∷◌, Bool, true, false, Option, None, Some, if◌then◌else◌, filter, length, map, min, not}
+use Rattle.std.specs.Prelude.{◌≡◌, ◌⊎◌, ◌++◌, ◌-◌, ◌^◌, ℕ, List, [], ◌∷◌, Bool, true, false, Option, None, Some, if◌then◌else◌, filter, length, map, min, not, option_map}
 use Rattle.std.specs.Bool.{nat_eq}
 use Rattle.std.specs.Cmp.Lexicographic.{pointwise}
 use Rattle.cacache_core.specs.declared.errors.Error.{Error}
@@ -9,6 +9,7 @@ use Rattle.cacache_store.specs.declared.store.step.Step.TheVariants as steps
 use Rattle.cacache_table.specs.SingleSteps.{Does, FailsAt}
 use Rattle.cacache_keep_laws.specs.Compacting.{compact_text}
 use Rattle.cacache_keep_laws.specs.Temporary.{total}
+use Rattle.cacache_keep.specs.declared.compacting.Lean.{Lean}
 use Rattle.cacache_keep.specs.Buckets.{FindsBuckets, StopsFinding}
 use Rattle.cacache_keep.specs.Rewriting.{Rewrites, StopsRewriting}
 
@@ -60,6 +61,16 @@ Changes bytes text =
 abbrev pub Saves : Bucket → Option ℕ → Type 0
 Saves b None = is_loose b ≡ false
 Saves b (Some bytes) = (is_loose b ≡ true) × (bytes ≡ saved b)
+
+-- the bucket at the path was compacted, and this is what that saved, if it changed
+abbrev pub CompactsAt : List ℕ → List ℕ → Option ℕ
+    → Option (List LogItem) → Option (List LogItem) → Type 0
+CompactsAt cache path saving old new =
+    (bytes : List ℕ) × Saves (path, bytes) saving × CompactsBucket cache (path, bytes) old new
+
+-- the bytes of a compacted bucket, and how many that saves, as values hold them
+abbrev pub lean_view : Option Lean → Option (List ℕ × ℕ)
+lean_view lean = option_map (λ (l : Lean). (l.text.items, l.saved)) lean
 
 -- new bytes are written to the path, and what they save is told; where there are none, nothing was
 -- done

@@ -9,3 +9,4 @@ pub mod Lines
 pub mod Buckets
 pub mod Rewriting
 pub mod Compacting
+pub mod Told

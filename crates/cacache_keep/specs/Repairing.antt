@@ -35,6 +35,11 @@ looks_of key (Some led) =
     (commands.Find key, replies.LookedUp (Some led.0))
     ∷ (commands.Exists led.0.integrity, replies.Exists led.1) ∷ []
 
+-- the log gained these calls, which tell whether the key leads to an entry without a content
+abbrev pub LooksUp : Site → List ℕ → Bool → Option (List LogItem) → Option (List LogItem) → Type 0
+LooksUp site key nowhere old new =
+    (led : Led) × (nowhere ≡ leads_nowhere led) × MadeCalls site (looks_of key led) old new
+
 -- a key, what it led to, and the moment of its tombstone, if it got one
 pub record Fate : Type 0 where
   pub key : List ℕ
@@ -53,6 +58,14 @@ is_buried f = leads_nowhere f.led
 abbrev pub calls_for : Fate → List (Command × Reply)
 calls_for f =
     looks_of f.key f.led ++ (if is_buried f then tombstone f.key f.moment ∷ [] else [])
+
+-- the log gained these calls for the key, which tell whether it is spared
+abbrev pub BuriesKey :
+    Site → List ℕ → Bool → Option (List LogItem) → Option (List LogItem) → Type 0
+BuriesKey site key spared old new =
+    (fate : Fate) × (fate.key ≡ key)
+    × (fate.moment < 2 ^ 64) × (spared ≡ not (is_buried fate))
+    × MadeCalls site (calls_for fate) old new
 
 -- the fate is that of the entry's key, which is a text; its moment is one
 abbrev pub IsFateOf : Found × Fate → Type 0

@@ -26,6 +26,24 @@ abbrev pub RemovesSized :
     List ℕ → List (Name × ℕ) → Option (List LogItem) → Option (List LogItem) → Type 0
 RemovesSized folder removed old new = Gains old new (sized_removals folder removed)
 
+-- the log gained the removal of the file at the path, and this is the size that it told before
+abbrev pub RemovesFile : List ℕ → ℕ → Option (List LogItem) → Option (List LogItem) → Type 0
+RemovesFile path size old new =
+    Gains old new
+    ((steps.Size path, answers.Length size) ∷ (steps.RemoveFile path, answers.Done) ∷ [])
+
+-- the log gained the removals of these files of the folder, and this is how many bytes they had
+abbrev pub RemovesFiles :
+    List ℕ → List Name → ℕ → Option (List LogItem) → Option (List LogItem) → Type 0
+RemovesFiles folder files bytes old new =
+    (removed : List (Name × ℕ))
+    × (map (λ r. r.0) removed ≡ files) × (bytes ≡ total (map (λ r. r.1) removed))
+    × RemovesSized folder removed old new
+
+-- the paths of what is none of the temporary files among these names of the folder
+abbrev pub others_in : List ℕ → List Name → List (List ℕ)
+others_in folder names = map (λ n. join folder n.name) (filter (λ n. not (is_temporary n)) names)
+
 -- The names in the folder of temporary files are listed. Of the temporary files among them each is
 -- asked for its size and removed, in turn; the paths of the others are told.
 pub record SweepsCache
@@ -39,8 +57,7 @@ pub record SweepsCache
   pub removing : RemovesSized (temp_area_in cache) removed listed new
   pub counted : files ≡ length removed
   pub sized : bytes ≡ total (map (λ r. r.1) removed)
-  pub others :
-      strange ≡ map (λ n. join (temp_area_in cache) n.name) (filter (λ n. not (is_temporary n)) names)
+  pub others : strange ≡ others_in (temp_area_in cache) names
 
 -- ---- errors
 

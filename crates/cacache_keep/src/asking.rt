@@ -1,9 +1,9 @@
 //! Entries whose content isn't there.
-ghost use Rattle.std.specs.Prelude.{IfOk, IfErr, map};
-ghost use Rattle.cacache_entry.specs.View.{found_view};
+ghost use Rattle.std.specs.Prelude.{IfOk, IfErr};
 ghost use Rattle.cacache_jobs.specs.Environment.{KeepsRest};
 ghost use Rattle.cacache_jobs.specs.Sites.{site_of};
-ghost use Rattle.cacache_keep.specs.Calls.{AsksEach, StopsReading};
+ghost use Rattle.cacache_keep.specs.Calls.{StopsReading};
+ghost use Rattle.cacache_keep.specs.Told.{AsksAs};
 
 use cacache_core::errors::Result;
 use cacache_entry::Metadata;
@@ -18,9 +18,8 @@ pub(crate) fn dangling_of<S: Store, C: Clock, N: Names>(
     cache: &str,
     entries: Vec<Found>,
 ) -> Result<Vec<Metadata>>
-    ensures asks { IfOk result (λ dangling. AsksEach (site_of cache.now env.old.base 0)
-        entries.items (map found_view dangling.items)
-        (S.log env.old.store) (S.log env.new.store)) }
+    ensures asks { IfOk result (λ dangling. AsksAs (site_of cache.now env.old.base 0)
+        entries.items dangling.items (S.log env.old.store) (S.log env.new.store)) }
     ensures stops { IfErr result (λ e. StopsReading (site_of cache.now env.old.base 0) e
         (S.log env.old.store) (S.log env.new.store)) }
     ensures rest { KeepsRest env.old env.new }

@@ -1,10 +1,10 @@
 //! Tombstones for keys that lead to no content.
-ghost use Rattle.std.specs.Prelude.{◌≡◌, ◌<◌, ◌^◌, IfOk, IfErr, map, not};
+ghost use Rattle.std.specs.Prelude.{◌≡◌, IfOk, IfErr, map};
 ghost use Rattle.cacache_entry.specs.View.{found_view};
 ghost use Rattle.cacache_jobs.specs.Environment.{KeepsRest};
 ghost use Rattle.cacache_jobs.specs.Sites.{site_of};
-ghost use Rattle.cacache_keep.specs.Calls.{MadeCalls};
-ghost use Rattle.cacache_keep.specs.Repairing.{BuriesEach, Fate, Led, StopsBurying, StopsFate, StopsLooking, calls_for, is_buried, leads_nowhere as leads_nowhere_of, looks_of};
+ghost use Rattle.cacache_keep.specs.Repairing.{BuriesKey, LooksUp, StopsBurying, StopsFate, StopsLooking};
+ghost use Rattle.cacache_keep.specs.Told.{BuriesAs};
 
 use cacache_core::errors::Result;
 use cacache_entry::Metadata;
@@ -19,9 +19,8 @@ fn leads_nowhere<S: Store, C: Clock, N: Names>(
     cache: &str,
     key: &str,
 ) -> Result<bool>
-    ensures tells { IfOk result (λ nowhere. (led : Led) × (nowhere ≡ leads_nowhere_of led)
-        × MadeCalls (site_of cache.now env.old.base 0) (looks_of key.now led)
-        (S.log env.old.store) (S.log env.new.store)) }
+    ensures tells { IfOk result (λ nowhere. LooksUp (site_of cache.now env.old.base 0)
+        key.now nowhere (S.log env.old.store) (S.log env.new.store)) }
     ensures stops { IfErr result (λ e. StopsLooking (site_of cache.now env.old.base 0) e
         (S.log env.old.store) (S.log env.new.store)) }
     ensures rest { KeepsRest env.old env.new }
@@ -39,10 +38,8 @@ fn bury<S: Store, C: Clock, N: Names>(
     cache: &str,
     key: &str,
 ) -> Result<bool>
-    ensures buries { IfOk result (λ spared. (fate : Fate) × (fate.key ≡ key.now)
-        × (fate.moment < 2 ^ 64) × (spared ≡ not (is_buried fate))
-        × MadeCalls (site_of cache.now env.old.base 0) (calls_for fate)
-        (S.log env.old.store) (S.log env.new.store)) }
+    ensures buries { IfOk result (λ spared. BuriesKey (site_of cache.now env.old.base 0)
+        key.now spared (S.log env.old.store) (S.log env.new.store)) }
     ensures stops { IfErr result (λ e. StopsFate (site_of cache.now env.old.base 0) key.now e
         (S.log env.old.store) (S.log env.new.store)) }
     ensures names { env.new.names ≡ env.old.names }
@@ -61,9 +58,8 @@ pub(crate) fn bury_each<S: Store, C: Clock, N: Names>(
     cache: &str,
     entries: Vec<Metadata>,
 ) -> Result<Vec<Metadata>>
-    ensures buries { IfOk result (λ buried. BuriesEach (site_of cache.now env.old.base 0)
-        (map found_view entries.items) (map found_view buried.items)
-        (S.log env.old.store) (S.log env.new.store)) }
+    ensures buries { IfOk result (λ buried. BuriesAs (site_of cache.now env.old.base 0)
+        entries.items buried.items (S.log env.old.store) (S.log env.new.store)) }
     ensures stops { IfErr result (λ e. StopsBurying (site_of cache.now env.old.base 0)
         (map found_view entries.items) e (S.log env.old.store) (S.log env.new.store)) }
     ensures names { env.new.names ≡ env.old.names }

@@ -1,12 +1,12 @@
 //! The call that writes the buckets of the index anew.
-ghost use Rattle.std.specs.Prelude.{◌≡◌, ◌+◌, ◌-◌, ◌^◌, ℕ, List, IfOk, IfErr, IfSome, OnOk, length, min, option_map};
+ghost use Rattle.std.specs.Prelude.{◌≡◌, ◌+◌, ◌-◌, ◌^◌, IfOk, IfErr, IfSome, OnOk, length, min, option_map};
 ghost use Rattle.std.specs.List.{sum};
 ghost use Rattle.std.specs.Option.{option_to_list};
 ghost use Rattle.cacache_core.specs.declared.errors.Error.TheVariants.{OutOfMemory};
 ghost use Rattle.cacache_store.specs.declared.store.answer.Answer.TheVariants as answers;
 ghost use Rattle.cacache_store.specs.declared.store.step.Step.TheVariants as steps;
 ghost use Rattle.cacache_table.specs.SingleSteps.{Does, FailsAt};
-ghost use Rattle.cacache_keep.specs.Compacting.{Changes, CompactsAll, CompactsBucket, CompactsCache, Saves, Settles, StopsBucket, StopsCompacting, StopsCompactingEach, StopsSettling, same_bytes};
+ghost use Rattle.cacache_keep.specs.Compacting.{Changes, CompactsAll, CompactsAt, CompactsCache, Settles, StopsBucket, StopsCompacting, StopsCompactingEach, StopsSettling, lean_view, same_bytes};
 ghost use Rattle.cacache_keep.specs.Rewriting.{Rewrites, StopsRewriting};
 
 use crate::buckets::buckets_of;
@@ -65,7 +65,8 @@ fn is_same(text: &[u8], bytes: &[u8]) -> bool
 
 /// The bytes of a bucket that is compacted, if that changes it.
 fn changed(alloc: Global, bytes: &[u8]) -> Result<Option<Lean>>
-    ensures changed { IfOk result (λ lean. Changes bytes.now (option_map (λ l. l.text.items) lean)) }
+    ensures changed { IfOk result
+        (λ lean. Changes bytes.now (option_map (λ l. l.text.items) lean)) }
     ensures saves { IfOk result (λ lean. IfSome lean
         (λ l. l.saved ≡ length bytes.now - length l.text.items)) }
     ensures memory { IfErr result (λ e. e ≡ OutOfMemory) }
@@ -104,11 +105,9 @@ fn settle<S: Store, C: Clock, N: Names>(
     path: &Text,
     lean: Option<Lean>,
 ) -> Result<Option<u64>>
-    ensures settles { IfOk result (λ saving. Settles cache.now path.now
-        (option_map (λ l. (l.text.items, l.saved)) lean) saving
+    ensures settles { IfOk result (λ saving. Settles cache.now path.now (lean_view lean) saving
         (S.log env.old.store) (S.log env.new.store)) }
-    ensures stops { IfErr result (λ e. StopsSettling cache.now path.now
-        (option_map (λ l. (l.text.items, l.saved)) lean) e
+    ensures stops { IfErr result (λ e. StopsSettling cache.now path.now (lean_view lean) e
         (S.log env.old.store) (S.log env.new.store)) }
     ensures clock { env.new.clock ≡ env.old.clock }
     ensures base { env.new.base ≡ env.old.base }
@@ -131,8 +130,7 @@ fn compact_bucket<S: Store, C: Clock, N: Names>(
     cache: &str,
     path: &Text,
 ) -> Result<Option<u64>>
-    ensures compacts { IfOk result (λ saving. (bytes : List ℕ)
-        × Saves (path.now, bytes) saving × CompactsBucket cache.now (path.now, bytes)
+    ensures compacts { IfOk result (λ saving. CompactsAt cache.now path.now saving
         (S.log env.old.store) (S.log env.new.store)) }
     ensures stops { IfErr result (λ e. StopsBucket cache.now path.now e
         (S.log env.old.store) (S.log env.new.store)) }

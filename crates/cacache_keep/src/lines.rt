@@ -6,8 +6,8 @@ ghost use Rattle.cacache_core.specs.declared.errors.Error.TheVariants.{OutOfMemo
 ghost use Rattle.cacache_entry.specs.Bucket.{cut, CutsAt};
 ghost use Rattle.cacache_entry.specs.Latest.{answer_to};
 ghost use Rattle.cacache_entry.specs.View.{entry_view};
-ghost use Rattle.cacache_keep_laws.specs.Compacting.{compact_text as compact_text_of, keys_of, line_for, line_of_piece, lines_of as lines_in, lines_for, text_of};
-ghost use Rattle.cacache_keep.specs.Lines.{line_view, with_text};
+ghost use Rattle.cacache_keep_laws.specs.Compacting.{compact_text as compact_text_of, line_for, line_of_piece, lines_of as lines_in, text_of};
+ghost use Rattle.cacache_keep.specs.Lines.{keys_in, line_view, text_for, with_text};
 
 use cacache_core::errors::Result;
 use cacache_core::keeping::let_go;
@@ -75,7 +75,7 @@ fn lines_of(alloc: Global, bytes: &[u8]) -> Result<Vec<Line>>
 
 /// Whether one of the lines has this key.
 fn has_key(lines: &[Line], key: &str) -> bool
-    ensures { result ≡ list_any (bytes_eq key.now) (keys_of (map line_view lines.now)) }
+    ensures { result ≡ list_any (bytes_eq key.now) (keys_in lines.now) }
 {
     let mut rest = lines;
     while let Some((line, later)) = rest.split_first() {
@@ -143,10 +143,8 @@ fn push_last(
     key: &str,
     later: &[Line],
 ) -> std::result::Result<(), AllocError>
-    ensures { OnOk result (text.new.items
-        ++ text_of (lines_for (map line_view lines.now) (keys_of (map line_view later.now)))
-        ≡ text.old.items ++ text_of (lines_for (map line_view lines.now)
-        (key.now ∷ keys_of (map line_view later.now)))) }
+    ensures { OnOk result (text.new.items ++ text_for lines.now (keys_in later.now)
+        ≡ text.old.items ++ text_for lines.now (key.now ∷ keys_in later.now)) }
 {
     if has_key(later, key) {
         return Ok(());

@@ -1,8 +1,8 @@
 //! The call that repairs a cache.
-ghost use Rattle.std.specs.Prelude.{◌≡◌, IfOk, IfErr, map};
-ghost use Rattle.cacache_entry.specs.View.{found_view};
+ghost use Rattle.std.specs.Prelude.{◌≡◌, IfOk, IfErr};
 ghost use Rattle.cacache_jobs.specs.Sites.{site_of};
-ghost use Rattle.cacache_keep.specs.Repairing.{RepairsCache, StopsRepairing};
+ghost use Rattle.cacache_keep.specs.Repairing.{StopsRepairing};
+ghost use Rattle.cacache_keep.specs.Told.{RepairsAs};
 
 use crate::asking::dangling_of;
 use crate::burying::bury_each;
@@ -36,8 +36,7 @@ pub struct Repaired {
 /// Errors are those of `verify`, of a removal and of a tombstone. Contents before the error are
 /// removed then, and keys before it have tombstones. `OutOfMemory` may come at any time.
 pub fn repair<S: Store, C: Clock, N: Names>(env: &mut Env<S, C, N>, cache: &str) -> Result<Repaired>
-    ensures repairs { IfOk result (λ r. RepairsCache (site_of cache.now env.old.base 0)
-        r.damaged.items (map found_view r.dangling.items)
+    ensures repairs { IfOk result (λ r. RepairsAs (site_of cache.now env.old.base 0) r
         (S.log env.old.store) (S.log env.new.store)) }
     ensures stops { IfErr result (λ e. StopsRepairing (site_of cache.now env.old.base 0) e
         (S.log env.old.store) (S.log env.new.store)) }

@@ -1,14 +1,11 @@
 //! The call that removes temporary files.
-ghost use Rattle.std.specs.Prelude.{◌≡◌, ℕ, List, [], ◌∷◌, IfOk, IfErr, false, filter, map, not, string_bytes};
-ghost use Rattle.cacache_core.specs.Paths.{join as join_of};
-ghost use Rattle.cacache_store.specs.declared.store.answer.Name.{Name};
-ghost use Rattle.cacache_store.specs.declared.store.answer.Answer.TheVariants as answers;
+ghost use Rattle.std.specs.Prelude.{◌≡◌, IfOk, IfErr, false, filter, map, string_bytes};
 ghost use Rattle.cacache_store.specs.declared.store.step.Step.TheVariants as steps;
 ghost use Rattle.cacache_table.specs.SingleSteps.{FailsAt};
-ghost use Rattle.cacache_keep_laws.specs.Temporary.{is_temporary as is_temporary_of, total};
-ghost use Rattle.cacache_table.specs.Runs.{Gains};
+ghost use Rattle.cacache_keep_laws.specs.Temporary.{is_temporary as is_temporary_of};
 ghost use Rattle.cacache_keep.specs.Reading.{is_gone};
-ghost use Rattle.cacache_keep.specs.Sweeping.{ListsFolder, RemovesSized, StopsRemoval, StopsSized, StopsSweeping, SweepsCache};
+ghost use Rattle.cacache_keep.specs.Sweeping.{ListsFolder, RemovesFile, RemovesFiles, StopsRemoval, StopsSized, StopsSweeping, others_in};
+ghost use Rattle.cacache_keep.specs.Told.{SweepsAs};
 
 use crate::reading::says_gone;
 use cacache_core::errors::Result;
@@ -83,7 +80,7 @@ fn tell_apart(
 ) -> std::result::Result<Parts, AllocError>
     ensures files { IfOk result (λ f. f.files.items ≡ filter is_temporary_of names.items) }
     ensures others { IfOk result (λ f. map string_bytes f.strange.items
-        ≡ map (λ n. join_of folder.now n.name) (filter (λ n. not (is_temporary_of n)) names.items)) }
+        ≡ others_in folder.now names.items) }
 {
     let mut files = Vec::new(alloc);
     let mut strange = Vec::new(alloc);
@@ -104,9 +101,8 @@ fn left(alloc: Global, path: &Text) -> std::result::Result<Text, AllocError> {
 
 /// Removes the file at the path, and gives how many bytes it had.
 fn remove_sized<S: Store>(alloc: Global, store: &mut S, path: &Text) -> Result<u64>
-    ensures removes { IfOk result (λ size. Gains (S.log store.old) (S.log store.new)
-        ((steps.Size path.now, answers.Length size)
-        ∷ (steps.RemoveFile path.now, answers.Done) ∷ [])) }
+    ensures removes { IfOk result
+        (λ size. RemovesFile path.now size (S.log store.old) (S.log store.new)) }
     ensures stops { IfErr result
         (λ e. StopsRemoval path.now e (S.log store.old) (S.log store.new)) }
 {
@@ -122,9 +118,8 @@ fn remove_sized<S: Store>(alloc: Global, store: &mut S, path: &Text) -> Result<u
 
 /// Removes these files of the folder, and gives how many bytes they had.
 fn remove_files<S: Store>(alloc: Global, store: &mut S, folder: &str, files: &[Name]) -> Result<u64>
-    ensures removes { IfOk result (λ bytes. (removed : List (Name × ℕ))
-        × (map (λ r. r.0) removed ≡ files.now) × (bytes ≡ total (map (λ r. r.1) removed))
-        × RemovesSized folder.now removed (S.log store.old) (S.log store.new)) }
+    ensures removes { IfOk result (λ bytes. RemovesFiles folder.now files.now bytes
+        (S.log store.old) (S.log store.new)) }
     ensures stops { IfErr result
         (λ e. StopsSized folder.now files.now e (S.log store.old) (S.log store.new)) }
 {
@@ -145,9 +140,8 @@ fn remove_files<S: Store>(alloc: Global, store: &mut S, folder: &str, files: &[N
 /// couldn't be removed. Files before it are removed then, in the order of the listing. `OutOfMemory`
 /// may come at any time.
 pub fn sweep<S: Store, C: Clock, N: Names>(env: &mut Env<S, C, N>, cache: &str) -> Result<Swept>
-    ensures sweeps { IfOk result (λ s. SweepsCache cache.now
-        s.files s.bytes (map string_bytes s.strange.items)
-        (S.log env.old.store) (S.log env.new.store)) }
+    ensures sweeps { IfOk result
+        (λ s. SweepsAs cache.now s (S.log env.old.store) (S.log env.new.store)) }
     ensures stops { IfErr result
         (λ e. StopsSweeping cache.now e (S.log env.old.store) (S.log env.new.store)) }
     ensures clock { env.new.clock ≡ env.old.clock }

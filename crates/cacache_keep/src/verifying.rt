@@ -1,8 +1,8 @@
 //! The call that verifies a cache.
-ghost use Rattle.std.specs.Prelude.{◌≡◌, IfOk, IfErr, map, string_bytes};
-ghost use Rattle.cacache_entry.specs.View.{found_view};
+ghost use Rattle.std.specs.Prelude.{◌≡◌, IfOk, IfErr};
 ghost use Rattle.cacache_jobs.specs.Sites.{site_of};
-ghost use Rattle.cacache_keep.specs.Keeping.{StopsVerifying, VerifiesCache};
+ghost use Rattle.cacache_keep.specs.Keeping.{StopsVerifying};
+ghost use Rattle.cacache_keep.specs.Told.{VerifiesAs};
 
 use crate::asking::dangling_of;
 use crate::index::entries;
@@ -38,8 +38,7 @@ pub struct Verdict {
 /// there has no items; a link in its place that leads to nothing is an `IoError`. `OutOfMemory` may
 /// come at any time.
 pub fn verify<S: Store, C: Clock, N: Names>(env: &mut Env<S, C, N>, cache: &str) -> Result<Verdict>
-    ensures verifies { IfOk result (λ v. VerifiesCache (site_of cache.now env.old.base 0)
-        v.good v.damaged.items (map found_view v.dangling.items) (map string_bytes v.strange.items)
+    ensures verifies { IfOk result (λ v. VerifiesAs (site_of cache.now env.old.base 0) v
         (S.log env.old.store) (S.log env.new.store)) }
     ensures stops { IfErr result (λ e. StopsVerifying (site_of cache.now env.old.base 0) e
         (S.log env.old.store) (S.log env.new.store)) }

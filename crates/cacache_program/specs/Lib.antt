@@ -18,3 +18,5 @@ pub mod KeepAbout
 pub mod WordPlan
 pub mod WordRepair
 pub mod WordSweep
+pub mod KeepFails
+pub mod KeepValues

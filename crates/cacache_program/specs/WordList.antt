@@ -1,16 +1,14 @@
 -- The words `verify --list` of the program `cacache-keep`.
-use Rattle.std.specs.Prelude.{◌≡◌, ◌⊎◌, ◌++◌, ℕ, List, [], ◌∷◌, Option, codes, length}
+use Rattle.std.specs.Prelude.{◌≡◌, ◌++◌, ℕ, List, [], ◌∷◌, Option, codes, length}
 use Rattle.std.specs.List.{flat_map}
 use Rattle.cacache_core.specs.declared.integrity.digest.Hash.{Hash}
 use Rattle.cacache.specs.Stores.{LogItem}
-use Rattle.cacache.specs.Calls.{Env, KeepsRest}
+use Rattle.cacache.specs.Calls.{Env}
 use Rattle.cacache.specs.Entries.{Found}
 use Rattle.cacache.specs.Integrities.{integrity_text}
-use Rattle.cacache_jobs.specs.Sites.{site_of}
-use Rattle.cacache_keep.specs.Keeping.{VerifiesCache}
 use Rattle.cacache_program.specs.Output.{PutsOutWith}
 use Rattle.cacache_program.specs.PrintedEntries.{entry_text}
-use Rattle.cacache_program.specs.WordVerify.{FailsToVerify, verdict_status, verdict_text}
+use Rattle.cacache_program.specs.WordVerify.{VerifiesTelling, verdict_status, verdict_text}
 
 -- the line of a damaged content: its address
 abbrev pub damaged_line : List Hash → List ℕ
@@ -44,20 +42,15 @@ TellsList good damaged dangling strange before after status =
     (listed_text good damaged dangling strange) before after status
 
 module _ {S C N : Type 0} (log : S → Option (List LogItem)) where
-  -- the log gained a verification, and what it found was told and named
-  abbrev pub PrintsList :
-      List ℕ → Env S C N → Env S C N → Option (List ℕ) → Option (List ℕ) → ℕ → Type 0
-  PrintsList cache old new before after status =
-      (good : ℕ) × (damaged : List (List Hash)) × (dangling : List Found)
-      × (strange : List (List ℕ))
-      × VerifiesCache (site_of cache old.base 0) good damaged dangling strange
-      (log old.store) (log new.store)
-      × TellsList good damaged dangling strange before after status
-
-  -- that, or an error ended the verification; of the environment only the store may have changed
+  -- the cache was verified, and the counts are told with the list behind them
   abbrev pub ListsVerdict :
       List ℕ → Env S C N → Env S C N → Option (List ℕ) → Option (List ℕ) → ℕ → Type 0
   ListsVerdict cache old new before after status =
-      KeepsRest old new
-      × (PrintsList cache old new before after status
-      ⊎ FailsToVerify log cache old new before after status)
+      VerifiesTelling log TellsList cache old new before after status
+
+  -- so it is, if the word before the cache is `--list`
+  abbrev pub ListsIfSaid :
+      List ℕ → List ℕ → Env S C N → Env S C N
+      → Option (List ℕ) → Option (List ℕ) → ℕ → Type 0
+  ListsIfSaid word cache old new before after status =
+      word ≡ codes "--list" → ListsVerdict cache old new before after status

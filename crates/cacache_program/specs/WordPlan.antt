@@ -1,10 +1,11 @@
 -- The word `plan` of the program `cacache-keep`.
-use Rattle.std.specs.Prelude.{◌≡◌, ◌⊎◌, ◌++◌, ℕ, List, Option, codes, length}
+use Rattle.std.specs.Prelude.{◌⊎◌, ◌++◌, ℕ, List, Option, codes, length}
 use Rattle.std.specs.Fmt.{decimal}
 use Rattle.cacache.specs.Stores.{LogItem}
-use Rattle.cacache.specs.Calls.{Env, Error, KeepsRest}
+use Rattle.cacache.specs.Calls.{Env, KeepsRest}
 use Rattle.cacache_jobs.specs.Sites.{site_of}
 use Rattle.cacache_keep.specs.Planning.{PlansCache, Sized, StopsPlanning}
+use Rattle.cacache_program.specs.KeepFails.{Fails}
 use Rattle.cacache_program.specs.Output.{PutsOut}
 
 -- how many contents a collection would keep, and how many no entry has, a line each
@@ -25,9 +26,7 @@ module _ {S C N : Type 0} (log : S → Option (List LogItem)) where
   abbrev pub FailsToPlan :
       List ℕ → Env S C N → Env S C N → Option (List ℕ) → Option (List ℕ) → ℕ → Type 0
   FailsToPlan cache old new before after status =
-      (error : Error)
-      × StopsPlanning (site_of cache old.base 0) error (log old.store) (log new.store)
-      × (status ≡ 1) × (after ≡ before)
+      Fails log (StopsPlanning (site_of cache old.base 0)) old new before after status
 
   -- one of the two, and of the environment only the store may have changed
   abbrev pub Plans :

@@ -3,10 +3,11 @@ use Rattle.std.specs.Prelude.{◌≡◌, ◌⊎◌, ◌++◌, ℕ, List, Option,
 use Rattle.std.specs.Fmt.{decimal}
 use Rattle.cacache_core.specs.declared.integrity.digest.Hash.{Hash}
 use Rattle.cacache.specs.Stores.{LogItem}
-use Rattle.cacache.specs.Calls.{Env, Error}
+use Rattle.cacache.specs.Calls.{Env}
 use Rattle.cacache.specs.Entries.{Found}
 use Rattle.cacache_jobs.specs.Sites.{site_of}
 use Rattle.cacache_keep.specs.Repairing.{RepairsCache, StopsRepairing}
+use Rattle.cacache_program.specs.KeepFails.{Fails}
 use Rattle.cacache_program.specs.Output.{PutsOut}
 
 -- how many contents were damaged, and how many keys led to none, a line each
@@ -27,9 +28,7 @@ module _ {S C N : Type 0} (log : S → Option (List LogItem)) where
   abbrev pub FailsToRepair :
       List ℕ → Env S C N → Env S C N → Option (List ℕ) → Option (List ℕ) → ℕ → Type 0
   FailsToRepair cache old new before after status =
-      (error : Error)
-      × StopsRepairing (site_of cache old.base 0) error (log old.store) (log new.store)
-      × (status ≡ 1) × (after ≡ before)
+      Fails log (StopsRepairing (site_of cache old.base 0)) old new before after status
 
   -- one of the two, and the numbers and the base folder stayed
   abbrev pub Repairs :

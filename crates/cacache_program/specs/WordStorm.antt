@@ -30,3 +30,9 @@ pub record Storms (threads keys : List ℕ) (before after : Option (List ℕ)) (
     : Type 0 where
   pub wrong : is_storm threads keys ≡ false → status ≡ 2
   pub told : (status ≡ 2) ⊎ TellsStorm before after status
+
+-- so it was, and the environment stayed
+abbrev pub StormsAlone : {E : Type 0} → List ℕ → List ℕ → E → E
+    → Option (List ℕ) → Option (List ℕ) → ℕ → Type 0
+StormsAlone threads keys old new before after status =
+    Storms threads keys before after status × (new ≡ old)

@@ -1,9 +1,10 @@
 -- The word `sweep` of the program `cacache-keep`.
-use Rattle.std.specs.Prelude.{◌≡◌, ◌⊎◌, ◌++◌, ℕ, List, Option, codes, length}
+use Rattle.std.specs.Prelude.{◌⊎◌, ◌++◌, ℕ, List, Option, codes, length}
 use Rattle.std.specs.Fmt.{decimal}
 use Rattle.cacache.specs.Stores.{LogItem}
-use Rattle.cacache.specs.Calls.{Env, Error, KeepsRest}
+use Rattle.cacache.specs.Calls.{Env, KeepsRest}
 use Rattle.cacache_keep.specs.Sweeping.{StopsSweeping, SweepsCache}
+use Rattle.cacache_program.specs.KeepFails.{Fails}
 use Rattle.cacache_program.specs.Output.{PutsOut}
 
 -- how many files were removed, how many bytes they had, and how many others are there, a line each
@@ -26,8 +27,7 @@ module _ {S C N : Type 0} (log : S → Option (List LogItem)) where
   abbrev pub FailsToSweep :
       List ℕ → Env S C N → Env S C N → Option (List ℕ) → Option (List ℕ) → ℕ → Type 0
   FailsToSweep cache old new before after status =
-      (error : Error) × StopsSweeping cache error (log old.store) (log new.store)
-      × (status ≡ 1) × (after ≡ before)
+      Fails log (StopsSweeping cache) old new before after status
 
   -- one of the two, and of the environment only the store may have changed
   abbrev pub Sweeps :

@@ -1,12 +1,13 @@
 -- The word `verify` of the program `cacache-keep`.
-use Rattle.std.specs.Prelude.{◌≡◌, ◌⊎◌, ◌++◌, ◌==◌, ◌&&◌, ℕ, Bool, cond, List, Option, codes, length}
+use Rattle.std.specs.Prelude.{◌⊎◌, ◌++◌, ◌==◌, ◌&&◌, ℕ, Bool, cond, List, Option, codes, length}
 use Rattle.std.specs.Fmt.{decimal}
 use Rattle.cacache_core.specs.declared.integrity.digest.Hash.{Hash}
 use Rattle.cacache.specs.Stores.{LogItem}
-use Rattle.cacache.specs.Calls.{Env, Error, KeepsRest}
+use Rattle.cacache.specs.Calls.{Env, KeepsRest}
 use Rattle.cacache.specs.Entries.{Found}
 use Rattle.cacache_jobs.specs.Sites.{site_of}
 use Rattle.cacache_keep.specs.Keeping.{StopsVerifying, VerifiesCache}
+use Rattle.cacache_program.specs.KeepFails.{Fails}
 use Rattle.cacache_program.specs.Output.{PutsOutWith}
 
 -- how many contents are good and damaged, entries dangle, and other files are there, a line each
@@ -32,29 +33,43 @@ TellsVerdict good damaged dangling strange before after status =
     PutsOutWith (verdict_status damaged dangling strange)
     (verdict_text good damaged dangling strange) before after status
 
+-- so were the counts of these findings
+abbrev pub TellsCounts : ℕ → List (List Hash) → List Found → List (List ℕ)
+    → Option (List ℕ) → Option (List ℕ) → ℕ → Type 0
+TellsCounts good damaged dangling strange before after status =
+    TellsVerdict good (length damaged) (length dangling) (length strange) before after status
+
 module _ {S C N : Type 0} (log : S → Option (List LogItem)) where
-  -- the log gained a verification, and what it found was told
-  abbrev pub PrintsVerdict :
-      List ℕ → Env S C N → Env S C N → Option (List ℕ) → Option (List ℕ) → ℕ → Type 0
-  PrintsVerdict cache old new before after status =
+  -- the log gained a verification, and what it found was told in this way
+  abbrev pub PrintsFindings :
+      (ℕ → List (List Hash) → List Found → List (List ℕ)
+      → Option (List ℕ) → Option (List ℕ) → ℕ → Type 0)
+      → List ℕ → Env S C N → Env S C N → Option (List ℕ) → Option (List ℕ) → ℕ → Type 0
+  PrintsFindings Tells cache old new before after status =
       (good : ℕ) × (damaged : List (List Hash)) × (dangling : List Found)
       × (strange : List (List ℕ))
       × VerifiesCache (site_of cache old.base 0) good damaged dangling strange
       (log old.store) (log new.store)
-      × TellsVerdict good (length damaged) (length dangling) (length strange) before after status
+      × Tells good damaged dangling strange before after status
 
   -- an error ended the verification, and nothing was put out
   abbrev pub FailsToVerify :
       List ℕ → Env S C N → Env S C N → Option (List ℕ) → Option (List ℕ) → ℕ → Type 0
   FailsToVerify cache old new before after status =
-      (error : Error)
-      × StopsVerifying (site_of cache old.base 0) error (log old.store) (log new.store)
-      × (status ≡ 1) × (after ≡ before)
+      Fails log (StopsVerifying (site_of cache old.base 0)) old new before after status
 
   -- one of the two, and of the environment only the store may have changed
+  abbrev pub VerifiesTelling :
+      (ℕ → List (List Hash) → List Found → List (List ℕ)
+      → Option (List ℕ) → Option (List ℕ) → ℕ → Type 0)
+      → List ℕ → Env S C N → Env S C N → Option (List ℕ) → Option (List ℕ) → ℕ → Type 0
+  VerifiesTelling Tells cache old new before after status =
+      KeepsRest old new
+      × (PrintsFindings Tells cache old new before after status
+      ⊎ FailsToVerify cache old new before after status)
+
+  -- so it is, and the counts are told
   abbrev pub Verifies :
       List ℕ → Env S C N → Env S C N → Option (List ℕ) → Option (List ℕ) → ℕ → Type 0
   Verifies cache old new before after status =
-      KeepsRest old new
-      × (PrintsVerdict cache old new before after status
-      ⊎ FailsToVerify cache old new before after status)
+      VerifiesTelling TellsCounts cache old new before after status

@@ -1,9 +1,10 @@
 -- The word `write`.
-use Rattle.std.specs.Prelude.{◌≡◌, ◌⊎◌, ℕ, List, [], ◌∷◌, ◌++◌, Option, IfSome}
+use Rattle.std.specs.Prelude.{◌≡◌, ◌⊎◌, ℕ, List, [], ◌∷◌, ◌++◌, Option, IfSome, codes}
 use Rattle.cacache.specs.Integrities.{Sha256, integrity_under, integrity_text}
 use Rattle.cacache.specs.Stores.{LogItem}
 use Rattle.cacache.specs.Calls.{Env, Error, Reply, Stored, Refused, RunsPut, keyed_put}
 use Rattle.cacache_program.specs.Output.{PutsOut}
+use Rattle.cacache_program.specs.Words.{Asked, Keyed}
 
 -- the text of the integrity, and a line feed
 abbrev pub integrity_line : List ℕ → List ℕ
@@ -39,3 +40,10 @@ module _ {S C N : Type 0} (log : S → Option (List LogItem))
   Writes cache key input old new before after status =
       ((status ≡ 1) × (new ≡ old) × (after ≡ before))
       ⊎ Puts cache key input old new before after status
+
+  -- if a write is asked for, it does so
+  abbrev pub WritesAsked :
+      Asked → Option (List ℕ) → Env S C N → Env S C N
+      → Option (List ℕ) → Option (List ℕ) → ℕ → Type 0
+  WritesAsked a input old new before after status =
+      Keyed a (codes "write") (λ cache key. Writes cache key input old new before after status)

@@ -16,6 +16,10 @@ pub record Asked : Type 0 where
 abbrev pub nothing_asked : Asked
 nothing_asked = record { name = []; cache = []; key = None }
 
+-- what these three ask for
+abbrev pub these_asked : List ℕ → List ℕ → Option (List ℕ) → Asked
+these_asked name cache key = record { name = name; cache = cache; key = key }
+
 -- two words are a name and a cache, three also a key; any other count asks for nothing
 abbrev pub asked_of : {A : Type 0} → List (String A) → Asked
 asked_of [] = nothing_asked
@@ -32,6 +36,23 @@ Keyed a name P = IfSome a.key (λ key. a.name ≡ name → P a.cache key)
 -- if that name is asked for with a cache alone, P holds of it
 abbrev pub Unkeyed : Asked → List ℕ → (List ℕ → Type 0) → Type 0
 Unkeyed a name P = IfNone a.key (a.name ≡ name → P a.cache)
+
+-- if that name is asked for with a cache and a key, P holds of these, and of what it did to the
+-- environment and the output
+abbrev pub KeyedDoes :
+    {E : Type 0} → Asked → List ℕ
+    → (List ℕ → List ℕ → E → E → Option (List ℕ) → Option (List ℕ) → ℕ → Type 0)
+    → E → E → Option (List ℕ) → Option (List ℕ) → ℕ → Type 0
+KeyedDoes a name P old new before after status =
+    Keyed a name (λ cache key. P cache key old new before after status)
+
+-- the same of a name with a cache alone
+abbrev pub UnkeyedDoes :
+    {E : Type 0} → Asked → List ℕ
+    → (List ℕ → E → E → Option (List ℕ) → Option (List ℕ) → ℕ → Type 0)
+    → E → E → Option (List ℕ) → Option (List ℕ) → ℕ → Type 0
+UnkeyedDoes a name P old new before after status =
+    Unkeyed a name (λ cache. P cache old new before after status)
 
 -- the name is none that goes with one word more
 abbrev pub IsNoUnkeyed : List ℕ → Type 0

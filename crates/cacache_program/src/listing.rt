@@ -18,7 +18,8 @@ fn items<S: Store, C, N>(
     env: &mut Env<S, C, N>,
     cache: &str,
 ) -> Result<Vec<std::result::Result<Found, Error>>>
-    ensures ran { Calls S.log env.old env.new cache.now Command.Ls (reply_of (λ items. listing_reply items.items) result) }
+    ensures ran { Calls S.log env.old env.new cache.now Command.Ls
+        (reply_of (λ items. listing_reply items.items) result) }
     ensures lost { Calls S.log env.old env.new cache.now Command.Ls
         (Reply.Refused Error.OutOfMemory) }
 {

@@ -1,13 +1,13 @@
 //! What the program does with its words.
 ghost use Rattle.std.specs.Prelude.{◌≡◌, ◌≢◌, ◌≤◌, codes};
-ghost use Rattle.cacache_program.specs.Words.{asked_of, Keyed, Unkeyed, IsWrong};
-ghost use Rattle.cacache_program.specs.WordWrite.{Writes};
+ghost use Rattle.cacache_program.specs.Words.{asked_of, Keyed, KeyedDoes, Unkeyed, UnkeyedDoes, IsWrong};
+ghost use Rattle.cacache_program.specs.WordWrite.{WritesAsked};
 ghost use Rattle.cacache_program.specs.WordRead.{Reads};
 ghost use Rattle.cacache_program.specs.WordFind.{PrintsFound};
 ghost use Rattle.cacache_program.specs.WordRemove.{PrintsRemoval};
 ghost use Rattle.cacache_program.specs.WordClear.{Clears};
 ghost use Rattle.cacache_program.specs.WordLs.{PrintsListing};
-ghost use Rattle.cacache_program.specs.WordStorm.{Storms};
+ghost use Rattle.cacache_program.specs.WordStorm.{StormsAlone};
 
 use crate::about::USAGE;
 use crate::clearing::clear;
@@ -51,25 +51,20 @@ pub fn run<
     ensures nothing_done { result ≡ 2 → (env.new ≡ env.old) × (output.new ≡ output.old) }
     ensures quiet { result ≡ 0 → errors.new ≡ errors.old }
     ensures input { (asked_of words.now).name ≢ codes "write" → input.new ≡ input.old }
-    ensures writes { Keyed (asked_of words.now) (codes "write") (λ cache key.
-        Writes S.log C.given N.given cache key (R.remaining input.old)
-        env.old env.new (W.contents output.old) (W.contents output.new) result) }
-    ensures reads { Keyed (asked_of words.now) (codes "read") (λ cache key.
-        Reads S.log cache key env.old env.new
-        (W.contents output.old) (W.contents output.new) result) }
-    ensures finds { Keyed (asked_of words.now) (codes "find") (λ cache key.
-        PrintsFound S.log cache key env.old env.new
-        (W.contents output.old) (W.contents output.new) result) }
+    ensures writes { WritesAsked S.log C.given N.given (asked_of words.now) (R.remaining input.old)
+        env.old env.new (W.contents output.old) (W.contents output.new) result }
+    ensures reads { KeyedDoes (asked_of words.now) (codes "read") (Reads S.log)
+        env.old env.new (W.contents output.old) (W.contents output.new) result }
+    ensures finds { KeyedDoes (asked_of words.now) (codes "find") (PrintsFound S.log)
+        env.old env.new (W.contents output.old) (W.contents output.new) result }
     ensures removes { Keyed (asked_of words.now) (codes "remove") (λ cache key.
         PrintsRemoval S.log C.given cache key env.old env.new result × (output.new ≡ output.old)) }
     ensures clears { Unkeyed (asked_of words.now) (codes "clear") (λ cache.
         Clears S.log cache env.old env.new result × (output.new ≡ output.old)) }
-    ensures lists { Unkeyed (asked_of words.now) (codes "ls") (λ cache.
-        PrintsListing S.log cache env.old env.new
-        (W.contents output.old) (W.contents output.new) result) }
-    ensures storms { Keyed (asked_of words.now) (codes "storm") (λ threads keys.
-        Storms threads keys (W.contents output.old) (W.contents output.new) result
-        × (env.new ≡ env.old)) }
+    ensures lists { UnkeyedDoes (asked_of words.now) (codes "ls") (PrintsListing S.log)
+        env.old env.new (W.contents output.old) (W.contents output.new) result }
+    ensures storms { KeyedDoes (asked_of words.now) (codes "storm") StormsAlone
+        env.old env.new (W.contents output.old) (W.contents output.new) result }
 {
     match parse_words(words) {
         ("write", cache, Some(key)) => write(env, cache, key, input, output, errors),

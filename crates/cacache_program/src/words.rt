@@ -1,7 +1,7 @@
 //! The words of a command line.
 ghost use Rattle.std.specs.Prelude.{◌≡◌, ◌≢◌, option_map};
 ghost use Rattle.std.specs.IoError.{error_kind};
-ghost use Rattle.cacache_program.specs.Words.{asked_of};
+ghost use Rattle.cacache_program.specs.Words.{asked_of, these_asked};
 
 use crate::errors::{Errors, tell_failed_stream, tell_misuse};
 use std::env::{Env, args};
@@ -18,11 +18,8 @@ pub fn words_of<R: Env + AllocGlobal>(rt: &R) -> io::Result<Vec<String>> {
 
 /// The name, the cache and the key that the words give; an empty name where there are fewer or more.
 pub(crate) fn parse_words(words: &[String]) -> (&str, &str, Option<&str>)
-    ensures { asked_of words.now ≡ record {
-      name = result.0.now;
-      cache = result.1.now;
-      key = option_map (λ k. k.now) result.2;
-    } }
+    ensures { asked_of words.now
+        ≡ these_asked result.0.now result.1.now (option_map (λ k. k.now) result.2) }
 {
     match words {
         [word, cache] => (word.as_str(), cache.as_str(), None),

@@ -2,7 +2,8 @@
 ghost use Rattle.std.specs.Prelude.{◌≡◌, ◌⊎◌, IfOk, map, string_bytes};
 ghost use Rattle.std.specs.List.{flat_map};
 ghost use Rattle.cacache.specs.Entries.{found_view};
-ghost use Rattle.cacache_program.specs.WordList.{TellsList, damaged_line as line_of_damaged, dangling_line as line_of_dangling, listed_text as text_of_list, strange_line as line_of_strange};
+ghost use Rattle.cacache_program.specs.WordList.{damaged_line as line_of_damaged, dangling_line as line_of_dangling, strange_line as line_of_strange};
+ghost use Rattle.cacache_program.specs.KeepValues.{PutsList, list_of_verdict};
 
 use crate::entries::entry_text;
 use crate::errors::{Errors, tell_failed_call};
@@ -44,7 +45,8 @@ fn dangling_line(alloc: Global, entry: Metadata) -> Result<Vec<u8>>
 
 /// A line for each of these entries. Memory alone can fail.
 fn dangling_lines(alloc: Global, dangling: Vec<Metadata>) -> Result<Vec<u8>>
-    ensures { IfOk result (λ text. text.items ≡ flat_map line_of_dangling (map found_view dangling.items)) }
+    ensures { IfOk result
+        (λ text. text.items ≡ flat_map line_of_dangling (map found_view dangling.items)) }
 {
     let mut text = Vec::new(alloc);
     for entry in dangling {
@@ -62,7 +64,8 @@ fn strange_line(alloc: Global, path: &str) -> std::result::Result<String, AllocE
 
 /// A line for each of these paths.
 fn strange_lines(alloc: Global, strange: Vec<String>) -> std::result::Result<Vec<u8>, AllocError>
-    ensures { IfOk result (λ text. text.items ≡ flat_map line_of_strange (map string_bytes strange.items)) }
+    ensures { IfOk result
+        (λ text. text.items ≡ flat_map line_of_strange (map string_bytes strange.items)) }
 {
     let mut text = Vec::new(alloc);
     for path in strange {
@@ -73,8 +76,7 @@ fn strange_lines(alloc: Global, strange: Vec<String>) -> std::result::Result<Vec
 
 /// What is printed of a verification, and the list of what it found but good contents. Memory alone can fail.
 fn listed_text(alloc: Global, verdict: Verdict) -> Result<Vec<u8>>
-    ensures { IfOk result (λ text. text.items ≡ text_of_list verdict.good verdict.damaged.items
-        (map found_view verdict.dangling.items) (map string_bytes verdict.strange.items)) }
+    ensures { IfOk result (λ text. text.items ≡ list_of_verdict verdict) }
 {
     let mut text = verdict_text(alloc, &verdict)?.into_bytes();
     let Verdict {
@@ -97,8 +99,7 @@ pub(crate) fn print_list<W: Write, E: Write>(
     output: &mut W,
     errors: &mut Errors<E>,
 ) -> u8
-    ensures tells { TellsList verdict.good verdict.damaged.items
-        (map found_view verdict.dangling.items) (map string_bytes verdict.strange.items)
+    ensures tells { PutsList verdict
         (W.contents output.old) (W.contents output.new) result }
     ensures known { (result ≡ 0) ⊎ (result ≡ 1) ⊎ (result ≡ 3) }
     ensures quiet { result ≡ 0 → errors.new ≡ errors.old }

@@ -1,11 +1,7 @@
 //! What goes to the output.
-ghost use Rattle.std.specs.Prelude.{◌≡◌, ◌⊎◌, IfOk, length, string_bytes};
+ghost use Rattle.std.specs.Prelude.{◌≡◌, ◌⊎◌, IfOk, string_bytes};
 ghost use Rattle.cacache_program.specs.Output.{PutsOut};
-ghost use Rattle.cacache_program.specs.WordVerify.{TellsVerdict, verdict_status, verdict_text as text_of_verdict};
-ghost use Rattle.cacache_program.specs.WordCollect.{collected_text as text_of_collected};
-ghost use Rattle.cacache_program.specs.WordPlan.{planned_text as text_of_planned};
-ghost use Rattle.cacache_program.specs.WordRepair.{repaired_text as text_of_repaired};
-ghost use Rattle.cacache_program.specs.WordSweep.{swept_text as text_of_swept};
+ghost use Rattle.cacache_program.specs.KeepValues.{PutsVerdict, status_of_verdict, text_of_collected, text_of_planned, text_of_repaired, text_of_swept, text_of_verdict};
 
 use crate::errors::{Errors, tell_failed_call};
 use crate::output::{put_out, put_out_with};
@@ -16,9 +12,7 @@ use std::io::Write;
 
 /// What is printed of a verification.
 pub(crate) fn verdict_text(alloc: Global, verdict: &Verdict) -> Result<String, AllocError>
-    ensures { IfOk result (λ text. string_bytes text ≡ text_of_verdict verdict.now.good
-        (length verdict.now.damaged.items) (length verdict.now.dangling.items)
-        (length verdict.now.strange.items)) }
+    ensures { IfOk result (λ text. string_bytes text ≡ text_of_verdict verdict.now) }
 {
     let (damaged, dangling) = (verdict.damaged.len(), verdict.dangling.len());
     let (good, strange) = (verdict.good, verdict.strange.len());
@@ -27,8 +21,7 @@ pub(crate) fn verdict_text(alloc: Global, verdict: &Verdict) -> Result<String, A
 
 /// The status of a verification: 0 where all is good, else 3.
 pub(crate) fn status_of(verdict: &Verdict) -> u8
-    ensures status { result ≡ verdict_status (length verdict.now.damaged.items)
-        (length verdict.now.dangling.items) (length verdict.now.strange.items) }
+    ensures status { result ≡ status_of_verdict verdict.now }
     ensures known { (result ≡ 0) ⊎ (result ≡ 3) }
 {
     let is_whole = verdict.damaged.is_empty() && verdict.dangling.is_empty();
@@ -45,8 +38,7 @@ pub(crate) fn print_verdict<W: Write, E: Write>(
     output: &mut W,
     errors: &mut Errors<E>,
 ) -> u8
-    ensures tells { TellsVerdict verdict.now.good (length verdict.now.damaged.items)
-        (length verdict.now.dangling.items) (length verdict.now.strange.items)
+    ensures tells { PutsVerdict verdict.now
         (W.contents output.old) (W.contents output.new) result }
     ensures known { (result ≡ 0) ⊎ (result ≡ 1) ⊎ (result ≡ 3) }
     ensures quiet { result ≡ 0 → errors.new ≡ errors.old }
@@ -59,8 +51,7 @@ pub(crate) fn print_verdict<W: Write, E: Write>(
 
 /// What is printed of a collection.
 fn collected_text(alloc: Global, collected: &Collected) -> Result<String, AllocError>
-    ensures { IfOk result (λ text. string_bytes text
-        ≡ text_of_collected collected.now.kept (length collected.now.dropped.items)) }
+    ensures { IfOk result (λ text. string_bytes text ≡ text_of_collected collected.now) }
 {
     let (kept, dropped) = (collected.kept, collected.dropped.len());
     format!(in alloc; "kept {kept}\ndropped {dropped}\n")
@@ -73,8 +64,7 @@ pub(crate) fn print_collected<W: Write, E: Write>(
     output: &mut W,
     errors: &mut Errors<E>,
 ) -> u8
-    ensures tells { PutsOut
-        (text_of_collected collected.now.kept (length collected.now.dropped.items))
+    ensures tells { PutsOut (text_of_collected collected.now)
         (W.contents output.old) (W.contents output.new) result }
     ensures quiet { result ≡ 0 → errors.new ≡ errors.old }
 {
@@ -86,8 +76,7 @@ pub(crate) fn print_collected<W: Write, E: Write>(
 
 /// What is printed of a plan.
 fn planned_text(alloc: Global, planned: &Planned) -> Result<String, AllocError>
-    ensures { IfOk result (λ text. string_bytes text
-        ≡ text_of_planned planned.now.kept (length planned.now.unused.items)) }
+    ensures { IfOk result (λ text. string_bytes text ≡ text_of_planned planned.now) }
 {
     let (kept, unused) = (planned.kept, planned.unused.len());
     format!(in alloc; "kept {kept}\nunused {unused}\n")
@@ -100,8 +89,7 @@ pub(crate) fn print_planned<W: Write, E: Write>(
     output: &mut W,
     errors: &mut Errors<E>,
 ) -> u8
-    ensures tells { PutsOut
-        (text_of_planned planned.now.kept (length planned.now.unused.items))
+    ensures tells { PutsOut (text_of_planned planned.now)
         (W.contents output.old) (W.contents output.new) result }
     ensures quiet { result ≡ 0 → errors.new ≡ errors.old }
 {
@@ -113,8 +101,7 @@ pub(crate) fn print_planned<W: Write, E: Write>(
 
 /// What is printed of a sweep.
 fn swept_text(alloc: Global, swept: &Swept) -> Result<String, AllocError>
-    ensures { IfOk result (λ text. string_bytes text
-        ≡ text_of_swept swept.now.files swept.now.bytes (length swept.now.strange.items)) }
+    ensures { IfOk result (λ text. string_bytes text ≡ text_of_swept swept.now) }
 {
     let (files, bytes, strange) = (swept.files, swept.bytes, swept.strange.len());
     format!(in alloc; "files {files}\nbytes {bytes}\nstrange {strange}\n")
@@ -127,8 +114,7 @@ pub(crate) fn print_swept<W: Write, E: Write>(
     output: &mut W,
     errors: &mut Errors<E>,
 ) -> u8
-    ensures tells { PutsOut
-        (text_of_swept swept.now.files swept.now.bytes (length swept.now.strange.items))
+    ensures tells { PutsOut (text_of_swept swept.now)
         (W.contents output.old) (W.contents output.new) result }
     ensures quiet { result ≡ 0 → errors.new ≡ errors.old }
 {
@@ -140,8 +126,7 @@ pub(crate) fn print_swept<W: Write, E: Write>(
 
 /// What is printed of a repair.
 fn repaired_text(alloc: Global, repaired: &Repaired) -> Result<String, AllocError>
-    ensures { IfOk result (λ text. string_bytes text ≡ text_of_repaired
-        (length repaired.now.damaged.items) (length repaired.now.dangling.items)) }
+    ensures { IfOk result (λ text. string_bytes text ≡ text_of_repaired repaired.now) }
 {
     let (damaged, dangling) = (repaired.damaged.len(), repaired.dangling.len());
     format!(in alloc; "damaged {damaged}\ndangling {dangling}\n")
@@ -154,8 +139,7 @@ pub(crate) fn print_repaired<W: Write, E: Write>(
     output: &mut W,
     errors: &mut Errors<E>,
 ) -> u8
-    ensures tells { PutsOut (text_of_repaired
-        (length repaired.now.damaged.items) (length repaired.now.dangling.items))
+    ensures tells { PutsOut (text_of_repaired repaired.now)
         (W.contents output.old) (W.contents output.new) result }
     ensures quiet { result ≡ 0 → errors.new ≡ errors.old }
 {

@@ -1,9 +1,9 @@
 //! What the program does with its words.
 ghost use Rattle.std.specs.Prelude.{◌≡◌, ◌≢◌, ◌≤◌, codes};
-ghost use Rattle.cacache_program.specs.Words.{Keyed, Unkeyed, asked_of};
+ghost use Rattle.cacache_program.specs.Words.{KeyedDoes, UnkeyedDoes, asked_of};
 ghost use Rattle.cacache_program.specs.KeepWords.{IsWrong};
 ghost use Rattle.cacache_program.specs.WordVerify.{Verifies};
-ghost use Rattle.cacache_program.specs.WordList.{ListsVerdict};
+ghost use Rattle.cacache_program.specs.WordList.{ListsIfSaid, ListsVerdict};
 ghost use Rattle.cacache_program.specs.WordCollect.{CollectsUnused};
 ghost use Rattle.cacache_program.specs.WordPlan.{Plans};
 ghost use Rattle.cacache_program.specs.WordRepair.{Repairs};
@@ -136,24 +136,18 @@ pub fn run<S: Reasons, C: Clock, N: Names, W: Write, E: Write>(
     ensures wrong { IsWrong (asked_of words.now) → result ≡ 2 }
     ensures nothing_done { result ≡ 2 → (env.new ≡ env.old) × (output.new ≡ output.old) }
     ensures quiet { result ≡ 0 → errors.new ≡ errors.old }
-    ensures verifies { Unkeyed (asked_of words.now) (codes "verify") (λ cache.
-        Verifies S.log cache env.old env.new
-        (W.contents output.old) (W.contents output.new) result) }
-    ensures lists { Keyed (asked_of words.now) (codes "verify") (λ word cache.
-        word ≡ codes "--list" → ListsVerdict S.log cache env.old env.new
-        (W.contents output.old) (W.contents output.new) result) }
-    ensures collects { Unkeyed (asked_of words.now) (codes "collect") (λ cache.
-        CollectsUnused S.log cache env.old env.new
-        (W.contents output.old) (W.contents output.new) result) }
-    ensures plans { Unkeyed (asked_of words.now) (codes "plan") (λ cache.
-        Plans S.log cache env.old env.new
-        (W.contents output.old) (W.contents output.new) result) }
-    ensures sweeps { Unkeyed (asked_of words.now) (codes "sweep") (λ cache.
-        Sweeps S.log cache env.old env.new
-        (W.contents output.old) (W.contents output.new) result) }
-    ensures repairs { Unkeyed (asked_of words.now) (codes "repair") (λ cache.
-        Repairs S.log cache env.old env.new
-        (W.contents output.old) (W.contents output.new) result) }
+    ensures verifies { UnkeyedDoes (asked_of words.now) (codes "verify") (Verifies S.log)
+        env.old env.new (W.contents output.old) (W.contents output.new) result }
+    ensures lists { KeyedDoes (asked_of words.now) (codes "verify") (ListsIfSaid S.log)
+        env.old env.new (W.contents output.old) (W.contents output.new) result }
+    ensures collects { UnkeyedDoes (asked_of words.now) (codes "collect") (CollectsUnused S.log)
+        env.old env.new (W.contents output.old) (W.contents output.new) result }
+    ensures plans { UnkeyedDoes (asked_of words.now) (codes "plan") (Plans S.log)
+        env.old env.new (W.contents output.old) (W.contents output.new) result }
+    ensures sweeps { UnkeyedDoes (asked_of words.now) (codes "sweep") (Sweeps S.log)
+        env.old env.new (W.contents output.old) (W.contents output.new) result }
+    ensures repairs { UnkeyedDoes (asked_of words.now) (codes "repair") (Repairs S.log)
+        env.old env.new (W.contents output.old) (W.contents output.new) result }
 {
     match parse_words(words) {
         ("verify", cache, None) => verify_and_print(env, cache, output, errors),

@@ -1,0 +1,44 @@
+-- What the calls' values tell of their logs.
+use Rattle.std.specs.Prelude.{ℕ, List, Option, map, string_bytes}
+use Rattle.cacache_store.specs.declared.store.log.LogItem.{LogItem}
+use Rattle.cacache_entry.specs.Latest.{Found}
+use Rattle.cacache_entry.specs.View.{found_view}
+use Rattle.cacache_entry.specs.declared.metadata.Metadata.{Metadata}
+use Rattle.cacache_table.specs.State.{Site}
+use Rattle.cacache_keep.specs.declared.repairing.Repaired.{Repaired}
+use Rattle.cacache_keep.specs.declared.sweeping.Swept.{Swept}
+use Rattle.cacache_keep.specs.declared.verifying.Verdict.{Verdict}
+use Rattle.cacache_keep.specs.Calls.{AsksEach}
+use Rattle.cacache_keep.specs.Keeping.{VerifiesCache}
+use Rattle.cacache_keep.specs.Repairing.{BuriesEach, RepairsCache}
+use Rattle.cacache_keep.specs.Sweeping.{SweepsCache}
+
+-- the log gained a verification, and this is its verdict
+abbrev pub VerifiesAs :
+    Site → Verdict → Option (List LogItem) → Option (List LogItem) → Type 0
+VerifiesAs site v old new =
+    VerifiesCache site v.good v.damaged.items
+    (map found_view v.dangling.items) (map string_bytes v.strange.items) old new
+
+-- the log gained a question for the content of each entry, and these are those without one
+abbrev pub AsksAs : Site → List Found → List Metadata
+    → Option (List LogItem) → Option (List LogItem) → Type 0
+AsksAs site entries dangling old new = AsksEach site entries (map found_view dangling) old new
+
+-- the log gained the calls that bury the keys of these entries, and these are the buried ones
+abbrev pub BuriesAs : Site → List Metadata → List Metadata
+    → Option (List LogItem) → Option (List LogItem) → Type 0
+BuriesAs site entries buried old new =
+    BuriesEach site (map found_view entries) (map found_view buried) old new
+
+-- the log gained a repair, and this tells what it did
+abbrev pub RepairsAs :
+    Site → Repaired → Option (List LogItem) → Option (List LogItem) → Type 0
+RepairsAs site r old new =
+    RepairsCache site r.damaged.items (map found_view r.dangling.items) old new
+
+-- the log gained a sweep of the cache, and this tells what it did
+abbrev pub SweepsAs :
+    List ℕ → Swept → Option (List LogItem) → Option (List LogItem) → Type 0
+SweepsAs cache s old new =
+    SweepsCache cache s.files s.bytes (map string_bytes s.strange.items) old new

@@ -1,0 +1,62 @@
+-- What is printed of the values that the calls of `cacache-keep` give.
+use Rattle.std.specs.Prelude.{ℕ, List, Option, length, map, string_bytes}
+use Rattle.cacache.specs.Entries.{found_view}
+use Rattle.cacache_keep.specs.declared.collecting.Collected.{Collected}
+use Rattle.cacache_keep.specs.declared.planning.Planned.{Planned}
+use Rattle.cacache_keep.specs.declared.repairing.Repaired.{Repaired}
+use Rattle.cacache_keep.specs.declared.sweeping.Swept.{Swept}
+use Rattle.cacache_keep.specs.declared.verifying.Verdict.{Verdict}
+use Rattle.cacache_program.specs.WordCollect.{collected_text}
+use Rattle.cacache_program.specs.WordList.{TellsList, listed_text}
+use Rattle.cacache_program.specs.WordPlan.{planned_text}
+use Rattle.cacache_program.specs.WordRepair.{repaired_text}
+use Rattle.cacache_program.specs.WordSweep.{swept_text}
+use Rattle.cacache_program.specs.WordVerify.{TellsVerdict, verdict_status, verdict_text}
+
+-- ---- a verification
+
+-- the counts of the verdict
+abbrev pub text_of_verdict : Verdict → List ℕ
+text_of_verdict v =
+    verdict_text v.good (length v.damaged.items) (length v.dangling.items) (length v.strange.items)
+
+-- its status
+abbrev pub status_of_verdict : Verdict → ℕ
+status_of_verdict v =
+    verdict_status (length v.damaged.items) (length v.dangling.items) (length v.strange.items)
+
+-- its counts were put out with its status, or a beginning of them with status 1
+abbrev pub PutsVerdict : Verdict → Option (List ℕ) → Option (List ℕ) → ℕ → Type 0
+PutsVerdict v before after status =
+    TellsVerdict v.good (length v.damaged.items) (length v.dangling.items) (length v.strange.items)
+    before after status
+
+-- its counts, and the list behind them
+abbrev pub list_of_verdict : Verdict → List ℕ
+list_of_verdict v =
+    listed_text v.good v.damaged.items
+    (map found_view v.dangling.items) (map string_bytes v.strange.items)
+
+-- they were put out with its status, or a beginning of them with status 1
+abbrev pub PutsList : Verdict → Option (List ℕ) → Option (List ℕ) → ℕ → Type 0
+PutsList v before after status =
+    TellsList v.good v.damaged.items
+    (map found_view v.dangling.items) (map string_bytes v.strange.items) before after status
+
+-- ---- the other calls
+
+-- the counts of a collection
+abbrev pub text_of_collected : Collected → List ℕ
+text_of_collected c = collected_text c.kept (length c.dropped.items)
+
+-- those of a plan
+abbrev pub text_of_planned : Planned → List ℕ
+text_of_planned p = planned_text p.kept (length p.unused.items)
+
+-- those of a sweep
+abbrev pub text_of_swept : Swept → List ℕ
+text_of_swept s = swept_text s.files s.bytes (length s.strange.items)
+
+-- those of a repair
+abbrev pub text_of_repaired : Repaired → List ℕ
+text_of_repaired r = repaired_text (length r.damaged.items) (length r.dangling.items)
