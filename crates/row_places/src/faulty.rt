@@ -1,8 +1,6 @@
 //! A store whose files fail where a row says so, and do a part of their work.
 ghost use Rattle.std.specs.Prelude.{◌≡◌, ◌+◌, ◌≤◌, None, IfOk, length};
-ghost use Rattle.cacache_store.specs.Fits.{Fits};
-ghost use Rattle.cacache_store.specs.Plain.{plain_step, plain_answer};
-ghost use Rattle.row_places.specs.declared.faulty.Short.{Short};
+ghost use Rattle.row_places.specs.Seen.{FitsSeen};
 
 use cacache_core::bytes::Bytes;
 use cacache_core::errors::Fault;
@@ -159,10 +157,7 @@ impl RemovableTemp for Short {
 
 /// Does a `Read` and answers it.
 fn given(alloc: Global, file: Failing, max: usize) -> Answer<Failing, Short>
-    ensures fits { Fits (plain_step (λ file. file.file)
-        (λ (temp : Short). record { path = temp.path; bytes = None }) (Step.Read file max))
-        (plain_answer (λ file. file.file)
-        (λ temp. record { path = temp.path; bytes = None }) result) }
+    ensures fits { FitsSeen (Step.Read file max) result }
 {
     let mut file = file;
     match file.piece(alloc, max) {
@@ -253,10 +248,7 @@ impl Store for Faulty {
     ghost log = { λ _. None };
 
     fn step(&mut self, step: Step<Failing, Short>) -> Answer<Failing, Short>
-        ensures fits { Fits (plain_step (λ file. file.file)
-            (λ temp. record { path = temp.path; bytes = None }) step)
-            (plain_answer (λ file. file.file)
-            (λ temp. record { path = temp.path; bytes = None }) result) }
+        ensures fits { FitsSeen step result }
     {
         match step {
             Step::MakeDirs(_path) => Answer::Done,

@@ -1,2 +1,3 @@
 pub mod Missing
 pub mod Asked
+pub mod Given

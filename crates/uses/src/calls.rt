@@ -1,7 +1,7 @@
 //! Single calls on a cache in memory, each with what it does there.
-ghost use Rattle.std.specs.Prelude.{◌≡◌, ℕ, List, IfOk, IfErr, OnOk};
-ghost use Rattle.cacache_core.specs.declared.integrity.digest.Hash.{Hash};
+ghost use Rattle.std.specs.Prelude.{ℕ, List, IfOk, IfErr, OnOk};
 ghost use Rattle.cacache_sequence.specs.Caches.{IsCache, IsEmptyCache, HasKey, HasContent, LacksKey, Grows, IsExcused};
+ghost use Rattle.uses.specs.Given.{GivesContent, GivesKey, MissesKey};
 ghost use Rattle.uses.specs.Missing.{FindsNothing};
 
 use cacache::env::{Clock, Env, Names};
@@ -37,13 +37,8 @@ pub(crate) fn read<C: Clock, N: Names>(
     requires { IsCache cache.now env.old.store }
     ensures sound { IsCache cache.now env.new.store }
     ensures grows { Grows env.old.store env.new.store }
-    ensures ok { (i : List Hash) (bytes : List ℕ)
-        → HasKey cache.now key.now i bytes env.old.store
-        → IfOk result (λ found. (found.items ≡ bytes)
-        × HasKey cache.now key.now i bytes env.new.store) }
-    ensures err { (i : List Hash) (bytes : List ℕ)
-        → HasKey cache.now key.now i bytes env.old.store
-        → IfErr result (λ e. IsExcused e env.old.store env.new.store) }
+    ensures ok { GivesKey cache.now key.now result env.old.store env.new.store }
+    ensures err { MissesKey cache.now key.now result env.old.store env.new.store }
     ensures lacks { LacksKey cache.now key.now env.old.store
         → FindsNothing cache.now key.now result env.old.store env.new.store }
 {
@@ -61,9 +56,7 @@ pub(crate) fn read_hash<C: Clock, N: Names>(
     requires { IsCache cache.now env.old.store }
     ensures sound { IsCache cache.now env.new.store }
     ensures grows { Grows env.old.store env.new.store }
-    ensures ok { (bytes : List ℕ) → HasContent cache.now integrity.now bytes env.old.store
-        → IfOk result (λ found. (found.items ≡ bytes)
-        × HasContent cache.now integrity.now bytes env.new.store) }
+    ensures ok { GivesContent cache.now integrity.now result env.old.store env.new.store }
     ensures err { (bytes : List ℕ) → HasContent cache.now integrity.now bytes env.old.store
         → IfErr result (λ e. IsExcused e env.old.store env.new.store) }
 {

@@ -1,2 +1,3 @@
 pub mod Packages
 pub mod Audits
+pub mod Given

@@ -1,7 +1,8 @@
 //! Packages that are stored by a writer.
-ghost use Rattle.std.specs.Prelude.{◌≡◌, Some, None, IfOk, OnOk, length};
+ghost use Rattle.std.specs.Prelude.{◌≡◌, Some, IfOk, OnOk, length};
 ghost use Rattle.cacache.specs.Integrities.{Sha256, integrity_under};
-ghost use Rattle.cacache.specs.Laws.{IsCache, HasContent, IsJson, KeepsUntouched, LeadsToEntry, lies_under, view};
+ghost use Rattle.cacache.specs.Laws.{IsCache, IsJson, KeepsUntouched, LeadsToEntry, view};
+ghost use Rattle.uses_client.specs.Given.{LiesIfFree};
 ghost use Rattle.uses_client.specs.Packages.{package_said};
 
 use cacache::env::{Clock, Env, Names};
@@ -25,9 +26,8 @@ pub fn install<C: Clock, N: Names>(
     ensures stored { IfOk result (λ i. i ≡ integrity_under Sha256 «data».now) }
     ensures leads { IfOk result (λ i. LeadsToEntry cache.now key.now
         (package_said (view about) (length «data».now)) i (length «data».now) env.new.store) }
-    ensures content { OnOk result (lies_under cache.now (integrity_under Sha256 «data».now)
-        env.old.store ≡ None → HasContent cache.now (integrity_under Sha256 «data».now) «data».now
-        env.new.store) }
+    ensures content { OnOk result
+        (LiesIfFree cache.now «data».now env.old.store env.new.store) }
     ensures keeps { KeepsUntouched cache.now (Some key.now) (integrity_under Sha256 «data».now)
         «data».now env.old.store env.new.store }
 {

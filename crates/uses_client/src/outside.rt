@@ -1,7 +1,6 @@
 //! Files outside of the cache: one that is linked into it, and packages that are copied out.
-ghost use Rattle.std.specs.Prelude.{◌≡◌, ℕ, List, Some, None, IfOk, MatchResult, length};
-ghost use Rattle.cacache.specs.Integrities.{Hash, Sha256, integrity_under};
-ghost use Rattle.cacache.specs.Laws.{IsCache, HasKey, IsExcused, IsApart, LeavesKnownCache, based, lies_under, shown, tree_of};
+ghost use Rattle.cacache.specs.Laws.{IsCache, IsApart, LeavesKnownCache, based};
+ghost use Rattle.uses_client.specs.Given.{ArrivesAt, MirrorsFile};
 
 use cacache::Result;
 use cacache::env::{Clock, Env, Names};
@@ -19,11 +18,8 @@ pub fn mirror<C: Clock, N: Names>(
     requires cache { IsCache cache.now env.old.store }
     requires apart { IsApart cache.now (based env.old.base file.now) }
     ensures sound { IsCache cache.now env.new.store }
-    ensures mirrors { (held : List ℕ)
-        → shown (tree_of env.old.store) (based env.old.base file.now) ≡ Some held
-        → shown (tree_of env.new.store) (based env.old.base file.now) ≡ Some held
-        → lies_under cache.now (integrity_under Sha256 held) env.old.store ≡ None
-        → IfOk result (λ v. v.items ≡ held) }
+    ensures mirrors { MirrorsFile cache.now (based env.old.base file.now) result
+        env.old.store env.new.store }
 {
     let linked = cacache::link_to_sync(env, cache, key, file);
     after_link(env, cache, key, file, &linked);
@@ -43,11 +39,7 @@ pub fn export<C: Clock, N: Names>(
     requires cache { IsCache cache.now env.old.store }
     requires apart { IsApart cache.now to.now }
     ensures leaves { LeavesKnownCache cache.now env.old.store env.new.store }
-    ensures arrives { (i : List Hash) (bytes : List ℕ)
-        → HasKey cache.now key.now i bytes env.old.store
-        → MatchResult result
-        (λ count. (shown (tree_of env.new.store) to.now ≡ Some bytes) × (count ≡ length bytes))
-        (λ e. IsExcused e env.old.store env.new.store) }
+    ensures arrives { ArrivesAt cache.now key.now to.now result env.old.store env.new.store }
 {
     let copied = cacache::copy_sync(env, cache, key, to);
     after_copy(env, cache, to, &copied);

@@ -1,7 +1,7 @@
 //! Packages that are read.
-ghost use Rattle.std.specs.Prelude.{ℕ, List, IfOk};
-ghost use Rattle.cacache.specs.Integrities.{Hash};
-ghost use Rattle.cacache.specs.Laws.{IsCache, HasKey, LacksKey, LeavesKnownCache, GivesJust, GivesNoEntry, KeyLiesWhole};
+ghost use Rattle.std.specs.Prelude.{IfOk};
+ghost use Rattle.cacache.specs.Laws.{IsCache, LacksKey, LeavesKnownCache, GivesNoEntry, KeyLiesWhole};
+ghost use Rattle.uses_client.specs.Given.{GivesKey};
 
 use cacache::Result;
 use cacache::env::{Clock, Env, Names};
@@ -16,9 +16,7 @@ pub fn fetch<C: Clock, N: Names>(
 ) -> Result<Vec<u8>>
     requires { IsCache cache.now env.old.store }
     ensures leaves { LeavesKnownCache cache.now env.old.store env.new.store }
-    ensures gives { (i : List Hash) (bytes : List ℕ)
-        → HasKey cache.now key.now i bytes env.old.store
-        → GivesJust bytes result env.old.store env.new.store }
+    ensures gives { GivesKey cache.now key.now result env.old.store env.new.store }
     ensures lacks { LacksKey cache.now key.now env.old.store
         → GivesNoEntry cache.now key.now result env.old.store env.new.store }
     ensures whole { IfOk result (λ v. KeyLiesWhole cache.now key.now env.old.store v.items) }

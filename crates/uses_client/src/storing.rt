@@ -1,7 +1,8 @@
 //! Packages that are stored and removed.
-ghost use Rattle.std.specs.Prelude.{◌≡◌, ℕ, List, Some, IfOk, IfErr, OnOk};
+ghost use Rattle.std.specs.Prelude.{◌≡◌, List, Some, IfOk, IfErr, OnOk};
 ghost use Rattle.cacache.specs.Integrities.{Hash, Sha256, integrity_under};
-ghost use Rattle.cacache.specs.Laws.{IsCache, HasContent, HasKey, LacksKey, IsExcused, DontClash, KeepsUntouched, KeepsOthers};
+ghost use Rattle.cacache.specs.Laws.{IsCache, HasKey, LacksKey, IsExcused, DontClash, KeepsUntouched, KeepsOthers};
+ghost use Rattle.uses_client.specs.Given.{KeepsOlder};
 
 use cacache::env::{Clock, Env, Names};
 use cacache::laws::{after_remove, after_write, joining_laws};
@@ -39,10 +40,7 @@ pub fn replace<C: Clock, N: Names>(
     ensures sound { IsCache cache.now env.new.store }
     ensures later { IfOk result (λ i. (i ≡ integrity_under Sha256 «data».now)
         × HasKey cache.now key.now i «data».now env.new.store) }
-    ensures older { (i : List Hash) (bytes : List ℕ)
-        → HasKey cache.now key.now i bytes env.old.store
-        → DontClash i bytes (integrity_under Sha256 «data».now) «data».now
-        → HasContent cache.now i bytes env.new.store }
+    ensures older { KeepsOlder cache.now key.now «data».now env.old.store env.new.store }
 {
     store(env, cache, key, data)
 }

@@ -2,22 +2,13 @@
 //! are proved from clauses alone: those of the calls, of `keep_laws` and of `answer_laws`.
 #![tactic(auto)]
 
-ghost use Rattle.std.specs.Prelude.{◌≡◌, ℕ, List, [], Some, IfOk, map, string_bytes};
+ghost use Rattle.std.specs.Prelude.{◌≡◌, Some, IfOk, map};
 ghost use Rattle.cacache_core.specs.PathNames.{Names as PathNames, home_of};
-ghost use Rattle.cacache_store.specs.declared.store.log.LogItem.{LogItem};
 ghost use Rattle.cacache_memory.specs.Replay.{tree_of};
-ghost use Rattle.cacache_entry.specs.View.{found_view};
-ghost use Rattle.cacache_table.specs.declared.command.Command.TheVariants as commands;
-ghost use Rattle.cacache_table.specs.declared.reply.Reply.TheVariants as replies;
-ghost use Rattle.cacache_value.specs.Placed.{Placed};
 ghost use Rattle.cacache_jobs.specs.Sites.{site_of};
-ghost use Rattle.cacache_keep_laws.specs.Answers.{AnswersOn};
-ghost use Rattle.cacache_keep_laws.specs.Collecting.{LeavesLive, LinksLeadOut};
 ghost use Rattle.cacache_keep_laws.specs.Housed.{Housed};
-ghost use Rattle.cacache_keep_laws.specs.Idle.{Removed};
 ghost use Rattle.cacache_keep_laws.specs.Temporary.{LeavesUntemporary};
-ghost use Rattle.cacache_keep_laws.specs.Verifying.{Judges};
-ghost use Rattle.cacache_keep.specs.Kept.{MendsCache};
+ghost use Rattle.uses_keep.specs.Told.{IsMended, JudgesAs, LeavesAs, MendsPlaced, ReadsStill, ReadsAsRemoved};
 
 use cacache_core::errors::Result;
 use cacache_core::keeping::let_go;
@@ -34,9 +25,7 @@ use cacache_store::env::{Clock, Env, Names};
 /// others are named.
 pub fn judged<C: Clock, N: Names>(env: &mut Env<MemStore, C, N>, cache: &str) -> Result<Verdict>
     ensures { (home : PathNames) → home_of cache.now ≡ Some home → IfOk result (λ v.
-        Judges (site_of cache.now env.old.base 0) home (tree_of env.old.store)
-        v.good v.damaged.items
-        (map found_view v.dangling.items) (map string_bytes v.strange.items)) }
+        JudgesAs (site_of cache.now env.old.base 0) home env.old.store v) }
 {
     let verdict = verify(env, cache)?;
     keep_laws(&env.store);
@@ -49,8 +38,7 @@ pub fn collected<C: Clock, N: Names>(
     cache: &str,
 ) -> Result<Collected>
     ensures { (home : PathNames) → home_of cache.now ≡ Some home → IfOk result (λ c.
-        LeavesLive (site_of cache.now env.old.base 0) home
-        (tree_of env.old.store) (tree_of env.new.store) c.kept c.dropped.items) }
+        LeavesAs (site_of cache.now env.old.base 0) home env.old.store env.new.store c) }
 {
     let collected = collect(env, cache)?;
     keep_laws(&env.store);
@@ -64,10 +52,7 @@ pub fn read_after<C: Clock, N: Names>(
     cache: &str,
     key: &str,
 ) -> Result<Vec<u8>>
-    ensures { (home : PathNames) → home_of cache.now ≡ Some home
-        → LinksLeadOut home (tree_of env.old.store) → IfOk result (λ bytes.
-        AnswersOn (site_of cache.now env.old.base 0) (tree_of env.old.store)
-        (commands.Get key.now) (replies.Read bytes.items)) }
+    ensures { ReadsStill cache.now env.old.base key.now result env.old.store }
 {
     let_go(collect(env, cache)?);
     keep_laws(&env.store);
@@ -85,11 +70,7 @@ pub fn read_after_removal<C: Clock, N: Names>(
     gone: &str,
     key: &str,
 ) -> Result<Vec<u8>>
-    ensures { (home : PathNames) (other : List LogItem) → home_of cache.now ≡ Some home
-        → LinksLeadOut home (tree_of env.old.store)
-        → Removed cache.now (commands.RemoveFully gone.now) env.old.store other
-        → IfOk result (λ bytes. AnswersOn (site_of cache.now env.old.base 0) (tree_of other)
-        (commands.Get key.now) (replies.Read bytes.items)) }
+    ensures { ReadsAsRemoved cache.now env.old.base gone.now key.now result env.old.store }
 {
     let_go(collect(env, cache)?);
     keep_laws(&env.store);
@@ -130,11 +111,7 @@ pub fn collected_as_planned<C: Clock, N: Names>(
 /// Repairs a cache in memory where each thing lies in its place: the good contents stay, the others go, and
 /// each key leads where it led but those that are told, which lead to nothing.
 pub fn repaired<C: Clock, N: Names>(env: &mut Env<MemStore, C, N>, cache: &str) -> Result<Repaired>
-    ensures { (home : PathNames) → home_of cache.now ≡ Some home
-        → Placed (Some home) (tree_of env.old.store) → IfOk result (λ r.
-        MendsCache (site_of cache.now env.old.base 0) home
-        (tree_of env.old.store) (tree_of env.new.store)
-        r.damaged.items (map found_view r.dangling.items)) }
+    ensures { MendsPlaced cache.now env.old.base result env.old.store env.new.store }
 {
     let repaired = repair(env, cache)?;
     keep_laws(&env.store);
@@ -148,8 +125,7 @@ pub fn repaired_whole<C: Clock, N: Names>(
     cache: &str,
 ) -> Result<Verdict>
     ensures { (home : PathNames) → home_of cache.now ≡ Some home
-        → Housed (Some home) (tree_of env.old.store) → IfOk result (λ v.
-        (v.damaged.items ≡ []) × (map found_view v.dangling.items ≡ [])) }
+        → Housed (Some home) (tree_of env.old.store) → IfOk result (λ v. IsMended v) }
 {
     let_go(repair(env, cache)?);
     keep_laws(&env.store);

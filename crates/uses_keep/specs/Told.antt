@@ -1,0 +1,72 @@
+-- What the values that calls give tell of a cache in memory.
+use Rattle.std.specs.Prelude.{◌≡◌, ℕ, List, [], Some, IfOk, Result, Vec, map, string_bytes}
+use Rattle.cacache_core.specs.declared.errors.Error.{Error}
+use Rattle.cacache_core.specs.PathNames.{Names, home_of}
+use Rattle.cacache_store.specs.declared.store.log.LogItem.{LogItem}
+use Rattle.cacache_memory.specs.Replay.{tree_of}
+use Rattle.cacache_entry.specs.View.{found_view}
+use Rattle.cacache_table.specs.declared.command.Command.TheVariants as commands
+use Rattle.cacache_table.specs.declared.reply.Reply.TheVariants as replies
+use Rattle.cacache_table.specs.State.{Site}
+use Rattle.cacache_value.specs.Placed.{Placed}
+use Rattle.cacache_jobs.specs.Sites.{site_of}
+use Rattle.cacache_keep_laws.specs.Answers.{AnswersOn}
+use Rattle.cacache_keep_laws.specs.Collecting.{LeavesLive, LinksLeadOut}
+use Rattle.cacache_keep_laws.specs.Idle.{Removed}
+use Rattle.cacache_keep_laws.specs.Verifying.{Judges}
+use Rattle.cacache_keep.specs.declared.collecting.Collected.{Collected}
+use Rattle.cacache_keep.specs.declared.repairing.Repaired.{Repaired}
+use Rattle.cacache_keep.specs.declared.verifying.Verdict.{Verdict}
+use Rattle.cacache_keep.specs.Kept.{MendsCache}
+
+-- ---- verdicts
+
+-- the verdict judges the cache
+abbrev pub JudgesAs : Site → Names → List LogItem → Verdict → Type 0
+JudgesAs site home log v =
+    Judges site home (tree_of log) v.good v.damaged.items
+    (map found_view v.dangling.items) (map string_bytes v.strange.items)
+
+-- no content is damaged, and no entry lacks its content
+abbrev pub IsMended : Verdict → Type 0
+IsMended v = (v.damaged.items ≡ []) × (map found_view v.dangling.items ≡ [])
+
+-- ---- collections
+
+-- the contents that an entry has are left, and this tells of the others
+abbrev pub LeavesAs : Site → Names → List LogItem → List LogItem → Collected → Type 0
+LeavesAs site home old new c =
+    LeavesLive site home (tree_of old) (tree_of new) c.kept c.dropped.items
+
+-- a read of the key may answer these bytes on what the log leads to
+abbrev pub MayRead : Site → List ℕ → List LogItem → List ℕ → Type 0
+MayRead site key log bytes =
+    AnswersOn site (tree_of log) (commands.Get key) (replies.Read bytes)
+
+-- where all links lead out of the cache, a read gives what it might have given on the older log
+abbrev pub ReadsStill :
+    {A : Type 0} → List ℕ → List ℕ → List ℕ → Result (Vec ℕ A) Error → List LogItem → Type 0
+ReadsStill cache base key result old =
+    (home : Names) → home_of cache ≡ Some home
+    → LinksLeadOut home (tree_of old)
+    → IfOk result (λ bytes. MayRead (site_of cache base 0) key old bytes.items)
+
+-- so it does after the removal of another key, on what the older log and that removal lead to
+abbrev pub ReadsAsRemoved : {A : Type 0} → List ℕ → List ℕ → List ℕ → List ℕ
+    → Result (Vec ℕ A) Error → List LogItem → Type 0
+ReadsAsRemoved cache base gone key result old =
+    (home : Names) (other : List LogItem) → home_of cache ≡ Some home
+    → LinksLeadOut home (tree_of old)
+    → Removed cache (commands.RemoveFully gone) old other
+    → IfOk result (λ bytes. MayRead (site_of cache base 0) key other bytes.items)
+
+-- ---- repairs
+
+-- where each thing lies in its place, the cache is mended, and this tells how
+abbrev pub MendsPlaced :
+    List ℕ → List ℕ → Result Repaired Error → List LogItem → List LogItem → Type 0
+MendsPlaced cache base result old new =
+    (home : Names) → home_of cache ≡ Some home
+    → Placed (Some home) (tree_of old) → IfOk result (λ (r : Repaired).
+    MendsCache (site_of cache base 0) home (tree_of old) (tree_of new)
+    r.damaged.items (map found_view r.dangling.items))
