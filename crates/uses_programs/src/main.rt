@@ -1,7 +1,8 @@
-//! Four programs to read, each a file of its own beside this one. Each word of the command line names one, and they run
+//! Five programs to read, each a file of its own beside this one. Each word of the command line names one, and they run
 //! in the order of the words.
 #![tactic(auto)]
 
+mod builds;
 mod downloads;
 mod packages;
 mod responses;
@@ -25,6 +26,7 @@ where
         "packages" => packages::run(host),
         "downloads" => downloads::run(rt, host),
         "responses" => responses::run(host),
+        "builds" => builds::run(host),
         "threads" => threads::run(rt, host),
         _ => {
             let message = format!(in host.alloc(); "There is no program {name}")?;

@@ -1,6 +1,6 @@
 //! Builds in a cache.
-use crate::pieces::{SIZE, read_pieces, write_pieces};
-use crate::reasons::wants_copy;
+use crate::builds::pieces::{SIZE, read_pieces, write_pieces};
+use crate::builds::reasons::wants_copy;
 use cacache::env::{Clock, Env, Names, Reasons};
 use cacache::errors::IoErrorExt;
 use cacache::{

@@ -1,22 +1,20 @@
 //! A cache of builds. A build is large, so that it is written and read in pieces. A file that lies outside the cache
 //! gets into it by a link, and a build gets out of it by a copy, or by a hard link where one can be made.
-#![tactic(auto)]
-
-mod builds;
+mod kept;
 mod pieces;
 mod reasons;
 
-use builds::Builds;
+use crate::builds::kept::Builds;
+use crate::builds::pieces::PIECES;
 use cacache::Result;
 use cacache::env::{Clock, Names, Reasons, memory};
 use cacache::errors::IoErrorExt;
-use pieces::PIECES;
 
 /// A file outside the cache.
 const TOOLCHAIN: &str = "/toolchain";
 
 /// Stores and reads builds.
-fn run<S: Reasons, C: Clock, N: Names>(builds: &mut Builds<S, C, N>) -> Result<()> {
+fn store_and_read<S: Reasons, C: Clock, N: Names>(builds: &mut Builds<S, C, N>) -> Result<()> {
     builds.store("app-1.0", PIECES)?;
     builds.store("app-1.1", PIECES - 1)?;
     builds.link("toolchain", TOOLCHAIN)?;
@@ -27,12 +25,13 @@ fn run<S: Reasons, C: Clock, N: Names>(builds: &mut Builds<S, C, N>) -> Result<(
     builds.list()
 }
 
-fn main(rt: HostRuntime) -> Result<()> {
+/// Stores and reads builds, and prints what became of them.
+pub(crate) fn run(rt: HostRuntime) -> Result<()> {
     // `folders(rt, "/")` in its place keeps the builds in real folders, where the file is there already.
     let mut env = memory(rt, "/")?;
     env.store.plant(TOOLCHAIN, b"a compiler and its libraries")?;
     let mut builds = Builds::new(env);
-    run(&mut builds)?;
+    store_and_read(&mut builds)?;
     print!(rt; "{}", builds.report).with_context(|| Ok(String::from_str(
         rt.alloc(),
         "Failed to print the report",
