@@ -150,8 +150,8 @@ impl Disk {
     ///
     /// `AllocError` means that memory was refused.
     pub fn shared(&self, path: &str) -> Result<Option<&Arc<Vec<u8>, Global>>, AllocError>
-        ensures { IfOk result (λ found.
-            option_map (λ v. (arc_value v).items) (option_copied found) ≡ bytes_at self.now path.now) }
+        ensures { IfOk result (λ found. option_map (λ v. v.items)
+            (option_map arc_value (option_copied found)) ≡ bytes_at self.now path.now) }
     {
         match self.file_at(path, Fault::IsADirectory) {
             Ok(contents) => Ok(Some(contents.shared())),
