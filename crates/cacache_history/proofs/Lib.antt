@@ -37,4 +37,3 @@ pub mod Lookups
 pub mod PlacedAnswers
 pub mod Headline
 pub mod LegalCases
-pub mod IntegrityUtf8

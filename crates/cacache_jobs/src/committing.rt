@@ -1,6 +1,7 @@
 //! Commits of contents whose bytes stand in a temporary file.
 ghost use Rattle.std.specs.Prelude.{◌≡◌};
 ghost use Rattle.cacache_core.specs.declared.errors.Error.TheVariants.{OutOfMemory};
+ghost use Rattle.cacache_table.specs.Formed.{FormsCommit};
 ghost use Rattle.cacache_table.specs.Promises.{OnlyStores, Stores};
 ghost use Rattle.cacache_table.specs.Runs.{Ran, plain_reply};
 ghost use Rattle.cacache_table.specs.Storing.{persist};
@@ -10,16 +11,17 @@ use crate::run::finish;
 use crate::storing::begin_commit;
 use cacache_store::env::Env;
 use cacache_store::store::Store;
-use cacache_table::{Commit, Reply};
+use cacache_table::{Commit, Reply, form_commit};
 
 /// Makes the temporary file the content that the commit says, and goes on to its end. The reply is that of a run of the
-/// call from there on, and where the store keeps its log, that run is what the log gained. The clock, the numbers and the
-/// base folder stay as they were.
+/// call from there on, and where the store keeps its log, that run is what the log gained. Its entry is
+/// well-formed, if it has one that can be written. The clock, the numbers and the base folder stay as they were.
 pub fn commit_from<S: Store, C, N>(env: &mut Env<S, C, N>, commit: Commit, file: S::Temp) -> Reply
     ensures ran { Ran (persist commit (S.Temp.seen file))
         (plain_reply result) (S.log env.old.store) (S.log env.new.store) }
     ensures promised { Stores commit (plain_reply result) }
     ensures stored { OnlyStores (plain_reply result) }
+    ensures formed { FormsCommit commit }
 
     // A caller that finds no memory for the reply answers as if the run had found none.
     ensures lost { Ran (persist commit (S.Temp.seen file))
@@ -28,6 +30,7 @@ pub fn commit_from<S: Store, C, N>(env: &mut Env<S, C, N>, commit: Commit, file:
     ensures names { env.new.names ≡ env.old.names }
     ensures base { env.new.base ≡ env.old.base }
 {
+    form_commit(&commit);
     let phase = begin_commit(env.alloc, commit, file);
     finish(&mut env.store, env.alloc, phase)
 }

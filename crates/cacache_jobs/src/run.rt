@@ -3,6 +3,7 @@ ghost use Rattle.std.specs.Prelude.{◌≡◌};
 ghost use Rattle.cacache_core.specs.declared.errors.Error.TheVariants.{OutOfMemory};
 ghost use Rattle.cacache_store.specs.Fits.{Fits};
 ghost use Rattle.cacache_store.specs.Plain.{plain_step, plain_answer};
+ghost use Rattle.cacache_table.specs.Formed.{FormsCommand};
 ghost use Rattle.cacache_table.specs.Promises.{Answers};
 ghost use Rattle.cacache_table.specs.Runs.{Ran, plain_reply};
 ghost use Rattle.cacache_table.specs.State.{State};
@@ -20,7 +21,7 @@ use crate::phase::Phase;
 use cacache_core::errors;
 use cacache_store::env::Env;
 use cacache_store::store::{Answer, Step, Store};
-use cacache_table::{Command, Reply};
+use cacache_table::{Command, Reply, form_command};
 use std::alloc::Global;
 
 /// Does a step. It stands apart, so that what the store takes of the stack is given back before the call goes on.
@@ -81,7 +82,8 @@ pub fn drive<S: Store>(store: &mut S, job: Job<S::File, S::Temp>) -> Reply
 /// Makes a call on a cache from its beginning to its end. The reply is that of a run of the call, and where the store
 /// keeps its log, that run is what the log gained; over every store the reply is as the command promises, bytes that were
 /// read by key meet the integrity that the call's own read of the bucket gives, a checked export verified the bytes of the
-/// file that it opened, and a link read its whole target. The clock, the numbers and the base folder stay as they were.
+/// file that it opened, and a link read its whole target. The entries that it may add are well-formed, if they can be
+/// written. The clock, the numbers and the base folder stay as they were.
 pub fn call<S: Store, C, N>(
     env: &mut Env<S, C, N>,
     cache: &str,
@@ -96,6 +98,7 @@ pub fn call<S: Store, C, N>(
         (plain_reply result) (S.log env.old.store) (S.log env.new.store) }
     ensures promised { Answers (site_of cache.now env.old.base number) command
         (plain_reply result) }
+    ensures formed { FormsCommand (site_of cache.now env.old.base number) command }
 
     // A caller that finds no memory for the reply answers as if the run had found none.
     ensures lost { Ran (opening (site_of cache.now env.old.base number) command)
@@ -104,6 +107,7 @@ pub fn call<S: Store, C, N>(
     ensures names { env.new.names ≡ env.old.names }
     ensures base { env.new.base ≡ env.old.base }
 {
+    form_command(&command);
     let phase = open(env.alloc, cache, env.base.as_str(), number, command);
     finish(&mut env.store, env.alloc, phase)
 }

@@ -1,6 +1,8 @@
 //! What a writer may say of a content and of its entry.
 ghost use Rattle.std.specs.Prelude.{◌≡◌, None, Some, IfOk, option_map};
 ghost use Rattle.serde_json.specs.View.{view};
+ghost use Rattle.cacache_core.specs.Integrity.{IsIntegrity};
+ghost use Rattle.cacache_entry.specs.FittingEntries.{EachIsByte, IsJson};
 ghost use Rattle.cacache_put.specs.Options.{nothing_said, options_of};
 ghost use Rattle.cacache_put.specs.KeyedWriters.{OpensKeyed};
 
@@ -12,7 +14,7 @@ use cacache_core::keeping::beside;
 use cacache_core::text::Text;
 use cacache_store::env::{Clock, Env, Names};
 use cacache_store::store::Store;
-use cacache_table::{Json, Options};
+use cacache_table::{Json, Options, look_through, look_through_bytes};
 use serde_json::Value;
 use std::alloc::{AllocError, Global};
 use std::marker::Model;
@@ -98,8 +100,10 @@ impl WriteOpts {
 
     /// With any data for the entry.
     pub fn metadata(self, metadata: Value) -> WriteOpts
-        ensures { result ≡ record self { metadata = view metadata } }
+        ensures said { result ≡ record self { metadata = view metadata } }
+        ensures json { IsJson (view metadata) }
     {
+        look_through(&metadata);
         let mut opts = self;
         opts.metadata = Json::new(metadata);
         opts
@@ -107,8 +111,10 @@ impl WriteOpts {
 
     /// With any bytes for the entry.
     pub fn raw_metadata(self, metadata: Vec<u8>) -> WriteOpts
-        ensures { result ≡ record self { raw_metadata = Some metadata.items } }
+        ensures said { result ≡ record self { raw_metadata = Some metadata.items } }
+        ensures bytes { EachIsByte metadata.items }
     {
+        look_through_bytes(metadata.as_slice());
         let mut opts = self;
         opts.raw_metadata = Some(metadata);
         opts
@@ -136,7 +142,8 @@ impl WriteOpts {
     /// With the integrity that the content is to meet. An inserted entry has it as its own, and is a tombstone without
     /// it.
     pub fn integrity(self, sri: Integrity) -> WriteOpts
-        ensures { result ≡ record self { integrity = Some sri } }
+        ensures said { result ≡ record self { integrity = Some sri } }
+        ensures formed { IsIntegrity sri }
     {
         let mut opts = self;
         opts.integrity = Some(sri);

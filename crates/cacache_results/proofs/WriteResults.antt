@@ -22,7 +22,7 @@ use Rattle.cacache_jobs.specs.Environment.{HasMoment}
 use Rattle.cacache_jobs.specs.Sites.{site_of}
 use Rattle.cacache_put.specs.Options.{Said, options_of}
 use Rattle.cacache_put.specs.Puts.{insert_of, unkeyed_put}
-use Rattle.cacache_history.proofs.IntegrityUtf8.{integrity_utf8}
+use Rattle.cacache_table.proofs.IntegrityUtf8.{integrity_utf8}
 use Rattle.cacache_sequence.specs.Beside.{FitsEntry, KeepsBeside}
 use Rattle.cacache_sequence.specs.Caches.{Called, IsCache, HasContent, HasKey, IsExcused, WritesKey, plain_put}
 use Rattle.cacache_sequence.specs.Inserts.{InsertsKey, leads_to}

@@ -20,7 +20,7 @@ use Rattle.cacache_table.specs.Inserting.{given_or}
 use Rattle.cacache_table.specs.Runs.{reply_of}
 use Rattle.cacache_table.specs.SingleSteps.{Does}
 use Rattle.cacache_table.specs.StepPaths.{temp_path}
-use Rattle.cacache_history.proofs.IntegrityUtf8.{integrity_utf8}
+use Rattle.cacache_table.proofs.IntegrityUtf8.{integrity_utf8}
 use Rattle.cacache_content.specs.OpenWrites.{IsSameWriter, RemovesTemp, Takes, TriesToRemove, counted_bytes}
 use Rattle.cacache_put.specs.KeyedWriters.{CommitsWriter, OpensAt}
 use Rattle.cacache_put.specs.Options.{Said, options_of}

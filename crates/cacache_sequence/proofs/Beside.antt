@@ -27,7 +27,7 @@ use Rattle.cacache_value.specs.Value.{Value, Blob, InFile, value_of_tree}
 use Rattle.cacache_history.specs.Commits.{Deed, does, finds, deeds, PutsContent, AddsAfter, CommitsAs, InsertionAdds, IsCase}
 use Rattle.cacache_history.specs.Setup.{call_site, home}
 use Rattle.cacache_history.proofs.Digests.{digest_hash}
-use Rattle.cacache_history.proofs.IntegrityUtf8.{integrity_utf8}
+use Rattle.cacache_table.proofs.IntegrityUtf8.{integrity_utf8}
 use Rattle.cacache_history.proofs.Righted.{one_address}
 use Rattle.cacache_history.proofs.ShownTurns.{content_below}
 use Rattle.cacache_sequence.specs.Beside.{IsOther, ShareAddress, KeepsBeside, own_integrity, WritesKeep, PlainWritesFit, RemovalsKeep}

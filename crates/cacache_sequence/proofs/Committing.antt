@@ -42,7 +42,7 @@ use Rattle.cacache_entry.specs.FittingEntries.{IsEntry}
 use Rattle.cacache_table.specs.Inserting.{refused_cause}
 use Rattle.cacache_table.specs.Promises.{Stores}
 use Rattle.cacache_table.proofs.Promises.{calls_answer}
-use Rattle.cacache_history.proofs.IntegrityUtf8.{integrity_utf8}
+use Rattle.cacache_table.proofs.IntegrityUtf8.{integrity_utf8}
 use Rattle.cacache_sequence.proofs.CallErrors.{calls_fail_only}
 use Rattle.cacache_sequence.proofs.Forms.{bare_written}
 use Rattle.cacache_sequence.proofs.Known.{excused_by}

@@ -22,7 +22,7 @@ use Rattle.cacache_table.proofs.Promises.{calls_answer}
 use Rattle.cacache_value.specs.Value.{value_of_tree}
 use Rattle.cacache_history.specs.Setup.{call_site}
 use Rattle.cacache_history.specs.Commits.{deeds, InsertionAdds, IsCase}
-use Rattle.cacache_history.proofs.IntegrityUtf8.{integrity_utf8}
+use Rattle.cacache_table.proofs.IntegrityUtf8.{integrity_utf8}
 use Rattle.cacache_sequence.specs.Sequence.{turns_on, Alike, after_deeds}
 use Rattle.cacache_sequence.specs.ReadAnswers.{entries_on}
 use Rattle.cacache_sequence.specs.CallErrors.{FailsOnly}

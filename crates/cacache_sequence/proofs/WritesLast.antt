@@ -26,7 +26,7 @@ use Rattle.cacache_value.specs.Value.{value_of_tree}
 use Rattle.cacache_history.specs.Setup.{call_site}
 use Rattle.cacache_history.specs.ShownTurns.{blob_at}
 use Rattle.cacache_history.proofs.Digests.{digest_hash}
-use Rattle.cacache_history.proofs.IntegrityUtf8.{integrity_utf8}
+use Rattle.cacache_table.proofs.IntegrityUtf8.{integrity_utf8}
 use Rattle.cacache_sequence.specs.Sequence.{tree_on}
 use Rattle.cacache_sequence.specs.ReadAnswers.{entries_on}
 use Rattle.cacache_sequence.specs.Stored.{HasStored}

@@ -16,3 +16,6 @@ pub mod Within
 pub mod Verifying
 pub mod Going
 pub mod ReplyKinds
+pub mod Telling
+pub mod IntegrityUtf8
+pub mod Formed

@@ -25,3 +25,5 @@ pub mod Causes
 pub mod Rows
 pub mod Sound
 pub mod Licence
+pub mod Known
+pub mod Formed

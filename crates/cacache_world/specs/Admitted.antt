@@ -1,11 +1,7 @@
--- Which commands a call may begin with, and which entries may be written.
-use Rattle.std.specs.Prelude.{◌≡◌, ◌<◌, ◌^◌, ℕ, Bool, true, false, List, Option, None}
-use Rattle.cacache_entry.specs.Entry.{Entry}
-use Rattle.cacache_entry.specs.FittingEntries.{IsUtf8IfAny, IsEntry, cause_of}
+-- Which commands a call may begin with.
+use Rattle.std.specs.Prelude.{◌≡◌, ℕ, Bool, true, false, List}
 use Rattle.cacache_table.specs.declared.command.Command.{Command}
 use Rattle.cacache_table.specs.declared.command.Command.TheVariants as commands
-use Rattle.cacache_table.specs.declared.command.Options.{Options}
-use Rattle.cacache_table.specs.Inserting.{entry_of}
 use Rattle.cacache_table.specs.Linking.{based}
 use Rattle.cacache_table.specs.Sound.{MayBegin}
 use Rattle.cacache_history.specs.Setup.{Setup, call_site, may_export, is_outside}
@@ -41,13 +37,3 @@ abbrev pub IsTurnedAway : Setup → Command → WorldFault → Type 0
 IsTurnedAway s command faults.BadCommand = IsBad s command
 IsTurnedAway s command faults.OutOfMemory = Unit {0}
 IsTurnedAway s command fault = ⊥
-
--- an entry that is well-formed, if it can be written
-abbrev pub IsFormed : Entry → Type 0
-IsFormed e = cause_of e ≡ None → IsEntry e
-
--- each entry of this key, time and options, whatever its integrity and its size
-abbrev pub FormsEntries : List ℕ → ℕ → Options → Type 0
-FormsEntries key moment o =
-    (integrity : Option (List ℕ)) (size : ℕ) → IsUtf8IfAny integrity → size < 2 ^ 64
-    → IsFormed (entry_of key integrity size moment o)

@@ -1,21 +1,21 @@
 //! Which commands a call may begin with.
-ghost use Rattle.std.specs.Prelude.{◌≡◌, ◌<◌, ◌^◌, IfOk, IfErr, OnOk, ℕ, List, Some, codes, length};
-ghost use Rattle.cacache_table.specs.Inserting.{given_size};
+ghost use Rattle.std.specs.Prelude.{◌≡◌, IfOk, IfErr, OnOk, ℕ, List, codes};
 ghost use Rattle.cacache_table.specs.Linking.{based as based_of};
 ghost use Rattle.cacache_core.specs.Integrity.{IsIntegrity};
 ghost use Rattle.cacache_table.specs.declared.command.Command.TheVariants as commands;
 ghost use Rattle.cacache_history.specs.History.{NamesSource};
 ghost use Rattle.cacache_history.specs.Setup.{Setup, is_outside as is_outside_of};
 ghost use Rattle.cacache_world.specs.WorldKept.{setup_of};
-ghost use Rattle.cacache_world.specs.Admitted.{MayAsk, Judges, JudgesIn, IsTurnedAway, FormsEntries};
+ghost use Rattle.cacache_world.specs.Admitted.{MayAsk, Judges, JudgesIn, IsTurnedAway};
 
-use crate::entries::form;
 use crate::event::WorldFault;
 use crate::names::{is_outside, may_take};
 use cacache_core::bytes::Bytes;
 use cacache_core::integrity::Integrity;
 use cacache_core::text::Text;
-use cacache_table::{Command, Delete, Export, Insert, Link, Options, Put, Source, based};
+use cacache_table::{
+    Command, Export, Link, Source, based, form_delete, form_insert, form_link, form_put,
+};
 use std::alloc::{AllocError, Global};
 
 /// That an integrity is one, as each is.
@@ -35,53 +35,6 @@ fn known_source(source: &Source)
     }
 }
 
-/// That the size of an entry has 64 bits, as each has.
-fn measure(options: &Options)
-    ensures { given_size options.now.size < 2 ^ 64 }
-{
-    match &options.size {
-        Some(size) => {
-            let _size = *size;
-        }
-        None => {}
-    }
-}
-
-/// How many bytes there are: a number of 64 bits, as each is.
-fn count(bytes: &Bytes) -> u64
-    ensures { length bytes.now < 2 ^ 64 }
-{
-    bytes.len() as u64
-}
-
-/// That a put may begin, as each may.
-fn admit_put(alloc: Global, put: &Put) -> Result<(), AllocError>
-    ensures { OnOk result ((s : Setup) (n : ℕ) → MayAsk s n (commands.Put put.now)) }
-{
-    let Some(key) = &put.key else {
-        return Ok(());
-    };
-    let _count = count(&put.data);
-    form(alloc, key, put.moment, &put.options)?;
-    Ok(())
-}
-
-/// That an insertion may begin, as each may.
-fn admit_insert(alloc: Global, insert: &Insert) -> Result<(), AllocError>
-    ensures { OnOk result ((s : Setup) (n : ℕ) → MayAsk s n (commands.Insert insert.now)) }
-{
-    measure(&insert.options);
-    form(alloc, &insert.key, insert.moment, &insert.options)?;
-    Ok(())
-}
-
-/// That a deletion may begin, as each may.
-fn admit_delete(delete: &Delete)
-    ensures { (s : Setup) (n : ℕ) → MayAsk s n (commands.Delete delete.now) }
-{
-    let _key = delete.key.as_str();
-}
-
 /// Whether an export may begin: it goes apart from the cache and from each outside file.
 fn may_begin_export(
     alloc: Global,
@@ -96,18 +49,6 @@ fn may_begin_export(
     known_source(source);
     let may = may_take(alloc, cache, outside, export.to.as_str())?;
     Ok(may)
-}
-
-/// That the entries of a link are well-formed, where they can be written.
-fn form_link(alloc: Global, link: &Link) -> Result<(), AllocError>
-    ensures { OnOk result ((key : List ℕ) → link.now.key ≡ Some key
-        → FormsEntries key link.now.moment link.now.options) }
-{
-    let Some(key) = &link.key else {
-        return Ok(());
-    };
-    form(alloc, key, link.moment, &link.options)?;
-    Ok(())
 }
 
 /// The path of a link's target.
@@ -136,7 +77,7 @@ fn may_begin_link(alloc: Global, outside: &[(Text, Bytes)], link: &Link) -> Resu
     ensures { IfOk result (λ may. (cache : List ℕ) (callers n : ℕ)
         → Judges may (setup_of cache outside.now callers) n (commands.Link link.now)) }
 {
-    form_link(alloc, link)?;
+    form_link(link);
     let leads = leads_outside(alloc, outside, &link.target)?;
     Ok(leads)
 }
@@ -163,15 +104,15 @@ fn may_begin(
                 Ok(true)
             }
         Command::Put(put) => {
-            admit_put(alloc, put)?;
+            form_put(put);
             Ok(true)
         }
         Command::Insert(insert) => {
-            admit_insert(alloc, insert)?;
+            form_insert(insert);
             Ok(true)
         }
         Command::Delete(delete) => {
-            admit_delete(delete);
+            form_delete(delete);
             Ok(true)
         }
         Command::Link(link) => {

@@ -4,7 +4,6 @@
 
 mod admitting;
 mod callers;
-mod entries;
 mod event;
 mod losing;
 mod names;

@@ -1,23 +1,24 @@
 use Rattle.std.proofs.Common.{ℕ, sym, subst}
 use Rattle.std.specs.Prelude.{IfOk}
+use Rattle.cacache_history.specs.Setup.{call_site}
 use Rattle.cacache_world.specs.WorldKept.{setup_of}
 use Rattle.cacache_world.specs.Admitted.{MayAsk, Judges}
 use Rattle.cacache_world.proofs.admitting.may_begin.Goals as goal
 
-pub returns-in_ok-admit_put-in-Put : goal.returns-in_ok-admit_put-in-Put
-returns-in_ok-admit_put-in-Put c = λ callers n.
+pub returns-in-Put : goal.returns-in-Put
+returns-in-Put c = λ callers n.
     let s = setup_of c.args.cache.now c.args.outside.now callers in
-    subst (λ command. MayAsk s n command) (sym c.in-Put.is) (c.in_ok-admit_put-in-Put.ensures s n)
+    subst (λ command. MayAsk s n command) (sym c.in-Put.is) (c.form_put.ensures (call_site s n), tt)
 
-pub returns-in_ok-admit_insert-in-Insert : goal.returns-in_ok-admit_insert-in-Insert
-returns-in_ok-admit_insert-in-Insert c = λ callers n.
+pub returns-in-Insert : goal.returns-in-Insert
+returns-in-Insert c = λ callers n.
     let s = setup_of c.args.cache.now c.args.outside.now callers in
-    subst (λ command. MayAsk s n command) (sym c.in-Insert.is) (c.in_ok-admit_insert-in-Insert.ensures s n)
+    subst (λ command. MayAsk s n command) (sym c.in-Insert.is) (c.form_insert.ensures (call_site s n), tt)
 
 pub returns-in-Delete : goal.returns-in-Delete
 returns-in-Delete c = λ callers n.
     let s = setup_of c.args.cache.now c.args.outside.now callers in
-    subst (λ command. MayAsk s n command) (sym c.in-Delete.is) (c.admit_delete.ensures s n)
+    subst (λ command. MayAsk s n command) (sym c.in-Delete.is) (c.form_delete.ensures (call_site s n), tt)
 
 pub returns-in_ok-may-in-Link : goal.returns-in_ok-may-in-Link
 returns-in_ok-may-in-Link c = λ callers n.
