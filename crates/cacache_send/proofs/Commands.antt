@@ -9,7 +9,7 @@ use Rattle.cacache_table.specs.contracts.command.Link as Link
 use Rattle.cacache_table.specs.contracts.command.Options as Options
 use Rattle.cacache_table.specs.contracts.command.Put as Put
 use Rattle.cacache_table.specs.contracts.command.Source as Source
-use Rattle.cacache_table.specs.contracts.json.Json as Json
+use Rattle.cacache_table.specs.contracts.data.Json as Json
 use Rattle.cacache_table.specs.contracts.reply.Found as Found
 use Rattle.cacache_table.specs.contracts.reply.Items as Items
 use Rattle.cacache_table.specs.contracts.reply.Reply as Reply

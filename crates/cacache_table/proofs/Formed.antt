@@ -1,12 +1,11 @@
 -- The entries that a command or a commit may add are well-formed, since those of their key and options are.
-use Rattle.std.proofs.Common.{◌≡◌, ℕ, ◌<◌, ◌^◌, List, Option, None, Some, length, sym, subst, ◌∙◌, arith}
+use Rattle.std.proofs.Common.{◌≡◌, ℕ, ◌<◌, ◌^◌, List, Option, None, Some, sym, subst, ◌∙◌, arith}
 use Rattle.std.specs.Prelude.{IsUtf8}
 use Rattle.cacache_core.specs.declared.integrity.digest.Hash.{Hash}
 use Rattle.cacache_entry.specs.FittingEntries.{IsUtf8IfAny, AreBytes, IsJson}
 use Rattle.cacache_entry.proofs.WellRead.{IsJson-null}
 use Rattle.cacache_table.specs.declared.carried.Commit.{Commit}
 use Rattle.cacache_table.specs.declared.command.Options.{Options}
-use Rattle.cacache_table.specs.declared.command.Put as puts
 use Rattle.cacache_table.specs.declared.command.Link as links
 use Rattle.cacache_table.specs.declared.command.Insert as inserts
 use Rattle.cacache_table.specs.declared.command.Delete as deletes

@@ -30,8 +30,7 @@ use Rattle.cacache_table.specs.declared.target.Target.{Target}
 use Rattle.cacache_table.specs.declared.carried.Aim.TheVariants as aims
 use Rattle.cacache_table.specs.Common.{ends_with, fails}
 use Rattle.cacache_table.specs.Inserting.{insertion, deletion, unless_refused, refused_cause}
-use Rattle.cacache_table.specs.Storing.{insertion_of, indexed, sized, matches, compared, placed, move_in}
-use Rattle.cacache_table.specs.ContentReads.{checked}
+use Rattle.cacache_table.specs.Storing.{insertion_of, indexed, sized, matches, compared, placed}
 use Rattle.cacache_table.specs.Exporting.{export_from, export_content, export, verified, copied_count}
 use Rattle.cacache_table.specs.Linking.{with_size, commit_for, hashed, after_read}
 use Rattle.cacache_table.specs.Looking.{found_content, found_for}

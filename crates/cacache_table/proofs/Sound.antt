@@ -22,7 +22,6 @@ use Rattle.cacache_table.specs.declared.command.Source.TheVariants as sources
 use Rattle.cacache_table.specs.declared.command.Export.{Export}
 use Rattle.cacache_table.specs.declared.command.How.{How}
 use Rattle.cacache_table.specs.declared.command.How.TheVariants.{Copy, Reflink, HardLink}
-use Rattle.cacache_table.specs.declared.reply.Reply.TheVariants.{Read}
 use Rattle.cacache_table.specs.Answers.{temp_in, written_in, synced_in, file_in, got_in, names_in}
 use Rattle.cacache_core.specs.Meeting.{meets}
 use Rattle.cacache_table.specs.StepPaths.{temp_path, content_path, content_folder, bucket_path, bucket_folder}

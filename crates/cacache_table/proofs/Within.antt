@@ -16,7 +16,6 @@ use Rattle.cacache_table.specs.declared.command.How.{How}
 use Rattle.cacache_table.specs.declared.command.How.TheVariants.{Copy, Reflink, HardLink}
 use Rattle.cacache_table.specs.declared.command.Source.TheVariants as sources
 use Rattle.cacache_table.specs.declared.reply.Reply.{Reply}
-use Rattle.cacache_table.specs.declared.reply.Reply.TheVariants.{Read}
 use Rattle.cacache_table.specs.Common.{ends_with, errand_step}
 use Rattle.cacache_table.specs.Exporting.{export_from, export_content, export}
 use Rattle.cacache_table.specs.Inserting.{insertion, deletion, unless_refused, refused_cause, bucket_line}
@@ -34,7 +33,7 @@ use Rattle.cacache_table.specs.declared.carried.Aim.TheVariants as aims
 use Rattle.cacache_table.specs.StepPaths.{temp_path, bucket_path, content_path}
 use Rattle.cacache_table.specs.Storing.{placed}
 use Rattle.cacache_table.specs.Table.{piece, wants, after, opening}
-use Rattle.cacache_table.specs.Walking.{EachVisit, failed, visit_step}
+use Rattle.cacache_table.specs.Walking.{EachVisit, visit_step}
 use Rattle.cacache_table.proofs.Branches.{cond_leads}
 use Rattle.cacache_table.proofs.Closed.{AnyAnswer, ClosedCommit, ClosedWalk, Closed, kept_always}
 use Rattle.cacache_table.proofs.Leading.{inserts, places}

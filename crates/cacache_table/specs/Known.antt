@@ -1,5 +1,5 @@
 -- What each JSON value keeps, number by number, item by item and member by member.
-use Rattle.std.specs.Prelude.{ℕ, ◌<◌, ◌^◌, pos, negsuc, IsUtf8}
+use Rattle.std.specs.Prelude.{◌<◌, ◌^◌, pos, negsuc, IsUtf8}
 use Rattle.serde_json.specs.Data.{Num, unsigned, negative, float, Items, no_items, item, Members, no_members, member}
 use Rattle.cacache_entry.specs.FittingEntries.{IsJson}
 

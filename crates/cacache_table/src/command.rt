@@ -2,7 +2,7 @@
 ghost use Rattle.std.specs.Prelude.{◌≡◌, IfOk, Some};
 ghost use Rattle.cacache_table.specs.Blank.{blank};
 
-use crate::json::Json;
+use crate::data::Json;
 use cacache_core::bytes::Bytes;
 use cacache_core::integrity::{Algorithm, Integrity};
 use cacache_core::text::Text;

@@ -4,8 +4,8 @@
 pub mod answers;
 mod carried;
 mod command;
+mod data;
 mod forming;
-mod json;
 mod kinds;
 mod laws;
 mod reply;
@@ -16,8 +16,8 @@ mod visit;
 pub use answers::Refusal;
 pub use carried::{Aim, Commit, Content, Lookup};
 pub use command::{Command, Delete, Export, How, Insert, Link, Options, Put, Source};
+pub use data::Json;
 pub use forming::{form_command, form_commit, form_delete, form_insert, form_link, form_put};
-pub use json::Json;
 pub use laws::{
     effect_laws, licence_laws, promise_laws, reply_laws, row_laws, run_laws, sound_laws,
 };

@@ -1,7 +1,7 @@
 //! Packages that are stored by a writer.
 ghost use Rattle.std.specs.Prelude.{◌≡◌, Some, IfOk, OnOk, length};
 ghost use Rattle.cacache.specs.Integrities.{Sha256, integrity_under};
-ghost use Rattle.cacache.specs.Laws.{IsCache, IsJson, KeepsUntouched, LeadsToEntry, view};
+ghost use Rattle.cacache.specs.Laws.{IsCache, KeepsUntouched, LeadsToEntry, view};
 ghost use Rattle.uses_client.specs.Given.{LiesIfFree};
 ghost use Rattle.uses_client.specs.Packages.{package_said};
 
@@ -20,8 +20,7 @@ pub fn install<C: Clock, N: Names>(
     about: Value,
     data: &[u8],
 ) -> Result<Integrity>
-    requires cache { IsCache cache.now env.old.store }
-    requires json { IsJson (view about) }
+    requires { IsCache cache.now env.old.store }
     ensures sound { IsCache cache.now env.new.store }
     ensures stored { IfOk result (λ i. i ≡ integrity_under Sha256 «data».now) }
     ensures leads { IfOk result (λ i. LeadsToEntry cache.now key.now

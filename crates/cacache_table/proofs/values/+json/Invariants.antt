@@ -1,4 +1,4 @@
-use Rattle.std.proofs.Common.{◌≡◌, drop}
+use Rattle.std.proofs.Common.{drop}
 use Rattle.serde_json.specs.View.{items_view, members_view}
 use Rattle.cacache_table.specs.Known.{AllJson, NamedJson}
 use Rattle.cacache_table.proofs.values.+json.Given as goal

@@ -9,8 +9,8 @@ use Rattle.uses_client.proofs.installing.install.Goals as goal
 
 pub returns-in_err-opened : goal.returns-in_err-opened
 returns-in_err-opened g c =
-    let said : c.size-opts.result ≡ package_said (view c.args.about) (length c.args.data.now) = c.size-opts.ensures ∙ ap (λ (s : Said). record s { size = Some (length c.args.data.now) }) (c.metadata.ensures ∙ ap (λ (s : Said). record s { metadata = view c.args.about }) c.new.ensures) in
-    let opened = c.writer_laws.ensures.opens c.args.cache.now (Some c.args.key.now) (package_said (view c.args.about) (length c.args.data.now)) c.open_sync-opened.result c.args.env.now c.requires.cache (rw said at c.open_sync-opened.ensures.opens) in
+    let said : c.size-opts.result ≡ package_said (view c.args.about) (length c.args.data.now) = c.size-opts.ensures ∙ ap (λ (s : Said). record s { size = Some (length c.args.data.now) }) (c.metadata.ensures.said ∙ ap (λ (s : Said). record s { metadata = view c.args.about }) c.new.ensures) in
+    let opened = c.writer_laws.ensures.opens c.args.cache.now (Some c.args.key.now) (package_said (view c.args.about) (length c.args.data.now)) c.open_sync-opened.result c.args.env.now c.requires (rw said at c.open_sync-opened.ensures.opens) in
     record {
       sound = opened.leaves.0;
       stored = search rules;
@@ -21,8 +21,8 @@ returns-in_err-opened g c =
 
 pub returns-in_err-written : goal.returns-in_err-written
 returns-in_err-written g c =
-    let said : c.size-opts.result ≡ package_said (view c.args.about) (length c.args.data.now) = c.size-opts.ensures ∙ ap (λ (s : Said). record s { size = Some (length c.args.data.now) }) (c.metadata.ensures ∙ ap (λ (s : Said). record s { metadata = view c.args.about }) c.new.ensures) in
-    let opened = c.writer_laws.ensures.opens c.args.cache.now (Some c.args.key.now) (package_said (view c.args.about) (length c.args.data.now)) c.open_sync-opened.result c.args.env.now c.requires.cache (rw said at c.open_sync-opened.ensures.opens) in
+    let said : c.size-opts.result ≡ package_said (view c.args.about) (length c.args.data.now) = c.size-opts.ensures ∙ ap (λ (s : Said). record s { size = Some (length c.args.data.now) }) (c.metadata.ensures.said ∙ ap (λ (s : Said). record s { metadata = view c.args.about }) c.new.ensures) in
+    let opened = c.writer_laws.ensures.opens c.args.cache.now (Some c.args.key.now) (package_said (view c.args.about) (length c.args.data.now)) c.open_sync-opened.result c.args.env.now c.requires (rw said at c.open_sync-opened.ensures.opens) in
     let left = c.writer_laws-2.ensures.fails c.args.cache.now (Some c.args.key.now) (package_said (view c.args.about) (length c.args.data.now)) [] c.in_ok-opened.field-0 c.in_err-written.field-0.0 c.open_sync-opened.new.env opened.leaves.0 (rw c.in_ok-opened.was at opened.writer) c.in_err-written.ensures.removed in
     record {
       sound = left.0;
@@ -34,11 +34,11 @@ returns-in_err-written g c =
 
 pub returns : goal.returns
 returns g c =
-    let said : c.size-opts.result ≡ package_said (view c.args.about) (length c.args.data.now) = c.size-opts.ensures ∙ ap (λ (s : Said). record s { size = Some (length c.args.data.now) }) (c.metadata.ensures ∙ ap (λ (s : Said). record s { metadata = view c.args.about }) c.new.ensures) in
-    let opened = c.writer_laws.ensures.opens c.args.cache.now (Some c.args.key.now) (package_said (view c.args.about) (length c.args.data.now)) c.open_sync-opened.result c.args.env.now c.requires.cache (rw said at c.open_sync-opened.ensures.opens) in
+    let said : c.size-opts.result ≡ package_said (view c.args.about) (length c.args.data.now) = c.size-opts.ensures ∙ ap (λ (s : Said). record s { size = Some (length c.args.data.now) }) (c.metadata.ensures.said ∙ ap (λ (s : Said). record s { metadata = view c.args.about }) c.new.ensures) in
+    let opened = c.writer_laws.ensures.opens c.args.cache.now (Some c.args.key.now) (package_said (view c.args.about) (length c.args.data.now)) c.open_sync-opened.result c.args.env.now c.requires (rw said at c.open_sync-opened.ensures.opens) in
     let wrote = c.writer_laws.ensures.goes_on c.args.cache.now (Some c.args.key.now) (package_said (view c.args.about) (length c.args.data.now)) [] c.args.data.now c.in_ok-opened.field-0 c.in_ok-written.field-0 (rw c.in_ok-opened.was at opened.writer) c.in_ok-written.ensures.bytes c.in_ok-written.ensures.takes c.in_ok-written.ensures.goes_on c.in_ok-written.ensures.said in
     let left : LeavesKnownCache c.args.cache.now c.args.env.now.store c.write_or_abandon-written.new.env.store = subst (λ log. LeavesKnownCache c.args.cache.now c.args.env.now.store log) (sym c.in_ok-written.ensures.quiet) opened.leaves in
-    let fits : SaysFit (package_said (view c.args.about) (length c.args.data.now)) = record { json = c.requires.json; raw = tt; formed = tt } in
+    let fits : SaysFit (package_said (view c.args.about) (length c.args.data.now)) = record { json = c.metadata.ensures.json; raw = tt; formed = tt } in
     let done = c.writer_laws-3.ensures.commits c.args.cache.now (Some c.args.key.now) (package_said (view c.args.about) (length c.args.data.now)) c.args.data.now c.in_ok-written.field-0 c.commit-stored.result c.write_or_abandon-written.new.env left.0 wrote fits c.utf8.key (omega arith) (c.commit-stored.ensures.ran c.args.data.now wrote.taken) in
     record {
       sound = done.sound;
