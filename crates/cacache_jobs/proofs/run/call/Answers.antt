@@ -34,3 +34,6 @@ returns-clause-promised g c =
 
 pub returns-clause-lost : goal.returns-clause-lost
 returns-clause-lost g c = let run = returns-clause-ran g c in (run.0, memory_lost _ run.0 _ run.1, run.2)
+
+pub returns-clause-formed : goal.returns-clause-formed
+returns-clause-formed g c = c.form_command.ensures (site_of c.args.cache.now c.args.env.now.base c.args.number)
