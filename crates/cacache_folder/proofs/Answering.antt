@@ -14,7 +14,7 @@ use Rattle.cacache_system.specs.declared.call.CallItem.{CallItem}
 use Rattle.cacache_system.specs.CallLog.{said, MakesCall}
 use Rattle.cacache_system.specs.CallsOf.{Stage, only, making, standing, RunLogged}
 use Rattle.cacache_system.specs.Seen.{NumberedFile, NumberedTemp, NumberedStep, NumberedAnswer}
-use Rattle.cacache_system.specs.AnswersOf.{Hint, no_hint, is_missing, first, answer_of, read_on, failed_with, misses, RunAnswers, remove}
+use Rattle.cacache_system.specs.AnswersOf.{Hint, no_hint, is_missing, first, answer_of, read_on, failed_with, misses, StepRuns, remove}
 use Rattle.std.specs.Result.{result_map_both}
 use Rattle.cacache_store.specs.declared.store.answer.Answer.{Answer}
 use Rattle.cacache_folder.specs.declared.folder.opened.FolderFile.{FolderFile}
@@ -28,12 +28,12 @@ Log = Option (List CallItem)
 
 -- the run of a step that nothing is remembered of
 pub answers_run : (step : NumberedStep) (answer : NumberedAnswer) (s : Stage) (end : CallResult) (old new : Log)
-    → RunLogged s end old new → s ≡ first no_hint step → answer ≡ answer_of step end → RunAnswers step answer old new
+    → RunLogged s end old new → s ≡ first no_hint step → answer ≡ answer_of step end → StepRuns step answer old new
 answers_run step answer s end old new run begins is = (no_hint, end, run_as s (first no_hint step) end old new run begins, is)
 
 -- the run of a step that makes one call
 pub answers_call : (step : NumberedStep) (answer : NumberedAnswer) (call : SystemCall) (end : CallResult) (old new : Log)
-    → MakesCall old new call end → only call ≡ first no_hint step → answer ≡ answer_of step end → RunAnswers step answer old new
+    → MakesCall old new call end → only call ≡ first no_hint step → answer ≡ answer_of step end → StepRuns step answer old new
 answers_call step answer call end old new makes begins is =
     answers_run step answer (only call) end old new (run_one (only call) call end end old new makes refl refl) begins is
 
@@ -67,27 +67,27 @@ removal value call end old mid new looks makes =
 
 pub removes_file : (path : List ℕ) (value : Unit {0}) (r : Result (Unit {0}) Error) (old mid new : Log) → LooksFirst (Ok value) old mid
     → MakesCall mid new (asks.RemoveFile path) (said (λ _. says.Done) r)
-    → RunAnswers (steps.RemoveFile path) (value_or (λ _. answers.Done) (steps.RemoveFile path) r) old new
+    → StepRuns (steps.RemoveFile path) (value_or (λ _. answers.Done) (steps.RemoveFile path) r) old new
 removes_file path value r old mid new looks makes =
     let (hint, run) = removal value (asks.RemoveFile path) (said (λ _. says.Done) r) old mid new looks makes in
     (hint, said (λ _. says.Done) r, run, removed_file path r)
 
 pub removes_folder : (path : List ℕ) (value : Unit {0}) (r : Result (Unit {0}) Error) (old mid new : Log) → LooksFirst (Ok value) old mid
     → MakesCall mid new (asks.RemoveFolder path) (said (λ _. says.Done) r)
-    → RunAnswers (steps.RemoveDir path) (value_or (λ _. answers.Done) (steps.RemoveDir path) r) old new
+    → StepRuns (steps.RemoveDir path) (value_or (λ _. answers.Done) (steps.RemoveDir path) r) old new
 removes_folder path value r old mid new looks makes =
     let (hint, run) = removal value (asks.RemoveFolder path) (said (λ _. says.Done) r) old mid new looks makes in
     (hint, said (λ _. says.Done) r, run, removed_folder path r)
 
 -- one of them is no folder
 pub refuses_file : (path : List ℕ) (error : Error) (old new : Log) → LooksFirst {A = Unit {0}} (Err error) old new
-    → RunAnswers (steps.RemoveFile path) (failed_with (steps.RemoveFile path) (error_kind error)) old new
+    → StepRuns (steps.RemoveFile path) (failed_with (steps.RemoveFile path) (error_kind error)) old new
 refuses_file path error old new looks =
     let (hint, calls) = looks (asks.RemoveFile path) in
     (hint, says.Failed (error_kind error), calls_over (remove hint (asks.RemoveFile path)) _ (says.Failed (error_kind error)) old new calls refl, refl)
 
 pub refuses_folder : (path : List ℕ) (error : Error) (old new : Log) → LooksFirst {A = Unit {0}} (Err error) old new
-    → RunAnswers (steps.RemoveDir path) (failed_with (steps.RemoveDir path) (error_kind error)) old new
+    → StepRuns (steps.RemoveDir path) (failed_with (steps.RemoveDir path) (error_kind error)) old new
 refuses_folder path error old new looks =
     let (hint, calls) = looks (asks.RemoveFolder path) in
     (hint, says.Failed (error_kind error), calls_over (remove hint (asks.RemoveFolder path)) _ (says.Failed (error_kind error)) old new calls refl, refl)
@@ -95,7 +95,7 @@ refuses_folder path error old new looks =
 -- folders are made, whatever the guess
 pub dirs_answer : (path : List ℕ) (b : Bool) (answer : NumberedAnswer) (end : CallResult) (old new : Log)
     → RunLogged (if b then making false path [] else standing path) end old new → answer ≡ answer_of (steps.MakeDirs path) end
-    → RunAnswers (steps.MakeDirs path) answer old new
+    → StepRuns (steps.MakeDirs path) answer old new
 dirs_answer path true answer end old new run is = (is_missing, end, run, is)
 dirs_answer path false answer end old new run is = (no_hint, end, run, is)
 
@@ -151,17 +151,17 @@ answer_is number step give (Err error) = refl
 -- the answer of a step of one value
 pub arm_as : {A Y F D : Type 0} (number : F → ℕ) (step : NumberedStep) (give : A → Answer (FolderFile F) (SystemTemp Y F D)) (r : Result A Error)
     (told : Result (Answer (FolderFile F) (SystemTemp Y F D)) Error) (old new : Log)
-    → RunAnswers step (value_or (λ value. answered number (give value)) step r) old new → told ≡ result_map_both give (λ e. e) r
-    → RunAnswers step (answered_or number step told) old new
+    → StepRuns step (value_or (λ value. answered number (give value)) step r) old new → told ≡ result_map_both give (λ e. e) r
+    → StepRuns step (answered_or number step told) old new
 arm_as number step give r told old new run is =
-    subst (λ (a : NumberedAnswer). RunAnswers step a old new) (answer_is number step give r ∙ sym (ap (answered_or number step) is)) run
+    subst (λ (a : NumberedAnswer). StepRuns step a old new) (answer_is number step give r ∙ sym (ap (answered_or number step) is)) run
 
 -- the run of a step of one value
 pub arm_run : {A Y F D : Type 0} (number : F → ℕ) (step : NumberedStep) (s : Stage) (say : A → CallResult)
     (give : A → Answer (FolderFile F) (SystemTemp Y F D)) (r : Result A Error) (told : Result (Answer (FolderFile F) (SystemTemp Y F D)) Error) (old new : Log)
     → RunLogged s (said say r) old new → s ≡ first no_hint step → ((value : A) → answered number (give value) ≡ answer_of step (say value))
     → ((why : ErrorKind) → failed_with step why ≡ answer_of step (says.Failed why)) → told ≡ result_map_both give (λ e. e) r
-    → RunAnswers step (answered_or number step told) old new
+    → StepRuns step (answered_or number step told) old new
 arm_run number step s say give r told old new run begins gives fails is =
     arm_as number step give r told old new
     (answers_run step (value_or (λ value. answered number (give value)) step r) s (said say r) old new run begins

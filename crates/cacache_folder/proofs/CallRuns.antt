@@ -19,7 +19,7 @@ append-nil : (xs : List CallItem) → xs ++ [] ≡ xs
 append-nil [] = refl
 append-nil (x ∷ xs) = ap (λ ys. x ∷ ys) (append-nil xs)
 
-append-more : (xs ys zs : List CallItem) → (xs ++ ys) ++ zs ≡ xs ++ (ys ++ zs)
+pub append-more : (xs ys zs : List CallItem) → (xs ++ ys) ++ zs ≡ xs ++ (ys ++ zs)
 append-more [] ys zs = refl
 append-more (x ∷ xs) ys zs = ap (λ l. x ∷ l) (append-more xs ys zs)
 
@@ -49,7 +49,7 @@ pub run_one : (s : Stage) (call : SystemCall) (result end : CallResult) (old new
 run_one s call result end old new makes wanted ends =
     run_call s call result end old new new makes wanted (run_none (after s result) end new ends)
 
-goes_run : (s t : Stage) (xs ys : List CallItem) (end : CallResult) → Goes s xs t → Runs t ys end → Runs s (xs ++ ys) end
+pub goes_run : (s t : Stage) (xs ys : List CallItem) (end : CallResult) → Goes s xs t → Runs t ys end → Runs s (xs ++ ys) end
 goes_run s t [] ys end is runs = subst (λ (x : Stage). Runs x ys end) (sym is) runs
 goes_run s t (x ∷ xs) ys end (wanted, goes) runs = (wanted, goes_run (after s x.result) t xs ys end goes runs)
 

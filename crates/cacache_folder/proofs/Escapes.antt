@@ -3,7 +3,8 @@ use Rattle.std.specs.Prelude.{◌≡◌, ℕ, List, ◌++◌, Result, Ok, Err, I
 use Rattle.std.proofs.Common.{refl, ap, ◌∙◌}
 use Rattle.hex.specs.Hex.{IsBytes, encode_lower, decode_of}
 use Rattle.hex.proofs.HexLemmas.{decode_of-encode_lower}
-use Rattle.cacache_folder.specs.Escaped.{mark, or_itself, raw_name}
+use Rattle.cacache_system.specs.ListedNames.{mark}
+use Rattle.cacache_folder.specs.Escaped.{or_itself, raw_name}
 
 -- what stands for some digits behind the mark
 behind_mark : (digits : List ℕ) → raw_name (mark ++ digits) ≡ or_itself (mark ++ digits) (decode_of digits)
@@ -16,3 +17,8 @@ stands (Ok text) name bytes is =
     ap raw_name is ∙ behind_mark (encode_lower name)
     ∙ ap (or_itself (mark ++ encode_lower name)) (decode_of-encode_lower name bytes)
 stands (Err e) name bytes is = tt
+
+-- a text that is told otherwise
+pub told_as : {E : Type 0} (r : Result (List ℕ) E) (one other : List ℕ) → IfOk r (λ text. text ≡ one) → one ≡ other → IfOk r (λ text. text ≡ other)
+told_as (Ok text) one other is same = is ∙ same
+told_as (Err e) one other is same = tt

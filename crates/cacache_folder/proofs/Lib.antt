@@ -1,6 +1,9 @@
 mod FolderNames
 pub mod Escapes
 pub mod CallRuns
+pub mod Listings
+pub mod Entries
+pub mod ListedFolders
 pub mod MakingFolders
 pub mod Slashes
 pub mod Looking

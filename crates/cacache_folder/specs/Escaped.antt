@@ -1,16 +1,10 @@
 -- Names of any bytes as texts.
-use Rattle.std.specs.Prelude.{ℕ, if◌then◌else◌, List, ◌++◌, drop, codes, Result, Ok, Err}
+use Rattle.std.specs.Prelude.{ℕ, if◌then◌else◌, List, drop, Result, Ok, Err}
 use Rattle.std.specs.Bool.{nat_eq}
 use Rattle.std.specs.List.{starts_with}
 use Rattle.hex.specs.declared.error.FromHexError.{FromHexError}
 use Rattle.hex.specs.Hex.{decode_of}
-
-abbrev pub quarter : List ℕ
-quarter = codes "%%%%%%%%%%%%%%%%%%%%%%%%%%%%%%%%%%%%%%%%%%%%%%%%%%%%%%%%%%%%%%%%"
-
--- what an escaped name begins with
-abbrev pub mark : List ℕ
-mark = quarter ++ quarter ++ quarter ++ quarter
+use Rattle.cacache_system.specs.ListedNames.{mark}
 
 abbrev pub or_itself : List ℕ → Result (List ℕ) FromHexError → List ℕ
 or_itself name (Ok bytes) = bytes

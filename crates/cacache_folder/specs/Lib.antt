@@ -6,3 +6,4 @@ pub mod Interruptions
 pub mod FolderNumbers
 pub mod Goings
 pub mod Looks
+pub mod Listings

@@ -14,6 +14,7 @@ mod again;
 mod answers;
 mod copying;
 mod descent;
+mod entries;
 mod escaped;
 mod faults;
 mod files;

@@ -10,17 +10,18 @@ use Rattle.cacache_system.specs.declared.call.FileInfo.{FileInfo}
 use Rattle.cacache_system.specs.declared.call.SystemCall.{SystemCall}
 use Rattle.cacache_system.specs.declared.call.SystemCall.TheVariants as asks
 use Rattle.cacache_system.specs.declared.call.CallResult.{CallResult}
-use Rattle.cacache_system.specs.declared.call.CallResult.TheVariants.{Done, Opened, Count, Bytes, Info, Failed}
+use Rattle.cacache_system.specs.declared.call.CallResult.TheVariants.{Done, Opened, Count, Bytes, Info, Names, Failed}
 use Rattle.cacache_system.specs.declared.call.CallItem.{CallItem}
 use Rattle.cacache_system.specs.Seen.{NumberedFile, NumberedTemp, NumberedStep, NumberedAnswer}
-use Rattle.cacache_system.specs.CallsOf.{Stage, over, only, trying, taking_memory, opening, to_give, to_sync, to_sync_folder, to_read, appending, sizing, asking_source, standing, making, comparing, RunLogged}
+use Rattle.cacache_system.specs.CallsOf.{Stage, over, only, trying, taking_memory, opening, to_give, to_sync, to_sync_folder, to_read, appending, sizing, asking_source, standing, making, comparing, opening_folder, RunLogged}
 
 -- What a store remembers of its steps chooses no more than how the calls of a step begin: nothing that matters, that the
--- folder is guessed to be missing, or a walk whose folders are looked at before a removal. It has what the last of them
--- was, its path, and the paths of those between the first and the last.
+-- folder is guessed to be missing, that a listing named it, or a walk whose folders are looked at before a removal. It
+-- has what the last of them was, its path, and the paths of those between the first and the last.
 pub data Hint : Type 0 where
   no_hint : Hint
   is_missing : Hint
+  was_named : Hint
   in_walk : FileInfo → List ℕ → List (List ℕ) → Hint
 
 -- a folder that is guessed to be missing is made before it is asked for
@@ -33,6 +34,17 @@ abbrev pub remove : Hint → SystemCall → Stage
 remove (in_walk node last entered) call = comparing node last entered call
 remove hint call = only call
 
+-- a listing named the folder
+abbrev pub is_named : Hint → Bool
+is_named was_named = true
+is_named hint = false
+
+-- a folder is listed; an empty path leads to none
+abbrev pub list : Bool → List ℕ → Stage
+list named path =
+    if length path == 0 then over (Failed kind.NotFound)
+    else taking_memory (opening_folder named path)
+
 -- an open file that gave 2^64 - 1 bytes gives no more, and is not said to end
 abbrev pub read_piece : NumberedFile → ℕ → Stage
 read_piece file size =
@@ -40,7 +52,7 @@ read_piece file size =
     then over (Failed kind.FileTooLarge)
     else taking_memory (trying false (asks.Read file.number (min size file.left)))
 
--- How the calls of a step begin. The calls of a listing get no claim: see `StepRuns`.
+-- how the calls of a step begin
 abbrev pub first : Hint → NumberedStep → Stage
 first hint (steps.MakeDirs p) = make_dirs hint p
 first hint (steps.CreateTemp p) = taking_memory (only (asks.CreateNew p 384))
@@ -56,7 +68,7 @@ first hint (steps.Symlink target p) = only (asks.Symlink target p)
 first hint (steps.Copy from to) = asking_source from to
 first hint (steps.Reflink from to) = over (Failed kind.Unsupported)
 first hint (steps.HardLink from to) = only (asks.HardLink from to)
-first hint (steps.ReadDir p) = over (Failed kind.Unsupported)
+first hint (steps.ReadDir p) = list (is_named hint) p
 first hint (steps.RemoveFile p) = remove hint (asks.RemoveFile p)
 first hint (steps.RemoveDir p) = remove hint (asks.RemoveFolder p)
 first hint (steps.SyncTemp t) = only (asks.Sync t.number)
@@ -113,19 +125,14 @@ answer_of (steps.Read f max) (Bytes b) = answers.Got (read_on f (length b)) b
 answer_of (steps.Exists p) (Info info) = answers.There true
 answer_of (steps.Size p) (Info info) = answers.Length info.size
 answer_of (steps.Copy from to) (Count n) = answers.Took n
+answer_of (steps.ReadDir p) (Names l) = answers.Names l
 answer_of (steps.SyncTemp t) Done = answers.Synced t
 answer_of step Done = answers.Done
 answer_of step result = answers.Failed Device
 
 -- a log that is kept gained a run of the step's calls, and the answer is that run's
-abbrev pub RunAnswers : NumberedStep → NumberedAnswer → Option (List CallItem)
-    → Option (List CallItem) → Type 0
-RunAnswers step answer old new =
-    (hint : Hint) × (end : CallResult) × RunLogged (first hint step) end old new
-    × (answer ≡ answer_of step end)
-
--- the same of all kinds of step but one: of what a listing (`ReadDir`) calls and answers nothing is said
 abbrev pub StepRuns : NumberedStep → NumberedAnswer → Option (List CallItem)
     → Option (List CallItem) → Type 0
-StepRuns (steps.ReadDir p) answer old new = Unit {0}
-StepRuns step answer old new = RunAnswers step answer old new
+StepRuns step answer old new =
+    (hint : Hint) × (end : CallResult) × RunLogged (first hint step) end old new
+    × (answer ≡ answer_of step end)

@@ -1,19 +1,22 @@
 -- The system calls of each kind of step as one table: the call that each stage wants, where what the system says takes it,
 -- and what the calls may end with.
-use Rattle.std.specs.Prelude.{◌≡◌, ◌⊎◌, ◌==◌, ◌&&◌, ◌||◌, not, ℕ, zero, suc, get_or, take, length, min, Bool, true, false, if◌then◌else◌, List, [], ◌∷◌, ◌++◌, Option, None, Some, option_map}
+use Rattle.std.specs.Prelude.{◌≡◌, ◌-◌, ◌^◌, ◌⊎◌, ◌==◌, ◌&&◌, ◌||◌, not, ℕ, zero, suc, get_or, take, length, min, Bool, true, false, if◌then◌else◌, List, [], ◌∷◌, ◌++◌, Option, None, Some, option_map}
 use Rattle.std.specs.Bool.{nat_eq}
 use Rattle.std.specs.Cmp.Lexicographic.{pointwise}
+use Rattle.std.specs.Str.{is_utf8}
 use Rattle.std_io.specs.declared.io.kind.ErrorKind.{ErrorKind}
 use Rattle.std_io.specs.declared.io.kind.ErrorKind.TheVariants as kind
 use Rattle.cacache_store.specs.declared.store.answer.Kind.TheVariants as kinds
 use Rattle.cacache_store.specs.declared.store.answer.Kind.{Kind}
+use Rattle.cacache_store.specs.declared.store.answer.Name.{Name}
 use Rattle.cacache_system.specs.declared.call.SystemCall.{SystemCall}
-use Rattle.cacache_system.specs.declared.call.SystemCall.TheVariants.{OpenToRead, OpenToAppend, Read, ReadRest, Write, Sync, StatFile, Stat, StatLink, MakeFolder, CopyFile}
+use Rattle.cacache_system.specs.declared.call.SystemCall.TheVariants.{OpenToRead, OpenToAppend, OpenFolder, Read, ReadNames, ReadRest, Write, Sync, StatFile, Stat, StatLink, MakeFolder, CopyFile}
 use Rattle.cacache_system.specs.declared.call.FileInfo.{FileInfo}
 use Rattle.cacache_system.specs.declared.call.CallResult.{CallResult}
-use Rattle.cacache_system.specs.declared.call.CallResult.TheVariants.{Done, Opened, Count, Bytes, Info, Failed}
+use Rattle.cacache_system.specs.declared.call.CallResult.TheVariants.{Done, Opened, Count, Bytes, Info, Names, Failed}
 use Rattle.cacache_system.specs.declared.call.CallItem.{CallItem}
 use Rattle.cacache_system.specs.CallLog.{GainsCalls}
+use Rattle.cacache_system.specs.ListedNames.{text_of, is_proper, is_passed, names_in, with_slash}
 
 -- what a file is opened for: to be handed out, to be synced, to be synced as a folder, or to be read whole
 pub data Purpose : Type 0 where
@@ -22,8 +25,16 @@ pub data Purpose : Type 0 where
   to_sync_folder : Purpose
   to_read : Purpose
 
+-- A folder that is listed: the number that it was opened under, its path with a `/` behind it, and how many reads of
+-- names may still come.
+pub record Reader : Type 0 where
+  pub number : ℕ
+  pub folder : List ℕ
+  pub left : ℕ
+
 -- Where the calls of a step are. A truth value says whether a signal interrupted the call before; of a folder that is made,
--- whether the one above it was made just now, and the list says which ones below it are to be made then.
+-- whether the one above it was made just now, and the list says which ones below it are to be made then; of a folder that
+-- is opened to be listed, whether a listing named it. Names that were listed so far come last.
 pub data Stage : Type 0 where
   over : CallResult → Stage
   only : SystemCall → Stage
@@ -42,6 +53,10 @@ pub data Stage : Type 0 where
   confirming : ErrorKind → List ℕ → List (List ℕ) → Stage
   comparing : FileInfo → List ℕ → List (List ℕ) → SystemCall → Stage
   descending : List ℕ → List (List ℕ) → SystemCall → Stage
+  opening_folder : Bool → List ℕ → Stage
+  following : List ℕ → Stage
+  reading_names : Bool → Reader → List Name → Stage
+  asking_kind : Reader → List ℕ → List (List ℕ) → List Name → Stage
 
 -- the call that a stage wants, and none where the step is over
 abbrev pub wants : Stage → Option SystemCall
@@ -62,6 +77,10 @@ wants (making again path todo) = Some (MakeFolder path)
 wants (confirming why path todo) = Some (Stat path)
 wants (comparing node path entered call) = Some (StatLink path)
 wants (descending path entered call) = Some (StatLink path)
+wants (opening_folder was_named path) = Some (OpenFolder path)
+wants (following path) = Some (OpenFolder (with_slash path))
+wants (reading_names again r found) = Some (ReadNames r.number 4096)
+wants (asking_kind r name names found) = Some (StatLink (r.folder ++ name))
 
 -- a signal interrupted the call
 abbrev pub interrupts : ErrorKind → Bool
@@ -146,7 +165,63 @@ abbrev pub compared : Bool → Kind → List (List ℕ) → SystemCall → Stage
 compared true kinds.Folder entered call = only call
 compared same kind entered call = descend entered call
 
--- where what the system says takes a stage. A failure ends the step, but for a signal's, a folder that may be made or
+-- ---- listings
+
+-- a folder that was opened
+abbrev pub reader : ℕ → List ℕ → Reader
+reader number path =
+    record { number = number; folder = with_slash path; left = 2 ^ 64 - 1 }
+
+-- the same after a read of names
+abbrev pub read_once : Reader → Reader
+read_once r = record { number = r.number; folder = r.folder; left = r.left - 1 }
+
+-- the next names are read, unless there were too many
+abbrev pub more_names : Reader → List Name → Stage
+more_names r found =
+    if r.left == 0 then over (Failed kind.FileTooLarge) else reading_names false r found
+
+-- a name is listed with its kind, unless its text is no proper one
+abbrev pub entered : List ℕ → Kind → (Name → Stage) → Stage
+entered name what go =
+    taking_memory (if is_proper (text_of name)
+    then go (record { name = text_of name; kind = what })
+    else over (Failed kind.InvalidFilename))
+
+-- what stands under a name is asked for; one whose path is no text counts as a file
+abbrev pub ask_kind : Reader → List ℕ → List (List ℕ) → List Name → (Name → Stage) → Stage
+ask_kind r name names found go =
+    if is_utf8 (r.folder ++ name) then asking_kind r name names found
+    else entered name kinds.File go
+
+-- the next of some names is listed
+abbrev pub next_name : Reader → List (List ℕ) → List Name → Stage
+next_name r [] found = more_names r found
+next_name r (name ∷ names) found =
+    if is_passed name then next_name r names found
+    else taking_memory (ask_kind r name names found
+    (λ entry. next_name r names (found ++ entry ∷ [])))
+
+-- names were read, or there are no more
+abbrev pub names_read : Reader → List ℕ → List Name → Stage
+names_read r bytes found =
+    if length bytes == 0 then taking_memory (over (Names found))
+    else next_name (read_once r) (names_in bytes) found
+
+-- what is there is no folder, or a link
+abbrev pub is_no_folder : ErrorKind → Bool
+is_no_folder kind.NotADirectory = true
+is_no_folder kind.FilesystemLoop = true
+is_no_folder _ = false
+
+-- a link is followed where a walk begins
+abbrev pub unopened : Bool → ErrorKind → List ℕ → Stage
+unopened was_named why path =
+    if is_no_folder why
+    then (if was_named then over (Failed kind.NotADirectory) else following path)
+    else over (Failed why)
+
+-- Where what the system says takes a stage. A failure ends the step, but for a signal's, a folder that may be made or
 -- stands after all, and a target that can't be asked for.
 abbrev pub after : Stage → CallResult → Stage
 after (trying again call) result =
@@ -176,6 +251,18 @@ after (comparing node path entered call) (Info info) =
     compared (is_same_node info node) info.kind (entered ++ path ∷ []) call
 after (descending path entered call) (Info info) =
     if_folder info.kind kind.NotADirectory (descend entered call)
+after (opening_folder was_named path) (Opened number) = more_names (reader number path) []
+after (opening_folder was_named path) (Failed why) = unopened was_named why path
+after (following path) (Opened number) = more_names (reader number path) []
+after (following path) (Failed why) =
+    over (Failed (if is_absent why then kind.NotADirectory else why))
+after (reading_names again r found) (Bytes bytes) = names_read r bytes found
+after (reading_names again r found) (Failed why) =
+    if interrupts why then reading_names true r found else over (Failed why)
+after (asking_kind r name names found) (Info info) =
+    entered name info.kind (λ entry. next_name r names (found ++ entry ∷ []))
+after (asking_kind r name names found) (Failed why) =
+    if is_absent why then next_name r names found else over (Failed why)
 after s result = over result
 
 -- What the calls may end with. A call that signals interrupt again and again may be given up, and memory may be refused
@@ -184,6 +271,7 @@ abbrev pub Ends : Stage → CallResult → Type 0
 Ends (over result) end = result ≡ end
 Ends (trying true call) end = end ≡ Failed kind.Interrupted
 Ends (reading_front true size file) end = end ≡ Failed kind.Interrupted
+Ends (reading_names true r found) end = end ≡ Failed kind.Interrupted
 Ends (taking_memory s) end = (end ≡ Failed kind.OutOfMemory) ⊎ Ends s end
 Ends s end = ⊥
 

@@ -1,4 +1,5 @@
 pub mod CallLog
 pub mod Seen
+pub mod ListedNames
 pub mod CallsOf
 pub mod AnswersOf

@@ -1,7 +1,7 @@
 //! Calls to the system, and what it says.
 use cacache_core::bytes::Bytes;
 use cacache_core::text::Text;
-use cacache_store::store::Kind;
+use cacache_store::store::{Kind, Listing};
 use std::io::ErrorKind;
 
 /// What the system is asked. An open file goes by its number.
@@ -62,7 +62,7 @@ pub struct FileInfo {
     pub device: u64,
 }
 
-/// What the system says to a call.
+/// What the system says to a call, and what the calls of a step end with.
 #[derive(Drop)]
 pub enum CallResult {
     /// It is done.
@@ -75,6 +75,8 @@ pub enum CallResult {
     Bytes(Bytes),
     /// What was asked for.
     Info(FileInfo),
+    /// What is in a folder. No call says it: the calls of a listing end with it.
+    Names(Listing),
     /// It failed, with an error of this kind.
     Failed(ErrorKind),
 }

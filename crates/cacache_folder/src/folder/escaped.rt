@@ -4,7 +4,8 @@
 //! hex. So is one that begins with the mark itself, which no name of up to 255 bytes does.
 ghost use Rattle.std.specs.Prelude.{◌≡◌, ◌++◌, IfOk};
 ghost use Rattle.hex.specs.Hex.{encode_lower};
-ghost use Rattle.cacache_folder.specs.Escaped.{mark, raw_name};
+ghost use Rattle.cacache_system.specs.ListedNames.{mark, text_of};
+ghost use Rattle.cacache_folder.specs.Escaped.{raw_name};
 
 use cacache_core::text::Text;
 use std::alloc::{AllocError, Global};
@@ -28,7 +29,8 @@ fn escaped(alloc: Global, name: &[u8]) -> Result<Text, AllocError>
 
 /// The text of a name's bytes: they themselves, or an escaped name. Different names have different texts.
 pub(crate) fn text_of_name(alloc: Global, name: &[u8]) -> Result<Text, AllocError>
-    ensures { IfOk result (λ text. raw_name text ≡ name.now) }
+    ensures raw { IfOk result (λ text. raw_name text ≡ name.now) }
+    ensures told { IfOk result (λ text. text ≡ text_of name.now) }
 {
     if name.starts_with(MARK.as_bytes()) {
         return escaped(alloc, name);

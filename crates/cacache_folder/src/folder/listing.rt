@@ -1,15 +1,22 @@
 //! What is in a folder.
-ghost use Rattle.std.specs.Prelude.{◌≡◌, ◌<◌, ◌==◌, ◌↔◌, Ok, IfOk, IfErr, IsTrue, length};
-ghost use Rattle.std.specs.List.{list_any};
-ghost use Rattle.cacache_core.specs.PathNames.{ends_name, IsProperName};
+ghost use Rattle.std.specs.Prelude.{◌≡◌, ◌<◌, ◌==◌, ◌++◌, ◌∷◌, ◌^◌, ◌-◌, ℕ, List, [], true, false, IfOk, OnOk, length};
+ghost use Rattle.std.specs.List.{position};
 ghost use Rattle.cacache_store.specs.Fits.{AreProperNames};
+ghost use Rattle.cacache_store.specs.declared.store.step.Step.TheVariants as steps;
+ghost use Rattle.cacache_store.specs.declared.store.answer.Answer.TheVariants as answers;
+ghost use Rattle.cacache_system.specs.ListedNames.{with_slash};
+ghost use Rattle.cacache_system.specs.CallsOf as calls;
+ghost use Rattle.cacache_system.specs.AnswersOf as table;
+ghost use Rattle.cacache_system.specs.AnswersOf.{StepRuns};
+ghost use Rattle.cacache_folder.specs.FolderNumbers.{value_or};
+ghost use Rattle.cacache_folder.specs.Listings.{ListsNames, CutsName, ReadsNames, ReadsAllNames, OpensFolder, ListsFolder};
 
 use crate::folder::SystemStore;
 use crate::folder::again::ask_for_names;
-use crate::folder::escaped::text_of_name;
+use crate::folder::entries::{Listed, Looked, add};
 use crate::folder::folders::Folders;
-use crate::folder::node::Node;
-use cacache_store::store::{Kind, Listing, Name};
+use crate::folder::paths::is_absent;
+use cacache_store::store::Listing;
 use cacache_system::System;
 use std::alloc::{AllocError, Global};
 use std::io;
@@ -21,152 +28,35 @@ const NAMES: usize = 4096;
 /// The most bytes that stand behind a folder's path: a `/` and the longest of the system's names.
 const BEHIND: usize = 256;
 
-/// Whether the name has this byte.
-fn has(name: &str, byte: u8) -> bool
-    ensures { result ≡ list_any (λ b. b == byte) name.now }
+/// Where the first NUL is.
+fn nul_in(names: &[u8]) -> Option<usize>
+    ensures { result ≡ position (λ b. b == 0) names.now }
 {
-    name.as_bytes().contains(&byte)
-}
-
-/// Whether the name has a `/` or a NUL.
-fn has_end(name: &str) -> bool
-    ensures { result ≡ list_any ends_name name.now }
-{
-    has(name, b'/') | has(name, 0)
-}
-
-/// Whether the name stands for one thing in its folder.
-fn is_proper(name: &str) -> bool
-    ensures { IsTrue result ↔ IsProperName name.now }
-{
-    !(name.is_empty() || name == "." || name == ".." || has_end(name))
-}
-
-/// What a look into a folder gives. Its error is a kind alone: the compiler and the prover pay for a wide one at each
-/// way out.
-type Looked<T> = Result<T, ErrorKind>;
-
-/// The same with the error's kind alone.
-fn with_error_kind<T>(found: io::Result<T>) -> Looked<T>
-    ensures { IfOk result (λ x. found ≡ Ok x) }
-{
-    match found {
-        Ok(found) => Ok(found),
-        Err(error) => Err(error.kind()),
-    }
+    names.iter().position(|byte| *byte == 0)
 }
 
 /// The first of some names, each of which is ended by a NUL, and those behind it.
 fn first_name(names: &[u8]) -> (&[u8], &[u8])
     requires { 0 < length names.now }
-    ensures { length result.1.now < length names.now }
+    ensures shorter { length result.1.now < length names.now }
+    ensures cut { CutsName names.now result.0.now result.1.now }
 {
-    let (name, ended) = names.split_at(
-        names
-            .iter()
-            .position(|byte| *byte == 0)
-            .unwrap_or(names.len()),
-    );
-    match ended.split_first() {
-        Some((_, later)) => (name, later),
-        None => (name, ended),
+    match nul_in(names) {
+        Some(at) => (&names[..at], &names[at + 1..]),
+        None => (names, &names[names.len()..]),
     }
 }
 
 /// The path of the folder with a `/` behind it, so that the system follows a link there. There is room for any name.
-fn folder_path(alloc: Global, path: &str) -> Result<String, AllocError> {
+fn folder_path(alloc: Global, path: &str) -> Result<String, AllocError>
+    ensures { IfOk result (λ folder. folder.bytes.items ≡ with_slash path.now) }
+{
     let mut folder = String::with_capacity(alloc, path.len().saturating_add(BEHIND))?;
     folder.push_str(path)?;
     if !path.ends_with('/') {
         folder.push('/')?;
     }
     Ok(folder)
-}
-
-/// The name of a thing of this kind, by its bytes.
-fn named(alloc: Global, name: &[u8], kind: Kind) -> Looked<Name>
-    ensures { IfOk result (λ entry. IsProperName entry.name) }
-{
-    match text_of_name(alloc, name) {
-        Ok(name) if is_proper(name.as_str()) => Ok(Name { name, kind }),
-        Ok(_) => Err(ErrorKind::InvalidFilename),
-        Err(_) => Err(ErrorKind::OutOfMemory),
-    }
-}
-
-/// Adds an entry.
-fn push(names: &mut Vec<Name>, entry: Name) -> Looked<()>
-    ensures { IsProperName entry.name → AreProperNames names.old.items
-        → AreProperNames names.new.items }
-{
-    match names.push(entry) {
-        Ok(()) => Ok(()),
-        Err(_) => Err(ErrorKind::OutOfMemory),
-    }
-}
-
-/// What a listing of a folder gathers.
-#[derive(Drop)]
-struct Listed {
-    names: Vec<Name>,
-    /// Those of the names that are folders.
-    folders: Folders,
-}
-
-/// What kind of thing stands at the path; None if it was removed since the folder was read. A folder is noted.
-fn kind_at<Y: System>(system: &mut Y, folders: &mut Folders, path: &str) -> Looked<Option<Kind>> {
-    let found = match system.stat_link(path) {
-        Ok(found) => found,
-        Err(error) => match error.kind() {
-            ErrorKind::NotFound => return Ok(None),
-            kind => return Err(kind),
-        },
-    };
-    if matches!(found.kind, Kind::Folder)
-        && folders.push(path.as_bytes(), Node::of(&found)).is_err()
-    {
-        return Err(ErrorKind::OutOfMemory);
-    }
-    Ok(Some(found.kind))
-}
-
-/// The same under a name of a folder, whose path ends in a `/`. The runtime is asked by texts alone: what has a
-/// name that is none counts as a file.
-fn kind_below<Y: System>(
-    system: &mut Y,
-    folders: &mut Folders,
-    folder: &mut Vec<u8>,
-    name: &[u8],
-) -> Looked<Option<Kind>> {
-    let top = folder.len();
-    if folder.extend_from_slice(name).is_err() {
-        return Err(ErrorKind::OutOfMemory);
-    }
-    let kind = match std::str::from_utf8(folder.as_slice()) {
-        Ok(path) => kind_at(system, folders, path),
-        Err(_) => Ok(Some(Kind::File)),
-    };
-    folder.truncate(top);
-    kind
-}
-
-/// Adds what stands under a name of a folder, whose path ends in a `/`, unless it was removed since the folder was
-/// read.
-fn add<Y: System + AllocGlobal>(
-    system: &mut Y,
-    listed: &mut Listed,
-    folder: &mut Vec<u8>,
-    name: &[u8],
-) -> Looked<()>
-    ensures { AreProperNames listed.old.names.items → AreProperNames listed.new.names.items }
-{
-    if matches!(name, b"" | b"." | b"..") {
-        return Ok(());
-    }
-    match kind_below(system, &mut listed.folders, folder, name)? {
-        Some(kind) => push(&mut listed.names, named(system.alloc(), name, kind)?),
-        None => Ok(()),
-    }
 }
 
 /// Adds what stands under some names, each of which is ended by a NUL.
@@ -176,15 +66,53 @@ fn add_all<Y: System + AllocGlobal>(
     folder: &mut Vec<u8>,
     read: &[u8],
 ) -> Looked<()>
-    ensures { AreProperNames listed.old.names.items → AreProperNames listed.new.names.items }
+    ensures proper { OnOk result
+        (AreProperNames listed.old.names.items → AreProperNames listed.new.names.items) }
+    ensures same { OnOk result (folder.new.items ≡ folder.old.items) }
+    ensures ran { ListsNames folder.old.items read.now listed.old.names.items
+        listed.new.names.items result (Y.calls system.old) (Y.calls system.new) }
 {
     let mut rest = read;
     'names: while !rest.is_empty() {
         let (name, later) = first_name(rest);
-        add(system, listed, folder, name)?;
+        match add(system, listed, folder, name) {
+            Ok(()) => {}
+            Err(why) => return Err(why),
+        }
         rest = later;
     }
     Ok(())
+}
+
+/// Adds what stands under the names of one read of an open folder, whose path ends in a `/`. Returns whether it gave
+/// any.
+fn add_some<Y: System + AllocGlobal>(
+    system: &mut Y,
+    listed: &mut Listed,
+    open: &mut Y::Folder,
+    folder: &mut Vec<u8>,
+    buf: &mut [u8],
+) -> Looked<bool>
+    requires { length buf.old ≡ 4096 }
+    ensures proper { OnOk result
+        (AreProperNames listed.old.names.items → AreProperNames listed.new.names.items) }
+    ensures same { OnOk result (folder.new.items ≡ folder.old.items) }
+    ensures number { Y.folder_number open.new ≡ Y.folder_number open.old }
+    ensures room { length buf.new ≡ 4096 }
+    ensures ran { ReadsNames (Y.folder_number open.old) folder.old.items listed.old.names.items
+        listed.new.names.items result (Y.calls system.old) (Y.calls system.new) }
+{
+    match ask_for_names(system, open, buf) {
+        Ok(count) => if count == 0 {
+            Ok(false)
+        } else {
+            match add_all(system, listed, folder, &buf[..count]) {
+                Ok(()) => Ok(true),
+                Err(why) => Err(why),
+            }
+        },
+        Err(error) => Err(error.kind()),
+    }
 }
 
 /// Adds what stands under the names that an open folder gives, whose path ends in a `/`.
@@ -194,15 +122,20 @@ fn fill<Y: System + AllocGlobal>(
     open: &mut Y::Folder,
     folder: &mut Vec<u8>,
 ) -> Looked<()>
-    ensures { AreProperNames listed.old.names.items → AreProperNames listed.new.names.items }
+    ensures proper { OnOk result
+        (AreProperNames listed.old.names.items → AreProperNames listed.new.names.items) }
+    ensures ran { ReadsAllNames (Y.folder_number open.old) folder.old.items listed.old.names.items
+        (λ _. listed.new.names.items) result (Y.calls system.old) (Y.calls system.new) }
 {
     let mut buf = [0; NAMES];
-    for _ in 0..u64::MAX {
-        let count = with_error_kind(ask_for_names(system, open, &mut buf))?;
-        if count == 0 {
-            return Ok(());
+    let mut left = u64::MAX;
+    while left != 0 {
+        left -= 1;
+        match add_some(system, listed, open, folder, &mut buf) {
+            Ok(true) => {}
+            Ok(false) => return Ok(()),
+            Err(why) => return Err(why),
         }
-        add_all(system, listed, folder, &buf[..count])?;
     }
     Err(ErrorKind::FileTooLarge)
 }
@@ -210,13 +143,15 @@ fn fill<Y: System + AllocGlobal>(
 /// The names that an open folder gives, whose path ends in a `/`.
 fn names_from<Y: System + AllocGlobal>(
     system: &mut Y,
-    open: Y::Folder,
+    opened: Y::Folder,
     folder: String,
 ) -> Looked<Listed>
-    ensures { IfOk result (λ listed. AreProperNames listed.names.items) }
+    ensures proper { IfOk result (λ listed. AreProperNames listed.names.items) }
+    ensures ran { ReadsAllNames (Y.folder_number opened) folder.bytes.items []
+        (λ listed. listed.names.items) result (Y.calls system.old) (Y.calls system.new) }
 {
     let alloc = system.alloc();
-    let mut open = open;
+    let mut open = opened;
     let mut folder = folder.into_bytes();
     let mut listed = Listed {
         names: Vec::new(alloc),
@@ -224,44 +159,75 @@ fn names_from<Y: System + AllocGlobal>(
     };
     match fill(system, &mut listed, &mut open, &mut folder) {
         Ok(()) => Ok(listed),
-        Err(kind) => Err(kind),
+        Err(why) => Err(why),
     }
 }
 
-/// Opens a folder. One that a listing named has to be a folder still, and no link; elsewhere a link is followed,
-/// and one that leads to nothing is no folder. `folder` is the path with a `/` behind it.
+/// Whether what is there is no folder, or a link.
+fn is_no_folder(kind: ErrorKind) -> bool
+    ensures { result ≡ calls.is_no_folder kind }
+{
+    matches!(kind, ErrorKind::NotADirectory | ErrorKind::FilesystemLoop)
+}
+
+/// Opens a folder to which a link may lead; one that leads to nothing is none. `folder` is its path with a `/` behind
+/// it.
+fn open_led<Y: System>(system: &mut Y, folder: &str) -> Looked<Y::Folder>
+    ensures { (path : List ℕ) → folder.now ≡ with_slash path → OpensFolder Y.folder_number
+        (calls.following path) path result (Y.calls system.old) (Y.calls system.new) }
+{
+    match system.open_folder(folder) {
+        Ok(open) => Ok(open),
+        Err(error) => if is_absent(error.kind()) {
+            Err(ErrorKind::NotADirectory)
+        } else {
+            Err(error.kind())
+        },
+    }
+}
+
+/// Opens a folder. One that a listing named has to be a folder still, and no link; elsewhere a link is followed.
+/// `folder` is the path with a `/` behind it.
 fn open_folder<Y: System>(
     system: &mut Y,
     path: &str,
     folder: &str,
     was_named: bool,
-) -> Looked<Y::Folder> {
-    match with_error_kind(system.open_folder(path)) {
-        Err(ErrorKind::NotADirectory | ErrorKind::FilesystemLoop) if was_named => {
-            Err(ErrorKind::NotADirectory)
-        }
-        Err(ErrorKind::NotADirectory | ErrorKind::FilesystemLoop) => {
-            match with_error_kind(system.open_folder(folder)) {
-                Err(ErrorKind::NotFound) => Err(ErrorKind::NotADirectory),
-                opened => opened,
+) -> Looked<Y::Folder>
+    ensures { folder.now ≡ with_slash path.now → OpensFolder Y.folder_number
+        (calls.opening_folder was_named path.now) path.now result
+        (Y.calls system.old) (Y.calls system.new) }
+{
+    match system.open_folder(path) {
+        Ok(open) => Ok(open),
+        Err(error) => if is_no_folder(error.kind()) {
+            if was_named {
+                Err(ErrorKind::NotADirectory)
+            } else {
+                open_led(system, folder)
             }
-        }
-        opened => opened,
+        } else {
+            Err(error.kind())
+        },
     }
 }
 
 /// The names in the folder.
 fn names_in<Y: System + AllocGlobal>(system: &mut Y, path: &str, was_named: bool) -> Looked<Listed>
-    ensures { IfOk result (λ listed. AreProperNames listed.names.items) }
+    ensures proper { IfOk result (λ listed. AreProperNames listed.names.items) }
+    ensures ran { ListsFolder (table.list was_named path.now) (λ listed. listed.names.items) result
+        (Y.calls system.old) (Y.calls system.new) }
 {
     if path.is_empty() {
         return Err(ErrorKind::NotFound);
     }
-    let Ok(folder) = folder_path(system.alloc(), path) else {
-        return Err(ErrorKind::OutOfMemory);
-    };
-    let open = open_folder(system, path, folder.as_str(), was_named)?;
-    names_from(system, open, folder)
+    match folder_path(system.alloc(), path) {
+        Ok(folder) => match open_folder(system, path, folder.as_str(), was_named) {
+            Ok(opened) => names_from(system, opened, folder),
+            Err(why) => Err(why),
+        },
+        Err(_) => Err(ErrorKind::OutOfMemory),
+    }
 }
 
 impl<Y: System + AllocGlobal + Clone + Drop> SystemStore<Y> {
@@ -270,14 +236,17 @@ impl<Y: System + AllocGlobal + Clone + Drop> SystemStore<Y> {
     pub(crate) fn read_dir(&mut self, path: &str) -> io::Result<Listing>
         ensures proper { IfOk result (λ listing. AreProperNames listing) }
         ensures kept { self.new.reason ≡ self.old.reason }
+        ensures ran { StepRuns (steps.ReadDir path.now)
+            (value_or (λ listing. answers.Names listing) (steps.ReadDir path.now) result)
+            (Y.calls self.old.system) (Y.calls self.new.system) }
     {
         let next = self.descent.next(path);
         match names_in(&mut self.system, path, next.is_some()) {
-            Ok(Listed { names, folders }) => {
-                self.descent.list(path, next, folders)?;
-                Ok(Listing::new(names))
-            }
-            Err(kind) => Err(io::Error::from(kind)),
+            Ok(Listed { names, folders }) => match self.descent.list(path, next, folders) {
+                Ok(()) => Ok(Listing::new(names)),
+                Err(_) => Err(io::Error::from(ErrorKind::OutOfMemory)),
+            },
+            Err(why) => Err(io::Error::from(why)),
         }
     }
 }

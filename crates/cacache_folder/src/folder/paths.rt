@@ -25,7 +25,7 @@ fn above(path: &str) -> Option<&str>
 }
 
 /// Whether nothing stands there.
-fn is_absent(kind: ErrorKind) -> bool
+pub(crate) fn is_absent(kind: ErrorKind) -> bool
     ensures { result ≡ absent_of kind }
 {
     matches!(kind, ErrorKind::NotFound)

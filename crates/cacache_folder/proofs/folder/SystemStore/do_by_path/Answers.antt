@@ -7,7 +7,7 @@ use Rattle.cacache_system.specs.CallLog.{said}
 use Rattle.cacache_system.specs.CallsOf as calls
 use Rattle.cacache_store.specs.declared.store.step.Step.TheVariants as steps
 use Rattle.cacache_store.specs.declared.store.answer.Answer.TheVariants as answers
-use Rattle.cacache_system.specs.AnswersOf.{StepRuns, RunAnswers, failed_with}
+use Rattle.cacache_system.specs.AnswersOf.{StepRuns, failed_with}
 use Rattle.cacache_folder.specs.FolderNumbers.{numbered, answered, answered_or, value_or}
 use Rattle.cacache_folder.proofs.CallRuns.{run_one, run_none}
 use Rattle.cacache_folder.proofs.Answering.{answers_run, answers_call, arm_as, arm_run, temp_of}
@@ -18,7 +18,7 @@ pub returns-in-MakeDirs-clause-ran : goal.returns-in-MakeDirs-clause-ran
 returns-in-MakeDirs-clause-ran g c =
     λ _. subst (λ step. StepRuns (numbered g.Y.System.number step) (answered_or g.Y.System.number (numbered g.Y.System.number step) c.done.result) (g.Y.System.calls c.args.self.now.system) (g.Y.System.calls c.make_dirs.new.self.system)) (sym c.in-MakeDirs.is)
     (arm_as g.Y.System.number (steps.MakeDirs c.in-MakeDirs.path) (λ _. answers.Done) c.make_dirs.result c.done.result (g.Y.System.calls c.args.self.now.system) (g.Y.System.calls c.make_dirs.new.self.system)
-    (subst (λ p. RunAnswers (steps.MakeDirs p) (value_or (λ _. answers.Done) (steps.MakeDirs p) c.make_dirs.result) (g.Y.System.calls c.args.self.now.system) (g.Y.System.calls c.make_dirs.new.self.system)) c.as_str.ensures.same c.make_dirs.ensures.ran) c.done.ensures)
+    (subst (λ p. StepRuns (steps.MakeDirs p) (value_or (λ _. answers.Done) (steps.MakeDirs p) c.make_dirs.result) (g.Y.System.calls c.args.self.now.system) (g.Y.System.calls c.make_dirs.new.self.system)) c.as_str.ensures.same c.make_dirs.ensures.ran) c.done.ensures)
 
 pub returns-in-Append-clause-ran : goal.returns-in-Append-clause-ran
 returns-in-Append-clause-ran g c =
@@ -36,7 +36,7 @@ pub returns-in-Exists-clause-ran : goal.returns-in-Exists-clause-ran
 returns-in-Exists-clause-ran g c =
     λ _. subst (λ step. StepRuns (numbered g.Y.System.number step) (answered_or g.Y.System.number (numbered g.Y.System.number step) c.there.result) (g.Y.System.calls c.args.self.now.system) (g.Y.System.calls c.exists.new.system)) (sym c.in-Exists.is)
     (arm_as g.Y.System.number (steps.Exists c.in-Exists.path) (λ is. answers.There is) c.exists.result c.there.result (g.Y.System.calls c.args.self.now.system) (g.Y.System.calls c.exists.new.system)
-    (subst (λ p. RunAnswers (steps.Exists p) (value_or (λ is. answers.There is) (steps.Exists p) c.exists.result) (g.Y.System.calls c.args.self.now.system) (g.Y.System.calls c.exists.new.system)) c.as_str-in-Exists.ensures.same c.exists.ensures) c.there.ensures)
+    (subst (λ p. StepRuns (steps.Exists p) (value_or (λ is. answers.There is) (steps.Exists p) c.exists.result) (g.Y.System.calls c.args.self.now.system) (g.Y.System.calls c.exists.new.system)) c.as_str-in-Exists.ensures.same c.exists.ensures) c.there.ensures)
 
 pub returns-in-Size-clause-ran : goal.returns-in-Size-clause-ran
 returns-in-Size-clause-ran g c =
@@ -65,19 +65,20 @@ returns-in-HardLink-clause-ran g c =
 pub returns-in-ReadDir-clause-ran : goal.returns-in-ReadDir-clause-ran
 returns-in-ReadDir-clause-ran g c =
     λ _. subst (λ step. StepRuns (numbered g.Y.System.number step) (answered_or g.Y.System.number (numbered g.Y.System.number step) c.listed.result) (g.Y.System.calls c.args.self.now.system) (g.Y.System.calls c.read_dir.new.self.system)) (sym c.in-ReadDir.is)
-    tt
+    (arm_as g.Y.System.number (steps.ReadDir c.in-ReadDir.path) (λ names. answers.Names names) c.read_dir.result c.listed.result (g.Y.System.calls c.args.self.now.system) (g.Y.System.calls c.read_dir.new.self.system)
+    (subst (λ p. StepRuns (steps.ReadDir p) (value_or (λ names. answers.Names names) (steps.ReadDir p) c.read_dir.result) (g.Y.System.calls c.args.self.now.system) (g.Y.System.calls c.read_dir.new.self.system)) c.as_str-in-ReadDir.ensures.same c.read_dir.ensures.ran) c.listed.ensures)
 
 pub returns-in-RemoveFile-clause-ran : goal.returns-in-RemoveFile-clause-ran
 returns-in-RemoveFile-clause-ran g c =
     λ _. subst (λ step. StepRuns (numbered g.Y.System.number step) (answered_or g.Y.System.number (numbered g.Y.System.number step) c.done-in-RemoveFile.result) (g.Y.System.calls c.args.self.now.system) (g.Y.System.calls c.remove_file.new.self.system)) (sym c.in-RemoveFile.is)
     (arm_as g.Y.System.number (steps.RemoveFile c.in-RemoveFile.path) (λ _. answers.Done) c.remove_file.result c.done-in-RemoveFile.result (g.Y.System.calls c.args.self.now.system) (g.Y.System.calls c.remove_file.new.self.system)
-    (subst (λ p. RunAnswers (steps.RemoveFile p) (value_or (λ _. answers.Done) (steps.RemoveFile p) c.remove_file.result) (g.Y.System.calls c.args.self.now.system) (g.Y.System.calls c.remove_file.new.self.system)) c.as_str-in-RemoveFile.ensures.same c.remove_file.ensures.ran) c.done-in-RemoveFile.ensures)
+    (subst (λ p. StepRuns (steps.RemoveFile p) (value_or (λ _. answers.Done) (steps.RemoveFile p) c.remove_file.result) (g.Y.System.calls c.args.self.now.system) (g.Y.System.calls c.remove_file.new.self.system)) c.as_str-in-RemoveFile.ensures.same c.remove_file.ensures.ran) c.done-in-RemoveFile.ensures)
 
 pub returns-in-RemoveDir-clause-ran : goal.returns-in-RemoveDir-clause-ran
 returns-in-RemoveDir-clause-ran g c =
     λ _. subst (λ step. StepRuns (numbered g.Y.System.number step) (answered_or g.Y.System.number (numbered g.Y.System.number step) c.done-in-RemoveDir.result) (g.Y.System.calls c.args.self.now.system) (g.Y.System.calls c.remove_dir.new.self.system)) (sym c.in-RemoveDir.is)
     (arm_as g.Y.System.number (steps.RemoveDir c.in-RemoveDir.path) (λ _. answers.Done) c.remove_dir.result c.done-in-RemoveDir.result (g.Y.System.calls c.args.self.now.system) (g.Y.System.calls c.remove_dir.new.self.system)
-    (subst (λ p. RunAnswers (steps.RemoveDir p) (value_or (λ _. answers.Done) (steps.RemoveDir p) c.remove_dir.result) (g.Y.System.calls c.args.self.now.system) (g.Y.System.calls c.remove_dir.new.self.system)) c.as_str-in-RemoveDir.ensures.same c.remove_dir.ensures.ran) c.done-in-RemoveDir.ensures)
+    (subst (λ p. StepRuns (steps.RemoveDir p) (value_or (λ _. answers.Done) (steps.RemoveDir p) c.remove_dir.result) (g.Y.System.calls c.args.self.now.system) (g.Y.System.calls c.remove_dir.new.self.system)) c.as_str-in-RemoveDir.ensures.same c.remove_dir.ensures.ran) c.done-in-RemoveDir.ensures)
 
 pub returns-in-SyncFile-clause-ran : goal.returns-in-SyncFile-clause-ran
 returns-in-SyncFile-clause-ran g c =

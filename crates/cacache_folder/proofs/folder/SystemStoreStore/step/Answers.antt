@@ -6,7 +6,7 @@ use Rattle.cacache_system.specs.CallLog.{said}
 use Rattle.cacache_system.specs.CallsOf as calls
 use Rattle.cacache_store.specs.declared.store.step.Step.TheVariants as steps
 use Rattle.cacache_store.specs.declared.store.answer.Answer.TheVariants as answers
-use Rattle.cacache_system.specs.AnswersOf.{StepRuns, RunAnswers}
+use Rattle.cacache_system.specs.AnswersOf.{StepRuns}
 use Rattle.cacache_folder.specs.FolderNumbers.{numbered, answered, answered_or, value_or}
 use Rattle.cacache_folder.proofs.CallRuns.{run_one}
 use Rattle.cacache_folder.proofs.Answering.{answers_run, answers_call, arm_as, arm_run, temp_of}

@@ -1,9 +1,19 @@
-use Rattle.std.proofs.Common.{length}
+use Rattle.std.specs.Prelude.{◌≡◌, ℕ, List, length}
 use Rattle.cacache_store.specs.Fits.{AreProperNames}
+use Rattle.cacache_system.specs.ListedNames.{names_in}
+use Rattle.cacache_system.specs.CallsOf.{Reader, next_name}
+use Rattle.cacache_folder.specs.Listings.{LeadsTo}
 use Rattle.cacache_folder.proofs.folder.listing.add_all.Given as goal
 
+-- the names so far were listed
 abbrev pub invariant-names : goal.invariant-names
-invariant-names g l = AreProperNames l.initial.listed.names.items → AreProperNames l.listed.names.items
+invariant-names g l = record {
+  proper : AreProperNames l.fn.listed.names.items → AreProperNames l.listed.names.items;
+  same : l.folder.items ≡ l.fn.folder.items;
+  ran : (r : Reader) → l.fn.folder.items ≡ r.folder
+      → LeadsTo (next_name r (names_in l.fn.read) l.fn.listed.names.items) (next_name r (names_in l.rest) l.listed.names.items)
+      (g.Y.System.calls l.fn.system) (g.Y.System.calls l.system);
+}
 
 -- the names that are left
 abbrev pub decreases-names : goal.decreases-names

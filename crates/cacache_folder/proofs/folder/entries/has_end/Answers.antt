@@ -1,7 +1,7 @@
 use Rattle.std.specs.Prelude.{Bool, ◌||◌}
 use Rattle.std.proofs.Common.{◌∙◌, ap₂}
 use Rattle.cacache_folder.proofs.FolderNames.{either_ends}
-use Rattle.cacache_folder.proofs.folder.listing.has_end.Goals as goal
+use Rattle.cacache_folder.proofs.folder.entries.has_end.Goals as goal
 
 pub returns : goal.returns
 returns c =
