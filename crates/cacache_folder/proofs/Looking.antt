@@ -12,7 +12,7 @@ use Rattle.cacache_system.specs.CallLog.{MakesCall}
 use Rattle.cacache_system.specs.CallsOf.{Stage, over, only, comparing, descending, descend, compared, is_same_node, CallsLogged}
 use Rattle.cacache_system.specs.AnswersOf.{Hint, no_hint, in_walk}
 use Rattle.cacache_folder.specs.Goings.{onward}
-use Rattle.cacache_folder.specs.Looks.{Descends, LooksFirst}
+use Rattle.cacache_folder.specs.Looks.{Descends, LooksFirst, LooksAt, Decides}
 use Rattle.cacache_folder.proofs.CallRuns.{calls_none, calls_one, calls_on}
 
 abbrev Log : Type 0
@@ -20,11 +20,6 @@ Log = Option (List CallItem)
 
 abbrev Paths : Type 0
 Paths = List (List ℕ)
-
--- one folder was looked at
-abbrev pub LooksAt : List ℕ → Result (Unit {0}) Error → Log → Log → Type 0
-LooksAt path r old new =
-    (rest : Paths) (call : SystemCall) → CallsLogged (descending path rest call) (onward (λ _. descend rest call) r) old new
 
 -- some folders were looked at
 abbrev pub Descended : Log → Log → Type 0
@@ -67,10 +62,6 @@ pub descends_last : (value : Unit {0}) (r : Result (Unit {0}) Error) (last : Lis
 descends_last value r last old mid new before looks call =
     let (paths, calls) = before (last ∷ []) call in
     (paths, calls_on (descend (paths ++ last ∷ []) call) (descending last [] call) (onward (λ _. only call) r) old mid new calls (looks [] call))
-
-abbrev Decides : FileInfo → FileInfo → Bool → Type 0
-Decides info node b =
-    (all : Paths) (call : SystemCall) → compared (is_same_node info node) info.kind all call ≡ (if b then only call else descend all call)
 
 -- nothing is looked at
 pub looks_none : (log : Log) → LooksFirst {A = Unit {0}} (Ok tt) log log

@@ -1,10 +1,15 @@
 -- Where calls lead that end here or go on.
-use Rattle.std.specs.Prelude.{ℕ, Bool, Option, None, Some, Result, Ok, Err, List, if◌then◌else◌}
+use Rattle.std.specs.Prelude.{ℕ, Bool, false, Option, None, Some, Result, Ok, Err, List, [], if◌then◌else◌}
 use Rattle.std_io.specs.declared.io.error.Error.{Error}
 use Rattle.std_io.specs.declared.io.kind.ErrorKind.{ErrorKind}
 use Rattle.std_io.specs.IoError.{error_kind}
-use Rattle.cacache_system.specs.declared.call.CallResult.TheVariants.{Failed}
-use Rattle.cacache_system.specs.CallsOf.{Stage, over, below, unmade, is_absent}
+use Rattle.cacache_system.specs.declared.call.CallItem.{CallItem}
+use Rattle.cacache_system.specs.declared.call.CallResult.{CallResult}
+use Rattle.cacache_system.specs.declared.call.CallResult.TheVariants.{Opened, Failed}
+use Rattle.cacache_system.specs.declared.call.FileInfo.{FileInfo}
+use Rattle.cacache_system.specs.declared.call.SystemCall.TheVariants.{Read}
+use Rattle.cacache_system.specs.CallLog.{said}
+use Rattle.cacache_system.specs.CallsOf.{Stage, Purpose, over, trying, taking_memory, opening, opened, standing, making, confirming, below, unmade, is_absent, CallsLogged}
 
 -- the stage, unless there is a cause against it
 abbrev pub unless : Option ErrorKind → Stage → Stage
@@ -22,3 +27,29 @@ made again path todo (Ok was) = below todo
 made again path todo (Err error) =
     if is_absent (error_kind error) then unmade again (error_kind error) path todo
     else over (Failed (error_kind error))
+
+-- a piece of an open file is read
+abbrev pub piece : ℕ → ℕ → Stage
+piece number size = taking_memory (trying false (Read number size))
+
+-- a file was opened that has this number
+abbrev pub said_opened : {A : Type 0} → (A → ℕ) → Result A Error → CallResult
+said_opened number result = said (λ file. Opened (number file)) result
+
+-- a file was opened, and asked what it is, for any purpose
+abbrev pub OpensFile : {F : Type 0} → (F → ℕ) → List ℕ → Result (F × FileInfo) Error
+    → Option (List CallItem) → Option (List CallItem) → Type 0
+OpensFile number path result old new =
+    (purpose : Purpose) → CallsLogged (opening purpose path)
+    (onward (λ found. opened purpose (number found.0) found.1) result) old new
+
+-- folders are made at once, or after a question
+abbrev pub make_first : Bool → List ℕ → Stage
+make_first is_guessed path = if is_guessed then making false path [] else standing path
+
+-- it was asked whether a folder stands after all
+abbrev pub Confirms : {A : Type 0} → List ℕ → ErrorKind → Result A Error → Option (List CallItem)
+    → Option (List CallItem) → Type 0
+Confirms path why result old new =
+    (todo : List (List ℕ)) → CallsLogged (confirming why path todo)
+    (onward (λ _. below todo) result) old new

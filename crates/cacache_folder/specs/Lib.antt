@@ -7,3 +7,4 @@ pub mod FolderNumbers
 pub mod Goings
 pub mod Looks
 pub mod Listings
+pub mod StepClauses

@@ -128,6 +128,13 @@ abbrev pub OpensFolder : {F : Type 0} → (F → ℕ) → Stage → List ℕ →
 OpensFolder number s path result old new =
     Proceeds s (λ folder. more_names (reader (number folder) path) []) result old new
 
+-- the same by its path, of which the other text is the one with a `/` behind it
+abbrev pub OpensPath : {F : Type 0} → (F → ℕ) → Bool → List ℕ → List ℕ → Result F ErrorKind → Log
+    → Log → Type 0
+OpensPath number was_named path folder result old new =
+    folder ≡ with_slash path
+    → OpensFolder number (opening_folder was_named path) path result old new
+
 -- all that is in a folder was listed, from its path on
 abbrev pub ListsFolder : {A : Type 0} → Stage → (A → List Name) → Result A ErrorKind → Log → Log
     → Type 0

@@ -1,11 +1,11 @@
 -- Looks at the folders of a walk.
-use Rattle.std.specs.Prelude.{ℕ, false, List, ◌++◌, Option, Result, Ok, Err}
+use Rattle.std.specs.Prelude.{◌≡◌, ℕ, Bool, false, if◌then◌else◌, List, [], ◌∷◌, ◌++◌, Option, Result, Ok, Err}
 use Rattle.std_io.specs.declared.io.error.Error.{Error}
 use Rattle.cacache_store.specs.declared.store.answer.Kind.TheVariants.{Folder}
 use Rattle.cacache_system.specs.declared.call.FileInfo.{FileInfo}
 use Rattle.cacache_system.specs.declared.call.SystemCall.{SystemCall}
 use Rattle.cacache_system.specs.declared.call.CallItem.{CallItem}
-use Rattle.cacache_system.specs.CallsOf.{only, descend, CallsLogged}
+use Rattle.cacache_system.specs.CallsOf.{only, descending, descend, compared, is_same_node, CallsLogged}
 use Rattle.cacache_system.specs.AnswersOf.{Hint, remove}
 use Rattle.cacache_folder.specs.declared.folder.node.Node.{Node}
 use Rattle.cacache_folder.specs.Goings.{onward}
@@ -33,3 +33,24 @@ abbrev pub LooksFirst : {A : Type 0} → Result A Error → Option (List CallIte
 LooksFirst r old new =
     (call : SystemCall) → (hint : Hint)
     × CallsLogged (remove hint call) (onward (λ _. only call) r) old new
+
+-- one folder was looked at
+abbrev pub LooksAt : List ℕ → Result (Unit {0}) Error → Option (List CallItem)
+    → Option (List CallItem) → Type 0
+LooksAt path r old new =
+    (rest : List (List ℕ)) (call : SystemCall)
+    → CallsLogged (descending path rest call) (onward (λ _. descend rest call) r) old new
+
+-- some folders were looked at, and then the last
+abbrev pub LooksToLast : {A : Type 0} → List ℕ → Result A Error → Option (List CallItem)
+    → Option (List CallItem) → Type 0
+LooksToLast last r old new =
+    (call : SystemCall) → (between : List (List ℕ))
+    × CallsLogged (descend (between ++ last ∷ []) call) (onward (λ _. only call) r) old new
+
+-- it is told whether what was seen is the folder that was listed
+abbrev pub Decides : FileInfo → FileInfo → Bool → Type 0
+Decides info node b =
+    (all : List (List ℕ)) (call : SystemCall)
+    → compared (is_same_node info node) info.kind all call
+    ≡ (if b then only call else descend all call)

@@ -1,14 +1,15 @@
 //! Real folders as a store.
-ghost use Rattle.std.specs.Prelude.{◌≡◌, true, false, None, IfOk};
+ghost use Rattle.std.specs.Prelude.{◌≡◌, false, None, IfOk};
 ghost use Rattle.cacache_store.specs.declared.store.step.Step.TheVariants as steps;
 ghost use Rattle.cacache_store.specs.declared.store.answer.Answer.TheVariants as answers;
 ghost use Rattle.cacache_store.specs.Plain.{plain_step, plain_answer};
 ghost use Rattle.cacache_store.specs.Fits.{Fits, is_no_memory};
 ghost use Rattle.cacache_system.specs.AnswersOf.{StepRuns};
 ghost use Rattle.cacache_folder.specs.FolderHandles.{seen_file, seen_temp};
-ghost use Rattle.cacache_folder.specs.FolderNumbers.{numbered, answered, answered_or, value_or, goes_by_path};
+ghost use Rattle.cacache_folder.specs.FolderNumbers.{numbered, answered};
 ghost use Rattle.cacache_folder.specs.PartialSteps.{HandsBackWhole};
 ghost use Rattle.cacache_folder.specs.Reasons.{Explains};
+ghost use Rattle.cacache_folder.specs.StepClauses.{ValueRuns, AnswerFits, AnswersWhole, AnswersRun, RunsByPath};
 
 mod again;
 mod answers;
@@ -115,8 +116,7 @@ impl<Y: System + AllocGlobal + Clone + Drop> SystemStore<Y> {
     /// Makes every missing folder of the path.
     fn make_dirs(&mut self, path: &str) -> io::Result<()>
         ensures kept { self.new.reason ≡ self.old.reason }
-        ensures ran { StepRuns (steps.MakeDirs path.now)
-            (value_or (λ _. answers.Done) (steps.MakeDirs path.now) result)
+        ensures ran { ValueRuns (steps.MakeDirs path.now) (λ _. answers.Done) result
             (Y.calls self.old.system) (Y.calls self.new.system) }
     {
         let is_guessed = self.guess.is_missing(path);
@@ -138,9 +138,7 @@ impl<Y: System + AllocGlobal + Clone + Drop> SystemStore<Y> {
         ensures explains { IfOk result (λ answer. Explains self.old.reason self.new.reason
             (plain_answer seen_file seen_temp answer)) }
         ensures kept { self.new.reason ≡ self.old.reason }
-        ensures ran { goes_by_path (numbered Y.number step.now) ≡ true
-            → StepRuns (numbered Y.number step.now)
-            (answered_or Y.number (numbered Y.number step.now) result)
+        ensures ran { RunsByPath {Y = Y} {F = Y.File} {D = Y.Folder} Y.number step.now result
             (Y.calls self.old.system) (Y.calls self.new.system) }
     {
         match step {
@@ -170,15 +168,12 @@ impl<Y: System + AllocGlobal + Clone + Drop> SystemStore<Y> {
 
     /// Does a `Write` and answers it.
     fn write_temp(&mut self, temp: SystemTemp<Y>, bytes: Bytes) -> AnswerOf<Y>
-        ensures fits { Fits (plain_step (seen_file {F = Y.File}) seen_temp (Step.Write temp bytes))
-            (plain_answer seen_file seen_temp result) }
-        ensures whole { HandsBackWhole
-            (plain_step (seen_file {F = Y.File}) seen_temp (Step.Write temp bytes))
-            (plain_answer seen_file seen_temp result) }
+        ensures fits { AnswerFits {F = Y.File} (Step.Write temp bytes) result }
+        ensures whole { AnswersWhole {F = Y.File} (Step.Write temp bytes) result }
         ensures explains { Explains self.old.reason self.new.reason
             (plain_answer seen_file seen_temp result) }
-        ensures ran { StepRuns (numbered Y.number (Step.Write temp bytes))
-            (answered Y.number result) (Y.calls self.old.system) (Y.calls self.new.system) }
+        ensures ran { AnswersRun {F = Y.File} Y.number (Step.Write temp bytes) result
+            (Y.calls self.old.system) (Y.calls self.new.system) }
     {
         let mut temp = temp;
         match ask_to_write(&mut self.system, &mut temp.file, bytes.as_slice()) {
@@ -189,16 +184,13 @@ impl<Y: System + AllocGlobal + Clone + Drop> SystemStore<Y> {
 
     /// Does a `Read` and answers it.
     fn read_file(&mut self, file: FolderFile<Y::File>, max: usize) -> AnswerOf<Y>
-        ensures fits { Fits (plain_step seen_file (seen_temp {Y = Y} {F = Y.File} {D = Y.Folder})
-            (Step.Read file max)) (plain_answer seen_file seen_temp result) }
-        ensures whole { HandsBackWhole
-            (plain_step seen_file (seen_temp {Y = Y} {F = Y.File} {D = Y.Folder}) (Step.Read file max))
-            (plain_answer seen_file seen_temp result) }
+        ensures fits { AnswerFits {Y = Y} {F = Y.File} {D = Y.Folder} (Step.Read file max) result }
+        ensures whole { AnswersWhole {Y = Y} {F = Y.File} {D = Y.Folder} (Step.Read file max)
+            result }
         ensures explains { Explains self.old.reason self.new.reason
             (plain_answer seen_file seen_temp result) }
-        ensures ran { StepRuns
-            (numbered {Y = Y} {F = Y.File} {D = Y.Folder} Y.number (Step.Read file max))
-            (answered Y.number result) (Y.calls self.old.system) (Y.calls self.new.system) }
+        ensures ran { AnswersRun {Y = Y} {F = Y.File} {D = Y.Folder} Y.number (Step.Read file max)
+            result (Y.calls self.old.system) (Y.calls self.new.system) }
     {
         let mut file = file;
         match read_piece(&mut self.system, &mut file, max) {

@@ -1,16 +1,25 @@
 -- What a log of system calls gains.
-use Rattle.std.specs.Prelude.{◌≡◌, List, [], ◌∷◌, ◌++◌, Option, option_map, Result, Ok, Err}
+use Rattle.std.specs.Prelude.{◌≡◌, ℕ, List, [], ◌∷◌, ◌++◌, take, Option, option_map, Result, Ok, Err}
+use Rattle.std.specs.Io.{appended_bytes}
 use Rattle.std_io.specs.declared.io.error.Error.{Error}
 use Rattle.std_io.specs.IoError.{error_kind}
 use Rattle.cacache_system.specs.declared.call.SystemCall.{SystemCall}
 use Rattle.cacache_system.specs.declared.call.CallResult.{CallResult}
-use Rattle.cacache_system.specs.declared.call.CallResult.TheVariants.{Failed}
+use Rattle.cacache_system.specs.declared.call.CallResult.TheVariants.{Bytes, Failed}
 use Rattle.cacache_system.specs.declared.call.CallItem.{CallItem}
 
 -- what the system said, where a method gives this
 abbrev pub said : {A : Type 0} → (A → CallResult) → Result A Error → CallResult
 said say (Ok value) = say value
 said say (Err error) = Failed (error_kind error)
+
+-- what the system said to a read to the front of a buffer
+abbrev pub said_bytes : List ℕ → Result ℕ Error → CallResult
+said_bytes buf result = said (λ n. Bytes (take n buf)) result
+
+-- what it said to one of all that was left, behind what was there before
+abbrev pub said_rest : List ℕ → List ℕ → Result ℕ Error → CallResult
+said_rest before bytes result = said (λ _. Bytes (appended_bytes before bytes)) result
 
 -- a call and what the system said as an item of a log
 abbrev pub item : SystemCall → CallResult → CallItem

@@ -1,10 +1,10 @@
 //! The system, as a store of real folders sees it.
-ghost use Rattle.std.specs.Prelude.{◌≡◌, ℕ, List, Option, take, length};
-ghost use Rattle.std.specs.Io.{ReadsAtMost, WritesAtMost, StartsWith, appended_bytes};
+ghost use Rattle.std.specs.Prelude.{◌≡◌, ℕ, List, Option, length};
+ghost use Rattle.std.specs.Io.{ReadsAtMost, WritesAtMost, StartsWith};
 ghost use Rattle.cacache_system.specs.declared.call.CallItem.{CallItem};
 ghost use Rattle.cacache_system.specs.declared.call.SystemCall.TheVariants as asks;
 ghost use Rattle.cacache_system.specs.declared.call.CallResult.TheVariants as says;
-ghost use Rattle.cacache_system.specs.CallLog.{MakesCall, said};
+ghost use Rattle.cacache_system.specs.CallLog.{MakesCall, said, said_bytes, said_rest};
 
 use crate::call::FileInfo;
 use std::io;
@@ -53,16 +53,14 @@ pub trait System {
         ensures bound { ReadsAtMost result buf.new }
         ensures same { number file.new ≡ number file.old }
         ensures logged { MakesCall (calls self.old) (calls self.new)
-            (asks.Read (number file.old) (length buf.old))
-            (said (λ n. says.Bytes (take n buf.new)) result) };
+            (asks.Read (number file.old) (length buf.old)) (said_bytes buf.new result) };
 
     /// Reads all that is left of the file behind `bytes`, in as many reads as that takes.
     fn read_rest(&mut self, file: &mut Self::File, bytes: &mut Vec<u8>) -> io::Result<usize>
         ensures appends { StartsWith bytes.new.items bytes.old.items }
         ensures same { number file.new ≡ number file.old }
         ensures logged { MakesCall (calls self.old) (calls self.new)
-            (asks.ReadRest (number file.old))
-            (said (λ _. says.Bytes (appended_bytes bytes.old.items bytes.new.items)) result) };
+            (asks.ReadRest (number file.old)) (said_rest bytes.old.items bytes.new.items result) };
 
     /// Writes some bytes from the front of `buf`.
     fn write(&mut self, file: &mut Self::File, buf: &[u8]) -> io::Result<usize>
@@ -75,9 +73,8 @@ pub trait System {
     fn read_names(&mut self, folder: &mut Self::Folder, buf: &mut [u8]) -> io::Result<usize>
         ensures bound { ReadsAtMost result buf.new }
         ensures same { folder_number folder.new ≡ folder_number folder.old }
-        ensures logged { MakesCall (calls self.old) (calls self.new)
-            (asks.ReadNames (folder_number folder.old) (length buf.old))
-            (said (λ n. says.Bytes (take n buf.new)) result) };
+        ensures logged { MakesCall (calls self.old) (calls self.new) (asks.ReadNames
+            (folder_number folder.old) (length buf.old)) (said_bytes buf.new result) };
 
     /// Waits until the file or folder would outlast a loss of power.
     fn sync(&mut self, file: &Self::File) -> io::Result<()>

@@ -23,7 +23,7 @@ use Rattle.cacache_system.specs.declared.call.SystemCall.TheVariants as asks
 use Rattle.cacache_system.specs.declared.call.CallResult.{CallResult}
 use Rattle.cacache_system.specs.declared.call.CallResult.TheVariants as says
 use Rattle.cacache_system.specs.CallsOf.{Stage, over, standing, making, confirming, below, unmade, climb, above_of, is_absent, if_folder, after}
-use Rattle.cacache_system.specs.AnswersOf.{Hint, no_hint, is_missing, in_walk, make_dirs, refuses_memory}
+use Rattle.cacache_system.specs.AnswersOf.{Hint, no_hint, is_missing, was_named, in_walk, make_dirs, refuses_memory}
 use Rattle.cacache_system_laws.specs.Machine.{Machine, IsRefused, ChangesTree, ShowsEnd, ShowsNode, Describes}
 use Rattle.cacache_system_laws.specs.Calls.{GoesWell}
 use Rattle.cacache_system_laws.specs.Laws.{outcome, Leads, IsPlain, IsDone}
@@ -64,6 +64,7 @@ part_of_dirs t path names part is = ap (λ (r : Result Names Fault). (unless r t
 begins_so : (b : Bool) (hint : Hint) (path : List ℕ) (m : Machine) (P : Claim) → Leads (way_of b) (making false path []) m P → Leads (way_of b) (standing path) m P → Leads (way_of b) (make_dirs hint path) m P
 begins_so b no_hint path m P first second = second
 begins_so b is_missing path m P first second = first
+begins_so b was_named path m P first second = second
 begins_so b (in_walk node last entered) path m P first second = second
 
 -- ---- folders that can be made

@@ -26,3 +26,4 @@ mod Chaining
 mod Logging
 mod Saying
 mod Meetings
+mod Listing

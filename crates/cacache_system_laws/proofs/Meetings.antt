@@ -1,12 +1,12 @@
 -- Each call can go well.
-use Rattle.std.proofs.Common.{◌≡◌, ◌+◌, ℕ, List, [], ◌∷◌, length, take, drop, refl, sym, subst}
+use Rattle.std.proofs.Common.{◌≡◌, ◌+◌, ℕ, List, [], ◌∷◌, ◌++◌, length, take, drop, refl, sym, ap, subst, inr}
 use Rattle.std.specs.Prelude.{Option, None, Some, Result, Ok, Err, IfSome, MatchResult}
 use Rattle.cacache_core.specs.declared.errors.Fault.{Fault}
 use Rattle.cacache_core.specs.declared.errors.Fault.TheVariants.{IsADirectory, InvalidInput}
 use Rattle.cacache_core.specs.PathNames.{Names}
 use Rattle.cacache_disk.specs.declared.node.Node.{Node}
 use Rattle.cacache_disk.specs.declared.node.Node.TheVariants.{Folder, File, Link}
-use Rattle.cacache_disk.specs.Tree.{Tree, look, put, cut, kind_of}
+use Rattle.cacache_disk.specs.Tree.{Tree, look, put, cut, kind_of, listing}
 use Rattle.cacache_disk.specs.LedTo.{place, standing, found, file_at, writable, free, replaceable, linked, removable, emptied}
 use Rattle.cacache_disk.specs.Apply.{taken, readable, lengthened}
 use Rattle.cacache_system.specs.declared.call.FileInfo.{FileInfo}
@@ -14,6 +14,8 @@ use Rattle.cacache_system.specs.declared.call.SystemCall.TheVariants as asks
 use Rattle.cacache_system.specs.declared.call.CallResult.{CallResult}
 use Rattle.cacache_system.specs.declared.call.CallResult.TheVariants as says
 use Rattle.cacache_system_laws.specs.Machine.{OpenFile, Machine, Became, IsRefused, ChangesTree, OpensIf, with_file, unread, is_regular, Describes, ShowsNode, ShowsEnd, ReadsFile, link_fault, LinksNode, CopiesBytes, CopiesTo, MovesNode, with_empty}
+use Rattle.cacache_store.specs.declared.store.answer.Name.{Name}
+use Rattle.cacache_system_laws.specs.Folders.{GivesNames, ended, HasLeft, OpensNames, OpensFolder, ReadsSome}
 use Rattle.cacache_system_laws.specs.Meeting.{HasRoom, CallsCanGoWell}
 use Rattle.cacache_system_laws.proofs.Saying.{CanSay, a_folder, Sayable, place_say, standing_say, found_say, writable_say, free_say, replaceable_say, removable_say, emptied_say, file_say, LinkSayable, linked_say}
 
@@ -26,10 +28,10 @@ can_refuse : (fault : Fault) (m : Machine) → CanSay fault → Can (IsRefused f
 can_refuse fault m (why, is, memory) = (says.Failed why, m, (why, refl, is, memory, refl))
 
 abbrev standing_on : Machine → Tree → Machine
-standing_on m t = record { tree = t; files = m.files; synced = m.synced; inodes = m.inodes }
+standing_on m t = record { tree = t; files = m.files; synced = m.synced; inodes = m.inodes; folders = m.folders }
 
 abbrev open_on : Machine → Tree → ℕ → OpenFile → Machine
-open_on m t number file = record { tree = t; files = with_file m.files number file; synced = m.synced; inodes = m.inodes }
+open_on m t number file = record { tree = t; files = with_file m.files number file; synced = m.synced; inodes = m.inodes; folders = m.folders }
 
 can_change : (m : Machine) (ends : Result Names Fault) (new : Names → Tree) → Sayable ends → Can (ChangesTree ends new m)
 can_change m (Ok names) new can = (says.Done, standing_on m (new names), (refl, (refl, refl, refl)))
@@ -98,6 +100,41 @@ can_copy : (m : Machine) (source : Result (List ℕ) Fault) (ends : Result Names
 can_copy m (Ok bytes) ends begin can = can_copy_to m bytes ends can
 can_copy m (Err fault) ends begin can = can_refuse fault m begin
 
+-- ---- folders
+
+abbrev names_given : List Name → List (List ℕ)
+names_given [] = []
+names_given (e ∷ es) = e.name ∷ names_given es
+
+gives_all : (es : List Name) → GivesNames (names_given es) es
+gives_all [] = refl
+gives_all (e ∷ es) = inr (e, es, refl, refl, gives_all es)
+
+abbrev folders_on : Machine → List (List ℕ) → Machine
+folders_on m left = record { tree = m.tree; files = m.files; synced = m.synced; inodes = m.inodes; folders = λ number. Some left }
+
+has_left : (m : Machine) (number : ℕ) (left : List (List ℕ)) → HasLeft number left m (folders_on m left)
+has_left m number left = record { tree = refl; files = refl; synced = refl; left = refl }
+
+can_list : (m : Machine) (names : Names) (o : Option Node) → Can (OpensNames names o m)
+can_list m names (Some Folder) =
+    let given = names_given (listing m.tree names) in
+    (says.Opened 0, folders_on m given, (0, given, refl, gives_all (listing m.tree names), has_left m 0 given))
+can_list m names _ = (says.Done, m, tt)
+
+can_open_folder : (m : Machine) (ends : Result Names Fault) → Sayable ends → Can (OpensFolder ends m)
+can_open_folder m (Ok names) can = can_list m names (look m.tree names)
+can_open_folder m (Err fault) can = can_refuse fault m can
+
+append-none : (xs : List (List ℕ)) → xs ≡ xs ++ []
+append-none [] = refl
+append-none (x ∷ xs) = ap (λ l. x ∷ l) (append-none xs)
+
+can_read_names : (m : Machine) (number : ℕ) (o : Option (List (List ℕ))) → Can (λ said after. IfSome o (λ left. ReadsSome number left m said after))
+can_read_names m number None = (says.Done, m, tt)
+can_read_names m number (Some left) =
+    (says.Bytes (ended left), folders_on m [], (left, [], append-none left, (λ _. refl), refl, has_left m number []))
+
 pub calls_can_go_well : CallsCanGoWell
 calls_can_go_well most m (asks.OpenToRead path) room = can_open m (found m.tree path) (λ names. m.tree) room (found_say m.tree path)
 calls_can_go_well most m (asks.CreateNew path mode) room = can_open m (free m.tree path) (λ names. put m.tree names (File [])) room (free_say m.tree path)
@@ -111,7 +148,7 @@ calls_can_go_well most m (asks.Write number bytes) room =
     (λ file. (says.Count (taken most bytes), standing_on m (lengthened m.tree file.names (take (taken most bytes) bytes)), (refl, (refl, refl, refl))))
 calls_can_go_well most m (asks.Sync number) room =
     of_open (m.files number) (λ file said after. (said ≡ says.Done) × Became m.tree m.files ((file.names, look m.tree file.names) ∷ m.synced) after) m
-    (λ file. (says.Done, record { tree = m.tree; files = m.files; synced = (file.names, look m.tree file.names) ∷ m.synced; inodes = m.inodes }, (refl, (refl, refl, refl))))
+    (λ file. (says.Done, record { tree = m.tree; files = m.files; synced = (file.names, look m.tree file.names) ∷ m.synced; inodes = m.inodes; folders = m.folders }, (refl, (refl, refl, refl))))
 calls_can_go_well most m (asks.StatFile number) room = of_open (m.files number) (λ file. ShowsNode file.names m) m (λ file. can_show_node m file.names (look m.tree file.names) refl)
 calls_can_go_well most m (asks.Stat path) room = can_show m (found m.tree path) (found_say m.tree path)
 calls_can_go_well most m (asks.StatLink path) room = can_show m (standing m.tree path) (standing_say m.tree path)
@@ -122,5 +159,5 @@ calls_can_go_well most m (asks.RemoveFolder path) room = can_change m (emptied m
 calls_can_go_well most m (asks.Symlink target path) room = can_change m (free m.tree path) (λ names. put m.tree names (Link target)) (free_say m.tree path)
 calls_can_go_well most m (asks.HardLink from to) room = can_link m (linked m.tree from) (free m.tree to) (linked_say m.tree from) (free_say m.tree to)
 calls_can_go_well most m (asks.CopyFile from to) room = can_copy m (file_at m.tree from InvalidInput) (writable m.tree to) (file_say m.tree from) (writable_say m.tree to)
-calls_can_go_well most m (asks.OpenFolder path) room = (says.Done, m, tt)
-calls_can_go_well most m (asks.ReadNames number size) room = (says.Done, m, tt)
+calls_can_go_well most m (asks.OpenFolder path) room = can_open_folder m (standing m.tree path) (standing_say m.tree path)
+calls_can_go_well most m (asks.ReadNames number size) room = can_read_names m number (m.folders number)

@@ -22,7 +22,7 @@ use Rattle.cacache_system.specs.declared.call.CallResult.{CallResult}
 use Rattle.cacache_system.specs.declared.call.CallResult.TheVariants as says
 use Rattle.cacache_system.specs.CallsOf.{Stage, over, only, comparing, descending, descend, compared, is_same_node, if_folder, after}
 use Rattle.cacache_system.specs.Seen.{NumberedStep}
-use Rattle.cacache_system.specs.AnswersOf.{Hint, no_hint, is_missing, in_walk, remove, first, answer_of, failed_with, misses}
+use Rattle.cacache_system.specs.AnswersOf.{Hint, no_hint, is_missing, was_named, in_walk, remove, first, answer_of, failed_with, misses}
 use Rattle.cacache_system_laws.specs.Machine.{Machine, Describes, ShowsEnd, ShowsNode}
 use Rattle.cacache_system_laws.specs.Laws.{step_on, led_to, Leads, Agrees}
 use Rattle.cacache_system_laws.specs.Calls.{GoesWell, LeavesPart}
@@ -91,6 +91,7 @@ module _ (b : Bool) (m : Machine) (P : Claim) (breaks : (why : ErrorKind) (n : M
   pub removes_so : (hint : Hint) (call : SystemCall) → WalkStands m hint → Leads (way_of b) (only call) m P → Leads (way_of b) (remove hint call) m P
   removes_so no_hint call all removes = removes
   removes_so is_missing call all removes = removes
+  removes_so was_named call all removes = removes
   removes_so (in_walk node last entered) call all removes =
       call_leads (way_of b) (comparing node last entered call) (asks.StatLink last) m P refl (λ end never. absurd never) (λ said n happens.
       looked (comparing node last entered call) (λ info. compared (is_same_node info node) info.kind (entered ++ last ∷ []) call) last all.0 said n happens (λ info. refl) (λ why. refl)

@@ -18,10 +18,11 @@ use Rattle.cacache_system.specs.declared.call.CallResult.{CallResult}
 use Rattle.cacache_system.specs.declared.call.CallResult.TheVariants as says
 use Rattle.cacache_system.specs.CallsOf.{interrupts}
 use Rattle.cacache_system.specs.AnswersOf.{misses, refuses_memory}
+use Rattle.cacache_system_laws.specs.Folders.{OpensFolder, ReadsFolder}
 use Rattle.cacache_system_laws.specs.Machine.{OpenFile, Machine, HasTree, IsRefused, ChangesTree, OpensIf, with_empty, ShowsEnd, ShowsOpen, ReadsOpen, WritesOpen, SyncsOpen, LinksNode, CopiesBytes, MovesNode}
 
 -- What a call says and leaves where it doesn't fail without cause. A read or a write moves all the bytes that it may, or at
--- most so many. Of listings nothing is said.
+-- most so many. A folder gives its names in the order of the tree's.
 abbrev pub GoesWell : Option ℕ → Machine → SystemCall → CallResult → Machine → Type 0
 GoesWell most m (asks.OpenToRead path) said after =
     OpensIf (found m.tree path) (λ names. m.tree) m said after
@@ -53,7 +54,9 @@ GoesWell most m (asks.HardLink from to) said after =
     LinksNode (linked m.tree from) (free m.tree to) m said after
 GoesWell most m (asks.CopyFile from to) said after =
     CopiesBytes (file_at m.tree from InvalidInput) (writable m.tree to) m said after
-GoesWell most m call said after = Unit {0}
+GoesWell most m (asks.OpenFolder path) said after =
+    OpensFolder (standing m.tree path) m said after
+GoesWell most m (asks.ReadNames number size) said after = ReadsFolder number m said after
 
 -- ---- failures without cause
 

@@ -1,4 +1,5 @@
 pub mod Machine
+pub mod Folders
 pub mod Calls
 pub mod Laws
 pub mod OneCall
@@ -8,6 +9,7 @@ pub mod Syncing
 pub mod Reading
 pub mod Writing
 pub mod Making
+pub mod Listing
 pub mod Refusals
 pub mod Fixing
 pub mod Premises

@@ -23,12 +23,14 @@ pub record OpenFile : Type 0 where
 abbrev pub SyncedNode : Type 0
 SyncedNode = Names × Option Node
 
--- what stands, the open file of each number, what was synced, latest first, and the number and device of what stands
+-- what stands, the open file of each number, what was synced, latest first, the number and device of what stands, and the
+-- names that an open folder has left to give
 pub record Machine : Type 0 where
   pub tree : Tree
   pub files : ℕ → Option OpenFile
   pub synced : List SyncedNode
   pub inodes : Names → ℕ × ℕ
+  pub folders : ℕ → Option (List (List ℕ))
 
 -- ---- what a call leaves
 

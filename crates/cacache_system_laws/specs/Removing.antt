@@ -5,7 +5,7 @@ use Rattle.cacache_core.specs.PathNames.{Names}
 use Rattle.cacache_store.specs.declared.store.step.Step.TheVariants as steps
 use Rattle.cacache_disk.specs.Tree.{Tree}
 use Rattle.cacache_disk.specs.LedTo.{folder}
-use Rattle.cacache_system.specs.AnswersOf.{Hint, no_hint, is_missing, in_walk}
+use Rattle.cacache_system.specs.AnswersOf.{Hint, no_hint, is_missing, was_named, in_walk}
 use Rattle.cacache_system_laws.specs.Machine.{Machine}
 use Rattle.cacache_system_laws.specs.Laws.{Agrees}
 
@@ -17,6 +17,7 @@ IsFolderAt t path = (names : Names) × (folder t path ≡ Ok names)
 abbrev pub WalkStands : Machine → Hint → Type 0
 WalkStands m no_hint = Unit {0}
 WalkStands m is_missing = Unit {0}
+WalkStands m was_named = Unit {0}
 WalkStands m (in_walk node last entered) = AllByRecursion (IsFolderAt m.tree) (last ∷ entered)
 
 -- a file or link is removed

@@ -1,6 +1,7 @@
 //! Laws, on functions that do nothing.
 ghost use Rattle.cacache_system_laws.specs.Chains.{RunsMirror};
 ghost use Rattle.cacache_system_laws.specs.Fixing.{SyncDirFixes, SyncFileFixes, SyncTempFixes};
+ghost use Rattle.cacache_system_laws.specs.Listing.{ReadDirGoesPlainly};
 ghost use Rattle.cacache_system_laws.specs.Logged.{LogsAgree};
 ghost use Rattle.cacache_system_laws.specs.Making.{MakeDirsAgrees};
 ghost use Rattle.cacache_system_laws.specs.Meeting.{CallsCanGoWell};
@@ -31,6 +32,11 @@ pub fn look_laws()
     ensures exists { ExistsAgrees }
     ensures size { SizeAgrees }
     ensures open { OpenAgrees }
+{}
+
+/// So does a listing, where none of its calls fails without cause.
+pub fn list_laws()
+    ensures plainly { ReadDirGoesPlainly }
 {}
 
 /// So does a read: of a whole file, and of a piece of an open one.

@@ -4,6 +4,6 @@
 mod laws;
 
 pub use laws::{
-    change_laws, covered_laws, fixing_laws, folder_laws, logged_laws, look_laws, mirror_laws,
-    model_laws, read_laws, refusal_laws, removal_laws, sync_laws, write_laws,
+    change_laws, covered_laws, fixing_laws, folder_laws, list_laws, logged_laws, look_laws,
+    mirror_laws, model_laws, read_laws, refusal_laws, removal_laws, sync_laws, write_laws,
 };

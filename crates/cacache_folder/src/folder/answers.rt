@@ -1,14 +1,10 @@
 //! Answers to the steps that make, take or give a file.
-ghost use Rattle.std.specs.Prelude.{◌≡◌, ◌^◌, ◌-◌, ◌+◌, ◌≤◌, IfOk, OnErr, length};
-ghost use Rattle.cacache_store.specs.Plain.{plain_step, plain_answer};
-ghost use Rattle.cacache_store.specs.Fits.{Fits};
+ghost use Rattle.cacache_store.specs.Plain.{plain_answer};
 ghost use Rattle.cacache_system.specs.declared.call.CallResult.TheVariants as says;
 ghost use Rattle.cacache_system.specs.CallLog.{said};
-ghost use Rattle.cacache_system.specs.AnswersOf.{answer_of};
 ghost use Rattle.cacache_folder.specs.FolderHandles.{seen_file, seen_temp};
-ghost use Rattle.cacache_folder.specs.FolderNumbers.{numbered, answered};
-ghost use Rattle.cacache_folder.specs.PartialSteps.{HandsBackWhole};
 ghost use Rattle.cacache_folder.specs.Reasons.{Explains};
+ghost use Rattle.cacache_folder.specs.StepClauses.{AnswerFits, AnswersWhole, AnswersEnd};
 
 use crate::folder::faults::failed_answer;
 use crate::folder::opened::FolderFile;
@@ -25,16 +21,11 @@ pub(crate) fn created<Y: System + Drop>(
     path: Text,
     reason: &mut Option<ErrorKind>,
 ) -> Answer<FolderFile<Y::File>, SystemTemp<Y>>
-    ensures fits { Fits (plain_step (seen_file {F = Y.File})
-        (seen_temp {Y = Y} {F = Y.File} {D = Y.Folder}) (Step.CreateTemp path))
-        (plain_answer seen_file seen_temp result) }
-    ensures whole { HandsBackWhole (plain_step (seen_file {F = Y.File})
-        (seen_temp {Y = Y} {F = Y.File} {D = Y.Folder}) (Step.CreateTemp path))
-        (plain_answer seen_file seen_temp result) }
+    ensures fits { AnswerFits {Y = Y} {F = Y.File} {D = Y.Folder} (Step.CreateTemp path) result }
+    ensures whole { AnswersWhole {Y = Y} {F = Y.File} {D = Y.Folder} (Step.CreateTemp path) result }
     ensures explains { Explains reason.old reason.new (plain_answer seen_file seen_temp result) }
-    ensures answer { answered Y.number result ≡ answer_of
-        (numbered {Y = Y} {F = Y.File} {D = Y.Folder} Y.number (Step.CreateTemp path))
-        (said (λ made. says.Opened (Y.number made.1)) created) }
+    ensures answer { AnswersEnd {Y = Y} {F = Y.File} {D = Y.Folder} Y.number (Step.CreateTemp path)
+        (said (λ made. says.Opened (Y.number made.1)) created) result }
 {
     match created {
         Ok((system, file)) => Answer::Temp(SystemTemp { system, file, path }),
@@ -48,16 +39,11 @@ pub(crate) fn synced<Y: System + Drop>(
     temp: SystemTemp<Y>,
     reason: &mut Option<ErrorKind>,
 ) -> Answer<FolderFile<Y::File>, SystemTemp<Y>>
-    ensures fits { Fits (plain_step (seen_file {F = Y.File})
-        (seen_temp {Y = Y} {F = Y.File} {D = Y.Folder}) (Step.SyncTemp temp))
-        (plain_answer seen_file seen_temp result) }
-    ensures whole { HandsBackWhole (plain_step (seen_file {F = Y.File})
-        (seen_temp {Y = Y} {F = Y.File} {D = Y.Folder}) (Step.SyncTemp temp))
-        (plain_answer seen_file seen_temp result) }
+    ensures fits { AnswerFits {F = Y.File} (Step.SyncTemp temp) result }
+    ensures whole { AnswersWhole {F = Y.File} (Step.SyncTemp temp) result }
     ensures explains { Explains reason.old reason.new (plain_answer seen_file seen_temp result) }
-    ensures answer { answered Y.number result ≡ answer_of
-        (numbered {Y = Y} {F = Y.File} {D = Y.Folder} Y.number (Step.SyncTemp temp))
-        (said (λ _. says.Done) synced) }
+    ensures answer { AnswersEnd {F = Y.File} Y.number (Step.SyncTemp temp)
+        (said (λ _. says.Done) synced) result }
 {
     match synced {
         Ok(()) => Answer::Synced(temp),
@@ -72,16 +58,11 @@ pub(crate) fn moved<Y: System + Drop>(
     path: Text,
     reason: &mut Option<ErrorKind>,
 ) -> Answer<FolderFile<Y::File>, SystemTemp<Y>>
-    ensures fits { Fits (plain_step (seen_file {F = Y.File})
-        (seen_temp {Y = Y} {F = Y.File} {D = Y.Folder}) (Step.Persist temp path))
-        (plain_answer seen_file seen_temp result) }
-    ensures whole { HandsBackWhole (plain_step (seen_file {F = Y.File})
-        (seen_temp {Y = Y} {F = Y.File} {D = Y.Folder}) (Step.Persist temp path))
-        (plain_answer seen_file seen_temp result) }
+    ensures fits { AnswerFits {F = Y.File} (Step.Persist temp path) result }
+    ensures whole { AnswersWhole {F = Y.File} (Step.Persist temp path) result }
     ensures explains { Explains reason.old reason.new (plain_answer seen_file seen_temp result) }
-    ensures answer { answered Y.number result ≡ answer_of
-        (numbered {Y = Y} {F = Y.File} {D = Y.Folder} Y.number (Step.Persist temp path))
-        (said (λ _. says.Done) moved) }
+    ensures answer { AnswersEnd {F = Y.File} Y.number (Step.Persist temp path)
+        (said (λ _. says.Done) moved) result }
 {
     match moved {
         Ok(()) => {
@@ -98,16 +79,11 @@ pub(crate) fn readable<Y: System + Drop>(
     path: Text,
     reason: &mut Option<ErrorKind>,
 ) -> Answer<FolderFile<Y::File>, SystemTemp<Y>>
-    ensures fits { Fits (plain_step (seen_file {F = Y.File})
-        (seen_temp {Y = Y} {F = Y.File} {D = Y.Folder}) (Step.Open path))
-        (plain_answer seen_file seen_temp result) }
-    ensures whole { HandsBackWhole (plain_step (seen_file {F = Y.File})
-        (seen_temp {Y = Y} {F = Y.File} {D = Y.Folder}) (Step.Open path))
-        (plain_answer seen_file seen_temp result) }
+    ensures fits { AnswerFits {Y = Y} {F = Y.File} {D = Y.Folder} (Step.Open path) result }
+    ensures whole { AnswersWhole {Y = Y} {F = Y.File} {D = Y.Folder} (Step.Open path) result }
     ensures explains { Explains reason.old reason.new (plain_answer seen_file seen_temp result) }
-    ensures answer { answered Y.number result ≡ answer_of
-        (numbered {Y = Y} {F = Y.File} {D = Y.Folder} Y.number (Step.Open path))
-        (said (λ file. says.Opened (Y.number file)) opened) }
+    ensures answer { AnswersEnd {Y = Y} {F = Y.File} {D = Y.Folder} Y.number (Step.Open path)
+        (said (λ file. says.Opened (Y.number file)) opened) result }
 {
     match opened {
         Ok(file) => Answer::File(FolderFile::new(file)),

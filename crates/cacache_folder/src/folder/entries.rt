@@ -140,7 +140,8 @@ fn kind_below<Y: System>(
     name: &[u8],
 ) -> Looked<Option<Kind>>
     ensures same { folder.new.items ≡ folder.old.items }
-    ensures ran { FindsKind folder.old.items name.now result (Y.calls system.old) (Y.calls system.new) }
+    ensures ran { FindsKind folder.old.items name.now result
+        (Y.calls system.old) (Y.calls system.new) }
 {
     let top = folder.len();
     match folder.extend_from_slice(name) {

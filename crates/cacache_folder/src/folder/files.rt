@@ -4,12 +4,12 @@ ghost use Rattle.cacache_system.specs.declared.call.SystemCall.TheVariants as as
 ghost use Rattle.cacache_system.specs.declared.call.CallResult.TheVariants as says;
 ghost use Rattle.cacache_system.specs.CallLog.{said};
 ghost use Rattle.cacache_system.specs.CallsOf as calls;
-ghost use Rattle.cacache_system.specs.CallsOf.{Purpose, RunLogged, CallsLogged};
+ghost use Rattle.cacache_system.specs.CallsOf.{RunLogged};
 ghost use Rattle.cacache_store.specs.declared.store.step.Step.TheVariants as steps;
 ghost use Rattle.cacache_store.specs.declared.store.answer.Answer.TheVariants as answers;
-ghost use Rattle.cacache_system.specs.AnswersOf.{StepRuns, misses as is_missing};
-ghost use Rattle.cacache_folder.specs.FolderNumbers.{value_or};
-ghost use Rattle.cacache_folder.specs.Goings.{onward};
+ghost use Rattle.cacache_system.specs.AnswersOf.{misses as is_missing};
+ghost use Rattle.cacache_folder.specs.Goings.{said_opened, OpensFile};
+ghost use Rattle.cacache_folder.specs.StepClauses.{ValueRuns};
 
 use crate::folder::again::ask_to_write;
 use crate::folder::refusing::unless_folder;
@@ -23,7 +23,7 @@ const PRIVATE: u32 = 0o600;
 /// A new empty file that only its owner may read and write, with a system that can remove it.
 pub(crate) fn create_temp<Y: System + Clone>(system: &mut Y, path: &str) -> io::Result<(Y, Y::File)>
     ensures { RunLogged (calls.taking_memory (calls.only (asks.CreateNew path.now 384)))
-        (said (λ made. says.Opened (Y.number made.1)) result) (Y.calls system.old) (Y.calls system.new) }
+        (said_opened (λ made. Y.number made.1) result) (Y.calls system.old) (Y.calls system.new) }
 {
     let Ok(own) = system.clone() else {
         return Err(io::Error::from(ErrorKind::OutOfMemory));
@@ -51,9 +51,7 @@ pub(crate) fn append<Y: System>(system: &mut Y, path: &str, bytes: &[u8]) -> io:
 
 /// The file or folder at the path, opened to read, and what the system says of it.
 pub(crate) fn opened<Y: System>(system: &mut Y, path: &str) -> io::Result<(Y::File, FileInfo)>
-    ensures { (purpose : Purpose) → CallsLogged (calls.opening purpose path.now)
-        (onward (λ found. calls.opened purpose (Y.number found.0) found.1) result)
-        (Y.calls system.old) (Y.calls system.new) }
+    ensures { OpensFile Y.number path.now result (Y.calls system.old) (Y.calls system.new) }
 {
     match system.open_to_read(path) {
         Ok(file) => match system.stat_file(&file) {
@@ -67,7 +65,7 @@ pub(crate) fn opened<Y: System>(system: &mut Y, path: &str) -> io::Result<(Y::Fi
 /// The file at the path, open for reading. The system would open a folder too, and fail its first read.
 pub(crate) fn open<Y: System>(system: &mut Y, path: &str) -> io::Result<Y::File>
     ensures { RunLogged (calls.opening calls.to_give path.now)
-        (said (λ file. says.Opened (Y.number file)) result) (Y.calls system.old) (Y.calls system.new) }
+        (said_opened Y.number result) (Y.calls system.old) (Y.calls system.new) }
 {
     match opened(system, path) {
         Ok((file, info)) => match unless_folder(info.kind) {
@@ -101,7 +99,7 @@ fn misses(kind: ErrorKind) -> bool
 
 /// Whether there is a file or folder at the path.
 pub(crate) fn exists<Y: System>(system: &mut Y, path: &str) -> io::Result<bool>
-    ensures { StepRuns (steps.Exists path.now) (value_or answers.There (steps.Exists path.now) result)
+    ensures { ValueRuns (steps.Exists path.now) answers.There result
         (Y.calls system.old) (Y.calls system.new) }
 {
     match system.stat(path) {

@@ -7,9 +7,8 @@ ghost use Rattle.cacache_store.specs.declared.store.answer.Answer.TheVariants as
 ghost use Rattle.cacache_system.specs.ListedNames.{with_slash};
 ghost use Rattle.cacache_system.specs.CallsOf as calls;
 ghost use Rattle.cacache_system.specs.AnswersOf as table;
-ghost use Rattle.cacache_system.specs.AnswersOf.{StepRuns};
-ghost use Rattle.cacache_folder.specs.FolderNumbers.{value_or};
-ghost use Rattle.cacache_folder.specs.Listings.{ListsNames, CutsName, ReadsNames, ReadsAllNames, OpensFolder, ListsFolder};
+ghost use Rattle.cacache_folder.specs.StepClauses.{ValueRuns};
+ghost use Rattle.cacache_folder.specs.Listings.{ListsNames, CutsName, ReadsNames, ReadsAllNames, OpensFolder, OpensPath, ListsFolder};
 
 use crate::folder::SystemStore;
 use crate::folder::again::ask_for_names;
@@ -194,8 +193,7 @@ fn open_folder<Y: System>(
     folder: &str,
     was_named: bool,
 ) -> Looked<Y::Folder>
-    ensures { folder.now ≡ with_slash path.now → OpensFolder Y.folder_number
-        (calls.opening_folder was_named path.now) path.now result
+    ensures { OpensPath Y.folder_number was_named path.now folder.now result
         (Y.calls system.old) (Y.calls system.new) }
 {
     match system.open_folder(path) {
@@ -236,8 +234,7 @@ impl<Y: System + AllocGlobal + Clone + Drop> SystemStore<Y> {
     pub(crate) fn read_dir(&mut self, path: &str) -> io::Result<Listing>
         ensures proper { IfOk result (λ listing. AreProperNames listing) }
         ensures kept { self.new.reason ≡ self.old.reason }
-        ensures ran { StepRuns (steps.ReadDir path.now)
-            (value_or (λ listing. answers.Names listing) (steps.ReadDir path.now) result)
+        ensures ran { ValueRuns (steps.ReadDir path.now) (λ listing. answers.Names listing) result
             (Y.calls self.old.system) (Y.calls self.new.system) }
     {
         let next = self.descent.next(path);

@@ -1,11 +1,11 @@
 //! Folders that are made with those on their way.
-ghost use Rattle.std.specs.Prelude.{◌≡◌, ◌<◌, ℕ, Bool, List, [], false, if◌then◌else◌, IfErr, IfSome, option_map, length};
+ghost use Rattle.std.specs.Prelude.{◌≡◌, ◌<◌, ℕ, Bool, List, false, IfErr, IfSome, option_map, length};
 ghost use Rattle.std_io.specs.IoError.{error_kind};
 ghost use Rattle.cacache_system.specs.declared.call.CallResult.TheVariants as says;
 ghost use Rattle.cacache_system.specs.CallLog.{said};
 ghost use Rattle.cacache_system.specs.CallsOf as calls;
 ghost use Rattle.cacache_system.specs.CallsOf.{Stage, RunLogged, CallsLogged, above_of, below, is_absent as absent_of};
-ghost use Rattle.cacache_folder.specs.Goings.{onward, unless, made};
+ghost use Rattle.cacache_folder.specs.Goings.{onward, made, make_first, Confirms};
 
 use crate::folder::refusing::if_folder;
 use cacache_store::store::Kind;
@@ -46,8 +46,7 @@ fn stood(kind: Kind) -> io::Result<bool>
 /// Asks whether the folder stands after all. If nothing stands there, the first error tells why.
 fn confirm<Y: System>(system: &mut Y, path: &str, first: io::Error) -> io::Result<bool>
     requires { absent_of (error_kind first) ≡ false }
-    ensures gone { (todo : List (List ℕ)) → CallsLogged
-        (calls.confirming (error_kind first) path.now todo) (onward (λ _. below todo) result)
+    ensures gone { Confirms path.now (error_kind first) result
         (Y.calls system.old) (Y.calls system.new) }
     ensures kinds { IfErr result (λ error. absent_of (error_kind error) ≡ false) }
 {
@@ -117,9 +116,8 @@ fn ask_first<Y: System>(system: &mut Y, path: &str) -> io::Result<bool>
 /// question to the system, and one that alone is missing costs one call that makes it. A wrong guess which of them it is
 /// costs one more.
 pub(crate) fn make_dirs<Y: System>(system: &mut Y, path: &str, is_guessed: bool) -> io::Result<bool>
-    ensures { RunLogged
-        (if is_guessed then calls.making false path.now [] else calls.standing path.now)
-        (said (λ _. says.Done) result) (Y.calls system.old) (Y.calls system.new) }
+    ensures { RunLogged (make_first is_guessed path.now) (said (λ _. says.Done) result)
+        (Y.calls system.old) (Y.calls system.new) }
 {
     if is_guessed {
         make_missing(system, path)

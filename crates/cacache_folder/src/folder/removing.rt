@@ -1,14 +1,9 @@
 //! Removals, which go by a path.
-ghost use Rattle.std.specs.Prelude.{◌≡◌, ℕ, List, [], ◌∷◌, ◌++◌, if◌then◌else◌};
+ghost use Rattle.std.specs.Prelude.{◌≡◌};
 ghost use Rattle.cacache_store.specs.declared.store.step.Step.TheVariants as steps;
 ghost use Rattle.cacache_store.specs.declared.store.answer.Answer.TheVariants as answers;
-ghost use Rattle.cacache_system.specs.declared.call.SystemCall.{SystemCall};
-ghost use Rattle.cacache_system.specs.CallsOf as calls;
-ghost use Rattle.cacache_system.specs.CallsOf.{CallsLogged};
-ghost use Rattle.cacache_system.specs.AnswersOf.{StepRuns};
-ghost use Rattle.cacache_folder.specs.FolderNumbers.{value_or};
-ghost use Rattle.cacache_folder.specs.Goings.{onward};
-ghost use Rattle.cacache_folder.specs.Looks.{Descends, LooksFirst, info_of};
+ghost use Rattle.cacache_folder.specs.Looks.{Descends, LooksFirst, LooksAt, LooksToLast, Decides, info_of};
+ghost use Rattle.cacache_folder.specs.StepClauses.{ValueRuns};
 
 use crate::folder::SystemStore;
 use crate::folder::folders::Folders;
@@ -26,9 +21,7 @@ fn text_of(path: &[u8]) -> &str {
 
 /// Looks whether a folder stands at the path, and no link.
 fn look_at<Y: System>(system: &mut Y, path: &str) -> io::Result<()>
-    ensures { (rest : List (List ℕ)) (call : SystemCall) → CallsLogged
-        (calls.descending path.now rest call) (onward (λ _. calls.descend rest call) result)
-        (Y.calls system.old) (Y.calls system.new) }
+    ensures { LooksAt path.now result (Y.calls system.old) (Y.calls system.new) }
 {
     match system.stat_link(path) {
         Ok(info) => match if_folder(info.kind, ErrorKind::NotADirectory) {
@@ -54,9 +47,7 @@ fn look_between<Y: System>(system: &mut Y, entered: &Folders) -> io::Result<()>
 
 /// Looks at them, and then at the last.
 fn look_at_all<Y: System>(system: &mut Y, entered: &Folders, last: &str) -> io::Result<()>
-    ensures { (call : SystemCall) → (between : List (List ℕ)) × CallsLogged
-        (calls.descend (between ++ last.now ∷ []) call) (onward (λ _. calls.only call) result)
-        (Y.calls system.old) (Y.calls system.new) }
+    ensures { LooksToLast last.now result (Y.calls system.old) (Y.calls system.new) }
 {
     match look_between(system, entered) {
         Ok(()) => look_at(system, last),
@@ -66,9 +57,7 @@ fn look_at_all<Y: System>(system: &mut Y, entered: &Folders, last: &str) -> io::
 
 /// Whether this is the folder that was listed.
 fn is_listed(info: &FileInfo, node: Node) -> bool
-    ensures { (all : List (List ℕ)) (call : SystemCall)
-        → calls.compared (calls.is_same_node info.now (info_of node)) info.now.kind all call
-        ≡ (if result then calls.only call else calls.descend all call) }
+    ensures { Decides info.now (info_of node) result }
 {
     match info.kind {
         Kind::Folder => Node::of(info).is_same(node),
@@ -119,8 +108,7 @@ impl<Y: System + AllocGlobal + Clone + Drop> SystemStore<Y> {
     /// Removes a file or a link.
     pub(crate) fn remove_file(&mut self, path: &str) -> io::Result<()>
         ensures kept { self.new.reason ≡ self.old.reason }
-        ensures ran { StepRuns (steps.RemoveFile path.now)
-            (value_or (λ _. answers.Done) (steps.RemoveFile path.now) result)
+        ensures ran { ValueRuns (steps.RemoveFile path.now) (λ _. answers.Done) result
             (Y.calls self.old.system) (Y.calls self.new.system) }
     {
         let is_due = self.descent.is_due_for_file(path);
@@ -133,8 +121,7 @@ impl<Y: System + AllocGlobal + Clone + Drop> SystemStore<Y> {
     /// Removes an empty folder.
     pub(crate) fn remove_dir(&mut self, path: &str) -> io::Result<()>
         ensures kept { self.new.reason ≡ self.old.reason }
-        ensures ran { StepRuns (steps.RemoveDir path.now)
-            (value_or (λ _. answers.Done) (steps.RemoveDir path.now) result)
+        ensures ran { ValueRuns (steps.RemoveDir path.now) (λ _. answers.Done) result
             (Y.calls self.old.system) (Y.calls self.new.system) }
     {
         let is_due = self.descent.is_due_for_folder(path);

@@ -1,13 +1,14 @@
 //! Files that are read whole, and pieces of open files.
-ghost use Rattle.std.specs.Prelude.{◌≡◌, ◌==◌, ◌+◌, ◌≤◌, ◌&&◌, not, false, IfOk, OnErr, length, min, take};
+ghost use Rattle.std.specs.Prelude.{◌≡◌, ◌==◌, ◌+◌, ◌≤◌, ◌&&◌, not, false, IfOk, OnErr, length, min};
 ghost use Rattle.std.specs.Arc.{arc_value};
 ghost use Rattle.cacache_system.specs.declared.call.SystemCall.TheVariants as asks;
 ghost use Rattle.cacache_system.specs.declared.call.CallResult.TheVariants as says;
-ghost use Rattle.cacache_system.specs.CallLog.{said};
+ghost use Rattle.cacache_system.specs.CallLog.{said, said_bytes};
 ghost use Rattle.cacache_system.specs.CallsOf as calls;
 ghost use Rattle.cacache_system.specs.CallsOf.{RunLogged};
 ghost use Rattle.cacache_system.specs.AnswersOf as table;
 ghost use Rattle.cacache_folder.specs.FolderNumbers.{numbered_file};
+ghost use Rattle.cacache_folder.specs.Goings.{piece};
 ghost use Rattle.cacache_folder.specs.Interruptions.{Insists};
 
 use crate::folder::again::ask_to_read;
@@ -39,8 +40,8 @@ fn with_rest<Y: System + AllocGlobal>(
     file: &mut Y::File,
     front: Vec<u8>,
 ) -> io::Result<Bytes>
-    ensures { RunLogged (calls.reading_rest front.items (Y.number file.old)) (said says.Bytes result)
-        (Y.calls system.old) (Y.calls system.new) }
+    ensures { RunLogged (calls.reading_rest front.items (Y.number file.old))
+        (said says.Bytes result) (Y.calls system.old) (Y.calls system.new) }
 {
     let mut bytes = front;
     match system.read_rest(file, &mut bytes) {
@@ -58,8 +59,7 @@ fn read_to<Y: System>(system: &mut Y, file: &mut Y::File, bytes: &mut Vec<u8>) -
     ensures bound { IfOk result (λ n. n ≤ length bytes.old.items) }
     ensures same { Y.number file.new ≡ Y.number file.old }
     ensures made { Insists (asks.Read (Y.number file.old) (length bytes.old.items))
-        (said (λ n. says.Bytes (take n bytes.new.items)) result)
-        (Y.calls system.old) (Y.calls system.new) }
+        (said_bytes bytes.new.items result) (Y.calls system.old) (Y.calls system.new) }
 {
     match ask_to_read(system, file, bytes) {
         Ok(count) => Ok(count),
@@ -158,8 +158,7 @@ fn read_into<Y: System>(
     ensures left { IfOk result (λ bytes. file.new.left + length bytes ≡ file.old.left) }
     ensures same { OnErr result (file.new.left ≡ file.old.left) }
     ensures number { Y.number file.new.file ≡ Y.number file.old.file }
-    ensures ran { RunLogged (calls.taking_memory (calls.trying false (asks.Read
-        (Y.number file.old.file) (length (arc_value room).items))))
+    ensures ran { RunLogged (piece (Y.number file.old.file) (length (arc_value room).items))
         (said says.Bytes result) (Y.calls system.old) (Y.calls system.new) }
 {
     let mut shared = room;

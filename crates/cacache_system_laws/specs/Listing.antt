@@ -1,0 +1,52 @@
+-- The law on listings.
+use Rattle.std.specs.Prelude.{◌≡◌, ◌==◌, ℕ, Bool, true, false, List, [], ◌∷◌, ◌++◌, Some, Ok, None, length}
+use Rattle.std.specs.List.{AllByRecursion}
+use Rattle.std.specs.Str.{is_utf8}
+use Rattle.std_io.specs.declared.io.kind.ErrorKind.TheVariants as kind
+use Rattle.cacache_core.specs.PathNames.{Names, IsProperName}
+use Rattle.cacache_store.specs.declared.store.step.Step.TheVariants as steps
+use Rattle.cacache_store.specs.declared.store.answer.Name.{Name}
+use Rattle.cacache_disk.specs.declared.luck.Luck.TheVariants.{Plain}
+use Rattle.cacache_disk.specs.declared.node.Node.{Node}
+use Rattle.cacache_disk.specs.declared.node.Node.TheVariants.{Folder}
+use Rattle.cacache_disk.specs.Tree.{Tree, look, listing, kind_of}
+use Rattle.cacache_disk.specs.LedTo.{standing, folder}
+use Rattle.cacache_disk.specs.Apply.{apply}
+use Rattle.cacache_system.specs.declared.call.CallResult.{CallResult}
+use Rattle.cacache_system.specs.declared.call.CallResult.TheVariants.{Failed}
+use Rattle.cacache_system.specs.ListedNames.{text_of, with_slash}
+use Rattle.cacache_system.specs.AnswersOf.{Hint, first}
+use Rattle.cacache_system_laws.specs.Machine.{Machine}
+use Rattle.cacache_system_laws.specs.Calls.{GoesWell}
+use Rattle.cacache_system_laws.specs.Laws.{step_on, led_to, Leads}
+
+-- an entry of a folder: its name is proper and is told as it is, and it stands under it
+pub record IsPlainEntry (t : Tree) (path : List ℕ) (names : Names) (entry : Name) : Type 0 where
+  pub proper : IsProperName entry.name
+  pub told : text_of entry.name ≡ entry.name
+  pub text : is_utf8 (with_slash path ++ entry.name) ≡ true
+  pub stands : standing t (with_slash path ++ entry.name) ≡ Ok (names ++ entry.name ∷ [])
+  pub node : Node
+  pub there : look t (names ++ entry.name ∷ []) ≡ Some node
+  pub kind : kind_of node ≡ entry.kind
+
+-- a folder stands at a path, and its entries are such
+pub record ListsPlainly (t : Tree) (path : List ℕ) : Type 0 where
+  pub names : Names
+  pub some : (length path == 0) ≡ false
+  pub stands : standing t path ≡ Ok names
+  pub folder : folder t path ≡ Ok names
+  pub there : look t names ≡ Some Folder
+  pub entries : AllByRecursion (IsPlainEntry t path names) (listing t names)
+
+-- where memory isn't refused, and a folder doesn't give too many names, it is as under plain luck
+abbrev pub IsListed : Machine → List ℕ → CallResult → Machine → Type 0
+IsListed m path end after =
+    (end ≡ Failed kind.OutOfMemory → ⊥) → (end ≡ Failed kind.FileTooLarge → ⊥)
+    → apply m.tree (step_on m (steps.ReadDir path)) Plain ≡ led_to (steps.ReadDir path) end after
+
+-- where no call fails without cause, a folder is listed
+abbrev pub ReadDirGoesPlainly : Type 0
+ReadDirGoesPlainly =
+    (m : Machine) (hint : Hint) (path : List ℕ) → ListsPlainly m.tree path
+    → Leads (GoesWell None) (first hint (steps.ReadDir path)) m (IsListed m path)
