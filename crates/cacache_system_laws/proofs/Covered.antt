@@ -4,6 +4,7 @@ use Rattle.cacache_system_laws.specs.Premises.{EachMayBreak}
 use Rattle.cacache_system_laws.proofs.Changing.{create_agrees, exists_agrees, persist_agrees, symlink_agrees, hard_link_agrees, reflink_breaks}
 use Rattle.cacache_system_laws.proofs.Copying.{copy_agrees}
 use Rattle.cacache_system_laws.proofs.Dirs.{make_dirs_agrees}
+use Rattle.cacache_system_laws.proofs.Listing.{read_dir_breaks}
 use Rattle.cacache_system_laws.proofs.Looking.{open_agrees, size_agrees}
 use Rattle.cacache_system_laws.proofs.Reading.{read_breaks}
 use Rattle.cacache_system_laws.proofs.Removing.{remove_file_agrees, remove_dir_agrees}
@@ -26,7 +27,7 @@ each_may_break m hint (steps.Symlink target p) asks = (symlink_agrees m hint tar
 each_may_break m hint (steps.Copy p q) asks = (copy_agrees m hint p q asks).breaking
 each_may_break m hint (steps.Reflink p q) asks = reflink_breaks m hint p q
 each_may_break m hint (steps.HardLink p q) (node, is) = (hard_link_agrees m hint p q node is).breaking
-each_may_break m hint (steps.ReadDir p) asks = absurd asks
+each_may_break m hint (steps.ReadDir p) (plain, fresh) = read_dir_breaks m hint p plain fresh
 each_may_break m hint (steps.RemoveFile p) asks = (remove_file_agrees m hint p asks).breaking
 each_may_break m hint (steps.RemoveDir p) asks = (remove_dir_agrees m hint p asks).breaking
 each_may_break m hint (steps.SyncTemp t) (names, bytes, stands) = (sync_temp_agrees m hint t names bytes stands).breaking

@@ -15,10 +15,10 @@ use Rattle.cacache_disk.specs.Apply.{apply}
 use Rattle.cacache_system.specs.declared.call.CallResult.{CallResult}
 use Rattle.cacache_system.specs.declared.call.CallResult.TheVariants.{Failed}
 use Rattle.cacache_system.specs.ListedNames.{text_of, with_slash}
-use Rattle.cacache_system.specs.AnswersOf.{Hint, first}
+use Rattle.cacache_system.specs.AnswersOf.{Hint, is_named, first}
 use Rattle.cacache_system_laws.specs.Machine.{Machine}
 use Rattle.cacache_system_laws.specs.Calls.{GoesWell}
-use Rattle.cacache_system_laws.specs.Laws.{step_on, led_to, Leads}
+use Rattle.cacache_system_laws.specs.Laws.{step_on, led_to, Leads, MayBreak}
 
 -- an entry of a folder: its name is proper and is told as it is, and it stands under it
 pub record IsPlainEntry (t : Tree) (path : List ℕ) (names : Names) (entry : Name) : Type 0 where
@@ -35,6 +35,7 @@ pub record ListsPlainly (t : Tree) (path : List ℕ) : Type 0 where
   pub names : Names
   pub some : (length path == 0) ≡ false
   pub stands : standing t path ≡ Ok names
+  pub slashed : standing t (with_slash path) ≡ Ok names
   pub folder : folder t path ≡ Ok names
   pub there : look t names ≡ Some Folder
   pub entries : AllByRecursion (IsPlainEntry t path names) (listing t names)
@@ -50,3 +51,9 @@ abbrev pub ReadDirGoesPlainly : Type 0
 ReadDirGoesPlainly =
     (m : Machine) (hint : Hint) (path : List ℕ) → ListsPlainly m.tree path
     → Leads (GoesWell None) (first hint (steps.ReadDir path)) m (IsListed m path)
+
+-- any of its calls may fail without cause, where no listing named the folder before
+abbrev pub ReadDirBreaks : Type 0
+ReadDirBreaks =
+    (m : Machine) (hint : Hint) (path : List ℕ) → ListsPlainly m.tree path
+    → is_named hint ≡ false → MayBreak m hint (steps.ReadDir path)

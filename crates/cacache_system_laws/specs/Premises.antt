@@ -1,18 +1,19 @@
 -- What each step asks of the machine for its law.
-use Rattle.std.specs.Prelude.{◌≡◌, ℕ, List, Ok}
+use Rattle.std.specs.Prelude.{◌≡◌, ℕ, false, List, Ok}
 use Rattle.cacache_core.specs.PathNames.{Names}
 use Rattle.cacache_store.specs.declared.store.step.Step.TheVariants.{MakeDirs, Write, Persist, Read, Copy, HardLink, ReadDir, RemoveFile, RemoveDir, SyncTemp, SyncDir}
 use Rattle.cacache_disk.specs.declared.node.Node.{Node}
 use Rattle.cacache_disk.specs.LedTo.{linked}
 use Rattle.cacache_disk.specs.Rooted.{Rooted}
 use Rattle.cacache_system.specs.Seen.{NumberedFile, NumberedTemp, NumberedStep}
-use Rattle.cacache_system.specs.AnswersOf.{Hint}
+use Rattle.cacache_system.specs.AnswersOf.{Hint, is_named}
 use Rattle.cacache_system_laws.specs.Machine.{OpenFile, Machine}
 use Rattle.cacache_system_laws.specs.Laws.{MayBreak}
 use Rattle.cacache_system_laws.specs.OneCall.{StillStands}
 use Rattle.cacache_system_laws.specs.Reading.{StaysOpen}
 use Rattle.cacache_system_laws.specs.Writing.{TellsFilesApart}
 use Rattle.cacache_system_laws.specs.Making.{HasNoLink}
+use Rattle.cacache_system_laws.specs.Listing.{ListsPlainly}
 use Rattle.cacache_system_laws.specs.Removing.{WalkStands}
 use Rattle.cacache_system_laws.specs.Syncing.{EndsInNoLink}
 
@@ -28,7 +29,7 @@ IsOpen m file = (found : OpenFile) × (bytes : List ℕ) × StaysOpen m file fou
 abbrev pub IsLinked : Machine → List ℕ → Type 0
 IsLinked m path = (node : Node) × (linked m.tree path ≡ Ok node)
 
--- What a step asks. A listing has no law, and a write has one of its own: the tree changes under it.
+-- What a step asks. A write has a law of its own: the tree changes under it.
 abbrev pub Premise : Machine → Hint → NumberedStep → Type 0
 Premise m hint (MakeDirs p) = Rooted m.tree × HasNoLink m.tree p
 Premise m hint (Write t bytes) = ⊥
@@ -36,7 +37,7 @@ Premise m hint (Persist t p) = IsStill m t
 Premise m hint (Read f max) = IsOpen m f
 Premise m hint (Copy p q) = TellsFilesApart m
 Premise m hint (HardLink p q) = IsLinked m p
-Premise m hint (ReadDir p) = ⊥
+Premise m hint (ReadDir p) = ListsPlainly m.tree p × (is_named hint ≡ false)
 Premise m hint (RemoveFile p) = WalkStands m hint
 Premise m hint (RemoveDir p) = WalkStands m hint
 Premise m hint (SyncTemp t) = IsStill m t

@@ -1,7 +1,7 @@
 //! Laws, on functions that do nothing.
 ghost use Rattle.cacache_system_laws.specs.Chains.{RunsMirror};
 ghost use Rattle.cacache_system_laws.specs.Fixing.{SyncDirFixes, SyncFileFixes, SyncTempFixes};
-ghost use Rattle.cacache_system_laws.specs.Listing.{ReadDirGoesPlainly};
+ghost use Rattle.cacache_system_laws.specs.Listing.{ReadDirBreaks, ReadDirGoesPlainly};
 ghost use Rattle.cacache_system_laws.specs.Logged.{LogsAgree};
 ghost use Rattle.cacache_system_laws.specs.Making.{MakeDirsAgrees};
 ghost use Rattle.cacache_system_laws.specs.Meeting.{CallsCanGoWell};
@@ -34,9 +34,10 @@ pub fn look_laws()
     ensures open { OpenAgrees }
 {}
 
-/// So does a listing, where none of its calls fails without cause.
+/// So does a listing of a folder that stands.
 pub fn list_laws()
     ensures plainly { ReadDirGoesPlainly }
+    ensures breaking { ReadDirBreaks }
 {}
 
 /// So does a read: of a whole file, and of a piece of an open one.
@@ -78,7 +79,7 @@ pub fn fixing_laws()
     ensures folder { SyncDirFixes }
 {}
 
-/// Each kind of step but listings and writes, at once: where it has what its law asks, and the disk's table does it, it is
+/// Each kind of step but writes, at once: where it has what its law asks, and the disk's table does it, it is
 /// as under some luck.
 pub fn covered_laws()
     ensures breaking { EachMayBreak }
