@@ -105,8 +105,9 @@ impl<Y: System + AllocGlobal + Clone + Drop> SystemStore<Y> {
     /// that goes well, or that is refused memory, leaves it. Reads and writes of open handles, and an error that a call
     /// makes itself, as of a short append, tell nothing here.
     ///
-    /// The program `uses_builds` asks it where a hard link failed, and copies in its place only where no link can be
-    /// made: the reason is another device (`CrossesDevices`), or a system without hard links (`Unsupported`).
+    /// The program `builds` of `uses_programs` asks it where a hard link failed, and copies in its place only where no
+    /// link can be made: the reason is another device (`CrossesDevices`), or a system without hard links
+    /// (`Unsupported`).
     pub fn reason(&self) -> Option<ErrorKind>
         ensures { result ≡ self.now.reason }
     {
