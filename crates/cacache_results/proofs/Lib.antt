@@ -1,4 +1,5 @@
 pub mod Told
+pub mod SureResults
 pub mod ReadResults
 pub mod WriteResults
 pub mod RemovalResults

@@ -1,5 +1,5 @@
 -- What reads and questions gave and left.
-use Rattle.std.proofs.Common.{◌≡◌, inl, inr, ℕ, Bool, true, false, List, Option, None, Some, Vec, Global, Result, Ok, Err, refl, sym, ap, subst, ◌∙◌}
+use Rattle.std.proofs.Common.{◌≡◌, inl, inr, ℕ, Bool, true, false, List, [], Option, None, Some, Vec, Global, Result, Ok, Err, refl, sym, ap, subst, ◌∙◌}
 use Rattle.std.specs.Prelude.{IfOk, IfErr, option_map}
 use Rattle.cacache_core.specs.declared.errors.Error.{Error}
 use Rattle.cacache_core.specs.declared.errors.Error.TheVariants.{OutOfMemory}
@@ -7,7 +7,6 @@ use Rattle.cacache_core.specs.declared.integrity.digest.Hash.{Hash}
 use Rattle.cacache_core.specs.Integrity.{IsIntegrity}
 use Rattle.cacache_store.specs.declared.env.Env.{Env}
 use Rattle.cacache_store.specs.declared.store.log.LogItem.{LogItem}
-use Rattle.cacache_memory.specs.Replay.{IsLog}
 use Rattle.cacache_entry.specs.declared.metadata.Metadata.{Metadata}
 use Rattle.cacache_entry.specs.Latest.{Found}
 use Rattle.cacache_entry.specs.View.{found_view}
@@ -28,6 +27,17 @@ use Rattle.cacache_sequence.proofs.Looked.{finds_found}
 use Rattle.cacache_sequence.proofs.Looks.{tree_stays}
 use Rattle.cacache_sequence.proofs.ReadsKeep.{reads_content, reads_key, reads_none}
 use Rattle.cacache_results.specs.Reads.{AskedContent, ContentReadMeans, EntryFound, GivesJust, GivesNoEntry, LinksToFile, LiesWhole, KeyLiesWhole, KeyReadMeans, LookupMeans, QuestionMeans, ContentRead, KeyRead}
+use Rattle.cacache_core.specs.PathNames.{home_of}
+use Rattle.cacache_memory.specs.Replay.{IsLog, tree_of}
+use Rattle.cacache_table.specs.Replies.{OrMemory, content_reply}
+use Rattle.cacache_value.specs.Shows.{blob_bytes, blob_there}
+use Rattle.cacache_history.specs.ShownTurns.{as_refusal}
+use Rattle.cacache_sequence.specs.Caches.{setup_at}
+use Rattle.cacache_sequence.specs.ReadAnswers.{get_on, read_on}
+use Rattle.cacache_sequence.specs.Succeeds.{exists_reply, is_yes}
+use Rattle.cacache_sequence.proofs.Standing.{caches_stand, met_reply}
+use Rattle.cacache_sequence.proofs.Succeeds.{content_reads_answer, key_reads_answer, lookups_answer, questions_answer}
+use Rattle.cacache_results.proofs.SureResults.{for_memory, for_missing, or_as}
 use Rattle.cacache_results.proofs.Told.{called, excused, looks_leave, of_memory, of_missing}
 
 -- ---- reads
@@ -62,6 +72,17 @@ linked_held : (r : Result (Vec ℕ Global) Error) (cache target held : List ℕ)
 linked_held (Ok v) cache target held i old at h = linked_whole cache target held v.items i old at h
 linked_held (Err e) cache target held i old at h = tt
 
+-- a read of bytes that meet their integrity gives them
+content_gives : (cache : List ℕ) (i : List Hash) (bytes : List ℕ) (log : List LogItem) → HasContent cache i bytes log → read_on (home_of cache) (tree_of log) i ≡ replies.Read bytes
+content_gives cache i bytes log has =
+    ap (λ b. content_reply i (as_refusal (blob_bytes (tree_of log) b))) has.content ∙ met_reply i bytes has.meets
+
+key_gives : (cache key : List ℕ) (i : List Hash) (bytes : List ℕ) (log : List LogItem) → HasKey cache key i bytes log → get_on (setup_at cache []) (tree_of log) key (found_under cache key log) ≡ replies.Read bytes
+key_gives cache key i bytes log has =
+    ap (get_on (setup_at cache []) (tree_of log) key) has.finds
+    ∙ ap (read_on (home_of cache) (tree_of log)) has.integrity
+    ∙ content_gives cache i bytes log has.content
+
 pub key_read_means : {C N : Type 0} (cache key : List ℕ) (r : Result (Vec ℕ Global) Error) (new : Env (List LogItem) C N) → IsLog new.store → KeyReadMeans cache key r new
 key_read_means cache key r new logged old sound ran =
     let c = called bytes_read (λ b. refl) r cache old.base 0 (commands.Get key) old.store new.store ran.0.0 logged in
@@ -74,6 +95,10 @@ key_read_means cache key r new logged old sound ran =
       whole = whole_of r cache key old.store new.store any;
       linked = λ i target held leads at. linked_of r cache key target held i old.store leads at (whole_of r cache key old.store new.store any);
       any = any;
+      succeeds = λ i bytes folder has.
+          for_memory bytes_read r (replies.Read bytes) tt (or_as (reply_of bytes_read r) (key_gives cache key i bytes old.store has) (key_reads_answer cache key (reply_of bytes_read r) old.store new.store folder sound c));
+      missing = λ folder lacks.
+          for_missing bytes_read r cache key (or_as (reply_of bytes_read r) (ap (get_on (setup_at cache []) (tree_of old.store) key) lacks) (key_reads_answer cache key (reply_of bytes_read r) old.store new.store folder sound c));
     }
 
 held_whole : (r : Result (Vec ℕ Global) Error) (cache : List ℕ) (i : List Hash) (old new : List LogItem) → GivesHeld cache i (reply_of bytes_read r) old new → IfOk r (λ v. LiesWhole cache i old v.items)
@@ -91,6 +116,9 @@ content_read_means cache i r new formed logged old sound ran =
       whole = held_whole r cache i old.store new.store any;
       linked = λ target held at. linked_held r cache target held i old.store at (held_whole r cache i old.store new.store any);
       any = any;
+      succeeds = λ bytes folder has.
+          for_memory bytes_read r (replies.Read bytes) tt
+          (or_as (reply_of bytes_read r) (content_gives cache i bytes old.store has) (content_reads_answer cache i (reply_of bytes_read r) old.store new.store folder (caches_stand cache old.store sound) formed c));
     }
 
 -- ---- questions
@@ -109,6 +137,8 @@ lookup_means cache key r new logged old sound ran =
       same = tree_stays cache (commands.Find key) (reply_of looked_up r) old.store new.store tt c;
       finds = f.0;
       fails = f.1;
+      succeeds = λ folder.
+          for_memory looked_up r (replies.LookedUp (found_under cache key old.store)) tt (lookups_answer cache key (reply_of looked_up r) old.store new.store folder (caches_stand cache old.store sound) c);
     }
 
 said : (r : Result Bool Error) (Stays : Type 0) (old new : List LogItem) → SaysThere Stays (reply_of replies.Exists r) old new
@@ -116,6 +146,14 @@ said : (r : Result Bool Error) (Stays : Type 0) (old new : List LogItem) → Say
 said (Ok true) Stays old new h = λ no. absurd cc
 said (Ok false) Stays old new h = λ no. h
 said (Err e) Stays old new h = tt
+
+-- a yes about bytes that lie there
+held_yes : (r : Result Bool Error) (cache : List ℕ) (i : List Hash) (bytes : List ℕ) (log : List LogItem) → HasContent cache i bytes log → OrMemory (reply_of replies.Exists r ≡ exists_reply cache i log) (reply_of replies.Exists r)
+    → IfOk r (λ there. there ≡ true)
+held_yes (Ok there) cache i bytes log has (inl m) = absurd cc
+held_yes (Ok there) cache i bytes log has (inr is) =
+    let yes : replies.Exists there ≡ replies.Exists true = is ∙ ap (λ b. replies.Exists (is_yes (blob_there (tree_of log) b))) has.content in cc
+held_yes (Err e) cache i bytes log has h = tt
 
 denied : (r : Result Bool Error) → SaysAbsent (reply_of replies.Exists r) → IfOk r (λ there. there ≡ false)
 denied (Ok true) h = absurd h
@@ -130,4 +168,7 @@ question_means cache i r new formed logged old sound ran =
       same = tree_stays cache (commands.Exists i) (reply_of replies.Exists r) old.store new.store tt c;
       there = λ bytes has. said r (HasContent cache i bytes new.store) old.store new.store (asks_content cache bytes i (reply_of replies.Exists r) old.store new.store sound has c).1;
       absent = λ none. denied r (asks_absent cache i (reply_of replies.Exists r) old.store new.store sound formed none c);
+      succeeds = λ folder.
+          for_memory replies.Exists r (exists_reply cache i old.store) tt (questions_answer cache i (reply_of replies.Exists r) old.store new.store folder (caches_stand cache old.store sound) formed c);
+      held = λ bytes folder has. held_yes r cache i bytes old.store has (questions_answer cache i (reply_of replies.Exists r) old.store new.store folder (caches_stand cache old.store sound) formed c);
     }

@@ -1,33 +1,60 @@
 -- What removals and clearings gave and left.
-use Rattle.std.proofs.Common.{◌≡◌, ℕ, List, Option, None, Some, Result, Ok, Err, refl}
+use Rattle.std.proofs.Common.{◌≡◌, inl, inr, ℕ, List, Option, None, Some, Result, Ok, Err, refl, ap, ◌∙◌, arith}
 use Rattle.std.specs.Prelude.{OnOk, IfErr, IsUtf8}
 use Rattle.cacache_core.specs.declared.errors.Error.{Error}
 use Rattle.cacache_core.specs.declared.integrity.digest.Hash.{Hash}
 use Rattle.cacache_core.specs.Integrity.{IsIntegrity}
 use Rattle.cacache_store.specs.declared.env.Env.{Env}
 use Rattle.cacache_store.specs.declared.store.log.LogItem.{LogItem}
-use Rattle.cacache_memory.specs.Replay.{IsLog}
 use Rattle.cacache_table.specs.declared.command.Command.TheVariants as commands
+use Rattle.cacache_table.specs.Inserting.{refused_cause}
 use Rattle.cacache_table.specs.Replies.{done}
 use Rattle.cacache_table.specs.Runs.{reply_of}
 use Rattle.cacache_reads.specs.Lookups.{delete_of}
-use Rattle.cacache_sequence.specs.Caches.{IsEmptyCache, IsExcused, LacksKey, Empties, RemovesKey, lies_under}
+use Rattle.cacache_sequence.specs.Caches.{HasKey, IsEmptyCache, IsExcused, LacksKey, Empties, RemovesKey, lies_under}
 use Rattle.cacache_sequence.specs.Removed.{RemovesContent}
 use Rattle.cacache_sequence.proofs.Beside.{removals_keep}
 use Rattle.cacache_sequence.proofs.Logs.{calls_grow}
+use Rattle.cacache_table.specs.declared.reply.Reply.TheVariants.{Done}
+use Rattle.cacache_core.specs.PathNames.{home_of}
+use Rattle.cacache_memory.specs.Replay.{IsLog, tree_of}
+use Rattle.cacache_value.specs.Value.{Blob}
+use Rattle.cacache_history.specs.Values.{IsThere}
+use Rattle.cacache_sequence.specs.Keeping.{found_under}
+use Rattle.cacache_sequence.specs.Succeeds.{fully_reply, removal_reply, unless_unwritable}
+use Rattle.cacache_sequence.proofs.Forms.{bare_written}
+use Rattle.cacache_sequence.proofs.Standing.{caches_stand}
+use Rattle.cacache_sequence.proofs.Succeeds.{deletions_answer, removals_answer}
+use Rattle.cacache_sequence.proofs.SureRemovals.{full_removals_answer}
+use Rattle.cacache_sequence.proofs.Unused.{others_leave_none, stays_ready}
 use Rattle.cacache_sequence.proofs.Removals.{clearings_empty, removals_last}
 use Rattle.cacache_sequence.proofs.Removed.{contents_go}
 use Rattle.cacache_sequence.proofs.RemovedKeys.{keys_go}
 use Rattle.cacache_results.specs.Removals.{ClearingMeans, ContentRemovalMeans, FullRemovalMeans, RemovalMeans}
+use Rattle.cacache_results.proofs.SureResults.{for_memory, or_as}
 use Rattle.cacache_results.proofs.Told.{called, excused}
 
 gone : (r : Result (Unit {0}) Error) (cache key : List ℕ) (old new : List LogItem) → RemovesKey cache key (reply_of done r) old new → OnOk r (LacksKey cache key new) × IfErr r (λ e. IsExcused e old new)
 gone (Ok u) cache key old new h = (h, tt)
 gone (Err e) cache key old new h = (tt, excused e old new h)
 
+removed_if : (blob : Option Blob) → IsThere blob → removal_reply blob ≡ Done
+removed_if None there = absurd there
+removed_if (Some blob) there = refl
+
+-- what a key leads to lies there
+fully_done : (cache key : List ℕ) (i : List Hash) (bytes : List ℕ) (log : List LogItem) → HasKey cache key i bytes log → fully_reply (home_of cache) (tree_of log) key (found_under cache key log) ≡ Done
+fully_done cache key i bytes log has =
+    ap (fully_reply (home_of cache) (tree_of log) key) has.finds
+    ∙ ap (λ j. removal_reply (lies_under cache j log)) has.integrity
+    ∙ ap removal_reply has.content.content
+
 pub removal_means : {C N : Type 0} (moments : C → Option (List ℕ)) (cache key : List ℕ) (r : Result (Unit {0}) Error) (new : Env (List LogItem) C N) → IsUtf8 key → IsLog new.store → RemovalMeans moments cache key r new
+unfolding refused_cause
 removal_means moments cache key r new utf8 logged old sound ran =
     let c = called done (λ u. refl) r cache old.base 0 (commands.Delete (delete_of key ran.0)) old.store new.store ran.2.0 logged in
+    let d = delete_of key ran.0 in
+    let w_written = bare_written key None ran.0 0 utf8 tt ran.1.1 (omega arith) in
     let w = removals_last cache key ran.0 (reply_of done r) old.store new.store utf8 ran.1.1 sound c in
     let told = gone r cache key old.store new.store w.1 in
     record {
@@ -36,6 +63,10 @@ removal_means moments cache key r new utf8 logged old sound ran =
       gone = told.0;
       others = removals_keep cache key ran.0 (reply_of done r) old.store new.store utf8 ran.1.1 sound c;
       fails = told.1;
+      succeeds = λ folder.
+          for_memory done r Done tt
+          (or_as (reply_of done r) (ap (unless_unwritable Done) w_written.no_cause) (deletions_answer cache d (reply_of done r) old.store new.store folder (caches_stand cache old.store sound) c));
+      ready = stays_ready cache old.store new.store (others_leave_none cache (commands.Delete d) (reply_of done r) old.store new.store c (λ none. w_written.formed) tt tt sound);
     }
 
 content_gone : (r : Result (Unit {0}) Error) (cache : List ℕ) (i : List Hash) (old new : List LogItem) → RemovesContent cache i (reply_of done r) old new
@@ -54,6 +85,9 @@ content_removal_means cache i r new formed logged old sound ran =
       gone = told.0;
       apart = w.2;
       fails = told.1;
+      succeeds = λ folder there.
+          for_memory done r Done tt (or_as (reply_of done r) (removed_if (lies_under cache i old.store) there) (removals_answer cache i (reply_of done r) old.store new.store folder (caches_stand cache old.store sound) formed c));
+      ready = stays_ready cache old.store new.store (others_leave_none cache (commands.RemoveHash i) (reply_of done r) old.store new.store c tt formed tt sound);
     }
 
 pub full_removal_means : {C N : Type 0} (cache key : List ℕ) (r : Result (Unit {0}) Error) (new : Env (List LogItem) C N) → IsLog new.store → FullRemovalMeans cache key r new
@@ -67,6 +101,9 @@ full_removal_means cache key r new logged old sound ran =
       gone = told.0;
       apart = w.2;
       fails = told.1;
+      succeeds = λ i bytes folder has.
+          for_memory done r Done tt (or_as (reply_of done r) (fully_done cache key i bytes old.store has) (full_removals_answer cache key (reply_of done r) old.store new.store folder sound c));
+      ready = stays_ready cache old.store new.store (others_leave_none cache (commands.RemoveFully key) (reply_of done r) old.store new.store c tt tt tt sound);
     }
 
 empty_after : (r : Result (Unit {0}) Error) (cache : List ℕ) (old new : List LogItem) → Empties cache (reply_of done r) old new → OnOk r (IsEmptyCache cache new)
@@ -81,4 +118,5 @@ clearing_means cache r new logged old sound ran =
       sound = w.0;
       grows = calls_grow cache commands.Clear (reply_of done r) old.store new.store c;
       empty = empty_after r cache old.store new.store w.1;
+      ready = stays_ready cache old.store new.store (others_leave_none cache commands.Clear (reply_of done r) old.store new.store c tt tt tt sound);
     }

@@ -18,6 +18,8 @@ use Rattle.cacache_table.specs.declared.command.Insert.{Insert}
 use Rattle.cacache_table.specs.declared.reply.Reply.TheVariants.{Refused, Stored}
 use Rattle.cacache_table.specs.Inserting.{entry_of, given_size, given_text, insertion, refused_cause}
 use Rattle.cacache_table.specs.Runs.{reply_of, without_message}
+use Rattle.cacache_table.specs.Storing.{insertion_of, put_commit}
+use Rattle.cacache_core.specs.Texts.{integrity_text}
 use Rattle.cacache_jobs.specs.Environment.{HasMoment}
 use Rattle.cacache_jobs.specs.Sites.{site_of}
 use Rattle.cacache_put.specs.Options.{Said, options_of}
@@ -35,7 +37,13 @@ use Rattle.cacache_sequence.proofs.Inserting.{inserts_last}
 use Rattle.cacache_sequence.proofs.Known.{excuse, known}
 use Rattle.cacache_sequence.proofs.Logs.{calls_grow}
 use Rattle.cacache_sequence.proofs.Puts.{puts_leave, puts_may_lead}
+use Rattle.cacache_sequence.proofs.Standing.{caches_stand}
+use Rattle.cacache_sequence.proofs.Succeeds.{puts_answer, insertions_answer}
+use Rattle.cacache_sequence.proofs.Unused.{others_leave_none, puts_leave_tidy, stays_ready}
 use Rattle.cacache_sequence.proofs.WritesLast.{writes_last}
+use Rattle.cacache_sequence.specs.Succeeds.{NamesFolder, IsReady, put_reply, unless_unwritable}
+use Rattle.cacache_results.specs.Success.{FailsForMemory}
+use Rattle.cacache_results.proofs.SureResults.{for_memory, so_ready}
 use Rattle.cacache_results.specs.Writes.{ContentWriteMeans, InsertionMeans, KeepsUntouched, SaysPlain, WriteMeans}
 use Rattle.cacache_results.proofs.Told.{called, excused}
 
@@ -77,6 +85,20 @@ own_of : (a : Algorithm) (cache key bytes : List ℕ) (moment : ℕ) (r : Result
 own_of a cache key bytes moment (Ok i) old new fits sound c = (puts_leave cache (plain_put a key bytes moment) i old new fits tt sound c).stored
 own_of a cache key bytes moment (Err e) old new fits sound c = tt
 
+-- such a write stores, if memory isn't refused
+keyed_succeeds : (a : Algorithm) (cache key bytes : List ℕ) (moment : ℕ) (r : Result (List Hash) Error) (old new : List LogItem) → IsUtf8 key → length bytes < 2 ^ 64 → moment < 2 ^ 64 → IsReady cache old → IsCache cache old
+    → Called cache (commands.Put (plain_put a key bytes moment)) (reply_of Stored r) old new → FailsForMemory r
+unfolding refused_cause
+keyed_succeeds a cache key bytes moment r old new utf8 small early ready sound c =
+    let p = plain_put a key bytes moment in
+    let i = insertion_of (put_commit cache p) key in
+    let w = bare_written key (Some (integrity_text (integrity_under a bytes))) moment (length bytes) utf8 (integrity_utf8 (integrity_under a bytes)) early small in
+    let fits : put_reply cache (plain_put a key bytes moment) ≡ Stored (integrity_under a bytes) = ap (unless_unwritable (Stored (integrity_under a bytes))) w.no_cause in
+    elim (puts_answer cache p (reply_of Stored r) old new c ready.folder (caches_stand cache old sound) (ready.tidy c.number)) [
+      | inl m ↦ for_memory Stored r (Stored (integrity_under a bytes)) tt (inl m)
+      | inr h ↦ for_memory Stored r (Stored (integrity_under a bytes)) tt (inr (h.0 ∙ fits))
+    ]
+
 pub write_means : {C N : Type 0} (moments : C → Option (List ℕ)) (numbers : N → Option (List ℕ)) (a : Algorithm) (cache key bytes : List ℕ) (r : Result (List Hash) Error) (new : Env (List LogItem) C N)
     → IsUtf8 key → length bytes < 2 ^ 64 → IsLog new.store → WriteMeans moments numbers a cache key bytes r new
 write_means moments numbers a cache key bytes r new utf8 small logged old sound ran =
@@ -92,6 +114,8 @@ write_means moments numbers a cache key bytes r new utf8 small logged old sound 
       leads = leads_so cache key a bytes ran.0 old.store new.store (puts_may_lead cache p (reply_of Stored r) old.store new.store fits tt sound c);
       keeps = untouched cache (Some key) (integrity_under a bytes) bytes old.store new.store (writes_keep cache p (reply_of Stored r) old.store new.store fits sound c).1;
       fails = told.1;
+      succeeds = λ ready. keyed_succeeds a cache key bytes ran.0 r old.store new.store utf8 small ran.2.1 ready sound c;
+      ready = λ ready. so_ready Stored (λ i. tt) cache r old.store new.store (λ ready. puts_leave_tidy cache p (reply_of Stored r) old.store new.store c ready.folder fits sound ready.tidy) ready;
     }
 
 -- ---- without a key
@@ -126,6 +150,13 @@ content_write_means moments numbers a cache bytes r new logged old sound ran =
       stored = told.0;
       keeps = untouched cache None (integrity_under a bytes) bytes old.store new.store kept.1;
       fails = told.1;
+      succeeds = λ ready.
+          elim (puts_answer cache p (reply_of Stored r) old.store new.store c ready.folder (caches_stand cache old.store sound) (ready.tidy c.number)) [
+            | inl m ↦ for_memory Stored r (Stored (integrity_under a bytes)) tt (inl m)
+            | inr h ↦ for_memory Stored r (Stored (integrity_under a bytes)) tt (inr h.0)
+          ];
+      ready = λ ready.
+          so_ready Stored (λ i. tt) cache r old.store new.store (λ ready. puts_leave_tidy cache p (reply_of Stored r) old.store new.store c ready.folder (no_entry a cache bytes) sound ready.tidy) ready;
     }
 
 -- ---- insertions
@@ -158,6 +189,16 @@ entry_written key said moment utf8 early plain =
     (subst (λ raw. Written (at None null raw)) (sym plain.raw_metadata)
     (bare_written key (given_text said.integrity) moment 0 utf8 (given_utf8 said.integrity) early (omega arith))))
 
+-- an insertion whose entry can be written is done, if memory isn't refused
+insertion_succeeds : (cache : List ℕ) (i : Insert) (r : Result (List Hash) Error) (old new : List LogItem) → refused_cause (insertion cache i) ≡ None → NamesFolder cache → IsCache cache old
+    → Called cache (commands.Insert i) (reply_of Stored r) old new → FailsForMemory r
+insertion_succeeds cache i r old new fits folder sound c =
+    let wanted = (insertion cache i).reply in
+    elim (insertions_answer cache i (reply_of Stored r) old new folder (caches_stand cache old sound) c) [
+      | inl m ↦ for_memory Stored r wanted tt (inl m)
+      | inr h ↦ for_memory Stored r wanted tt (inr (h ∙ ap (unless_unwritable (insertion cache i).reply) fits))
+    ]
+
 pub insertion_means : {C N : Type 0} (moments : C → Option (List ℕ)) (numbers : N → Option (List ℕ)) (cache key : List ℕ) (said : Said) (r : Result (List Hash) Error) (new : Env (List LogItem) C N)
     → IsUtf8 key → IsLog new.store → InsertionMeans moments numbers cache key said r new
 unfolding refused_cause
@@ -173,4 +214,6 @@ insertion_means moments numbers cache key said r new utf8 logged old plain sound
       leads = told.0;
       others = done.2;
       fails = told.1;
+      succeeds = λ folder. insertion_succeeds cache i r old.store new.store w.no_cause folder sound c;
+      ready = stays_ready cache old.store new.store (others_leave_none cache (commands.Insert i) (reply_of Stored r) old.store new.store c (λ none. w.formed) tt tt sound);
     }

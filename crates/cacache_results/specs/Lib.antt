@@ -7,3 +7,4 @@ pub mod Handles
 pub mod Joins
 pub mod Lists
 pub mod Losses
+pub mod Success

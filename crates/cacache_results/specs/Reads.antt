@@ -1,5 +1,5 @@
 -- What calls that only look gave their caller and left, by their results, on a store in memory.
-use Rattle.std.specs.Prelude.{◌≡◌, ◌⊎◌, ℕ, Bool, false, List, Option, None, Some, Vec, Result, Ok, IfOk, IfErr, MatchResult, option_map}
+use Rattle.std.specs.Prelude.{◌≡◌, ◌⊎◌, ℕ, Bool, true, false, List, Option, None, Some, Vec, Result, Ok, IfOk, IfErr, MatchResult, option_map}
 use Rattle.std.specs.Global.{Global}
 use Rattle.cacache_core.specs.declared.errors.Error.{Error}
 use Rattle.cacache_core.specs.declared.errors.Error.TheVariants.{EntryNotFound, OutOfMemory}
@@ -23,6 +23,8 @@ use Rattle.cacache_sequence.specs.Inserts.{leads_to}
 use Rattle.cacache_sequence.specs.Keeping.{found_under}
 use Rattle.cacache_sequence.specs.Looks.{GivesHeld, GivesOfKey, bytes_under}
 use Rattle.cacache_sequence.specs.OpenWriters.{LeavesKnownCache}
+use Rattle.cacache_sequence.specs.Succeeds.{NamesFolder}
+use Rattle.cacache_results.specs.Success.{FailsForMemory}
 
 -- Each of these calls leaves the whole store as it was: files apart from the cache too.
 
@@ -66,6 +68,10 @@ pub record KeyRead (cache key : List ℕ) (r : Result (Vec ℕ Global) Error) (o
   pub linked : (i : List Hash) (target held : List ℕ) → leads_to cache key old ≡ Some i
       → LinksToFile cache i target held old → IfOk r (λ v. v.items ≡ held)
   pub any : GivesOfKey cache key (reply_of bytes_read r) old new
+  pub succeeds : (i : List Hash) (bytes : List ℕ) → NamesFolder cache
+      → HasKey cache key i bytes old → FailsForMemory r
+  pub missing : NamesFolder cache → LacksKey cache key old
+      → IfErr r (λ e. (e ≡ EntryNotFound cache key) ⊎ (e ≡ OutOfMemory))
 
 -- a read by integrity: it gives what lies there, and whatever that is, only whole bytes
 pub record ContentRead (cache : List ℕ) (i : List Hash) (r : Result (Vec ℕ Global) Error)
@@ -77,6 +83,8 @@ pub record ContentRead (cache : List ℕ) (i : List Hash) (r : Result (Vec ℕ G
   pub linked : (target held : List ℕ) → LinksToFile cache i target held old
       → IfOk r (λ v. v.items ≡ held)
   pub any : GivesHeld cache i (reply_of bytes_read r) old new
+  pub succeeds : (bytes : List ℕ) → NamesFolder cache → HasContent cache i bytes old
+      → FailsForMemory r
 
 -- ---- questions
 
@@ -87,6 +95,7 @@ pub record EntryFound (cache key : List ℕ) (r : Result (Option Metadata) Error
   pub same : tree_of new ≡ tree_of old
   pub finds : IfOk r (λ found. option_map found_view found ≡ found_under cache key old)
   pub fails : IfErr r (λ e. IsExcused e old new)
+  pub succeeds : NamesFolder cache → FailsForMemory r
 
 -- a question whether a content is there: a no of one that is there says that a step failed
 pub record AskedContent (cache : List ℕ) (i : List Hash) (r : Result Bool Error)
@@ -96,6 +105,9 @@ pub record AskedContent (cache : List ℕ) (i : List Hash) (r : Result Bool Erro
   pub there : (bytes : List ℕ) → HasContent cache i bytes old
       → IfOk r (λ there. there ≡ false → AStepFailed old new)
   pub absent : lies_under cache i old ≡ None → IfOk r (λ there. there ≡ false)
+  pub succeeds : NamesFolder cache → FailsForMemory r
+  pub held : (bytes : List ℕ) → NamesFolder cache → HasContent cache i bytes old
+      → IfOk r (λ there. there ≡ true)
 
 -- ---- laws, of the environment that a call left
 

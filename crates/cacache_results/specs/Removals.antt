@@ -9,9 +9,12 @@ use Rattle.cacache_table.specs.Replies.{done}
 use Rattle.cacache_table.specs.Runs.{reply_of}
 use Rattle.cacache_jobs.specs.Environment.{Calls, RunsTimed}
 use Rattle.cacache_reads.specs.Lookups.{delete_of}
-use Rattle.cacache_sequence.specs.Caches.{IsCache, IsEmptyCache, IsExcused, Grows, LacksKey, lies_under}
+use Rattle.cacache_history.specs.Values.{IsThere}
+use Rattle.cacache_sequence.specs.Caches.{IsCache, IsEmptyCache, IsExcused, Grows, HasKey, LacksKey, lies_under}
 use Rattle.cacache_sequence.specs.Keeping.{KeepsOthers}
 use Rattle.cacache_sequence.specs.Removed.{KeepsApart, KeepsApartFrom}
+use Rattle.cacache_sequence.specs.Succeeds.{NamesFolder, IsReady}
+use Rattle.cacache_results.specs.Success.{FailsForMemory}
 
 -- a removal of a key: it leads to nothing, or the error is excused, and all else stays
 pub record KeyRemoved (cache key : List ℕ) (r : Result (Unit {0}) Error) (old new : List LogItem)
@@ -21,6 +24,8 @@ pub record KeyRemoved (cache key : List ℕ) (r : Result (Unit {0}) Error) (old 
   pub gone : OnOk r (LacksKey cache key new)
   pub others : KeepsOthers cache key old new
   pub fails : IfErr r (λ e. IsExcused e old new)
+  pub succeeds : NamesFolder cache → FailsForMemory r
+  pub ready : IsReady cache old → IsReady cache new
 
 -- a removal of a content: nothing lies under the integrity, or the error is excused, and all else stays
 pub record ContentRemoved (cache : List ℕ) (i : List Hash) (r : Result (Unit {0}) Error)
@@ -30,6 +35,8 @@ pub record ContentRemoved (cache : List ℕ) (i : List Hash) (r : Result (Unit {
   pub gone : OnOk r (lies_under cache i new ≡ None)
   pub apart : KeepsApart cache i old new
   pub fails : IfErr r (λ e. IsExcused e old new)
+  pub succeeds : NamesFolder cache → IsThere (lies_under cache i old) → FailsForMemory r
+  pub ready : IsReady cache old → IsReady cache new
 
 -- a removal of a key with its content and its bucket: the key leads to nothing, or the error is excused
 pub record KeyRemovedFully (cache key : List ℕ) (r : Result (Unit {0}) Error) (old new : List LogItem)
@@ -39,6 +46,9 @@ pub record KeyRemovedFully (cache key : List ℕ) (r : Result (Unit {0}) Error) 
   pub gone : OnOk r (LacksKey cache key new)
   pub apart : KeepsApartFrom cache key old new
   pub fails : IfErr r (λ e. IsExcused e old new)
+  pub succeeds : (i : List Hash) (bytes : List ℕ) → NamesFolder cache
+      → HasKey cache key i bytes old → FailsForMemory r
+  pub ready : IsReady cache old → IsReady cache new
 
 -- a clearing: the cache is empty
 pub record Cleared (cache : List ℕ) (r : Result (Unit {0}) Error) (old new : List LogItem)
@@ -46,6 +56,7 @@ pub record Cleared (cache : List ℕ) (r : Result (Unit {0}) Error) (old new : L
   pub sound : IsCache cache new
   pub grows : Grows old new
   pub empty : OnOk r (IsEmptyCache cache new)
+  pub ready : IsReady cache old → IsReady cache new
 
 -- ---- laws, of the environment that a call left
 

@@ -17,6 +17,8 @@ use Rattle.cacache_sequence.specs.Beside.{IsOther, ShareAddress}
 use Rattle.cacache_sequence.specs.Caches.{IsCache, HasContent, HasKey, IsExcused, Grows}
 use Rattle.cacache_sequence.specs.Inserts.{leads_to}
 use Rattle.cacache_sequence.specs.Keeping.{found_under, KeepsOthers}
+use Rattle.cacache_sequence.specs.Succeeds.{NamesFolder, IsReady}
+use Rattle.cacache_results.specs.Success.{FailsForMemory}
 
 -- ---- what stays
 
@@ -37,7 +39,8 @@ pub record KeepsUntouched (cache : List ℕ) (written : Option (List ℕ)) (own 
 
 -- ---- writes
 
--- a write under a key: the key leads to the bytes, or the error is excused, and what wasn't written stays
+-- a write under a key: the key leads to the bytes, or the error is excused, and what wasn't written stays. On a cache
+-- that is ready only memory fails it, and it leaves it ready
 pub record KeyWritten (a : Algorithm) (cache key bytes : List ℕ) (r : Result (List Hash) Error)
     (old new : List LogItem) : Type 0 where
   pub sound : IsCache cache new
@@ -47,6 +50,8 @@ pub record KeyWritten (a : Algorithm) (cache key bytes : List ℕ) (r : Result (
       ⊎ (leads_to cache key new ≡ Some (integrity_under a bytes))
   pub keeps : KeepsUntouched cache (Some key) (integrity_under a bytes) bytes old new
   pub fails : IfErr r (λ e. IsExcused e old new)
+  pub succeeds : IsReady cache old → FailsForMemory r
+  pub ready : IsReady cache old → IfOk r (λ i. IsReady cache new)
 
 -- a write without a key: the bytes lie under their integrity, or the error is excused
 pub record ContentWritten (a : Algorithm) (cache bytes : List ℕ) (r : Result (List Hash) Error)
@@ -56,6 +61,8 @@ pub record ContentWritten (a : Algorithm) (cache bytes : List ℕ) (r : Result (
   pub stored : IfOk r (λ i. (i ≡ integrity_under a bytes) × HasContent cache i bytes new)
   pub keeps : KeepsUntouched cache None (integrity_under a bytes) bytes old new
   pub fails : IfErr r (λ e. IsExcused e old new)
+  pub succeeds : IsReady cache old → FailsForMemory r
+  pub ready : IsReady cache old → IfOk r (λ i. IsReady cache new)
 
 -- of an entry nothing was said but its integrity and its time
 pub record SaysPlain (s : Said) : Type 0 where
@@ -73,6 +80,8 @@ pub record KeyInserted (cache key : List ℕ) (integrity : Option (List Hash))
   pub leads : IfOk r (λ i. leads_to cache key new ≡ integrity)
   pub others : KeepsOthers cache key old new
   pub fails : IfErr r (λ e. IsExcused e old new)
+  pub succeeds : NamesFolder cache → FailsForMemory r
+  pub ready : IsReady cache old → IsReady cache new
 
 -- ---- laws, of the environment that a call left
 

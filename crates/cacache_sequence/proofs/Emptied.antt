@@ -93,7 +93,7 @@ folder_ok t path names e =
     let f = and_then_ok (place t path) (λ names. where_folder (look t names) names) names e in
     place_ok t path f.0 f.1 ∙ ap Ok (folder_is (look t f.0) f.0 names f.2)
 
-home_is : (cache : List ℕ) (names : Names) → names_of cache ≡ Ok names → home_of cache ≡ Some names
+pub home_is : (cache : List ℕ) (names : Names) → names_of cache ≡ Ok names → home_of cache ≡ Some names
 unfolding names_of home_of
 home_is cache names e = by (length cache == 0) (is_bad cache) (filter is_name (pieces cache)) e
   where

@@ -49,3 +49,12 @@ pub mod GivenUp
 pub mod Linking
 pub mod Sharing
 pub mod Exported
+pub mod SureSteps
+pub mod SureSpares
+pub mod SureRuns
+pub mod SureInserts
+pub mod SurePuts
+pub mod SureReads
+pub mod Succeeds
+pub mod SureRemovals
+pub mod Unused

@@ -33,13 +33,13 @@ stays_at t p q rest None count false node is e h =
 stays_at t p q rest (Some other) count b node is e h = h t count e
 
 -- what stands stays
-stays : (t : Tree) (above rest q : Names) (count : ℕ) (node : Node) → look t q ≡ Some node → look (make_some t above rest count) q ≡ Some node
+pub stays : (t : Tree) (above rest q : Names) (count : ℕ) (node : Node) → look t q ≡ Some node → look (make_some t above rest count) q ≡ Some node
 stays t above [] q count node e = e
 stays t above (name ∷ rest) q count node e =
     stays_at t (above ++ name ∷ []) q rest (look t (above ++ name ∷ [])) count (count == 0) node refl e (λ new count e. stays new (above ++ name ∷ []) rest q count node e)
 
 -- a path leads into a folder that stands
-way_into : (t : Tree) (p rest : Names) (name : List ℕ) → Rooted t → look t (p ++ rest) ≡ Some Folder → way_fault t p (rest ++ name ∷ []) ≡ None
+pub way_into : (t : Tree) (p rest : Names) (name : List ℕ) → Rooted t → look t (p ++ rest) ≡ Some Folder → way_fault t p (rest ++ name ∷ []) ≡ None
 way_into t p [] name rooted e = refl
 way_into t p (a ∷ []) name rooted e = rw e refl
 way_into t p (a ∷ b ∷ rest) name rooted e =
@@ -139,11 +139,11 @@ no_folder home (Some Folder) names s = absurd s
 no_folder home (Some (File bytes)) names s = refl
 no_folder home (Some (Link target)) names s = refl
 
-kept_so : (t : Tree) (file : PlainTemp) (s : Stands t file) → kept t file.path ≡ Ok s.names
+pub kept_so : (t : Tree) (file : PlainTemp) (s : Stands t file) → kept t file.path ≡ Ok s.names
 unfolding kept
 kept_so t file s = rw (s.named, s.there) refl
 
-replaceable_so : (home : Option Names) (t : Tree) (path : List ℕ) (names : Names) → place t path ≡ Ok names → MayStand home (look t names) Content → replaceable t path ≡ Ok names
+pub replaceable_so : (home : Option Names) (t : Tree) (path : List ℕ) (names : Names) → place t path ≡ Ok names → MayStand home (look t names) Content → replaceable t path ≡ Ok names
 unfolding replaceable
 replaceable_so home t path names leads suits = rw leads (no_folder home (look t names) names suits)
 

@@ -84,7 +84,7 @@ bytes_shown bytes content (answers.Bytes b) held is =
     inl (ap Ok same)
 bytes_shown bytes content a held is = inr (refusal_in a, refl)
 
-met_reply : (i : List Hash) (bytes : List ℕ) → Meets i bytes → content_reply i (Ok bytes) ≡ replies.Read bytes
+pub met_reply : (i : List Hash) (bytes : List ℕ) → Meets i bytes → content_reply i (Ok bytes) ≡ replies.Read bytes
 met_reply i bytes met = by (meets i bytes) ((meets_finds i bytes).1 met)
   where
     by : (b : Bool) → b ≡ true → cond b (replies.Read bytes) (replies.Refused (IntegrityError (Check i (actual i bytes)))) ≡ replies.Read bytes

@@ -18,3 +18,4 @@ pub mod Standing
 pub mod GivenUp
 pub mod Links
 pub mod Exported
+pub mod Succeeds

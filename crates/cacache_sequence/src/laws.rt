@@ -18,6 +18,7 @@ ghost use Rattle.cacache_sequence.specs.OpenWriters.{WritersOpen, CommitsLast, C
 ghost use Rattle.cacache_sequence.specs.Puts.{PutsLeave, PutsMayLead, CommitsLeave, CommitsKeep};
 ghost use Rattle.cacache_sequence.specs.GivenUp.{GivingUpLasts};
 ghost use Rattle.cacache_sequence.specs.OpenReaders.{ReadersOpen, ReadersOpenKey};
+ghost use Rattle.cacache_sequence.specs.Succeeds.{PutsAnswer, InsertionsAnswer, DeletionsAnswer, LookupsAnswer, ContentReadsAnswer, KeyReadsAnswer, QuestionsAnswer, RemovalsAnswer, FullRemovalsAnswer, OthersLeaveNone, PutsLeaveOwn, PutsLeaveTidy, FreshIsReady, SameIsReady};
 
 use cacache_memory::MemStore;
 
@@ -126,4 +127,25 @@ pub fn parts_laws()
     ensures answers { PartsAnswer }
     ensures reads { ReadsAreParts }
     ensures writes { WritesAreParts }
+{}
+
+/// What calls answer whose steps all go well, as on a store in memory they do, unless memory is refused: each thing stands
+/// where it may, the cache's path names a folder, and no temporary file has a put's number. A put stores, unless its
+/// options refuse its bytes; a lookup, a read and a question answer what the cache holds; a removal is done where
+/// something lies. A new store has no temporary file, and a call leaves none that memory wasn't refused to.
+pub fn success_laws()
+    ensures puts { PutsAnswer }
+    ensures inserts { InsertionsAnswer }
+    ensures deletes { DeletionsAnswer }
+    ensures finds { LookupsAnswer }
+    ensures reads { ContentReadsAnswer }
+    ensures gets { KeyReadsAnswer }
+    ensures asks { QuestionsAnswer }
+    ensures removes { RemovalsAnswer }
+    ensures removes_fully { FullRemovalsAnswer }
+    ensures others { OthersLeaveNone }
+    ensures own { PutsLeaveOwn }
+    ensures tidy { PutsLeaveTidy }
+    ensures fresh { FreshIsReady }
+    ensures same { SameIsReady }
 {}

@@ -9,10 +9,11 @@
 //! | `InParts` | a call in parts, with other calls in between |
 //! | `OpenWriters`, `OpenReaders` | open handles, by their parts |
 //! | `Standing` | lookups and reads of what a loss of power left |
+//! | `Succeeds` | what calls answer whose steps all go well, and which temporary files are left |
 #![tactic(auto)]
 
 mod laws;
 mod left;
 
-pub use laws::{cache_laws, handle_laws, look_laws, parts_laws, sequence_laws};
+pub use laws::{cache_laws, handle_laws, look_laws, parts_laws, sequence_laws, success_laws};
 pub use left::standing_laws;

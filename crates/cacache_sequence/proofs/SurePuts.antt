@@ -1,0 +1,306 @@
+-- A put whose steps all go well.
+use Rattle.std.proofs.Common.{◌≡◌, inl, inr, ◌==◌, ◌<◌, ℕ, Bool, true, false, cond, List, [], ◌∷◌, ◌++◌, Option, None, Some, Result, Ok, length, take, drop, refl, sym, ap, subst, ◌∙◌, arith, append_assoc}
+use Rattle.std.specs.Prelude.{All, codes}
+use Rattle.std.specs.Int.{to_be_bytes, w64}
+use Rattle.std.proofs.lemmas.Bool.{ne_eqb}
+use Rattle.std.proofs.lemmas.List.{drop_all}
+use Rattle.hex.specs.Hex.{encode_lower}
+use Rattle.cacache_core.specs.declared.errors.Error.TheVariants.{SizeMismatch, IntegrityError}
+use Rattle.cacache_core.specs.declared.errors.Fault.{Fault}
+use Rattle.cacache_core.specs.declared.errors.Fault.TheVariants as faults
+use Rattle.cacache_core.specs.declared.errors.IntegrityFault.TheVariants.{Check}
+use Rattle.cacache_core.specs.declared.integrity.digest.Hash.{Hash}
+use Rattle.cacache_core.specs.Digests.{digest}
+use Rattle.cacache_core.specs.Integrity.{IsHash, hash_of}
+use Rattle.cacache_core.specs.PathNames.{Names, names_of, IsProperName}
+use Rattle.cacache_core.specs.Paths.{content_names, folder_names, temp_names}
+use Rattle.cacache_core.proofs.ProperNames.{names_are_proper}
+use Rattle.cacache_store.specs.declared.store.plain.PlainTemp.{PlainTemp}
+use Rattle.cacache_store.specs.declared.store.step.Step.TheVariants as steps
+use Rattle.cacache_store.specs.declared.store.answer.Answer.TheVariants as answers
+use Rattle.cacache_store.specs.Plain.{PlainStep, PlainAnswer}
+use Rattle.cacache_disk.specs.declared.luck.Luck.TheVariants.{Plain}
+use Rattle.cacache_disk.specs.declared.node.Node.{Node}
+use Rattle.cacache_disk.specs.declared.node.Node.TheVariants.{Folder, File, Link}
+use Rattle.cacache_disk.specs.Tree.{Tree, look, put, cut, same_path}
+use Rattle.cacache_disk.specs.LedTo.{place}
+use Rattle.cacache_disk.specs.Rooted.{Rooted}
+use Rattle.cacache_disk.specs.Apply.{apply, make_some, made_temp, grown, taken}
+use Rattle.cacache_disk.proofs.PutNodes.{look-cut}
+use Rattle.cacache_disk.proofs.Roots.{same_self}
+use Rattle.cacache_table.specs.declared.carried.Commit.{Commit}
+use Rattle.cacache_table.specs.declared.command.Command.TheVariants as commands
+use Rattle.cacache_table.specs.declared.command.Put.{Put}
+use Rattle.cacache_table.specs.declared.reply.Reply.{Reply}
+use Rattle.cacache_table.specs.declared.reply.Reply.TheVariants.{Stored, Refused}
+use Rattle.cacache_table.specs.Common.{fails, ends_with, sync_up}
+use Rattle.cacache_table.specs.Inserting.{insert}
+use Rattle.cacache_table.specs.State.{State, doing, creating, writing, syncing, persisting, over, Site, make_folder}
+use Rattle.cacache_table.specs.StepPaths.{temp_path, temp_folder, content_path, content_folder, content_folders}
+use Rattle.cacache_table.specs.Table.{opening}
+use Rattle.cacache_table.specs.Storing.{insertion_of, indexed, sized, compared, placed, secured, matches, move_in, persist, write_rest, after_write, put_commit, store}
+use Rattle.cacache_table.proofs.Branches.{cond_leads}
+use Rattle.cacache_value.specs.Kinds.{Content, Temporary, Way, path_kind, IsFor}
+use Rattle.cacache_value.specs.Placed.{Proper}
+use Rattle.cacache_value.proofs.FoundPaths.{suits}
+use Rattle.cacache_history.proofs.Digests.{digest_hash}
+use Rattle.cacache_sequence.specs.Succeeds.{keyed_reply, sized_reply, compared_reply, put_reply}
+use Rattle.cacache_sequence.proofs.MadeNodes.{Stands}
+use Rattle.cacache_sequence.proofs.SureInserts.{Spares, Inserted, inserts_so, one_behind, proper_folder}
+use Rattle.cacache_sequence.proofs.SureRuns.{EndsSo, ends, ends_too, goes, syncs, both}
+use Rattle.cacache_sequence.proofs.SureSpares.{dirs_spare, put_other}
+use Rattle.cacache_sequence.proofs.SureSteps.{Ground, Lies, SyncsAll, goes_to, joined_lies, is_for, place_at, place_in, makes_dirs, dirs_ground, dirs_stand, dirs_keep, creates, persists, look_own, syncs_folders}
+
+-- ---- paths
+
+module _ (cache : List ℕ) (home : Names) (is : names_of cache ≡ Ok home) where
+  temp_proper : (number : ℕ) → All IsProperName (temp_names number)
+  temp_proper number = names_are_proper.temporaries number
+
+  pub temp_lies : (number : ℕ) → Lies home (temp_path cache number) (temp_names number) Temporary
+  unfolding temp_path
+  temp_lies number = joined_lies cache home (temp_names number) Temporary is (temp_proper number) (omega arith) refl
+
+  temp_folder_lies : Lies home (temp_folder cache) (folder_names (temp_names 0)) Way
+  unfolding temp_folder
+  temp_folder_lies = joined_lies cache home (folder_names (temp_names 0)) Way is (proper_folder (temp_names 0) (temp_proper 0)) (omega arith) refl
+
+  module _ (h : Hash) (hs : List Hash) (hash : IsHash h) where
+    pub content_lies : Lies home (content_path cache (h ∷ hs)) (content_names h) Content
+    unfolding content_path
+    content_lies = joined_lies cache home (content_names h) Content is (names_are_proper.contents h hash) (omega arith) refl
+
+    content_folder_lies : Lies home (content_folder cache (h ∷ hs)) (folder_names (content_names h)) Way
+    unfolding content_folder
+    content_folder_lies = joined_lies cache home (folder_names (content_names h)) Way is (proper_folder (content_names h) (names_are_proper.contents h hash)) (omega arith) refl
+
+    content_synced : (t : Tree) (node : Node) → Rooted t → look t (home ++ content_names h) ≡ Some node → SyncsAll t (content_folders cache (h ∷ hs))
+    unfolding content_folders
+    content_synced t node rooted there = syncs_folders t cache home (content_names h) node rooted is (names_are_proper.contents h hash) there
+
+-- a temporary file's path is one
+pub own_temporary_at : (cache : List ℕ) (home : Names) (is : names_of cache ≡ Ok home) (number : ℕ) → path_kind (Some home) (home ++ temp_names number) ≡ Temporary
+own_temporary_at cache home is number = (temp_lies cache home is number).kind
+
+-- ---- once the content is there
+
+module _ (cache : List ℕ) (home : Names) (is : names_of cache ≡ Ok home) (p : Put) (q : Names) (temporary : path_kind (Some home) q ≡ Temporary) where
+  abbrev c : Commit
+  c = put_commit cache p
+
+  -- the reply is this one, and no temporary file stands there
+  abbrev pub PutSo : Reply → Tree → Reply → Type 0
+  PutSo wanted t r = (r ≡ wanted) × (look t q ≡ None)
+
+  module _ (t : Tree) (g : Ground home t) (none : look t q ≡ None) where
+    -- the state leads to this reply
+    abbrev Leads : Reply → State → Type 0
+    Leads wanted s = EndsSo (PutSo wanted) t s
+
+    by_key : (key : Option (List ℕ)) → Leads (keyed_reply (put_commit cache p) key) (indexed (put_commit cache p) key)
+    by_key None = ends (PutSo (Stored c.computed)) t (Stored c.computed) (refl, none)
+    by_key (Some key) =
+        let i = insertion_of (put_commit cache p) key in
+        let wanted = keyed_reply (put_commit cache p) (Some key) in
+        ends_too (Inserted i home is t g wanted) (PutSo wanted) (λ new r h. (h.0, h.1 q temporary none)) t (insert i) (inserts_so i home is t g)
+
+    by_size : (size : Option ℕ) → Leads (sized_reply (put_commit cache p) size) (sized (put_commit cache p) size)
+    by_size None = by_key p.key
+    by_size (Some wanted) =
+        both Leads (wanted == length p.data) (keyed_reply (put_commit cache p) p.key) (Refused (SizeMismatch wanted (length p.data))) (indexed (put_commit cache p) p.key) (ends_with (SizeMismatch wanted (length p.data)))
+        (by_key p.key)
+        (ends (PutSo (Refused (SizeMismatch wanted (length p.data)))) t (Refused (SizeMismatch wanted (length p.data))) (refl, none))
+
+    by_integrity : (expected : Option (List Hash)) → Leads (compared_reply (put_commit cache p) expected) (compared (put_commit cache p) expected)
+    by_integrity None = by_size p.options.size
+    by_integrity (Some expected) =
+        let unmet = Refused (IntegrityError (Check expected c.computed)) in
+        both Leads (matches expected c.computed) (sized_reply (put_commit cache p) p.options.size) unmet (sized (put_commit cache p) p.options.size) (ends_with (IntegrityError (Check expected c.computed)))
+        (by_size p.options.size) (ends (PutSo unmet) t unmet (refl, none))
+
+    pub placed_ends : Leads (put_reply cache p) (placed (put_commit cache p))
+    placed_ends = by_integrity p.options.integrity
+
+-- ---- from a full temporary file on
+
+ok_same : (a b : Names) → ◌≡◌ {A = Result Names Fault} (Ok a) (Ok b) → a ≡ b
+ok_same a b e = cc
+
+module _ (cache : List ℕ) (home : Names) (is : names_of cache ≡ Ok home) (p : Put) (number : ℕ) (t : Tree) (g : Ground home t) (file : PlainTemp) (s : Stands t file) (path_is : file.path ≡ temp_path cache number) where
+  abbrev h : Hash
+  h = hash_of p.options.algorithm (digest p.options.algorithm p.data)
+
+  hash : IsHash h
+  hash = digest_hash p.options.algorithm p.data
+
+  -- the path of the temporary file
+  abbrev pub own : Names
+  own = home ++ temp_names number
+
+  abbrev Ended : Reply → Tree → Reply → Type 0
+  Ended = PutSo cache home is p own (own_temporary_at cache home is number)
+
+  abbrev front : Names
+  front = folder_names (content_names h)
+
+  folder_lies : Lies home (content_folder cache (put_commit cache p).computed) front Way
+  folder_lies = content_folder_lies cache home is h [] hash
+
+  lies : Lies home (content_path cache (put_commit cache p).computed) (content_names h) Content
+  lies = content_lies cache home is h [] hash
+
+  -- the tree with the content's folders
+  abbrev made : Tree
+  made = make_some t [] (home ++ front) (length (home ++ front))
+
+  made_ground : Ground home made
+  made_ground = dirs_ground home t g (content_folder cache (put_commit cache p).computed) front folder_lies
+
+  -- the file stands there still
+  abbrev still : Stands made file
+  still = record {
+    names = s.names;
+    bytes = s.bytes;
+    was = s.was;
+    known_to_be = s.known_to_be;
+    named = s.named;
+    there = dirs_keep home t g (content_folder cache (put_commit cache p).computed) front folder_lies s.names (File s.was) s.there;
+  }
+
+  led : place made (content_path cache (put_commit cache p).computed) ≡ Ok (home ++ content_names h)
+  led =
+      let name = drop 4 (encode_lower h.digest) in
+      place_in made (content_path cache (put_commit cache p).computed) (home ++ front) (drop 4 (encode_lower h.digest)) made_ground.rooted
+      (lies.named ∙ ap Ok (one_behind home front name)) (dirs_stand home t g (content_folder cache (put_commit cache p).computed) front folder_lies)
+      ∙ ap Ok (sym (one_behind home front name))
+
+  -- the tree with the content
+  abbrev stored : Tree
+  stored = put (cut made s.names) (home ++ content_names h) (File s.bytes)
+
+  persisted : apply made (steps.Persist file (content_path cache (put_commit cache p).computed)) Plain ≡ (answers.Done, stored)
+  persisted =
+      persists home made file (content_path cache (put_commit cache p).computed) (home ++ content_names h) still led
+      (suits (Some home) made (home ++ content_names h) Content lies.kind made_ground.placed)
+
+  proper : Proper (Some home) (steps.Persist file (content_path cache (put_commit cache p).computed))
+  proper = (
+    subst (λ x. IsFor (Some home) Temporary x) (sym path_is) (is_for home (temp_path cache number) (temp_names number) Temporary (temp_lies cache home is number)),
+    is_for home (content_path cache (put_commit cache p).computed) (content_names h) Content lies,
+  )
+
+  stored_ground : Ground home stored
+  stored_ground = goes_to home made stored (steps.Persist file (content_path cache (put_commit cache p).computed)) answers.Done made_ground proper persisted
+
+  -- the file's names are those of its path
+  own_names : s.names ≡ own
+  own_names =
+      let both : Ok s.names ≡ Ok own = sym s.named ∙ ap names_of path_is ∙ (temp_lies cache home is number).named in
+      ok_same s.names own both
+
+  gone : look stored own ≡ None
+  gone =
+      put_other (Some home) own (own_temporary_at cache home is number) (cut made s.names) Content (home ++ content_names h) (File s.bytes) lies.kind (λ differ. absurd cc)
+      (ap (λ n. look (cut made n) own) own_names ∙ look-cut made own own ∙ ap (λ b. cond b None (look made own)) (same_self own))
+
+  secured_ends : EndsSo (Ended (put_reply cache p)) stored (secured (put_commit cache p))
+  secured_ends =
+      let Q = Ended (put_reply cache p) in
+      let placed_now = placed_ends cache home is p own (own_temporary_at cache home is number) stored stored_ground gone in
+      cond_leads (EndsSo (Ended (put_reply cache p)) stored) p.options.durable _ _
+      (λ durable.
+      syncs Q stored (placed (put_commit cache p)) (content_folders cache (put_commit cache p).computed)
+      (content_synced cache home is h [] hash stored (File s.bytes) stored_ground.rooted (look_own (cut made s.names) (home ++ content_names h) (File s.bytes))) placed_now)
+      (λ plain. placed_now)
+
+  moved_in : EndsSo (Ended (put_reply cache p)) made (persisting (put_commit cache p) file)
+  moved_in =
+      goes (Ended (put_reply cache p)) made stored (persisting (put_commit cache p) file) (steps.Persist file (content_path cache (put_commit cache p).computed)) answers.Done refl persisted secured_ends
+
+  synced : apply made (steps.SyncTemp file) Plain ≡ (answers.Synced file, made)
+  unfolding apply
+  synced = refl
+
+  pub persist_ends : EndsSo (Ended (put_reply cache p)) t (persist (put_commit cache p) file)
+  persist_ends =
+      let Q = Ended (put_reply cache p) in
+      let folder = content_folder cache (put_commit cache p).computed in
+      goes Q t made (doing (make_folder folder) (move_in (put_commit cache p) file)) (steps.MakeDirs folder) answers.Done refl
+      (makes_dirs home t g folder front folder_lies)
+      (cond_leads (EndsSo (Ended (put_reply cache p)) made) p.options.durable _ _
+      (λ durable. goes Q made made (syncing (put_commit cache p) file) (steps.SyncTemp file) (answers.Synced file) refl synced moved_in)
+      (λ plain. moved_in))
+
+-- ---- from the opening on
+
+module _ (cache : List ℕ) (home : Names) (is : names_of cache ≡ Ok home) (p : Put) (number : ℕ) (base : List ℕ) (t : Tree) (g : Ground home t) (none : look t (home ++ temp_names number) ≡ None) where
+  abbrev Opened : Tree → Reply → Type 0
+  Opened = PutSo cache home is p (home ++ temp_names number) (own_temporary_at cache home is number) (put_reply cache p)
+
+  -- the tree with the folder of temporary files
+  abbrev with_folder : Tree
+  with_folder = make_some t [] (home ++ folder_names (temp_names 0)) (length (home ++ folder_names (temp_names 0)))
+
+  folder_ground : Ground home with_folder
+  folder_ground = dirs_ground home t g (temp_folder cache) (folder_names (temp_names 0)) (temp_folder_lies cache home is)
+
+  still_none : look with_folder (home ++ temp_names number) ≡ None
+  still_none =
+      let spared = dirs_spare (Some home) (home ++ temp_names number) (own_temporary_at cache home is number) t (temp_folder cache) g.placed (is_for home (temp_folder cache) (folder_names (temp_names 0)) Way (temp_folder_lies cache home is)) none in
+      ap (λ (r : PlainAnswer × Tree). look r.1 (home ++ temp_names number)) (sym (makes_dirs home t g (temp_folder cache) (folder_names (temp_names 0)) (temp_folder_lies cache home is))) ∙ spared
+
+  abbrev name : List ℕ
+  name = codes ".tmp" ++ encode_lower (to_be_bytes w64 number)
+
+  -- the tree with the empty temporary file
+  abbrev with_file : Tree
+  with_file = put with_folder (home ++ temp_names number) (File [])
+
+  made_file : apply with_folder (steps.CreateTemp (temp_path cache number)) Plain ≡ (answers.Temp (made_temp (temp_path cache number)), with_file)
+  made_file =
+      let seam = one_behind home (folder_names (temp_names 0)) name in
+      let made = creates with_folder (temp_path cache number) (home ++ folder_names (temp_names 0)) name folder_ground.rooted ((temp_lies cache home is number).named ∙ ap Ok seam)
+          (dirs_stand home t g (temp_folder cache) (folder_names (temp_names 0)) (temp_folder_lies cache home is)) (ap (look with_folder) (sym seam) ∙ still_none) in
+      made ∙ ap (λ n. (answers.Temp (made_temp (temp_path cache number)), put with_folder n (File []))) (sym seam)
+
+  file_ground : Ground home with_file
+  file_ground =
+      goes_to home with_folder with_file (steps.CreateTemp (temp_path cache number)) (answers.Temp (made_temp (temp_path cache number))) folder_ground
+      (is_for home (temp_path cache number) (temp_names number) Temporary (temp_lies cache home is number)) made_file
+
+  -- a file at this path of these bytes
+  abbrev full : List ℕ → PlainTemp
+  full bytes = record { path = temp_path cache number; bytes = Some bytes }
+
+  stands : (bytes : List ℕ) → Stands with_file (full bytes)
+  stands bytes = record {
+    names = home ++ temp_names number;
+    bytes = bytes;
+    was = [];
+    known_to_be = refl;
+    named = (temp_lies cache home is number).named;
+    there = look_own with_folder (home ++ temp_names number) (File []);
+  }
+
+  from_full : (bytes : List ℕ) → EndsSo Opened with_file (persist (put_commit cache p) (full bytes))
+  from_full bytes = persist_ends cache home is p number with_file file_ground (full bytes) (stands bytes) refl
+
+  wrote : (b : ℕ) (bs : List ℕ) → apply with_file (steps.Write (full []) (b ∷ bs)) Plain ≡ (answers.Wrote (full (take (length (b ∷ bs)) (b ∷ bs))) (length (b ∷ bs)), with_file)
+  unfolding apply
+  wrote b bs = refl
+
+  from_file : (bytes : List ℕ) → EndsSo Opened with_file (write_rest (put_commit cache p) (full []) bytes)
+  from_file [] = from_full []
+  from_file (b ∷ bs) =
+      let n = length (b ∷ bs) in
+      let now = full (take (length (b ∷ bs)) (b ∷ bs)) in
+      goes Opened with_file with_file (writing (put_commit cache p) (full []) (b ∷ bs)) (steps.Write (full []) (b ∷ bs)) (answers.Wrote now n) refl (wrote b bs)
+      (cond_leads (EndsSo Opened with_file) (length (b ∷ bs) == 0) (fails faults.WriteZero) (write_rest (put_commit cache p) now (drop n (b ∷ bs)))
+      (λ zero. let differ : true ≡ false = sym zero ∙ ne_eqb (length (b ∷ bs)) 0 (λ e. absurd (omega arith)) in absurd cc)
+      (λ some. subst (λ rest. EndsSo Opened with_file (write_rest (put_commit cache p) now rest)) (sym (drop_all n (b ∷ bs) (omega arith))) (from_full (take (length (b ∷ bs)) (b ∷ bs)))))
+
+  pub puts_so : EndsSo Opened t (opening (record { cache = cache; base = base; number = number }) (commands.Put p))
+  puts_so =
+      goes Opened t with_folder (doing (make_folder (temp_folder cache)) (creating number (put_commit cache p) p.data)) (steps.MakeDirs (temp_folder cache)) answers.Done refl
+      (makes_dirs home t g (temp_folder cache) (folder_names (temp_names 0)) (temp_folder_lies cache home is))
+      (goes Opened with_folder with_file (creating number (put_commit cache p) p.data) (steps.CreateTemp (temp_path cache number)) (answers.Temp (full [])) refl made_file (from_file p.data))

@@ -1,0 +1,22 @@
+use Rattle.cacache_sequence.proofs.Succeeds.{puts_answer, insertions_answer, deletions_answer, lookups_answer, content_reads_answer, key_reads_answer, questions_answer, removals_answer}
+use Rattle.cacache_sequence.proofs.SureRemovals.{full_removals_answer}
+use Rattle.cacache_sequence.proofs.Unused.{others_leave_none, puts_leave_own, puts_leave_tidy, fresh_is_ready, same_is_ready}
+use Rattle.cacache_sequence.proofs.laws.success_laws.Goals as goal
+
+pub returns : goal.returns
+returns c = record {
+  puts = puts_answer;
+  inserts = insertions_answer;
+  deletes = deletions_answer;
+  finds = lookups_answer;
+  reads = content_reads_answer;
+  gets = key_reads_answer;
+  asks = questions_answer;
+  removes = removals_answer;
+  removes_fully = full_removals_answer;
+  others = others_leave_none;
+  own = puts_leave_own;
+  tidy = puts_leave_tidy;
+  fresh = fresh_is_ready;
+  same = same_is_ready;
+}

@@ -1,0 +1,243 @@
+-- Calls on a store in memory whose steps all go well: what they answer, if memory isn't refused.
+use Rattle.std.specs.Prelude.{◌≡◌, ◌<◌, ◌^◌, ◌==◌, ℕ, Bool, true, false, List, [], Option, None, Some, Ok, if◌then◌else◌}
+use Rattle.sha1.specs.Sha1.{sha1}
+use Rattle.cacache_core.specs.declared.errors.Error.TheVariants.{SizeMismatch, SerdeError, IoError, IntegrityError, OutOfMemory}
+use Rattle.cacache_core.specs.declared.errors.Fault.TheVariants.{NotFound}
+use Rattle.cacache_core.specs.declared.errors.IntegrityFault.TheVariants.{Check}
+use Rattle.cacache_core.specs.declared.errors.SerdeCause.{SerdeCause}
+use Rattle.cacache_core.specs.declared.integrity.digest.Hash.{Hash}
+use Rattle.cacache_core.specs.Integrity.{IsIntegrity, address}
+use Rattle.cacache_core.specs.PathNames.{Names, names_of, home_of}
+use Rattle.cacache_core.specs.Paths.{temp_names}
+use Rattle.cacache_store.specs.declared.store.answer.Answer.TheVariants.{There}
+use Rattle.cacache_store.specs.declared.store.log.LogItem.{LogItem}
+use Rattle.cacache_store.specs.Plain.{PlainAnswer}
+use Rattle.cacache_disk.specs.Tree.{Tree}
+use Rattle.cacache_memory.specs.Replay.{tree_of}
+use Rattle.cacache_entry.specs.Latest.{Found}
+use Rattle.cacache_table.specs.declared.carried.Commit.{Commit}
+use Rattle.cacache_table.specs.declared.command.Command.{Command}
+use Rattle.cacache_table.specs.declared.command.Command.TheVariants as commands
+use Rattle.cacache_table.specs.declared.command.Delete.{Delete}
+use Rattle.cacache_table.specs.declared.command.Insert.{Insert}
+use Rattle.cacache_table.specs.declared.command.Put.{Put}
+use Rattle.cacache_table.specs.declared.reply.Reply.{Reply}
+use Rattle.cacache_table.specs.declared.reply.Reply.TheVariants.{Stored, LookedUp, Exists, Done, Refused}
+use Rattle.cacache_table.specs.Inserting.{insertion, deletion, refused_cause}
+use Rattle.cacache_table.specs.Licence.{Licence, KeepsTo, looking_on}
+use Rattle.cacache_table.specs.Replies.{OrMemory}
+use Rattle.cacache_table.specs.Sound.{MayBegin}
+use Rattle.cacache_table.specs.State.{Insertion}
+use Rattle.cacache_table.specs.Storing.{insertion_of, matches, put_commit}
+use Rattle.cacache_value.specs.Kinds.{node_below}
+use Rattle.cacache_value.specs.Shows.{blob_there}
+use Rattle.cacache_value.specs.Value.{value_of_tree}
+use Rattle.cacache_history.specs.History.{NamesIntegrity}
+use Rattle.cacache_history.specs.ShownTurns.{blob_at}
+use Rattle.cacache_history.specs.Setup.{call_site, may_export, is_outside}
+use Rattle.cacache_sequence.specs.Beside.{FitsEntry}
+use Rattle.cacache_sequence.specs.Caches.{IsCache, Called, setup_at, lies_under}
+use Rattle.cacache_sequence.specs.Keeping.{found_under}
+use Rattle.cacache_sequence.specs.ReadAnswers.{get_on, read_on}
+use Rattle.cacache_sequence.specs.Standing.{IsStanding}
+
+-- ---- where no step fails
+
+-- a cache's path names a folder: it isn't empty, and has no NUL and no name `..`
+abbrev pub NamesFolder : List ℕ → Type 0
+NamesFolder cache = (home : Names) × (names_of cache ≡ Ok home)
+
+-- nothing stands where the temporary file of this number would
+abbrev pub IsUnused : List ℕ → ℕ → List LogItem → Type 0
+IsUnused cache number log = node_below (home_of cache) (tree_of log) (temp_names number) ≡ None
+
+-- no temporary file is left
+abbrev pub IsTidy : List ℕ → List LogItem → Type 0
+IsTidy cache log = (number : ℕ) → IsUnused cache number log
+
+-- the cache's path names a folder, and no temporary file is left in it
+pub record IsReady (cache : List ℕ) (log : List LogItem) : Type 0 where
+  pub folder : NamesFolder cache
+  pub tidy : IsTidy cache log
+
+-- what was unused is so still
+abbrev pub StaysUnused : List ℕ → List LogItem → List LogItem → Type 0
+StaysUnused cache old new =
+    (number : ℕ) → IsUnused cache number old → IsUnused cache number new
+
+-- ---- what a put and an insertion answer
+
+-- that the entry can't be written, if so
+abbrev pub unless_unwritable : Reply → Option SerdeCause → Reply
+unless_unwritable reply None = reply
+unless_unwritable reply (Some cause) = Refused (SerdeError cause [])
+
+-- an insertion is done, unless its entry can't be written
+abbrev pub insertion_reply : Insertion → Reply
+insertion_reply i = unless_unwritable i.reply (refused_cause i)
+
+-- a commit without a key stored its bytes, one with a key inserts its entry
+abbrev pub keyed_reply : Commit → Option (List ℕ) → Reply
+keyed_reply c None = Stored c.computed
+keyed_reply c (Some key) = insertion_reply (insertion_of c key)
+
+-- where a size is expected, the bytes are to be as many
+abbrev pub sized_reply : Commit → Option ℕ → Reply
+sized_reply c None = keyed_reply c c.key
+sized_reply c (Some wanted) =
+    if wanted == c.count then keyed_reply c c.key else Refused (SizeMismatch wanted c.count)
+
+-- where an integrity is expected, it is to match theirs
+abbrev pub compared_reply : Commit → Option (List Hash) → Reply
+compared_reply c None = sized_reply c c.options.size
+compared_reply c (Some expected) =
+    if matches expected c.computed then sized_reply c c.options.size
+    else Refused (IntegrityError (Check expected c.computed))
+
+-- a put stores, unless its options refuse its bytes
+abbrev pub put_reply : List ℕ → Put → Reply
+put_reply cache p = compared_reply (put_commit cache p) p.options.integrity
+
+-- ---- what a question and a removal answer
+
+-- a yes
+abbrev pub is_yes : PlainAnswer → Bool
+is_yes (There there) = there
+is_yes answer = false
+
+-- whether a content lies under the integrity; of a link, whether something stands where it leads
+abbrev pub exists_reply : List ℕ → List Hash → List LogItem → Reply
+exists_reply cache i log = Exists (is_yes (blob_there (tree_of log) (lies_under cache i log)))
+
+-- what is there can be removed, and nothing else
+abbrev pub removal_reply : {A : Type 0} → Option A → Reply
+removal_reply None = Refused (IoError NotFound [])
+removal_reply (Some there) = Done
+
+-- a full removal is done where the content lies that the key leads to, or its bucket if it leads to nothing
+abbrev pub fully_reply : Option Names → Tree → List ℕ → Option Found → Reply
+fully_reply folder t key None = removal_reply ((value_of_tree folder t).buckets (sha1 key))
+fully_reply folder t key (Some found) =
+    removal_reply (blob_at (value_of_tree folder t) (address found.integrity))
+
+-- ---- laws
+
+-- a put answers what its options say, and leaves no temporary file, or memory was refused
+abbrev pub PutsAnswer : Type 0
+PutsAnswer =
+    (cache : List ℕ) (p : Put) (r : Reply) (old new : List LogItem)
+    (c : Called cache (commands.Put p) r old new)
+    → NamesFolder cache → IsStanding cache old → IsUnused cache c.number old
+    → OrMemory ((r ≡ put_reply cache p) × IsUnused cache c.number new) r
+
+-- an insertion answers that it is done, unless its entry can't be written
+abbrev pub InsertionsAnswer : Type 0
+InsertionsAnswer =
+    (cache : List ℕ) (i : Insert) (r : Reply) (old new : List LogItem)
+    → NamesFolder cache → IsStanding cache old → Called cache (commands.Insert i) r old new
+    → OrMemory (r ≡ insertion_reply (insertion cache i)) r
+
+-- so does a removal by a tombstone
+abbrev pub DeletionsAnswer : Type 0
+DeletionsAnswer =
+    (cache : List ℕ) (d : Delete) (r : Reply) (old new : List LogItem)
+    → NamesFolder cache → IsStanding cache old → Called cache (commands.Delete d) r old new
+    → OrMemory (r ≡ insertion_reply (deletion cache d)) r
+
+-- a lookup answers what the key leads to
+abbrev pub LookupsAnswer : Type 0
+LookupsAnswer =
+    (cache key : List ℕ) (r : Reply) (old new : List LogItem)
+    → NamesFolder cache → IsStanding cache old → Called cache (commands.Find key) r old new
+    → OrMemory (r ≡ LookedUp (found_under cache key old)) r
+
+-- a read by integrity answers what lies there, or why it can't be given
+abbrev pub ContentReadsAnswer : Type 0
+ContentReadsAnswer =
+    (cache : List ℕ) (i : List Hash) (r : Reply) (old new : List LogItem)
+    → NamesFolder cache → IsStanding cache old → IsIntegrity i
+    → Called cache (commands.GetHash i) r old new
+    → OrMemory (r ≡ read_on (home_of cache) (tree_of old) i) r
+
+-- so does one by key, of the integrity that the key leads to
+abbrev pub KeyReadsAnswer : Type 0
+KeyReadsAnswer =
+    (cache key : List ℕ) (r : Reply) (old new : List LogItem)
+    → NamesFolder cache → IsCache cache old → Called cache (commands.Get key) r old new
+    → OrMemory (r ≡ get_on (setup_at cache []) (tree_of old) key (found_under cache key old)) r
+
+-- a question answers whether a content is there
+abbrev pub QuestionsAnswer : Type 0
+QuestionsAnswer =
+    (cache : List ℕ) (i : List Hash) (r : Reply) (old new : List LogItem)
+    → NamesFolder cache → IsStanding cache old → IsIntegrity i
+    → Called cache (commands.Exists i) r old new
+    → OrMemory (r ≡ exists_reply cache i old) r
+
+-- a removal of a content is done where one lies
+abbrev pub RemovalsAnswer : Type 0
+RemovalsAnswer =
+    (cache : List ℕ) (i : List Hash) (r : Reply) (old new : List LogItem)
+    → NamesFolder cache → IsStanding cache old → IsIntegrity i
+    → Called cache (commands.RemoveHash i) r old new
+    → OrMemory (r ≡ removal_reply (lies_under cache i old)) r
+
+-- a full removal of a key is done where what it leads to lies
+abbrev pub FullRemovalsAnswer : Type 0
+FullRemovalsAnswer =
+    (cache key : List ℕ) (r : Reply) (old new : List LogItem)
+    → NamesFolder cache → IsCache cache old → Called cache (commands.RemoveFully key) r old new
+    → OrMemory
+    (r ≡ fully_reply (home_of cache) (tree_of old) key (found_under cache key old)) r
+
+-- ---- temporary files
+
+-- all but to write temporary files, and to move them to their places
+abbrev pub without_commits : Licence
+without_commits = record {
+  prepares = true;
+  commits = false;
+  links = true;
+  inserts = true;
+  lists = true;
+  exports = true;
+  removes = true;
+}
+
+-- a call that may begin, and is no put, leaves no temporary file where there was none
+abbrev pub OthersLeaveNone : Type 0
+OthersLeaveNone =
+    (cache : List ℕ) (command : Command) (r : Reply) (old new : List LogItem)
+    (c : Called cache command r old new)
+    → MayBegin (call_site (setup_at cache c.base) c.number) (may_export (setup_at cache c.base))
+    (is_outside (setup_at cache c.base)) command
+    → NamesIntegrity command → KeepsTo without_commits command → IsCache cache old
+    → StaysUnused cache old new
+
+-- nor does a put, but that of its own number
+abbrev pub PutsLeaveOwn : Type 0
+PutsLeaveOwn =
+    (cache : List ℕ) (p : Put) (r : Reply) (old new : List LogItem)
+    (c : Called cache (commands.Put p) r old new) (number : ℕ)
+    → MayBegin (call_site (setup_at cache c.base) c.number) (may_export (setup_at cache c.base))
+    (is_outside (setup_at cache c.base)) (commands.Put p)
+    → IsCache cache old → number < 2 ^ 64 → c.number < 2 ^ 64 → (number ≡ c.number → ⊥)
+    → IsUnused cache number old → IsUnused cache number new
+
+-- a put that memory wasn't refused to leaves a cache as tidy as it was
+abbrev pub PutsLeaveTidy : Type 0
+PutsLeaveTidy =
+    (cache : List ℕ) (p : Put) (r : Reply) (old new : List LogItem)
+    (c : Called cache (commands.Put p) r old new)
+    → NamesFolder cache → FitsEntry cache p → IsCache cache old → IsTidy cache old
+    → OrMemory (IsTidy cache new) r
+
+-- a new store is ready in each folder
+abbrev pub FreshIsReady : Type 0
+FreshIsReady = (cache : List ℕ) → NamesFolder cache → IsReady cache []
+
+-- a store whose tree stayed is ready still
+abbrev pub SameIsReady : Type 0
+SameIsReady =
+    (cache : List ℕ) (old new : List LogItem)
+    → tree_of new ≡ tree_of old → IsReady cache old → IsReady cache new
