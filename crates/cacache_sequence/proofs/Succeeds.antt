@@ -1,9 +1,8 @@
 -- What calls answer whose steps all go well.
-use Rattle.std.proofs.Common.{◌≡◌, ◌⊎◌, inl, inr, ◌<◌, ℕ, List, [], ◌∷◌, ◌++◌, Option, None, Some, Ok, refl, sym, ap, subst, ◌∙◌, arith}
+use Rattle.std.proofs.Common.{◌≡◌, inl, inr, ℕ, List, [], ◌∷◌, ◌++◌, Option, None, Some, Ok, refl, sym, ap, subst, ◌∙◌, arith}
 use Rattle.std.proofs.lemmas.List.Elements.{All-head}
 use Rattle.sha1.specs.Sha1.{sha1}
-use Rattle.cacache_core.specs.declared.errors.Error.TheVariants.{EntryNotFound, IoError}
-use Rattle.cacache_core.specs.declared.errors.Fault.TheVariants.{NotFound}
+use Rattle.cacache_core.specs.declared.errors.Error.TheVariants.{EntryNotFound}
 use Rattle.cacache_core.specs.declared.integrity.digest.Hash.{Hash}
 use Rattle.cacache_core.specs.Integrity.{IsHash, IsIntegrity, address}
 use Rattle.cacache_core.specs.PathNames.{Names, names_of, home_of}
@@ -22,16 +21,15 @@ use Rattle.cacache_table.specs.Inserting.{insert, insertion, deletion}
 use Rattle.cacache_table.specs.Removing.{remove_content}
 use Rattle.cacache_table.specs.Looking.{found_for}
 use Rattle.cacache_table.specs.Replies.{OrMemory}
-use Rattle.cacache_table.specs.State.{State, Insertion, reading, asking, over}
+use Rattle.cacache_table.specs.State.{Insertion, reading, asking, over}
 use Rattle.cacache_table.specs.Table.{opening}
-use Rattle.cacache_value.specs.Acts.{list_of}
 use Rattle.cacache_value.specs.Kinds.{node_below}
 use Rattle.cacache_value.specs.Placed.{Placed}
 use Rattle.cacache_value.specs.Shows.{blob_there}
 use Rattle.cacache_value.specs.Value.{Blob, value_of_tree}
 use Rattle.cacache_history.specs.ShownTurns.{blob_at}
 use Rattle.cacache_history.proofs.Spelled.{HasIntegrity, latest_has}
-use Rattle.cacache_sequence.specs.Caches.{IsCache, Called, setup_at}
+use Rattle.cacache_sequence.specs.Caches.{Called, setup_at}
 use Rattle.cacache_sequence.specs.ReadAnswers.{entries_on, get_on, read_on}
 use Rattle.cacache_sequence.specs.Standing.{IsStanding}
 use Rattle.cacache_sequence.specs.Succeeds.{NamesFolder, insertion_reply, put_reply, is_yes, removal_reply, PutsAnswer, InsertionsAnswer, DeletionsAnswer, LookupsAnswer, ContentReadsAnswer, KeyReadsAnswer, QuestionsAnswer, RemovalsAnswer}

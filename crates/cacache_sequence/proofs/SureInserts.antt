@@ -1,5 +1,5 @@
 -- An insertion whose steps all go well.
-use Rattle.std.proofs.Common.{◌≡◌, ◌<◌, ℕ, Bool, true, false, cond, nat_le, List, [], ◌∷◌, ◌++◌, Option, None, Some, Ok, length, take, drop, refl, sym, ap, subst, ◌∙◌, arith, append_assoc}
+use Rattle.std.proofs.Common.{◌≡◌, ℕ, true, false, nat_le, List, [], ◌∷◌, ◌++◌, Option, None, Some, Ok, length, take, drop, refl, sym, ap, ◌∙◌, arith, append_assoc}
 use Rattle.std.proofs.lemmas.Bool.{le-leb}
 use Rattle.std.specs.Prelude.{All}
 use Rattle.hex.specs.Hex.{encode_lower}
@@ -8,7 +8,7 @@ use Rattle.cacache_core.specs.declared.errors.Error.TheVariants.{SerdeError}
 use Rattle.cacache_core.specs.declared.errors.Fault.TheVariants as faults
 use Rattle.cacache_core.specs.declared.errors.SerdeCause.{SerdeCause}
 use Rattle.cacache_core.specs.PathNames.{Names, names_of, IsProperName}
-use Rattle.cacache_core.specs.Paths.{bucket_names, bucket_names_of, folder_names}
+use Rattle.cacache_core.specs.Paths.{bucket_names, folder_names}
 use Rattle.cacache_core.proofs.PathLemmas.{keys_have_digests}
 use Rattle.cacache_core.proofs.ProperNames.{names_are_proper}
 use Rattle.std.proofs.lemmas.List.Elements.{All-nil, All-cons, All-head, All-tail}
@@ -17,7 +17,7 @@ use Rattle.cacache_store.specs.declared.store.answer.Answer.TheVariants as answe
 use Rattle.cacache_store.specs.Plain.{PlainAnswer}
 use Rattle.cacache_disk.specs.declared.luck.Luck.TheVariants.{Plain}
 use Rattle.cacache_disk.specs.declared.node.Node.{Node}
-use Rattle.cacache_disk.specs.declared.node.Node.TheVariants.{Folder, File, Link}
+use Rattle.cacache_disk.specs.declared.node.Node.TheVariants.{File}
 use Rattle.cacache_disk.specs.Tree.{Tree, look, put, bytes_of}
 use Rattle.cacache_disk.specs.LedTo.{place}
 use Rattle.cacache_disk.specs.Rooted.{Rooted}
@@ -27,7 +27,7 @@ use Rattle.cacache_table.specs.declared.reply.Reply.{Reply}
 use Rattle.cacache_table.specs.declared.reply.Reply.TheVariants.{Refused}
 use Rattle.cacache_table.specs.Common.{fails, sync_up}
 use Rattle.cacache_table.specs.Inserting.{bucket_line, insert, recorded, refused_cause, unless_refused}
-use Rattle.cacache_table.specs.State.{State, doing, appending, over, Insertion, make_folder, sync_file}
+use Rattle.cacache_table.specs.State.{doing, appending, over, Insertion, make_folder, sync_file}
 use Rattle.cacache_table.specs.StepPaths.{bucket_path, bucket_folder, bucket_folders}
 use Rattle.cacache_table.proofs.Branches.{cond_leads}
 use Rattle.cacache_value.specs.Kinds.{Bucket, Temporary, Way, path_kind}

@@ -1,5 +1,5 @@
 -- A put whose steps all go well.
-use Rattle.std.proofs.Common.{◌≡◌, inl, inr, ◌==◌, ◌<◌, ℕ, Bool, true, false, cond, List, [], ◌∷◌, ◌++◌, Option, None, Some, Result, Ok, length, take, drop, refl, sym, ap, subst, ◌∙◌, arith, append_assoc}
+use Rattle.std.proofs.Common.{◌≡◌, ◌==◌, ℕ, true, false, cond, List, [], ◌∷◌, ◌++◌, Option, None, Some, Result, Ok, length, take, drop, refl, sym, ap, subst, ◌∙◌, arith}
 use Rattle.std.specs.Prelude.{All, codes}
 use Rattle.std.specs.Int.{to_be_bytes, w64}
 use Rattle.std.proofs.lemmas.Bool.{ne_eqb}
@@ -18,14 +18,14 @@ use Rattle.cacache_core.proofs.ProperNames.{names_are_proper}
 use Rattle.cacache_store.specs.declared.store.plain.PlainTemp.{PlainTemp}
 use Rattle.cacache_store.specs.declared.store.step.Step.TheVariants as steps
 use Rattle.cacache_store.specs.declared.store.answer.Answer.TheVariants as answers
-use Rattle.cacache_store.specs.Plain.{PlainStep, PlainAnswer}
+use Rattle.cacache_store.specs.Plain.{PlainAnswer}
 use Rattle.cacache_disk.specs.declared.luck.Luck.TheVariants.{Plain}
 use Rattle.cacache_disk.specs.declared.node.Node.{Node}
-use Rattle.cacache_disk.specs.declared.node.Node.TheVariants.{Folder, File, Link}
-use Rattle.cacache_disk.specs.Tree.{Tree, look, put, cut, same_path}
+use Rattle.cacache_disk.specs.declared.node.Node.TheVariants.{File}
+use Rattle.cacache_disk.specs.Tree.{Tree, look, put, cut}
 use Rattle.cacache_disk.specs.LedTo.{place}
 use Rattle.cacache_disk.specs.Rooted.{Rooted}
-use Rattle.cacache_disk.specs.Apply.{apply, make_some, made_temp, grown, taken}
+use Rattle.cacache_disk.specs.Apply.{apply, make_some, made_temp}
 use Rattle.cacache_disk.proofs.PutNodes.{look-cut}
 use Rattle.cacache_disk.proofs.Roots.{same_self}
 use Rattle.cacache_table.specs.declared.carried.Commit.{Commit}
@@ -33,12 +33,12 @@ use Rattle.cacache_table.specs.declared.command.Command.TheVariants as commands
 use Rattle.cacache_table.specs.declared.command.Put.{Put}
 use Rattle.cacache_table.specs.declared.reply.Reply.{Reply}
 use Rattle.cacache_table.specs.declared.reply.Reply.TheVariants.{Stored, Refused}
-use Rattle.cacache_table.specs.Common.{fails, ends_with, sync_up}
+use Rattle.cacache_table.specs.Common.{fails, ends_with}
 use Rattle.cacache_table.specs.Inserting.{insert}
-use Rattle.cacache_table.specs.State.{State, doing, creating, writing, syncing, persisting, over, Site, make_folder}
+use Rattle.cacache_table.specs.State.{State, doing, creating, writing, syncing, persisting, make_folder}
 use Rattle.cacache_table.specs.StepPaths.{temp_path, temp_folder, content_path, content_folder, content_folders}
 use Rattle.cacache_table.specs.Table.{opening}
-use Rattle.cacache_table.specs.Storing.{insertion_of, indexed, sized, compared, placed, secured, matches, move_in, persist, write_rest, after_write, put_commit, store}
+use Rattle.cacache_table.specs.Storing.{insertion_of, indexed, sized, compared, placed, secured, matches, move_in, persist, write_rest, put_commit}
 use Rattle.cacache_table.proofs.Branches.{cond_leads}
 use Rattle.cacache_value.specs.Kinds.{Content, Temporary, Way, path_kind, IsFor}
 use Rattle.cacache_value.specs.Placed.{Proper}
@@ -46,10 +46,10 @@ use Rattle.cacache_value.proofs.FoundPaths.{suits}
 use Rattle.cacache_history.proofs.Digests.{digest_hash}
 use Rattle.cacache_sequence.specs.Succeeds.{keyed_reply, sized_reply, compared_reply, put_reply}
 use Rattle.cacache_sequence.proofs.MadeNodes.{Stands}
-use Rattle.cacache_sequence.proofs.SureInserts.{Spares, Inserted, inserts_so, one_behind, proper_folder}
+use Rattle.cacache_sequence.proofs.SureInserts.{Inserted, inserts_so, one_behind, proper_folder}
 use Rattle.cacache_sequence.proofs.SureRuns.{EndsSo, ends, ends_too, goes, syncs, both}
 use Rattle.cacache_sequence.proofs.SureSpares.{dirs_spare, put_other}
-use Rattle.cacache_sequence.proofs.SureSteps.{Ground, Lies, SyncsAll, goes_to, joined_lies, is_for, place_at, place_in, makes_dirs, dirs_ground, dirs_stand, dirs_keep, creates, persists, look_own, syncs_folders}
+use Rattle.cacache_sequence.proofs.SureSteps.{Ground, Lies, SyncsAll, goes_to, joined_lies, is_for, place_in, makes_dirs, dirs_ground, dirs_stand, dirs_keep, creates, persists, look_own, syncs_folders}
 
 -- ---- paths
 
@@ -260,7 +260,7 @@ module _ (cache : List ℕ) (home : Names) (is : names_of cache ≡ Ok home) (p 
   made_file =
       let seam = one_behind home (folder_names (temp_names 0)) name in
       let made = creates with_folder (temp_path cache number) (home ++ folder_names (temp_names 0)) name folder_ground.rooted ((temp_lies cache home is number).named ∙ ap Ok seam)
-          (dirs_stand home t g (temp_folder cache) (folder_names (temp_names 0)) (temp_folder_lies cache home is)) (ap (look with_folder) (sym seam) ∙ still_none) in
+      (dirs_stand home t g (temp_folder cache) (folder_names (temp_names 0)) (temp_folder_lies cache home is)) (ap (look with_folder) (sym seam) ∙ still_none) in
       made ∙ ap (λ n. (answers.Temp (made_temp (temp_path cache number)), put with_folder n (File []))) (sym seam)
 
   file_ground : Ground home with_file

@@ -1,50 +1,41 @@
 -- Lookups, reads, questions and removals whose steps all go well.
-use Rattle.std.proofs.Common.{◌≡◌, ◌⊎◌, inl, inr, ◌<◌, ℕ, Bool, true, false, cond, List, [], ◌∷◌, ◌++◌, Option, None, Some, Result, Ok, Err, refl, sym, ap, subst, ◌∙◌, arith}
-use Rattle.std.specs.Prelude.{IfSome}
-use Rattle.std.proofs.lemmas.List.Elements.{All-head}
-use Rattle.sha1.specs.Sha1.{sha1}
-use Rattle.cacache_core.specs.declared.errors.Error.TheVariants.{EntryNotFound, IoError, IntegrityError}
+use Rattle.std.proofs.Common.{◌≡◌, ◌⊎◌, inl, inr, ℕ, Bool, true, false, cond, List, [], ◌∷◌, ◌++◌, Option, None, Some, Result, Ok, Err, refl, sym, ap, subst, ◌∙◌}
+use Rattle.cacache_core.specs.declared.errors.Error.TheVariants.{IoError, IntegrityError}
 use Rattle.cacache_core.specs.declared.errors.Fault.{Fault}
 use Rattle.cacache_core.specs.declared.errors.Fault.TheVariants as faults
 use Rattle.cacache_core.specs.declared.errors.IntegrityFault.TheVariants.{Check}
 use Rattle.cacache_core.specs.declared.integrity.digest.Hash.{Hash}
-use Rattle.cacache_core.specs.Integrity.{IsHash, IsIntegrity, actual, address}
+use Rattle.cacache_core.specs.Integrity.{IsHash, actual}
 use Rattle.cacache_core.specs.Meeting.{meets}
 use Rattle.cacache_core.specs.PathNames.{Names, names_of}
 use Rattle.cacache_core.specs.Paths.{bucket_names, content_names}
 use Rattle.cacache_store.specs.declared.store.step.Step.TheVariants as steps
 use Rattle.cacache_store.specs.declared.store.answer.Answer.TheVariants as answers
-use Rattle.cacache_store.specs.Plain.{PlainStep, PlainAnswer}
+use Rattle.cacache_store.specs.Plain.{PlainAnswer}
 use Rattle.cacache_disk.specs.declared.luck.Luck.TheVariants.{Plain}
 use Rattle.cacache_disk.specs.declared.node.Node.{Node}
 use Rattle.cacache_disk.specs.declared.node.Node.TheVariants.{Folder, File, Link}
 use Rattle.cacache_disk.specs.Tree.{Tree, look, cut}
-use Rattle.cacache_disk.specs.LedTo.{place, leads, followed, file_at, found, removable}
+use Rattle.cacache_disk.specs.LedTo.{leads, followed, file_at, found, removable}
 use Rattle.cacache_disk.specs.Apply.{apply, is_there}
-use Rattle.cacache_entry.specs.Entry.{Entry}
 use Rattle.cacache_entry.specs.Latest.{Found, latest}
-use Rattle.cacache_table.specs.declared.carried.Aim.{Aim}
-use Rattle.cacache_table.specs.declared.carried.Content.{Content as Held}
 use Rattle.cacache_table.specs.declared.carried.Lookup.{Lookup}
 use Rattle.cacache_table.specs.declared.reply.Reply.{Reply}
-use Rattle.cacache_table.specs.declared.reply.Reply.TheVariants.{Read, LookedUp, Exists, Done, Refused}
-use Rattle.cacache_table.specs.Common.{fails, ends_with}
-use Rattle.cacache_table.specs.Inserting.{insert}
+use Rattle.cacache_table.specs.declared.reply.Reply.TheVariants.{Read, Exists, Refused}
+use Rattle.cacache_table.specs.Common.{ends_with}
 use Rattle.cacache_table.specs.Looking.{found_for, found_in}
-use Rattle.cacache_table.specs.ContentReads.{checked}
 use Rattle.cacache_table.specs.State.{State, doing, looking, reading, asking, over, remove}
 use Rattle.cacache_table.specs.StepPaths.{bucket_path, content_path}
 use Rattle.cacache_table.specs.Replies.{content_reply}
-use Rattle.cacache_table.specs.Table.{after}
-use Rattle.cacache_value.specs.Kinds.{Content, Bucket, path_kind, is_used}
+use Rattle.cacache_value.specs.Kinds.{Content, Bucket, is_used}
 use Rattle.cacache_value.specs.Placed.{MayStand}
 use Rattle.cacache_value.specs.Shows.{link_end, blob_bytes, blob_there}
 use Rattle.cacache_value.specs.Acts.{list_of}
 use Rattle.cacache_value.specs.Value.{Blob, InFile, AtLink, blob_in, bucket_in, value_of_tree}
 use Rattle.cacache_value.proofs.FoundPaths.{suits}
-use Rattle.cacache_history.specs.ShownTurns.{blob_at, as_refusal}
+use Rattle.cacache_history.specs.ShownTurns.{as_refusal}
 use Rattle.cacache_sequence.specs.ReadAnswers.{entries_on, read_on}
-use Rattle.cacache_sequence.specs.Succeeds.{is_yes, removal_reply}
+use Rattle.cacache_sequence.specs.Succeeds.{is_yes}
 use Rattle.cacache_sequence.proofs.SureInserts.{bucket_lies}
 use Rattle.cacache_sequence.proofs.SurePuts.{content_lies}
 use Rattle.cacache_sequence.proofs.SureRuns.{EndsSo, ends, goes}

@@ -1,5 +1,5 @@
 -- A full removal of a key whose steps all go well.
-use Rattle.std.proofs.Common.{◌≡◌, inl, inr, ℕ, Bool, true, false, cond, List, [], ◌∷◌, ◌++◌, Option, None, Some, Ok, refl, sym, ap, subst, ◌∙◌, arith}
+use Rattle.std.proofs.Common.{◌≡◌, ℕ, false, cond, List, [], ◌∷◌, ◌++◌, Option, None, Some, Ok, refl, sym, ap, subst, ◌∙◌, arith}
 use Rattle.std.proofs.lemmas.List.Elements.{All-head}
 use Rattle.sha1.specs.Sha1.{sha1}
 use Rattle.cacache_core.specs.declared.errors.Error.TheVariants.{IoError}
@@ -7,7 +7,7 @@ use Rattle.cacache_core.specs.declared.errors.Fault.TheVariants as faults
 use Rattle.cacache_core.specs.declared.integrity.digest.Hash.{Hash}
 use Rattle.cacache_core.specs.Integrity.{IsHash, IsIntegrity, address}
 use Rattle.cacache_core.specs.PathNames.{Names, names_of, home_of}
-use Rattle.cacache_core.specs.Paths.{bucket_names, bucket_names_of, content_names}
+use Rattle.cacache_core.specs.Paths.{bucket_names, content_names}
 use Rattle.cacache_store.specs.declared.store.step.Step.TheVariants as steps
 use Rattle.cacache_store.specs.declared.store.answer.Answer.TheVariants as answers
 use Rattle.cacache_disk.specs.declared.luck.Luck.TheVariants.{Plain}
@@ -17,7 +17,6 @@ use Rattle.cacache_disk.specs.Tree.{Tree, look, cut, same_path}
 use Rattle.cacache_disk.specs.LedTo.{removable}
 use Rattle.cacache_disk.specs.Rooted.{Rooted}
 use Rattle.cacache_disk.specs.Apply.{apply}
-use Rattle.cacache_disk.proofs.KeptFolders.{outcome_rooted}
 use Rattle.cacache_disk.proofs.Maps.{same_path-true}
 use Rattle.cacache_disk.proofs.PutNodes.{look-cut}
 use Rattle.cacache_disk.proofs.Roots.{not_true}
@@ -31,13 +30,13 @@ use Rattle.cacache_table.specs.declared.reply.Reply.TheVariants.{Done, Refused}
 use Rattle.cacache_table.specs.Looking.{found_for}
 use Rattle.cacache_table.specs.Removing.{remove_bucket, remove_content}
 use Rattle.cacache_table.specs.Replies.{OrMemory}
-use Rattle.cacache_table.specs.State.{State, doing, over, remove}
-use Rattle.cacache_table.specs.StepPaths.{bucket_path, content_path}
+use Rattle.cacache_table.specs.State.{doing, over, remove}
+use Rattle.cacache_table.specs.StepPaths.{bucket_path}
 use Rattle.cacache_table.specs.Table.{opening}
 use Rattle.cacache_value.specs.Acts.{list_of}
 use Rattle.cacache_value.specs.Kinds.{Bucket, Content, path_kind, is_used}
 use Rattle.cacache_value.specs.Placed.{MayStand}
-use Rattle.cacache_value.specs.Value.{Blob, bucket_in, value_of_tree}
+use Rattle.cacache_value.specs.Value.{bucket_in, value_of_tree}
 use Rattle.cacache_value.proofs.FoundPaths.{suits}
 use Rattle.cacache_history.specs.ShownTurns.{blob_at}
 use Rattle.cacache_history.proofs.Spelled.{HasIntegrity, latest_has}
@@ -50,7 +49,7 @@ use Rattle.cacache_sequence.proofs.SureInserts.{bucket_lies}
 use Rattle.cacache_sequence.proofs.SurePuts.{content_lies}
 use Rattle.cacache_sequence.proofs.SureReads.{looks_so, removes_so}
 use Rattle.cacache_sequence.proofs.SureRuns.{EndsSo, ends, goes, of_log}
-use Rattle.cacache_sequence.proofs.SureSteps.{Ground, Lies, Reached, arrives, missing, goes_to, place_at, reached}
+use Rattle.cacache_sequence.proofs.SureSteps.{Ground, Lies, Reached, arrives, missing, place_at, reached}
 
 -- ---- a bucket
 

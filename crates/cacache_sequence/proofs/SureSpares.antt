@@ -1,17 +1,16 @@
 -- Where no temporary file stands, no other step of a call makes one.
-use Rattle.std.proofs.Common.{◌≡◌, ◌<◌, ◌^◌, ◌==◌, ◌-◌, ℕ, Bool, true, false, cond, List, [], ◌∷◌, ◌++◌, Option, None, Some, Result, Ok, Err, length, take, refl, sym, ap, subst, ◌∙◌}
-use Rattle.std.specs.Prelude.{IfOk}
+use Rattle.std.proofs.Common.{◌≡◌, ◌==◌, ◌-◌, ℕ, Bool, true, false, cond, List, [], ◌∷◌, ◌++◌, Option, None, Some, Result, Ok, Err, take, refl, sym, ap, subst, ◌∙◌}
 use Rattle.cacache_core.specs.declared.errors.Fault.{Fault}
 use Rattle.cacache_core.specs.declared.errors.Fault.TheVariants as faults
 use Rattle.cacache_core.specs.PathNames.{Names, names_of}
 use Rattle.cacache_store.specs.declared.store.step.Step.TheVariants as steps
-use Rattle.cacache_store.specs.Plain.{PlainStep, PlainAnswer}
+use Rattle.cacache_store.specs.Plain.{PlainStep}
 use Rattle.cacache_disk.specs.declared.luck.Luck.TheVariants.{Plain}
 use Rattle.cacache_disk.specs.declared.node.Node.{Node}
 use Rattle.cacache_disk.specs.declared.node.Node.TheVariants.{Folder, File, Link}
-use Rattle.cacache_disk.specs.Tree.{Tree, look, put, cut, bytes_of, same_path}
+use Rattle.cacache_disk.specs.Tree.{Tree, look, put, cut, same_path}
 use Rattle.cacache_disk.specs.LedTo.{dirs, free, known, kept, replaceable, writable, file_at, linked, folder, removable, emptied}
-use Rattle.cacache_disk.specs.Apply.{apply, plain, unless, make_some, making, if_missing, lengthened, taken}
+use Rattle.cacache_disk.specs.Apply.{apply, make_some, making, if_missing, lengthened, taken}
 use Rattle.cacache_disk.proofs.FoundNodes.{free_ok, replaceable_ok}
 use Rattle.cacache_disk.proofs.KeptFolders.{apply_tree, unless_tree}
 use Rattle.cacache_disk.proofs.Maps.{same_path-true}

@@ -1,10 +1,10 @@
 -- What a step does on a tree where nothing keeps it from going well.
-use Rattle.std.proofs.Common.{◌≡◌, ◌<◌, ◌≤◌, ℕ, Bool, true, false, cond, List, [], ◌∷◌, ◌++◌, Option, None, Some, Result, Ok, Err, length, take, refl, sym, ap, subst, ◌∙◌, arith, append_assoc, append-nil, take_all}
+use Rattle.std.proofs.Common.{◌≡◌, ◌<◌, ℕ, true, cond, List, [], ◌∷◌, ◌++◌, Option, None, Some, Ok, Err, length, take, refl, sym, ap, subst, ◌∙◌, arith, append_assoc}
 use Rattle.std.specs.Prelude.{All, IfOk}
 use Rattle.std.proofs.lemmas.List.Elements.{All-cons, All-nil, All-head, All-tail}
 use Rattle.cacache_core.specs.declared.errors.Fault.{Fault}
 use Rattle.cacache_core.specs.declared.errors.Fault.TheVariants as faults
-use Rattle.cacache_core.specs.PathNames.{Names, names_of, home_of, names_below, IsProperName}
+use Rattle.cacache_core.specs.PathNames.{Names, names_of, names_below, IsProperName}
 use Rattle.cacache_core.specs.Paths.{join, joined, folders_to}
 use Rattle.cacache_core.proofs.JoinedNames.{joined_texts_name}
 use Rattle.cacache_store.specs.declared.store.plain.PlainTemp.{PlainTemp}
@@ -14,20 +14,18 @@ use Rattle.cacache_store.specs.Plain.{PlainStep, PlainAnswer}
 use Rattle.cacache_disk.specs.declared.luck.Luck.TheVariants.{Plain}
 use Rattle.cacache_disk.specs.declared.node.Node.{Node}
 use Rattle.cacache_disk.specs.declared.node.Node.TheVariants.{Folder, File, Link}
-use Rattle.cacache_disk.specs.Tree.{Tree, look, put, cut, bytes_of, same_path}
-use Rattle.cacache_disk.specs.LedTo.{way_fault, place, known, leads, followed, free, writable, file_at, found, removable, folder, dirs, kept, replaceable, bytes_there}
+use Rattle.cacache_disk.specs.Tree.{Tree, look, put, cut, bytes_of}
+use Rattle.cacache_disk.specs.LedTo.{way_fault, place, known, leads, followed, free, writable, file_at, folder, dirs}
 use Rattle.cacache_disk.specs.Rooted.{Rooted}
-use Rattle.cacache_disk.specs.Apply.{apply, make_some, made_temp, is_there}
+use Rattle.cacache_disk.specs.Apply.{apply, make_some, made_temp}
 use Rattle.cacache_disk.proofs.KeptFolders.{outcome_rooted}
 use Rattle.cacache_disk.proofs.PlantedNodes.{full}
-use Rattle.cacache_disk.proofs.PutNodes.{look-put, look-cut}
+use Rattle.cacache_disk.proofs.PutNodes.{look-put}
 use Rattle.cacache_disk.proofs.Roots.{same_self}
 use Rattle.cacache_disk.proofs.Standing.{upper_folder, way_clear}
-use Rattle.cacache_value.specs.Kinds.{PathKind, Content, Bucket, Temporary, Way, path_kind, is_used, kind_below, IsFor}
+use Rattle.cacache_value.specs.Kinds.{PathKind, Content, Bucket, Way, path_kind, is_used, kind_below, IsFor}
 use Rattle.cacache_value.specs.Placed.{MayStand, Placed, Proper}
-use Rattle.cacache_value.specs.Shows.{link_end, blob_bytes, blob_there}
-use Rattle.cacache_value.specs.Value.{Blob, blob_in}
-use Rattle.cacache_value.proofs.FoundPaths.{OnlyMissing, way_missing, suits}
+use Rattle.cacache_value.proofs.FoundPaths.{OnlyMissing, way_missing}
 use Rattle.cacache_value.proofs.KindsApart.{kind-below}
 use Rattle.cacache_value.proofs.MadeFolders.{no_dirs_fault}
 use Rattle.cacache_value.proofs.Traces.{steps_keep_placed}

@@ -10,7 +10,7 @@ use Rattle.cacache_core.proofs.ProperNames.{names_are_proper}
 use Rattle.cacache_store.specs.declared.store.log.LogItem.{LogItem}
 use Rattle.cacache_store.specs.declared.store.step.Step.TheVariants as steps
 use Rattle.cacache_store.specs.Plain.{PlainStep}
-use Rattle.cacache_disk.specs.Tree.{Tree, bare, look, same_path}
+use Rattle.cacache_disk.specs.Tree.{Tree, bare, same_path}
 use Rattle.cacache_disk.proofs.Maps.{same_path-true}
 use Rattle.cacache_disk.proofs.Roots.{bare_below, same_self}
 use Rattle.cacache_memory.specs.Replay.{tree_of}
@@ -18,8 +18,7 @@ use Rattle.cacache_table.specs.declared.command.Command.{Command}
 use Rattle.cacache_table.specs.declared.command.Command.TheVariants as commands
 use Rattle.cacache_table.specs.declared.command.Put.{Put}
 use Rattle.cacache_table.specs.declared.reply.Reply.{Reply}
-use Rattle.cacache_table.specs.Licence.{May, allows, AllMay, KeepsTo}
-use Rattle.cacache_table.specs.Replies.{OrMemory}
+use Rattle.cacache_table.specs.Licence.{May, allows, AllMay}
 use Rattle.cacache_table.specs.Runs.{Moves, Runs}
 use Rattle.cacache_table.specs.Sound.{MayBegin, Sound, Allowed}
 use Rattle.cacache_table.specs.State.{State, Site}
@@ -27,17 +26,17 @@ use Rattle.cacache_table.specs.StepPaths.{temp_path}
 use Rattle.cacache_table.specs.Table.{opening, after}
 use Rattle.cacache_table.proofs.Sound.{begins_sound, steps_allowed, stays_sound}
 use Rattle.cacache_table.proofs.Within.{calls_keep_to}
-use Rattle.cacache_value.specs.Kinds.{Temporary, kind_below, path_kind, node_below}
+use Rattle.cacache_value.specs.Kinds.{node_below}
 use Rattle.cacache_value.specs.Placed.{Placed}
 use Rattle.cacache_value.specs.Traces.{IsTrace}
 use Rattle.cacache_value.proofs.KindsApart.{kind-below}
-use Rattle.cacache_history.specs.Setup.{Setup, call_site, may_export, is_outside}
+use Rattle.cacache_history.specs.Setup.{call_site, may_export, is_outside}
 use Rattle.cacache_history.specs.History.{NamesIntegrity, new_call}
 use Rattle.cacache_history.proofs.Holding.{begins_hold}
 use Rattle.cacache_sequence.specs.Beside.{FitsEntry}
 use Rattle.cacache_sequence.specs.Caches.{IsCache, Called, setup_at}
 use Rattle.cacache_sequence.specs.Sequence.{tree_on, plain_moves}
-use Rattle.cacache_sequence.specs.Succeeds.{NamesFolder, IsUnused, IsTidy, StaysUnused, without_commits, OthersLeaveNone, PutsLeaveOwn, PutsLeaveTidy, IsReady, FreshIsReady, SameIsReady}
+use Rattle.cacache_sequence.specs.Succeeds.{IsUnused, IsTidy, StaysUnused, without_commits, OthersLeaveNone, PutsLeaveOwn, PutsLeaveTidy, IsReady, FreshIsReady, SameIsReady}
 use Rattle.cacache_sequence.proofs.InParts.{logs_lead}
 use Rattle.cacache_sequence.proofs.Sequence.{run_holds, holds_alone, keeps_alone}
 use Rattle.cacache_sequence.proofs.Standing.{caches_stand}

@@ -1,5 +1,5 @@
 -- What a put and a writer's commit leave, with any options, in words of their caller.
-use Rattle.std.specs.Prelude.{◌≡◌, ◌⊎◌, ℕ, List, Option, Some, IfSome}
+use Rattle.std.specs.Prelude.{◌≡◌, ◌⊎◌, ℕ, List, Some, IfSome}
 use Rattle.cacache_core.specs.declared.integrity.digest.Hash.{Hash}
 use Rattle.cacache_core.specs.Integrity.{IsIntegrity}
 use Rattle.cacache_store.specs.declared.store.log.LogItem.{LogItem}

@@ -1,7 +1,7 @@
 -- Calls on a store in memory whose steps all go well: what they answer, if memory isn't refused.
 use Rattle.std.specs.Prelude.{◌≡◌, ◌<◌, ◌^◌, ◌==◌, ℕ, Bool, true, false, List, [], Option, None, Some, Ok, if◌then◌else◌}
 use Rattle.sha1.specs.Sha1.{sha1}
-use Rattle.cacache_core.specs.declared.errors.Error.TheVariants.{SizeMismatch, SerdeError, IoError, IntegrityError, OutOfMemory}
+use Rattle.cacache_core.specs.declared.errors.Error.TheVariants.{SizeMismatch, SerdeError, IoError, IntegrityError}
 use Rattle.cacache_core.specs.declared.errors.Fault.TheVariants.{NotFound}
 use Rattle.cacache_core.specs.declared.errors.IntegrityFault.TheVariants.{Check}
 use Rattle.cacache_core.specs.declared.errors.SerdeCause.{SerdeCause}
@@ -24,7 +24,7 @@ use Rattle.cacache_table.specs.declared.command.Put.{Put}
 use Rattle.cacache_table.specs.declared.reply.Reply.{Reply}
 use Rattle.cacache_table.specs.declared.reply.Reply.TheVariants.{Stored, LookedUp, Exists, Done, Refused}
 use Rattle.cacache_table.specs.Inserting.{insertion, deletion, refused_cause}
-use Rattle.cacache_table.specs.Licence.{Licence, KeepsTo, looking_on}
+use Rattle.cacache_table.specs.Licence.{Licence, KeepsTo}
 use Rattle.cacache_table.specs.Replies.{OrMemory}
 use Rattle.cacache_table.specs.Sound.{MayBegin}
 use Rattle.cacache_table.specs.State.{Insertion}
