@@ -22,6 +22,8 @@ pub use Rattle.cacache_sequence.specs.Links.{KeepsBesideLink}
 pub use Rattle.cacache_sequence.specs.Looks.{IsDamaged, GivesHeld, GivesOfKey, bytes_under}
 pub use Rattle.cacache_sequence.specs.ExportEffects.{IsApart, NamesBytes}
 pub use Rattle.cacache_sequence.specs.OpenWriters.{LeavesKnownCache, NothingElse}
+pub use Rattle.cacache_sequence.specs.Succeeds.{NamesFolder, IsReady, IsTidy, IsUnused}
+pub use Rattle.cacache_results.specs.Success.{FailsForMemory}
 pub use Rattle.cacache_results.specs.Reads.{GivesJust, GivesNoEntry, LiesWhole, KeyLiesWhole, LinksToFile, KeyRead, ContentRead, EntryFound, AskedContent}
 pub use Rattle.cacache_results.specs.Writes.{DontClash, KeepsUntouched, SaysPlain, KeyWritten, ContentWritten, KeyInserted}
 pub use Rattle.cacache_results.specs.Removals.{KeyRemoved, ContentRemoved, KeyRemovedFully, Cleared}
