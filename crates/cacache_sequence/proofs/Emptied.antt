@@ -77,7 +77,7 @@ last_name : (above : Names) (name : List ℕ) → slice_index_or (above ++ name 
 last_name [] name = refl
 last_name (first ∷ above) name = last_name above name
 
-last_proper : (above : Names) (name : List ℕ) → AreProper (above ++ name ∷ []) → IsProperName name
+pub last_proper : (above : Names) (name : List ℕ) → AreProper (above ++ name ∷ []) → IsProperName name
 last_proper [] name h = h.0
 last_proper (first ∷ above) name h = last_proper above name h.1
 

@@ -57,4 +57,5 @@ pub mod SurePuts
 pub mod SureReads
 pub mod Succeeds
 pub mod SureRemovals
+pub mod SureLists
 pub mod Unused

@@ -113,7 +113,7 @@ abbrev pub SyncsAll : Tree → List (List ℕ) → Type 0
 SyncsAll t [] = Unit {0}
 SyncsAll t (p ∷ ps) = (apply t (steps.SyncDir p) Plain ≡ (answers.Done, t)) × SyncsAll t ps
 
-one_deeper : (p n : List ℕ) (above : Names) → names_of p ≡ Ok above → IsProperName n → names_of (join p n) ≡ Ok (above ++ n ∷ [])
+pub one_deeper : (p n : List ℕ) (above : Names) → names_of p ≡ Ok above → IsProperName n → names_of (join p n) ≡ Ok (above ++ n ∷ [])
 one_deeper p n above is proper =
     joined_texts_name p (n ∷ []) (All-cons IsProperName n [] proper (All-nil IsProperName)) (omega arith) ∙ ap (λ home. names_below home (n ∷ [])) (home_is p above is)
 
@@ -157,7 +157,7 @@ pub appends : (home : Names) (t : Tree) (p : List ℕ) (names : Names) (line : L
 unfolding apply
 appends home t p names line may led = rw (writable_so home t p names (look t names) refl may led) refl
 
-file_so : (t : Tree) (p : List ℕ) (names : Names) (bytes : List ℕ) → place t p ≡ Ok names → look t names ≡ Some (File bytes) → file_at t p faults.IsADirectory ≡ Ok bytes
+pub file_so : (t : Tree) (p : List ℕ) (names : Names) (bytes : List ℕ) → place t p ≡ Ok names → look t names ≡ Some (File bytes) → file_at t p faults.IsADirectory ≡ Ok bytes
 unfolding file_at leads followed
 file_so t p names bytes led there = rw (led, there, there) refl
 

@@ -1,17 +1,19 @@
 -- Calls on a store in memory whose steps all go well: what they answer, if memory isn't refused.
-use Rattle.std.specs.Prelude.{◌≡◌, ◌<◌, ◌^◌, ◌==◌, ℕ, Bool, true, false, List, [], Option, None, Some, Ok, if◌then◌else◌}
+use Rattle.std.specs.Prelude.{◌≡◌, ◌<◌, ◌^◌, ◌==◌, ℕ, Bool, true, false, List, [], ◌∷◌, Option, None, Some, Ok, Err, if◌then◌else◌}
+use Rattle.std.specs.List.{AllByRecursion}
 use Rattle.sha1.specs.Sha1.{sha1}
 use Rattle.cacache_core.specs.declared.errors.Error.TheVariants.{SizeMismatch, SerdeError, IoError, IntegrityError}
-use Rattle.cacache_core.specs.declared.errors.Fault.TheVariants.{NotFound}
+use Rattle.cacache_core.specs.declared.errors.Fault.TheVariants.{NotFound, TooDeep}
 use Rattle.cacache_core.specs.declared.errors.IntegrityFault.TheVariants.{Check}
 use Rattle.cacache_core.specs.declared.errors.SerdeCause.{SerdeCause}
 use Rattle.cacache_core.specs.declared.integrity.digest.Hash.{Hash}
 use Rattle.cacache_core.specs.Integrity.{IsIntegrity, address}
 use Rattle.cacache_core.specs.PathNames.{Names, names_of, home_of}
-use Rattle.cacache_core.specs.Paths.{temp_names}
+use Rattle.cacache_core.specs.Paths.{index_area, temp_names}
 use Rattle.cacache_store.specs.declared.store.answer.Answer.TheVariants.{There}
 use Rattle.cacache_store.specs.declared.store.log.LogItem.{LogItem}
 use Rattle.cacache_store.specs.Plain.{PlainAnswer}
+use Rattle.cacache_disk.specs.declared.node.Node.{Node}
 use Rattle.cacache_disk.specs.Tree.{Tree}
 use Rattle.cacache_memory.specs.Replay.{tree_of}
 use Rattle.cacache_entry.specs.Latest.{Found}
@@ -22,12 +24,13 @@ use Rattle.cacache_table.specs.declared.command.Delete.{Delete}
 use Rattle.cacache_table.specs.declared.command.Insert.{Insert}
 use Rattle.cacache_table.specs.declared.command.Put.{Put}
 use Rattle.cacache_table.specs.declared.reply.Reply.{Reply}
-use Rattle.cacache_table.specs.declared.reply.Reply.TheVariants.{Stored, LookedUp, Exists, Done, Refused}
+use Rattle.cacache_table.specs.declared.reply.Reply.TheVariants.{Stored, LookedUp, Exists, Listed, Done, Refused}
 use Rattle.cacache_table.specs.Inserting.{insertion, deletion, refused_cause}
 use Rattle.cacache_table.specs.Licence.{Licence, KeepsTo}
 use Rattle.cacache_table.specs.Replies.{OrMemory}
 use Rattle.cacache_table.specs.Sound.{MayBegin}
-use Rattle.cacache_table.specs.State.{Insertion}
+use Rattle.cacache_table.specs.State.{Insertion, Item}
+use Rattle.cacache_table.specs.Walking.{failed}
 use Rattle.cacache_table.specs.Storing.{insertion_of, matches, put_commit}
 use Rattle.cacache_value.specs.Kinds.{node_below}
 use Rattle.cacache_value.specs.Shows.{blob_there}
@@ -120,6 +123,19 @@ fully_reply folder t key None = removal_reply ((value_of_tree folder t).buckets 
 fully_reply folder t key (Some found) =
     removal_reply (blob_at (value_of_tree folder t) (address found.integrity))
 
+-- ---- what a listing answers
+
+-- an item is an entry, or says that there were too many
+abbrev pub IsItemOrTooDeep : Item → Type 0
+IsItemOrTooDeep (Ok found) = Unit {0}
+IsItemOrTooDeep (Err e) = e ≡ IoError TooDeep []
+
+-- such items, or one that says that there is no index
+abbrev pub ListsAll : Option Node → Reply → Type 0
+ListsAll None r = r ≡ Listed (failed NotFound ∷ [])
+ListsAll (Some node) (Listed items) = AllByRecursion IsItemOrTooDeep items
+ListsAll (Some node) r = ⊥
+
 -- ---- laws
 
 -- a put answers what its options say, and leaves no temporary file, or memory was refused
@@ -189,6 +205,13 @@ FullRemovalsAnswer =
     → NamesFolder cache → IsCache cache old → Called cache (commands.RemoveFully key) r old new
     → OrMemory
     (r ≡ fully_reply (home_of cache) (tree_of old) key (found_under cache key old)) r
+
+-- a listing reads each bucket that is there
+abbrev pub ListingsAnswer : Type 0
+ListingsAnswer =
+    (cache : List ℕ) (r : Reply) (old new : List LogItem)
+    → NamesFolder cache → IsStanding cache old → Called cache commands.Ls r old new
+    → OrMemory (ListsAll (node_below (home_of cache) (tree_of old) (index_area ∷ [])) r) r
 
 -- ---- temporary files
 

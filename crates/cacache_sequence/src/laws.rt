@@ -18,7 +18,7 @@ ghost use Rattle.cacache_sequence.specs.OpenWriters.{WritersOpen, CommitsLast, C
 ghost use Rattle.cacache_sequence.specs.Puts.{PutsLeave, PutsMayLead, CommitsLeave, CommitsKeep};
 ghost use Rattle.cacache_sequence.specs.GivenUp.{GivingUpLasts};
 ghost use Rattle.cacache_sequence.specs.OpenReaders.{ReadersOpen, ReadersOpenKey};
-ghost use Rattle.cacache_sequence.specs.Succeeds.{PutsAnswer, InsertionsAnswer, DeletionsAnswer, LookupsAnswer, ContentReadsAnswer, KeyReadsAnswer, QuestionsAnswer, RemovalsAnswer, FullRemovalsAnswer, OthersLeaveNone, PutsLeaveOwn, PutsLeaveTidy, FreshIsReady, SameIsReady};
+ghost use Rattle.cacache_sequence.specs.Succeeds.{PutsAnswer, InsertionsAnswer, DeletionsAnswer, LookupsAnswer, ContentReadsAnswer, KeyReadsAnswer, QuestionsAnswer, RemovalsAnswer, FullRemovalsAnswer, ListingsAnswer, OthersLeaveNone, PutsLeaveOwn, PutsLeaveTidy, FreshIsReady, SameIsReady};
 
 use cacache_memory::MemStore;
 
@@ -143,6 +143,7 @@ pub fn success_laws()
     ensures asks { QuestionsAnswer }
     ensures removes { RemovalsAnswer }
     ensures removes_fully { FullRemovalsAnswer }
+    ensures lists { ListingsAnswer }
     ensures others { OthersLeaveNone }
     ensures own { PutsLeaveOwn }
     ensures tidy { PutsLeaveTidy }
