@@ -58,4 +58,6 @@ pub mod SureReads
 pub mod Succeeds
 pub mod SureRemovals
 pub mod SureLists
+pub mod Sheds
+pub mod SureClears
 pub mod Unused

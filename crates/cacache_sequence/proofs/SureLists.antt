@@ -107,11 +107,11 @@ no_link home target (a ∷ b ∷ []) s = s
 no_link home target (a ∷ b ∷ c ∷ []) s = s
 no_link home target (a ∷ b ∷ c ∷ d ∷ rest) s = s
 
-lists_at : (t : Tree) (p : List ℕ) (names : Names) → Rooted t → names_of p ≡ Ok names → look t names ≡ Some Folder → apply t (steps.ReadDir p) Plain ≡ (answers.Names (listing t names), t)
+pub lists_at : (t : Tree) (p : List ℕ) (names : Names) → Rooted t → names_of p ≡ Ok names → look t names ≡ Some Folder → apply t (steps.ReadDir p) Plain ≡ (answers.Names (listing t names), t)
 unfolding apply folder
 lists_at t p names rooted is there = rw (place_at t p names Folder rooted is there, there) refl
 
-no_folder : (t : Tree) (p : List ℕ) (names : Names) → look t names ≡ None → Reached t p names → apply t (steps.ReadDir p) Plain ≡ (answers.Failed faults.NotFound, t)
+pub no_folder : (t : Tree) (p : List ℕ) (names : Names) → look t names ≡ None → Reached t p names → apply t (steps.ReadDir p) Plain ≡ (answers.Failed faults.NotFound, t)
 unfolding apply folder
 no_folder t p names e (arrives w) = rw (w, e) refl
 no_folder t p names e (missing h w) = rw w refl

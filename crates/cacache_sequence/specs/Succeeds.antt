@@ -1,5 +1,5 @@
 -- Calls on a store in memory whose steps all go well: what they answer, if memory isn't refused.
-use Rattle.std.specs.Prelude.{◌≡◌, ◌<◌, ◌^◌, ◌==◌, ℕ, Bool, true, false, List, [], ◌∷◌, Option, None, Some, Ok, Err, if◌then◌else◌}
+use Rattle.std.specs.Prelude.{◌≡◌, ◌⊎◌, ◌<◌, ◌^◌, ◌==◌, ℕ, Bool, true, false, List, [], ◌∷◌, Option, None, Some, Ok, Err, if◌then◌else◌}
 use Rattle.std.specs.List.{AllByRecursion}
 use Rattle.sha1.specs.Sha1.{sha1}
 use Rattle.cacache_core.specs.declared.errors.Error.TheVariants.{SizeMismatch, SerdeError, IoError, IntegrityError}
@@ -136,6 +136,13 @@ ListsAll None r = r ≡ Listed (failed NotFound ∷ [])
 ListsAll (Some node) (Listed items) = AllByRecursion IsItemOrTooDeep items
 ListsAll (Some node) r = ⊥
 
+-- ---- what a clearing answers
+
+-- it is done, or it came to too many names; where the cache has no folder, it says so
+abbrev pub Clears : Option Node → Reply → Type 0
+Clears None r = r ≡ Refused (IoError NotFound [])
+Clears (Some node) r = (r ≡ Done) ⊎ (r ≡ Refused (IoError TooDeep []))
+
 -- ---- laws
 
 -- a put answers what its options say, and leaves no temporary file, or memory was refused
@@ -212,6 +219,13 @@ ListingsAnswer =
     (cache : List ℕ) (r : Reply) (old new : List LogItem)
     → NamesFolder cache → IsStanding cache old → Called cache commands.Ls r old new
     → OrMemory (ListsAll (node_below (home_of cache) (tree_of old) (index_area ∷ [])) r) r
+
+-- a clearing removes all that is there
+abbrev pub ClearingsAnswer : Type 0
+ClearingsAnswer =
+    (cache : List ℕ) (r : Reply) (old new : List LogItem)
+    → NamesFolder cache → IsStanding cache old → Called cache commands.Clear r old new
+    → OrMemory (Clears (node_below (home_of cache) (tree_of old) []) r) r
 
 -- ---- temporary files
 

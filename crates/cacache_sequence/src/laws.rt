@@ -18,7 +18,7 @@ ghost use Rattle.cacache_sequence.specs.OpenWriters.{WritersOpen, CommitsLast, C
 ghost use Rattle.cacache_sequence.specs.Puts.{PutsLeave, PutsMayLead, CommitsLeave, CommitsKeep};
 ghost use Rattle.cacache_sequence.specs.GivenUp.{GivingUpLasts};
 ghost use Rattle.cacache_sequence.specs.OpenReaders.{ReadersOpen, ReadersOpenKey};
-ghost use Rattle.cacache_sequence.specs.Succeeds.{PutsAnswer, InsertionsAnswer, DeletionsAnswer, LookupsAnswer, ContentReadsAnswer, KeyReadsAnswer, QuestionsAnswer, RemovalsAnswer, FullRemovalsAnswer, ListingsAnswer, OthersLeaveNone, PutsLeaveOwn, PutsLeaveTidy, FreshIsReady, SameIsReady};
+ghost use Rattle.cacache_sequence.specs.Succeeds.{PutsAnswer, InsertionsAnswer, DeletionsAnswer, LookupsAnswer, ContentReadsAnswer, KeyReadsAnswer, QuestionsAnswer, RemovalsAnswer, FullRemovalsAnswer, ListingsAnswer, ClearingsAnswer, OthersLeaveNone, PutsLeaveOwn, PutsLeaveTidy, FreshIsReady, SameIsReady};
 
 use cacache_memory::MemStore;
 
@@ -144,6 +144,7 @@ pub fn success_laws()
     ensures removes { RemovalsAnswer }
     ensures removes_fully { FullRemovalsAnswer }
     ensures lists { ListingsAnswer }
+    ensures clears { ClearingsAnswer }
     ensures others { OthersLeaveNone }
     ensures own { PutsLeaveOwn }
     ensures tidy { PutsLeaveTidy }

@@ -1,6 +1,7 @@
 use Rattle.cacache_sequence.proofs.Succeeds.{puts_answer, insertions_answer, deletions_answer, lookups_answer, content_reads_answer, key_reads_answer, questions_answer, removals_answer}
 use Rattle.cacache_sequence.proofs.SureRemovals.{full_removals_answer}
 use Rattle.cacache_sequence.proofs.SureLists.{listings_answer}
+use Rattle.cacache_sequence.proofs.SureClears.{clearings_answer}
 use Rattle.cacache_sequence.proofs.Unused.{others_leave_none, puts_leave_own, puts_leave_tidy, fresh_is_ready, same_is_ready}
 use Rattle.cacache_sequence.proofs.laws.success_laws.Goals as goal
 
@@ -16,6 +17,7 @@ returns c = record {
   removes = removals_answer;
   removes_fully = full_removals_answer;
   lists = listings_answer;
+  clears = clearings_answer;
   others = others_leave_none;
   own = puts_leave_own;
   tidy = puts_leave_tidy;
