@@ -53,6 +53,7 @@ pub mod SureSteps
 pub mod SureSpares
 pub mod SureRuns
 pub mod SureInserts
+pub mod SureTemps
 pub mod SurePuts
 pub mod SureReads
 pub mod Succeeds
@@ -60,4 +61,5 @@ pub mod SureRemovals
 pub mod SureLists
 pub mod Sheds
 pub mod SureClears
+pub mod SureWriters
 pub mod Unused

@@ -36,7 +36,8 @@ use Rattle.cacache_sequence.specs.Succeeds.{NamesFolder, insertion_reply, put_re
 use Rattle.cacache_sequence.proofs.Emptied.{home_is}
 use Rattle.cacache_sequence.proofs.Standing.{caches_stand}
 use Rattle.cacache_sequence.proofs.SureInserts.{Inserted, inserts_so}
-use Rattle.cacache_sequence.proofs.SurePuts.{PutSo, own_temporary_at, puts_so}
+use Rattle.cacache_sequence.proofs.SurePuts.{PutSo, puts_so}
+use Rattle.cacache_sequence.proofs.SureTemps.{own_temporary_at}
 use Rattle.cacache_sequence.proofs.SureReads.{looks_so, reads_so, asks_so, removes_so}
 use Rattle.cacache_sequence.proofs.SureRuns.{EndsSo, ends, of_log}
 use Rattle.cacache_sequence.proofs.SureSteps.{Ground}

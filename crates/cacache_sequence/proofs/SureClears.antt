@@ -1,10 +1,10 @@
 -- A clearing whose steps all go well.
-use Rattle.std.proofs.Common.{◌≡◌, ◌⊎◌, inl, inr, ◌==◌, ◌<◌, ◌+◌, ◌-◌, ℕ, zero, suc, Bool, true, false, cond, nat_le, nat_lt, List, [], ◌∷◌, ◌++◌, Option, None, Some, Ok, length, refl, sym, ap, subst, ◌∙◌, arith, append_assoc, append-nil, length-append, eqb-true}
+use Rattle.std.proofs.Common.{◌≡◌, ◌⊎◌, inl, inr, ◌==◌, ◌<◌, ◌+◌, ◌-◌, ℕ, zero, suc, Bool, true, false, cond, nat_le, nat_lt, List, [], ◌∷◌, ◌++◌, Option, None, Some, Ok, length, refl, sym, ap, subst, ◌∙◌, arith, append_assoc, append-nil, length-append}
 use Rattle.std.specs.Prelude.{IfSome, bytes_eq}
 use Rattle.std.proofs.lemmas.Bool.{ltb-true, ne_eqb}
-use Rattle.cacache_core.specs.declared.errors.Error.TheVariants.{IoError, OutOfMemory}
+use Rattle.cacache_core.specs.declared.errors.Error.TheVariants.{IoError}
 use Rattle.cacache_core.specs.declared.errors.Fault.TheVariants as faults
-use Rattle.cacache_core.specs.PathNames.{Names, names_of, home_of, IsProperName}
+use Rattle.cacache_core.specs.PathNames.{Names, names_of, IsProperName}
 use Rattle.cacache_core.specs.Paths.{content_area, index_area, temp_area, join}
 use Rattle.cacache_store.specs.declared.store.answer.Answer.TheVariants as answers
 use Rattle.cacache_store.specs.declared.store.answer.Kind.{Kind}
@@ -15,11 +15,11 @@ use Rattle.cacache_disk.specs.declared.luck.Luck.TheVariants.{Plain}
 use Rattle.cacache_disk.specs.declared.node.Node.{Node}
 use Rattle.cacache_disk.specs.declared.node.Node.TheVariants.{Folder, File, Link}
 use Rattle.cacache_disk.specs.Tree.{Tree, look, cut, listing, kind_of}
-use Rattle.cacache_disk.specs.LedTo.{place, folder, emptied, removable}
+use Rattle.cacache_disk.specs.LedTo.{folder, emptied, removable}
 use Rattle.cacache_disk.specs.Rooted.{AreProper, Rooted}
 use Rattle.cacache_disk.specs.Apply.{apply}
 use Rattle.cacache_disk.proofs.KeptFolders.{outcome_rooted}
-use Rattle.cacache_disk.proofs.Standing.{above_missing, upper_folder}
+use Rattle.cacache_disk.proofs.Standing.{upper_folder}
 use Rattle.cacache_memory.specs.Replay.{tree_of}
 use Rattle.cacache_table.specs.declared.command.Command.TheVariants as commands
 use Rattle.cacache_table.specs.declared.reply.Reply.{Reply}
@@ -28,10 +28,10 @@ use Rattle.cacache_table.specs.declared.visit.Task.{Task}
 use Rattle.cacache_table.specs.declared.visit.Task.TheVariants.{Make, Stumble}
 use Rattle.cacache_table.specs.declared.visit.Visit.TheVariants.{Enter, RemoveFile, RemoveFolder}
 use Rattle.cacache_table.specs.Replies.{OrMemory}
-use Rattle.cacache_table.specs.State.{State, walking, over, Walk}
+use Rattle.cacache_table.specs.State.{walking, over, Walk}
 use Rattle.cacache_table.specs.Table.{opening}
-use Rattle.cacache_table.specs.Walking.{leaving, most, task_for_name, tasks_of, too_many, walk, walk_on}
-use Rattle.cacache_value.specs.Kinds.{PathKind, Way, Stray, kind_below, node_below, path_kind, is_used}
+use Rattle.cacache_table.specs.Walking.{most, task_for_name, tasks_of, too_many, walk, walk_on}
+use Rattle.cacache_value.specs.Kinds.{Way, Stray, kind_below, node_below, path_kind, is_used}
 use Rattle.cacache_value.specs.Placed.{MayStand}
 use Rattle.cacache_value.proofs.FoundPaths.{suits}
 use Rattle.cacache_value.proofs.KindsApart.{kind-below}

@@ -1,13 +1,13 @@
 -- A listing whose steps all go well.
-use Rattle.std.proofs.Common.{◌≡◌, inl, inr, ◌<◌, ◌+◌, ◌-◌, ℕ, Bool, true, false, cond, nat_le, nat_lt, List, [], ◌∷◌, ◌++◌, Option, None, Some, Ok, Err, option_map, length, take, refl, sym, ap, subst, ◌∙◌, arith, append_assoc}
+use Rattle.std.proofs.Common.{◌≡◌, inl, inr, ◌+◌, ◌-◌, ℕ, Bool, true, false, cond, nat_le, nat_lt, List, [], ◌∷◌, ◌++◌, Option, None, Some, Ok, option_map, length, take, refl, sym, ap, subst, ◌∙◌, append_assoc}
 use Rattle.std.specs.Prelude.{IfSome, filter_map, zero, suc, map as each}
 use Rattle.std.specs.List.{AllByRecursion, cons_option}
 use Rattle.std.proofs.lemmas.List.Elements.{All-head}
 use Rattle.hex.specs.Hex.{encode_lower}
 use Rattle.sha1.specs.Sha1.{sha1}
-use Rattle.cacache_core.specs.declared.errors.Error.TheVariants.{IoError, OutOfMemory}
+use Rattle.cacache_core.specs.declared.errors.Error.TheVariants.{IoError}
 use Rattle.cacache_core.specs.declared.errors.Fault.TheVariants as faults
-use Rattle.cacache_core.specs.PathNames.{Names, names_of, home_of, IsProperName}
+use Rattle.cacache_core.specs.PathNames.{Names, names_of, IsProperName}
 use Rattle.cacache_core.specs.Paths.{cut_digits, index_area, join}
 use Rattle.cacache_core.proofs.PathLemmas.{keys_have_digests}
 use Rattle.cacache_core.proofs.ProperNames.{names_are_proper}
@@ -21,7 +21,7 @@ use Rattle.cacache_disk.specs.declared.luck.Luck.TheVariants.{Plain}
 use Rattle.cacache_disk.specs.declared.node.Node.{Node}
 use Rattle.cacache_disk.specs.declared.node.Node.TheVariants.{Folder, File, Link}
 use Rattle.cacache_disk.specs.Tree.{Tree, look, listing, kind_of}
-use Rattle.cacache_disk.specs.LedTo.{file_at, folder}
+use Rattle.cacache_disk.specs.LedTo.{folder}
 use Rattle.cacache_disk.specs.Rooted.{AreProper, Rooted}
 use Rattle.cacache_disk.specs.Apply.{apply}
 use Rattle.cacache_memory.specs.Replay.{tree_of}
@@ -30,7 +30,7 @@ use Rattle.cacache_entry.specs.Entry.{Entry}
 use Rattle.cacache_entry.specs.Latest.{Found, latest}
 use Rattle.cacache_table.specs.declared.command.Command.TheVariants as commands
 use Rattle.cacache_table.specs.declared.reply.Reply.{Reply}
-use Rattle.cacache_table.specs.declared.reply.Reply.TheVariants.{Listed, Refused}
+use Rattle.cacache_table.specs.declared.reply.Reply.TheVariants.{Listed}
 use Rattle.cacache_table.specs.declared.visit.Task.{Task}
 use Rattle.cacache_table.specs.declared.visit.Task.TheVariants.{Make, Stumble}
 use Rattle.cacache_table.specs.declared.visit.Visit.{Visit}
@@ -39,13 +39,13 @@ use Rattle.cacache_table.specs.Replies.{OrMemory}
 use Rattle.cacache_table.specs.Runs.{Moves, Runs}
 use Rattle.cacache_table.specs.State.{State, walking, over, Item, Walk}
 use Rattle.cacache_table.specs.Table.{opening}
-use Rattle.cacache_table.specs.Walking.{after_visit, entered, failed, give, go_deeper, items_in, items_of, listed, most, once, task_for_name, tasks_of, too_many, walk, walk_on}
-use Rattle.cacache_value.specs.Kinds.{Bucket, PathKind, Way, kind_in_area, node_below, path_kind, is_used}
+use Rattle.cacache_table.specs.Walking.{after_visit, failed, items_in, listed, most, once, task_for_name, tasks_of, too_many, walk, walk_on}
+use Rattle.cacache_value.specs.Kinds.{Bucket, Way, kind_in_area, node_below, path_kind, is_used}
 use Rattle.cacache_value.specs.Placed.{MayStand}
 use Rattle.cacache_value.proofs.FoundPaths.{suits}
 use Rattle.cacache_value.proofs.KindsApart.{kind-below}
 use Rattle.cacache_history.proofs.ToldFolders.{Each, Told, listing_told}
-use Rattle.cacache_sequence.specs.Sequence.{tree_on, AreAnswered}
+use Rattle.cacache_sequence.specs.Sequence.{AreAnswered}
 use Rattle.cacache_sequence.specs.Succeeds.{IsItemOrTooDeep, ListsAll, ListingsAnswer}
 use Rattle.cacache_sequence.proofs.Emptied.{last_proper}
 use Rattle.cacache_sequence.proofs.Succeeds.{back, ground}

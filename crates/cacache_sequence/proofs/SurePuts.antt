@@ -1,7 +1,5 @@
 -- A put whose steps all go well.
 use Rattle.std.proofs.Common.{◌≡◌, ◌==◌, ℕ, true, false, cond, List, [], ◌∷◌, ◌++◌, Option, None, Some, Result, Ok, length, take, drop, refl, sym, ap, subst, ◌∙◌, arith}
-use Rattle.std.specs.Prelude.{All, codes}
-use Rattle.std.specs.Int.{to_be_bytes, w64}
 use Rattle.std.proofs.lemmas.Bool.{ne_eqb}
 use Rattle.std.proofs.lemmas.List.{drop_all}
 use Rattle.hex.specs.Hex.{encode_lower}
@@ -12,20 +10,16 @@ use Rattle.cacache_core.specs.declared.errors.IntegrityFault.TheVariants.{Check}
 use Rattle.cacache_core.specs.declared.integrity.digest.Hash.{Hash}
 use Rattle.cacache_core.specs.Digests.{digest}
 use Rattle.cacache_core.specs.Integrity.{IsHash, hash_of}
-use Rattle.cacache_core.specs.PathNames.{Names, names_of, IsProperName}
+use Rattle.cacache_core.specs.PathNames.{Names, names_of}
 use Rattle.cacache_core.specs.Paths.{content_names, folder_names, temp_names}
-use Rattle.cacache_core.proofs.ProperNames.{names_are_proper}
 use Rattle.cacache_store.specs.declared.store.plain.PlainTemp.{PlainTemp}
 use Rattle.cacache_store.specs.declared.store.step.Step.TheVariants as steps
 use Rattle.cacache_store.specs.declared.store.answer.Answer.TheVariants as answers
-use Rattle.cacache_store.specs.Plain.{PlainAnswer}
 use Rattle.cacache_disk.specs.declared.luck.Luck.TheVariants.{Plain}
-use Rattle.cacache_disk.specs.declared.node.Node.{Node}
 use Rattle.cacache_disk.specs.declared.node.Node.TheVariants.{File}
 use Rattle.cacache_disk.specs.Tree.{Tree, look, put, cut}
 use Rattle.cacache_disk.specs.LedTo.{place}
-use Rattle.cacache_disk.specs.Rooted.{Rooted}
-use Rattle.cacache_disk.specs.Apply.{apply, make_some, made_temp}
+use Rattle.cacache_disk.specs.Apply.{apply, make_some}
 use Rattle.cacache_disk.proofs.PutNodes.{look-cut}
 use Rattle.cacache_disk.proofs.Roots.{same_self}
 use Rattle.cacache_table.specs.declared.carried.Commit.{Commit}
@@ -46,41 +40,11 @@ use Rattle.cacache_value.proofs.FoundPaths.{suits}
 use Rattle.cacache_history.proofs.Digests.{digest_hash}
 use Rattle.cacache_sequence.specs.Succeeds.{keyed_reply, sized_reply, compared_reply, put_reply}
 use Rattle.cacache_sequence.proofs.MadeNodes.{Stands}
-use Rattle.cacache_sequence.proofs.SureInserts.{Inserted, inserts_so, one_behind, proper_folder}
+use Rattle.cacache_sequence.proofs.SureInserts.{Inserted, inserts_so, one_behind}
 use Rattle.cacache_sequence.proofs.SureRuns.{EndsSo, ends, ends_too, goes, syncs, both}
-use Rattle.cacache_sequence.proofs.SureSpares.{dirs_spare, put_other}
-use Rattle.cacache_sequence.proofs.SureSteps.{Ground, Lies, SyncsAll, goes_to, joined_lies, is_for, place_in, makes_dirs, dirs_ground, dirs_stand, dirs_keep, creates, persists, look_own, syncs_folders}
-
--- ---- paths
-
-module _ (cache : List ℕ) (home : Names) (is : names_of cache ≡ Ok home) where
-  temp_proper : (number : ℕ) → All IsProperName (temp_names number)
-  temp_proper number = names_are_proper.temporaries number
-
-  pub temp_lies : (number : ℕ) → Lies home (temp_path cache number) (temp_names number) Temporary
-  unfolding temp_path
-  temp_lies number = joined_lies cache home (temp_names number) Temporary is (temp_proper number) (omega arith) refl
-
-  temp_folder_lies : Lies home (temp_folder cache) (folder_names (temp_names 0)) Way
-  unfolding temp_folder
-  temp_folder_lies = joined_lies cache home (folder_names (temp_names 0)) Way is (proper_folder (temp_names 0) (temp_proper 0)) (omega arith) refl
-
-  module _ (h : Hash) (hs : List Hash) (hash : IsHash h) where
-    pub content_lies : Lies home (content_path cache (h ∷ hs)) (content_names h) Content
-    unfolding content_path
-    content_lies = joined_lies cache home (content_names h) Content is (names_are_proper.contents h hash) (omega arith) refl
-
-    content_folder_lies : Lies home (content_folder cache (h ∷ hs)) (folder_names (content_names h)) Way
-    unfolding content_folder
-    content_folder_lies = joined_lies cache home (folder_names (content_names h)) Way is (proper_folder (content_names h) (names_are_proper.contents h hash)) (omega arith) refl
-
-    content_synced : (t : Tree) (node : Node) → Rooted t → look t (home ++ content_names h) ≡ Some node → SyncsAll t (content_folders cache (h ∷ hs))
-    unfolding content_folders
-    content_synced t node rooted there = syncs_folders t cache home (content_names h) node rooted is (names_are_proper.contents h hash) there
-
--- a temporary file's path is one
-pub own_temporary_at : (cache : List ℕ) (home : Names) (is : names_of cache ≡ Ok home) (number : ℕ) → path_kind (Some home) (home ++ temp_names number) ≡ Temporary
-own_temporary_at cache home is number = (temp_lies cache home is number).kind
+use Rattle.cacache_sequence.proofs.SureSpares.{put_other}
+use Rattle.cacache_sequence.proofs.SureTemps.{temp_lies, temp_folder_lies, content_lies, content_folder_lies, content_synced, own_temporary_at, with_folder, with_file, made_file, file_ground, stands}
+use Rattle.cacache_sequence.proofs.SureSteps.{Ground, Lies, goes_to, is_for, place_in, makes_dirs, dirs_ground, dirs_stand, dirs_keep, persists, look_own}
 
 -- ---- once the content is there
 
@@ -237,70 +201,36 @@ module _ (cache : List ℕ) (home : Names) (is : names_of cache ≡ Ok home) (p 
   abbrev Opened : Tree → Reply → Type 0
   Opened = PutSo cache home is p (home ++ temp_names number) (own_temporary_at cache home is number) (put_reply cache p)
 
-  -- the tree with the folder of temporary files
-  abbrev with_folder : Tree
-  with_folder = make_some t [] (home ++ folder_names (temp_names 0)) (length (home ++ folder_names (temp_names 0)))
+  -- the tree with the folder of temporary files, and the one with an empty file in it
+  abbrev one : Tree
+  one = with_folder cache home is number t g none
 
-  folder_ground : Ground home with_folder
-  folder_ground = dirs_ground home t g (temp_folder cache) (folder_names (temp_names 0)) (temp_folder_lies cache home is)
-
-  still_none : look with_folder (home ++ temp_names number) ≡ None
-  still_none =
-      let spared = dirs_spare (Some home) (home ++ temp_names number) (own_temporary_at cache home is number) t (temp_folder cache) g.placed (is_for home (temp_folder cache) (folder_names (temp_names 0)) Way (temp_folder_lies cache home is)) none in
-      ap (λ (r : PlainAnswer × Tree). look r.1 (home ++ temp_names number)) (sym (makes_dirs home t g (temp_folder cache) (folder_names (temp_names 0)) (temp_folder_lies cache home is))) ∙ spared
-
-  abbrev name : List ℕ
-  name = codes ".tmp" ++ encode_lower (to_be_bytes w64 number)
-
-  -- the tree with the empty temporary file
-  abbrev with_file : Tree
-  with_file = put with_folder (home ++ temp_names number) (File [])
-
-  made_file : apply with_folder (steps.CreateTemp (temp_path cache number)) Plain ≡ (answers.Temp (made_temp (temp_path cache number)), with_file)
-  made_file =
-      let seam = one_behind home (folder_names (temp_names 0)) name in
-      let made = creates with_folder (temp_path cache number) (home ++ folder_names (temp_names 0)) name folder_ground.rooted ((temp_lies cache home is number).named ∙ ap Ok seam)
-      (dirs_stand home t g (temp_folder cache) (folder_names (temp_names 0)) (temp_folder_lies cache home is)) (ap (look with_folder) (sym seam) ∙ still_none) in
-      made ∙ ap (λ n. (answers.Temp (made_temp (temp_path cache number)), put with_folder n (File []))) (sym seam)
-
-  file_ground : Ground home with_file
-  file_ground =
-      goes_to home with_folder with_file (steps.CreateTemp (temp_path cache number)) (answers.Temp (made_temp (temp_path cache number))) folder_ground
-      (is_for home (temp_path cache number) (temp_names number) Temporary (temp_lies cache home is number)) made_file
+  abbrev two : Tree
+  two = with_file cache home is number t g none
 
   -- a file at this path of these bytes
   abbrev full : List ℕ → PlainTemp
   full bytes = record { path = temp_path cache number; bytes = Some bytes }
 
-  stands : (bytes : List ℕ) → Stands with_file (full bytes)
-  stands bytes = record {
-    names = home ++ temp_names number;
-    bytes = bytes;
-    was = [];
-    known_to_be = refl;
-    named = (temp_lies cache home is number).named;
-    there = look_own with_folder (home ++ temp_names number) (File []);
-  }
+  from_full : (bytes : List ℕ) → EndsSo Opened two (persist (put_commit cache p) (full bytes))
+  from_full bytes = persist_ends cache home is p number two (file_ground cache home is number t g none) (full bytes) (stands cache home is number t g none bytes) refl
 
-  from_full : (bytes : List ℕ) → EndsSo Opened with_file (persist (put_commit cache p) (full bytes))
-  from_full bytes = persist_ends cache home is p number with_file file_ground (full bytes) (stands bytes) refl
-
-  wrote : (b : ℕ) (bs : List ℕ) → apply with_file (steps.Write (full []) (b ∷ bs)) Plain ≡ (answers.Wrote (full (take (length (b ∷ bs)) (b ∷ bs))) (length (b ∷ bs)), with_file)
+  wrote : (b : ℕ) (bs : List ℕ) → apply two (steps.Write (full []) (b ∷ bs)) Plain ≡ (answers.Wrote (full (take (length (b ∷ bs)) (b ∷ bs))) (length (b ∷ bs)), two)
   unfolding apply
   wrote b bs = refl
 
-  from_file : (bytes : List ℕ) → EndsSo Opened with_file (write_rest (put_commit cache p) (full []) bytes)
+  from_file : (bytes : List ℕ) → EndsSo Opened two (write_rest (put_commit cache p) (full []) bytes)
   from_file [] = from_full []
   from_file (b ∷ bs) =
       let n = length (b ∷ bs) in
       let now = full (take (length (b ∷ bs)) (b ∷ bs)) in
-      goes Opened with_file with_file (writing (put_commit cache p) (full []) (b ∷ bs)) (steps.Write (full []) (b ∷ bs)) (answers.Wrote now n) refl (wrote b bs)
-      (cond_leads (EndsSo Opened with_file) (length (b ∷ bs) == 0) (fails faults.WriteZero) (write_rest (put_commit cache p) now (drop n (b ∷ bs)))
+      goes Opened two two (writing (put_commit cache p) (full []) (b ∷ bs)) (steps.Write (full []) (b ∷ bs)) (answers.Wrote now n) refl (wrote b bs)
+      (cond_leads (EndsSo Opened two) (length (b ∷ bs) == 0) (fails faults.WriteZero) (write_rest (put_commit cache p) now (drop n (b ∷ bs)))
       (λ zero. let differ : true ≡ false = sym zero ∙ ne_eqb (length (b ∷ bs)) 0 (λ e. absurd (omega arith)) in absurd cc)
-      (λ some. subst (λ rest. EndsSo Opened with_file (write_rest (put_commit cache p) now rest)) (sym (drop_all n (b ∷ bs) (omega arith))) (from_full (take (length (b ∷ bs)) (b ∷ bs)))))
+      (λ some. subst (λ rest. EndsSo Opened two (write_rest (put_commit cache p) now rest)) (sym (drop_all n (b ∷ bs) (omega arith))) (from_full (take (length (b ∷ bs)) (b ∷ bs)))))
 
   pub puts_so : EndsSo Opened t (opening (record { cache = cache; base = base; number = number }) (commands.Put p))
   puts_so =
-      goes Opened t with_folder (doing (make_folder (temp_folder cache)) (creating number (put_commit cache p) p.data)) (steps.MakeDirs (temp_folder cache)) answers.Done refl
+      goes Opened t one (doing (make_folder (temp_folder cache)) (creating number (put_commit cache p) p.data)) (steps.MakeDirs (temp_folder cache)) answers.Done refl
       (makes_dirs home t g (temp_folder cache) (folder_names (temp_names 0)) (temp_folder_lies cache home is))
-      (goes Opened with_folder with_file (creating number (put_commit cache p) p.data) (steps.CreateTemp (temp_path cache number)) (answers.Temp (full [])) refl made_file (from_file p.data))
+      (goes Opened one two (creating number (put_commit cache p) p.data) (steps.CreateTemp (temp_path cache number)) (answers.Temp (full [])) refl (made_file cache home is number t g none) (from_file p.data))

@@ -37,7 +37,7 @@ use Rattle.cacache_history.specs.ShownTurns.{as_refusal}
 use Rattle.cacache_sequence.specs.ReadAnswers.{entries_on, read_on}
 use Rattle.cacache_sequence.specs.Succeeds.{is_yes}
 use Rattle.cacache_sequence.proofs.SureInserts.{bucket_lies}
-use Rattle.cacache_sequence.proofs.SurePuts.{content_lies}
+use Rattle.cacache_sequence.proofs.SureTemps.{content_lies}
 use Rattle.cacache_sequence.proofs.SureRuns.{EndsSo, ends, goes}
 use Rattle.cacache_sequence.proofs.SureSteps.{Ground, Lies, Reached, arrives, missing, goes_to, reached}
 

@@ -46,7 +46,7 @@ use Rattle.cacache_sequence.proofs.Emptied.{home_is}
 use Rattle.cacache_sequence.proofs.Standing.{caches_stand}
 use Rattle.cacache_sequence.proofs.Succeeds.{back, ground}
 use Rattle.cacache_sequence.proofs.SureInserts.{bucket_lies}
-use Rattle.cacache_sequence.proofs.SurePuts.{content_lies}
+use Rattle.cacache_sequence.proofs.SureTemps.{content_lies}
 use Rattle.cacache_sequence.proofs.SureReads.{looks_so, removes_so}
 use Rattle.cacache_sequence.proofs.SureRuns.{EndsSo, ends, goes, of_log}
 use Rattle.cacache_sequence.proofs.SureSteps.{Ground, Lies, Reached, arrives, missing, place_at, reached}

@@ -19,3 +19,4 @@ pub mod GivenUp
 pub mod Links
 pub mod Exported
 pub mod Succeeds
+pub mod OpenSucceeds

@@ -18,6 +18,7 @@ ghost use Rattle.cacache_sequence.specs.OpenWriters.{WritersOpen, CommitsLast, C
 ghost use Rattle.cacache_sequence.specs.Puts.{PutsLeave, PutsMayLead, CommitsLeave, CommitsKeep};
 ghost use Rattle.cacache_sequence.specs.GivenUp.{GivingUpLasts};
 ghost use Rattle.cacache_sequence.specs.OpenReaders.{ReadersOpen, ReadersOpenKey};
+ghost use Rattle.cacache_sequence.specs.OpenSucceeds.{OpeningsSucceed, CommitsAnswer};
 ghost use Rattle.cacache_sequence.specs.Succeeds.{PutsAnswer, InsertionsAnswer, DeletionsAnswer, LookupsAnswer, ContentReadsAnswer, KeyReadsAnswer, QuestionsAnswer, RemovalsAnswer, FullRemovalsAnswer, ListingsAnswer, ClearingsAnswer, OthersLeaveNone, PutsLeaveOwn, PutsLeaveTidy, FreshIsReady, SameIsReady};
 
 use cacache_memory::MemStore;
@@ -145,6 +146,8 @@ pub fn success_laws()
     ensures removes_fully { FullRemovalsAnswer }
     ensures lists { ListingsAnswer }
     ensures clears { ClearingsAnswer }
+    ensures opens { OpeningsSucceed }
+    ensures commits { CommitsAnswer }
     ensures others { OthersLeaveNone }
     ensures own { PutsLeaveOwn }
     ensures tidy { PutsLeaveTidy }
