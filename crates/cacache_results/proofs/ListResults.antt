@@ -17,6 +17,8 @@ use Rattle.cacache_sequence.specs.Keeping.{found_under}
 use Rattle.cacache_sequence.specs.ListedKeys.{AreAllFound, GivesKeys, IsShown, ListsKeys}
 use Rattle.cacache_sequence.proofs.Known.{caches_last}
 use Rattle.cacache_sequence.proofs.ListedKeys.{listings_give}
+use Rattle.cacache_sequence.proofs.Standing.{caches_stand}
+use Rattle.cacache_sequence.proofs.SureLists.{listings_answer}
 use Rattle.cacache_sequence.proofs.Looks.{tree_stays}
 use Rattle.cacache_results.specs.Lists.{AreAllEntries, ListingMeans}
 use Rattle.cacache_results.proofs.Told.{looks_leave, plain_twice}
@@ -77,4 +79,5 @@ listing_means cache r new logged old sound ran =
       same = tree_stays cache commands.Ls (plain_reply r) old.store new.store tt c;
       entries = λ entries is. are_entries cache r entries old.store new.store is gives;
       any = gives;
+      succeeds = λ folder. listings_answer cache (plain_reply r) old.store new.store folder (caches_stand cache old.store sound) c;
     }

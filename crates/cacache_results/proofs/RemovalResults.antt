@@ -1,38 +1,43 @@
 -- What removals and clearings gave and left.
-use Rattle.std.proofs.Common.{◌≡◌, inl, inr, ℕ, List, Option, None, Some, Result, Ok, Err, refl, ap, ◌∙◌, arith}
+use Rattle.std.proofs.Common.{◌≡◌, inl, inr, ℕ, List, [], Option, None, Some, Result, Ok, Err, refl, ap, ◌∙◌, arith}
 use Rattle.std.specs.Prelude.{OnOk, IfErr, IsUtf8}
 use Rattle.cacache_core.specs.declared.errors.Error.{Error}
+use Rattle.cacache_core.specs.declared.errors.Error.TheVariants.{IoError, OutOfMemory}
+use Rattle.cacache_core.specs.declared.errors.Fault.TheVariants.{NotFound, TooDeep}
+use Rattle.cacache_disk.specs.declared.node.Node.{Node}
+use Rattle.cacache_value.specs.Kinds.{node_below}
 use Rattle.cacache_core.specs.declared.integrity.digest.Hash.{Hash}
 use Rattle.cacache_core.specs.Integrity.{IsIntegrity}
 use Rattle.cacache_store.specs.declared.env.Env.{Env}
 use Rattle.cacache_store.specs.declared.store.log.LogItem.{LogItem}
 use Rattle.cacache_table.specs.declared.command.Command.TheVariants as commands
 use Rattle.cacache_table.specs.Inserting.{refused_cause}
-use Rattle.cacache_table.specs.Replies.{done}
-use Rattle.cacache_table.specs.Runs.{reply_of}
+use Rattle.cacache_table.specs.Replies.{OrMemory, done}
+use Rattle.cacache_table.specs.Runs.{reply_of, without_message}
 use Rattle.cacache_reads.specs.Lookups.{delete_of}
 use Rattle.cacache_sequence.specs.Caches.{HasKey, IsEmptyCache, IsExcused, LacksKey, Empties, RemovesKey, lies_under}
 use Rattle.cacache_sequence.specs.Removed.{RemovesContent}
 use Rattle.cacache_sequence.proofs.Beside.{removals_keep}
 use Rattle.cacache_sequence.proofs.Logs.{calls_grow}
-use Rattle.cacache_table.specs.declared.reply.Reply.TheVariants.{Done}
+use Rattle.cacache_table.specs.declared.reply.Reply.TheVariants.{Done, Refused}
 use Rattle.cacache_core.specs.PathNames.{home_of}
 use Rattle.cacache_memory.specs.Replay.{IsLog, tree_of}
 use Rattle.cacache_value.specs.Value.{Blob}
 use Rattle.cacache_history.specs.Values.{IsThere}
 use Rattle.cacache_sequence.specs.Keeping.{found_under}
-use Rattle.cacache_sequence.specs.Succeeds.{fully_reply, removal_reply, unless_unwritable}
+use Rattle.cacache_sequence.specs.Succeeds.{Clears, fully_reply, removal_reply, unless_unwritable}
 use Rattle.cacache_sequence.proofs.Forms.{bare_written}
 use Rattle.cacache_sequence.proofs.Standing.{caches_stand}
 use Rattle.cacache_sequence.proofs.Succeeds.{deletions_answer, removals_answer}
+use Rattle.cacache_sequence.proofs.SureClears.{clearings_answer}
 use Rattle.cacache_sequence.proofs.SureRemovals.{full_removals_answer}
 use Rattle.cacache_sequence.proofs.Unused.{others_leave_none, stays_ready}
 use Rattle.cacache_sequence.proofs.Removals.{clearings_empty, removals_last}
 use Rattle.cacache_sequence.proofs.Removed.{contents_go}
 use Rattle.cacache_sequence.proofs.RemovedKeys.{keys_go}
-use Rattle.cacache_results.specs.Removals.{ClearingMeans, ContentRemovalMeans, FullRemovalMeans, RemovalMeans}
+use Rattle.cacache_results.specs.Removals.{FailsClearing, ClearingMeans, ContentRemovalMeans, FullRemovalMeans, RemovalMeans}
 use Rattle.cacache_results.proofs.SureResults.{for_memory, or_as}
-use Rattle.cacache_results.proofs.Told.{called, excused}
+use Rattle.cacache_results.proofs.Told.{called, excused, of_memory}
 
 gone : (r : Result (Unit {0}) Error) (cache key : List ℕ) (old new : List LogItem) → RemovesKey cache key (reply_of done r) old new → OnOk r (LacksKey cache key new) × IfErr r (λ e. IsExcused e old new)
 gone (Ok u) cache key old new h = (h, tt)
@@ -110,6 +115,17 @@ empty_after : (r : Result (Unit {0}) Error) (cache : List ℕ) (old new : List L
 empty_after (Ok u) cache old new h = h
 empty_after (Err e) cache old new h = tt
 
+-- why a clearing may fail
+clearing_by : (cache : List ℕ) (old : List LogItem) (e : Error) (here : Option Node) → node_below (home_of cache) (tree_of old) [] ≡ here → Clears here (Refused (without_message e)) → FailsClearing cache old e
+clearing_by cache old e None is h = let same : without_message e ≡ IoError NotFound [] = cc in inr (inr (is, same))
+clearing_by cache old e (Some node) is (inl h) = absurd cc
+clearing_by cache old e (Some node) is (inr h) = let same : without_message e ≡ IoError TooDeep [] = cc in inr (inl same)
+
+clearing_fails : (cache : List ℕ) (r : Result (Unit {0}) Error) (old : List LogItem) → OrMemory (Clears (node_below (home_of cache) (tree_of old) []) (reply_of done r)) (reply_of done r) → IfErr r (λ e. FailsClearing cache old e)
+clearing_fails cache (Ok u) old h = tt
+clearing_fails cache (Err e) old (inl m) = let same : without_message e ≡ OutOfMemory = cc in inl (of_memory e same)
+clearing_fails cache (Err e) old (inr h) = clearing_by cache old e (node_below (home_of cache) (tree_of old) []) refl h
+
 pub clearing_means : {C N : Type 0} (cache : List ℕ) (r : Result (Unit {0}) Error) (new : Env (List LogItem) C N) → IsLog new.store → ClearingMeans cache r new
 clearing_means cache r new logged old sound ran =
     let c = called done (λ u. refl) r cache old.base 0 commands.Clear old.store new.store ran.0.0 logged in
@@ -118,5 +134,6 @@ clearing_means cache r new logged old sound ran =
       sound = w.0;
       grows = calls_grow cache commands.Clear (reply_of done r) old.store new.store c;
       empty = empty_after r cache old.store new.store w.1;
+      succeeds = λ folder. clearing_fails cache r old.store (clearings_answer cache (reply_of done r) old.store new.store folder (caches_stand cache old.store sound) c);
       ready = stays_ready cache old.store new.store (others_leave_none cache commands.Clear (reply_of done r) old.store new.store c tt tt tt sound);
     }

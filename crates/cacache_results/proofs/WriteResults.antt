@@ -171,7 +171,7 @@ inserted_so (Err (SerdeError cause message)) cache i old new fits h = let no : N
 inserted_so (Err (IntegrityError fault)) cache i old new fits h = (tt, h)
 inserted_so (Err OutOfMemory) cache i old new fits h = (tt, h)
 
-early_of : {C : Type 0} (moments : C → Option (List ℕ)) (time : Option ℕ) (old new : C) (moment : ℕ) → ((t : ℕ) → time ≡ Some t → t < 2 ^ 64) → HasMoment moments time old new moment → moment < 2 ^ 64
+pub early_of : {C : Type 0} (moments : C → Option (List ℕ)) (time : Option ℕ) (old new : C) (moment : ℕ) → ((t : ℕ) → time ≡ Some t → t < 2 ^ 64) → HasMoment moments time old new moment → moment < 2 ^ 64
 early_of moments None old new moment early h = h.1
 early_of moments (Some t) old new moment early h = subst (λ m. m < 2 ^ 64) (sym h.1) (early t refl)
 

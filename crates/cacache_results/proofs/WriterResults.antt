@@ -1,9 +1,11 @@
 -- What open writers did.
-use Rattle.std.proofs.Common.{◌≡◌, ◌⊎◌, inl, inr, ◌-◌, ◌<◌, ◌^◌, ◌++◌, ℕ, List, [], Option, None, Some, Result, Ok, Err, length, min, refl, sym, ap, subst, ◌∙◌, arith}
+use Rattle.std.proofs.Common.{◌≡◌, ◌⊎◌, inl, inr, ◌-◌, ◌<◌, ◌^◌, ◌++◌, ℕ, Bool, List, [], Option, None, Some, Result, Ok, Err, length, min, refl, sym, ap, subst, ◌∙◌, arith}
 use Rattle.std.specs.Prelude.{IfOk, IfErr, IfSome, IsUtf8}
 use Rattle.std.specs.Io.KnownBytes.{Appends}
 use Rattle.cacache_core.specs.declared.errors.Error.{Error}
 use Rattle.cacache_core.specs.declared.errors.Error.TheVariants.{EntryNotFound, SizeMismatch, IoError, SerdeError, IntegrityError, OutOfMemory}
+use Rattle.serde_json.specs.Data.{Data, null}
+use Rattle.cacache_core.specs.declared.integrity.algorithm.Algorithm.{Algorithm}
 use Rattle.cacache_core.specs.declared.integrity.digest.Hash.{Hash}
 use Rattle.cacache_core.specs.Integrity.{IsIntegrity, integrity_under}
 use Rattle.cacache_core.specs.Texts.{integrity_text}
@@ -15,13 +17,15 @@ use Rattle.cacache_store.specs.declared.store.step.Step.TheVariants as steps
 use Rattle.cacache_store.specs.Plain.{PlainAnswer}
 use Rattle.cacache_memory.specs.Replay.{IsLog}
 use Rattle.cacache_table.specs.declared.command.Put.{Put}
+use Rattle.cacache_table.specs.declared.reply.Reply.{Reply}
 use Rattle.cacache_table.specs.declared.reply.Reply.TheVariants.{Stored}
-use Rattle.cacache_table.specs.Inserting.{given_or}
+use Rattle.cacache_table.specs.Inserting.{given_or, refused_cause}
 use Rattle.cacache_table.specs.Runs.{reply_of}
 use Rattle.cacache_table.specs.SingleSteps.{Does}
 use Rattle.cacache_table.specs.StepPaths.{temp_path}
 use Rattle.cacache_table.proofs.IntegrityUtf8.{integrity_utf8}
 use Rattle.cacache_content.specs.OpenWrites.{IsSameWriter, RemovesTemp, Takes, TriesToRemove, counted_bytes}
+use Rattle.cacache_jobs.specs.Environment.{MomentOf}
 use Rattle.cacache_put.specs.KeyedWriters.{CommitsWriter, OpensAt}
 use Rattle.cacache_put.specs.Options.{Said, options_of}
 use Rattle.cacache_sequence.specs.Beside.{FitsEntry, own_integrity}
@@ -29,19 +33,27 @@ use Rattle.cacache_sequence.specs.Caches.{IsCache, IsExcused}
 use Rattle.cacache_sequence.specs.GivenUp.{GivesUpTemp}
 use Rattle.cacache_sequence.specs.OpenWriters.{CommitsBytes, HasOpened, LeavesKnownCache, OpensWriter}
 use Rattle.cacache_sequence.specs.Puts.{HasCommitted, entry_of_put, stored_as}
+use Rattle.cacache_sequence.specs.OpenSucceeds.{FileAt}
+use Rattle.cacache_sequence.specs.Succeeds.{put_reply, unless_unwritable}
 use Rattle.cacache_sequence.proofs.Committing.{commits_last}
+use Rattle.cacache_sequence.proofs.Forms.{bare_written}
+use Rattle.cacache_sequence.proofs.Standing.{caches_stand}
+use Rattle.cacache_sequence.proofs.SureWriters.{commits_answer, openings_succeed}
 use Rattle.cacache_sequence.proofs.GivenUp.{giving_up_lasts}
 use Rattle.cacache_sequence.proofs.OpenWriters.{writers_open}
 use Rattle.cacache_sequence.proofs.Puts.{commits_keep, commits_leave}
-use Rattle.cacache_results.specs.Handles.{CommitsMean, CommittedBytes, FailedWritesMean, GivingUpMeans, IsText, IsWriting, LeadsToEntry, MemWriter, OpenedWriter, OpeningsMean, SaysFit, WritersGoOn, said_integrity}
+use Rattle.cacache_results.specs.Handles.{CommitsMean, CommitsSucceed, CommittedBytes, FailedWritesMean, GivingUpMeans, IsText, IsWriting, LeadsToEntry, MemWriter, OpenedWriter, OpeningsMean, SaysFit, WritersGoOn, said_integrity}
+use Rattle.cacache_results.specs.Writes.{SaysPlain}
+use Rattle.cacache_results.proofs.SureResults.{for_memory}
 use Rattle.cacache_results.proofs.Told.{excused, plain_result}
-use Rattle.cacache_results.proofs.WriteResults.{untouched}
+use Rattle.cacache_results.proofs.WriteResults.{early_of, untouched}
 
 -- ---- openings
 
 opened : (cache : List ℕ) (key : Option (List ℕ)) (s : Said) (number : ℕ) (r : Result MemWriter Error) (old new : List LogItem) → IsCache cache old → IsLog new
     → OpensAt (λ (f : PlainTemp). f) cache key s r (Some old) (Some new) number → OpenedWriter cache key s r old new
 opened cache key s number (Ok w) old new sound logged h =
+    let file_is : w.writer.file.path ≡ w.writer.path = (writers_open cache number (Ok w.writer.file) old new sound h.1 logged).1.0 ∙ sym h.0.fresh.path_is in
     let o = writers_open cache number (Ok w.writer.file) old new sound h.1 logged in
     record {
       leaves = o.0;
@@ -59,10 +71,19 @@ opened cache key s number (Ok w) old new sound logged h =
         options_are = h.0.options_are;
       };
       fails = tt;
+      succeeds = λ ready. tt;
+      stands = λ ready.
+          subst (λ p. FileAt p new) file_is (openings_succeed cache number (Ok w.writer.file) old new ready.folder (caches_stand cache old sound) (ready.tidy number) h.1 logged).0;
     }
 opened cache key s number (Err e) old new sound logged h =
     let o = writers_open cache number (Err e) old new sound h logged in
-    record { leaves = o.0; writer = tt; fails = o.1 }
+    record {
+      leaves = o.0;
+      writer = tt;
+      fails = o.1;
+      succeeds = λ ready. (openings_succeed cache number (Err e) old new ready.folder (caches_stand cache old sound) (ready.tidy number) h logged).1;
+      stands = λ ready. tt;
+    }
 
 pub openings_mean : {C N : Type 0} (numbers : N → Option (List ℕ)) (new : Env (List LogItem) C N) → IsLog new.store → OpeningsMean numbers new
 openings_mean numbers new logged cache key s r old sound h = opened cache key s h.0 r old.store new.store sound logged h.2
@@ -159,6 +180,44 @@ commits_mean moments new logged cache key s bytes w (Err e) old sound t says tex
       content = tt;
       keeps = untouched cache key (said_integrity s bytes) bytes old.store new.store kept.1;
     }
+
+-- ---- commits that fail for memory alone
+
+-- a put of which nothing is expected, and nothing said, stores
+plain_stores : (cache : List ℕ) (key : Option (List ℕ)) (bytes : List ℕ) (moment : ℕ) (a : Algorithm) (durable : Bool) → IsText key → length bytes < 2 ^ 64 → moment < 2 ^ 64
+    → put_reply cache (record { key = key; «data» = bytes; moment = moment; options = record { algorithm = a; size = None; integrity = None; metadata = null; raw_metadata = None; durable = durable } }) ≡ Stored (integrity_under a bytes)
+unfolding refused_cause
+plain_stores cache None bytes moment a durable text small early = refl
+plain_stores cache (Some key) bytes moment a durable text small early =
+    ap (unless_unwritable (Stored (integrity_under a bytes)))
+    (bare_written key (Some (integrity_text (integrity_under a bytes))) moment (length bytes) text (integrity_utf8 (integrity_under a bytes)) early small).no_cause
+
+said_plain : (cache : List ℕ) (key : Option (List ℕ)) (s : Said) (bytes : List ℕ) (moment : ℕ) → SaysPlain s → s.integrity ≡ None → IsText key → length bytes < 2 ^ 64 → moment < 2 ^ 64
+    → put_reply cache (put_of key s bytes moment) ≡ Stored (said_integrity s bytes)
+said_plain cache key s bytes moment plain none text small early =
+    let at : Option ℕ → Option (List Hash) → Data → Option (List ℕ) → Reply
+    = λ size integrity metadata raw.
+    put_reply cache (record { key = key; «data» = bytes; moment = moment; options = record { algorithm = s.algorithm; size = size; integrity = integrity; metadata = metadata; raw_metadata = raw; durable = s.durable } }) in
+    ap (λ x. at x s.integrity s.metadata s.raw_metadata) plain.size
+    ∙ ap (λ x. at None x s.metadata s.raw_metadata) none
+    ∙ ap (λ x. at None None x s.raw_metadata) plain.metadata
+    ∙ ap (λ x. at None None null x) plain.raw_metadata
+    ∙ plain_stores cache key bytes moment s.algorithm s.durable text small early
+
+moment_early : {C : Type 0} (moments : C → Option (List ℕ)) (key : Option (List ℕ)) (time : Option ℕ) (old new : C) (moment : ℕ) → ((t : ℕ) → time ≡ Some t → t < 2 ^ 64) → MomentOf moments key time old new moment → moment < 2 ^ 64
+moment_early moments None time old new moment early h = subst (λ m. m < 2 ^ 64) (sym h.1) (omega arith)
+moment_early moments (Some key) time old new moment early h = early_of moments time old new moment early h
+
+pub commits_succeed : {C N : Type 0} (moments : C → Option (List ℕ)) (new : Env (List LogItem) C N) → IsLog new.store → CommitsSucceed moments new
+commits_succeed moments new logged cache key s bytes w r old sound folder file t plain none text small h =
+    let p = put_of key s bytes h.0 in
+    let c = commits_bytes cache key s bytes w t small moments r old new logged h in
+    let early = moment_early moments w.key w.time old.clock new.clock h.0 (λ time is. plain.early time (sym t.time_is ∙ is)) h.1 in
+    let stands = subst (λ x. FileAt x old.store) t.path_is file in
+    elim (commits_answer cache p t.number (reply_of Stored r) old.store new.store folder (caches_stand cache old.store sound) stands c) [
+      | inl m ↦ for_memory Stored r (Stored (said_integrity s bytes)) tt (inl m)
+      | inr done ↦ for_memory Stored r (Stored (said_integrity s bytes)) tt (inr (done.0 ∙ said_plain cache key s bytes h.0 plain none text small early))
+    ]
 
 -- ---- writers that are given up
 

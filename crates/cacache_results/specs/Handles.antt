@@ -1,5 +1,5 @@
 -- What open writers did, by their results, on a store in memory.
-use Rattle.std.specs.Prelude.{◌≡◌, ◌⊎◌, ◌<◌, ◌^◌, ◌++◌, ℕ, List, [], Option, Some, Result, Ok, Err, IfOk, IfErr, IfSome, IsUtf8, length}
+use Rattle.std.specs.Prelude.{◌≡◌, ◌⊎◌, ◌<◌, ◌^◌, ◌++◌, ℕ, List, [], Option, None, Some, Result, Ok, Err, IfOk, IfErr, IfSome, IsUtf8, length}
 use Rattle.std.specs.Io.KnownBytes.{Appends}
 use Rattle.cacache_core.specs.declared.errors.Error.{Error}
 use Rattle.cacache_core.specs.declared.integrity.digest.Hash.{Hash}
@@ -22,7 +22,10 @@ use Rattle.cacache_put.specs.Options.{Said, options_of}
 use Rattle.cacache_sequence.specs.Caches.{IsCache, HasContent, IsExcused, Grows, lies_under}
 use Rattle.cacache_sequence.specs.Keeping.{found_under}
 use Rattle.cacache_sequence.specs.OpenWriters.{IsOpened, LeavesKnownCache}
-use Rattle.cacache_results.specs.Writes.{KeepsUntouched}
+use Rattle.cacache_sequence.specs.OpenSucceeds.{FileAt}
+use Rattle.cacache_sequence.specs.Succeeds.{NamesFolder, IsReady}
+use Rattle.cacache_results.specs.Success.{FailsForMemory}
+use Rattle.cacache_results.specs.Writes.{KeepsUntouched, SaysPlain}
 
 -- a writer of a store in memory
 abbrev pub MemWriter : Type 0
@@ -51,6 +54,8 @@ pub record OpenedWriter (cache : List ℕ) (key : Option (List ℕ)) (s : Said)
   pub leaves : LeavesKnownCache cache old new
   pub writer : IfOk r (λ w. IsWriting cache key s [] w)
   pub fails : IfErr r (λ e. IsExcused e old new)
+  pub succeeds : IsReady cache old → FailsForMemory r
+  pub stands : IsReady cache old → IfOk r (λ w. FileAt w.writer.path new)
 
 -- ---- a commit
 
@@ -129,6 +134,18 @@ module _ {C N : Type 0} where
       → CommitsWriter (λ file. file) (λ log. Some log) moments old new w bytes
       (reply_of Stored r)
       → CommittedBytes cache key s bytes r old.store new.store
+
+  -- while its file stands, a commit for which nothing is expected and said but a time fails for memory alone
+  abbrev pub CommitsSucceed : (C → Option (List ℕ)) → Env (List LogItem) C N → Type 0
+  CommitsSucceed moments new =
+      (cache : List ℕ) (key : Option (List ℕ)) (s : Said) (bytes : List ℕ) (w : MemWriter)
+      (r : Result (List Hash) Error) (old : Env (List LogItem) C N)
+      → IsCache cache old.store → NamesFolder cache → FileAt w.writer.path old.store
+      → IsWriting cache key s bytes w → SaysPlain s → s.integrity ≡ None → IsText key
+      → length bytes < 2 ^ 64
+      → CommitsWriter (λ file. file) (λ log. Some log) moments old new w bytes
+      (reply_of Stored r)
+      → FailsForMemory r
 
   -- a writer that is given up leaves all that was known: by hand, or for a write that failed
   abbrev pub GivingUpMeans : Env (List LogItem) C N → Type 0

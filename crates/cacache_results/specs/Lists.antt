@@ -1,26 +1,36 @@
 -- What a listing gave its caller and left, by its reply, on a store in memory.
-use Rattle.std.specs.Prelude.{◌≡◌, ℕ, All, List, Some, Ok, map}
+use Rattle.std.specs.Prelude.{◌≡◌, ℕ, All, List, [], ◌∷◌, Option, Some, Ok, map}
 use Rattle.cacache_store.specs.declared.env.Env.{Env}
 use Rattle.cacache_store.specs.declared.store.log.LogItem.{LogItem}
+use Rattle.cacache_core.specs.PathNames.{home_of}
+use Rattle.cacache_core.specs.Paths.{index_area}
+use Rattle.cacache_disk.specs.declared.node.Node.{Node}
 use Rattle.cacache_memory.specs.Replay.{tree_of}
 use Rattle.cacache_entry.specs.Latest.{Found}
 use Rattle.cacache_table.specs.declared.command.Command.TheVariants as commands
 use Rattle.cacache_table.specs.declared.reply.Reply.{Reply}
 use Rattle.cacache_table.specs.declared.reply.Reply.TheVariants.{Listed}
 use Rattle.cacache_table.specs.ListReplies.{In}
+use Rattle.cacache_table.specs.Replies.{OrMemory}
 use Rattle.cacache_table.specs.Runs.{Ran, plain_reply}
 use Rattle.cacache_table.specs.Table.{opening}
+use Rattle.cacache_value.specs.Kinds.{node_below}
 use Rattle.cacache_jobs.specs.Sites.{site_of}
 use Rattle.cacache_sequence.specs.Caches.{IsCache}
 use Rattle.cacache_sequence.specs.Keeping.{found_under}
 use Rattle.cacache_sequence.specs.ListedKeys.{GivesKeys}
 use Rattle.cacache_sequence.specs.OpenWriters.{LeavesKnownCache}
+use Rattle.cacache_sequence.specs.Succeeds.{NamesFolder, ListsAll}
 
 -- these are the entries that keys lead to, all of them
 pub record AreAllEntries (cache : List ℕ) (log : List LogItem) (entries : List Found) : Type 0 where
   pub each : All (λ entry. found_under cache entry.key log ≡ Some entry) entries
   pub all : (key : List ℕ) (entry : Found) → found_under cache key log ≡ Some entry
       → In entry entries
+
+-- the folder of the cache's index, if there is one
+abbrev pub index_of : List ℕ → List LogItem → Option Node
+index_of cache log = node_below (home_of cache) (tree_of log) (index_area ∷ [])
 
 -- a listing: where no item is an error, its items are the entries that keys lead to, all of them
 pub record ListedEntries (cache : List ℕ) (r : Reply) (old new : List LogItem) : Type 0 where
@@ -29,6 +39,8 @@ pub record ListedEntries (cache : List ℕ) (r : Reply) (old new : List LogItem)
   pub entries : (entries : List Found) → r ≡ Listed (map Ok entries)
       → AreAllEntries cache old entries
   pub any : GivesKeys cache (plain_reply r) old new
+  pub succeeds : NamesFolder cache
+      → OrMemory (ListsAll (index_of cache old) (plain_reply r)) (plain_reply r)
 
 -- a listing, of this reply, is one
 abbrev pub ListingMeans :

@@ -1,12 +1,17 @@
 -- What calls that remove gave their caller and left, by their results, on a store in memory.
-use Rattle.std.specs.Prelude.{◌≡◌, ℕ, List, Option, None, Some, Result, OnOk, IfErr}
+use Rattle.std.specs.Prelude.{◌≡◌, ◌⊎◌, ℕ, List, [], Option, None, Some, Result, OnOk, IfErr}
 use Rattle.cacache_core.specs.declared.errors.Error.{Error}
+use Rattle.cacache_core.specs.declared.errors.Error.TheVariants.{IoError, OutOfMemory}
+use Rattle.cacache_core.specs.declared.errors.Fault.TheVariants.{NotFound, TooDeep}
+use Rattle.cacache_core.specs.PathNames.{home_of}
 use Rattle.cacache_core.specs.declared.integrity.digest.Hash.{Hash}
 use Rattle.cacache_store.specs.declared.env.Env.{Env}
 use Rattle.cacache_store.specs.declared.store.log.LogItem.{LogItem}
 use Rattle.cacache_table.specs.declared.command.Command.TheVariants as commands
 use Rattle.cacache_table.specs.Replies.{done}
-use Rattle.cacache_table.specs.Runs.{reply_of}
+use Rattle.cacache_table.specs.Runs.{reply_of, without_message}
+use Rattle.cacache_value.specs.Kinds.{node_below}
+use Rattle.cacache_memory.specs.Replay.{tree_of}
 use Rattle.cacache_jobs.specs.Environment.{Calls, RunsTimed}
 use Rattle.cacache_reads.specs.Lookups.{delete_of}
 use Rattle.cacache_history.specs.Values.{IsThere}
@@ -50,12 +55,20 @@ pub record KeyRemovedFully (cache key : List ℕ) (r : Result (Unit {0}) Error) 
       → HasKey cache key i bytes old → FailsForMemory r
   pub ready : IsReady cache old → IsReady cache new
 
+-- memory was refused, there were too many names, or the cache has no folder
+abbrev pub FailsClearing : List ℕ → List LogItem → Error → Type 0
+FailsClearing cache old e =
+    (e ≡ OutOfMemory)
+    ⊎ ((without_message e ≡ IoError TooDeep [])
+    ⊎ ((node_below (home_of cache) (tree_of old) [] ≡ None) × (without_message e ≡ IoError NotFound [])))
+
 -- a clearing: the cache is empty
 pub record Cleared (cache : List ℕ) (r : Result (Unit {0}) Error) (old new : List LogItem)
     : Type 0 where
   pub sound : IsCache cache new
   pub grows : Grows old new
   pub empty : OnOk r (IsEmptyCache cache new)
+  pub succeeds : NamesFolder cache → IfErr r (λ e. FailsClearing cache old e)
   pub ready : IsReady cache old → IsReady cache new
 
 -- ---- laws, of the environment that a call left
