@@ -63,3 +63,4 @@ pub mod Sheds
 pub mod SureClears
 pub mod SureWriters
 pub mod Unused
+pub mod SureStays

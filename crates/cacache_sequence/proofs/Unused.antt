@@ -46,7 +46,7 @@ use Rattle.cacache_sequence.proofs.SureSpares.{Creates, NoneCreates, moves_spare
 -- ---- moves of a call
 
 -- the steps of a call are proper ones, on the tree of the log
-calls_trace : (cache : List ℕ) (command : Command) (r : Reply) (old new : List LogItem) (c : Called cache command r old new)
+pub calls_trace : (cache : List ℕ) (command : Command) (r : Reply) (old new : List LogItem) (c : Called cache command r old new)
     → MayBegin (call_site (setup_at cache c.base) c.number) (may_export (setup_at cache c.base)) (is_outside (setup_at cache c.base)) command → NamesIntegrity command → IsCache cache old
     → IsTrace (home_of cache) (tree_of old) (plain_moves c.ran.0)
 calls_trace cache command r old new c may named sound =
@@ -100,12 +100,12 @@ module _ (site : Site) (apart outside : List ℕ → Bool) (q : Names) (differ :
     other_files (after s m.1) moves r (stays_sound site apart outside s m.0 m.1 sound run.0 run.1) run.2,
   )
 
-temp_named : (cache : List ℕ) (n : ℕ) → names_of (temp_path cache n) ≡ names_below (home_of cache) (temp_names n)
+pub temp_named : (cache : List ℕ) (n : ℕ) → names_of (temp_path cache n) ≡ names_below (home_of cache) (temp_names n)
 unfolding temp_path
 temp_named cache n = joined_texts_name cache (temp_names n) (names_are_proper.temporaries n) (omega arith)
 
 -- a put's file is that of its number
-own_file : (cache : List ℕ) (folder : Names) (n m : ℕ) → home_of cache ≡ Some folder → names_of (temp_path cache n) ≡ Ok (folder ++ temp_names m) → folder ++ temp_names n ≡ folder ++ temp_names m
+pub own_file : (cache : List ℕ) (folder : Names) (n m : ℕ) → home_of cache ≡ Some folder → names_of (temp_path cache n) ≡ Ok (folder ++ temp_names m) → folder ++ temp_names n ≡ folder ++ temp_names m
 own_file cache folder n m is e =
     let both : ◌≡◌ {A = Result Names Fault} (Ok (folder ++ temp_names n)) (Ok (folder ++ temp_names m)) = sym (temp_named cache n ∙ ap (λ h. names_below h (temp_names n)) is) ∙ e in
     cc
@@ -124,7 +124,7 @@ put_leaves cache p r old new c number may sound differ unused =
     (begins_sound site apart outside (commands.Put p) may) c.ran.1)
     unused
 
-same_number : (cache : List ℕ) (folder : Names) (n m : ℕ) → n < 2 ^ 64 → m < 2 ^ 64 → folder ++ temp_names n ≡ folder ++ temp_names m → n ≡ m
+pub same_number : (cache : List ℕ) (folder : Names) (n m : ℕ) → n < 2 ^ 64 → m < 2 ^ 64 → folder ++ temp_names n ≡ folder ++ temp_names m → n ≡ m
 same_number cache folder n m few less e =
     (paths_differ.temporaries cache n m few less).0 (ap (joined cache) (append_cancel_left folder (temp_names n) (temp_names m) e))
 

@@ -1,5 +1,5 @@
 -- Open writers on a store in memory whose steps all go well.
-use Rattle.std.specs.Prelude.{◌≡◌, ℕ, List, Some, Result, Ok, IfOk, IfErr}
+use Rattle.std.specs.Prelude.{◌≡◌, ◌<◌, ◌^◌, ℕ, true, false, List, [], Some, Result, Ok, IfOk, IfErr}
 use Rattle.cacache_core.specs.declared.errors.Error.{Error}
 use Rattle.cacache_core.specs.declared.errors.Error.TheVariants.{OutOfMemory}
 use Rattle.cacache_core.specs.PathNames.{Names, names_of}
@@ -8,10 +8,17 @@ use Rattle.cacache_store.specs.declared.store.plain.PlainTemp.{PlainTemp}
 use Rattle.cacache_disk.specs.declared.node.Node.TheVariants.{File}
 use Rattle.cacache_disk.specs.Tree.{look}
 use Rattle.cacache_memory.specs.Replay.{tree_of, IsLog}
+use Rattle.cacache_table.specs.declared.command.Command.{Command}
+use Rattle.cacache_table.specs.declared.command.Command.TheVariants as commands
 use Rattle.cacache_table.specs.declared.command.Put.{Put}
 use Rattle.cacache_table.specs.declared.reply.Reply.{Reply}
+use Rattle.cacache_table.specs.Licence.{KeepsTo, Licence}
 use Rattle.cacache_table.specs.Replies.{OrMemory}
+use Rattle.cacache_table.specs.Sound.{MayBegin}
 use Rattle.cacache_table.specs.StepPaths.{temp_path}
+use Rattle.cacache_history.specs.History.{NamesIntegrity}
+use Rattle.cacache_history.specs.Setup.{call_site, is_outside, may_export}
+use Rattle.cacache_sequence.specs.Caches.{Called, IsCache, setup_at}
 use Rattle.cacache_sequence.specs.OpenWriters.{CommitsBytes, OpensWriter}
 use Rattle.cacache_sequence.specs.Standing.{IsStanding}
 use Rattle.cacache_sequence.specs.Succeeds.{NamesFolder, IsUnused, put_reply}
@@ -38,3 +45,37 @@ CommitsAnswer =
     → NamesFolder cache → IsStanding cache old → FileAt (temp_path cache number) old
     → CommitsBytes cache p number r old new
     → OrMemory ((r ≡ put_reply cache p) × IsUnused cache number new) r
+
+-- ---- what keeps a writer's file
+
+-- all but to write and move temporary files, and to remove
+abbrev pub without_takings : Licence
+without_takings = record {
+  prepares = true;
+  commits = false;
+  links = true;
+  inserts = true;
+  lists = true;
+  exports = true;
+  removes = false;
+}
+
+-- a call that may begin, is no put and removes nothing leaves a writer's file
+abbrev pub OthersKeepFiles : Type 0
+OthersKeepFiles =
+    (cache : List ℕ) (command : Command) (r : Reply) (old new : List LogItem)
+    (c : Called cache command r old new) (number : ℕ)
+    → MayBegin (call_site (setup_at cache c.base) c.number) (may_export (setup_at cache c.base))
+    (is_outside (setup_at cache c.base)) command
+    → NamesIntegrity command → KeepsTo without_takings command → IsCache cache old
+    → FileAt (temp_path cache number) old → FileAt (temp_path cache number) new
+
+-- so does a put of another number
+abbrev pub PutsKeepFiles : Type 0
+PutsKeepFiles =
+    (cache : List ℕ) (p : Put) (r : Reply) (old new : List LogItem)
+    (c : Called cache (commands.Put p) r old new) (number : ℕ)
+    → MayBegin (call_site (setup_at cache c.base) c.number) (may_export (setup_at cache c.base))
+    (is_outside (setup_at cache c.base)) (commands.Put p)
+    → IsCache cache old → number < 2 ^ 64 → c.number < 2 ^ 64 → (number ≡ c.number → ⊥)
+    → FileAt (temp_path cache number) old → FileAt (temp_path cache number) new
