@@ -105,7 +105,6 @@ module _ (home : Option Names) (q : Names) (temporary : path_kind home q ≡ Tem
       let kind = of_names (λ n. path_kind home n ≡ Bucket) p own for is in
       lengthens_at t p bytes names own kind e was (bucket_reached home t p own placed is kind)
 
-
   step_stays : (t : Tree) (step : PlainStep) → Placed home t → Proper home step → (Takes q step → ⊥) → Stays t → Stays (apply t step Plain).1
   step_stays t (steps.MakeDirs p) placed proper never e =
       apply_tree Stays t (steps.MakeDirs p) Plain e (λ most. unless_tree Stays (dirs t p) t _ e (λ names is. stays t [] names q (making most names) node e))
@@ -165,7 +164,7 @@ call_keeps cache command r old new c number may named sound never file = at (hom
         let same : file.0 ≡ folder ++ temp_names number = cc in
         let kind = subst (λ h. path_kind h (folder ++ temp_names number) ≡ Temporary) (sym e) (kind-below folder (temp_names number)) in
         let stays = moves_stay (home_of cache) (folder ++ temp_names number) kind (File file.1) (tree_of old) c.ran.0 sound.placed (calls_trace cache command r old new c may named sound) (never folder e)
-            (ap (look (tree_of old)) (sym same) ∙ file.3) in
+        (ap (look (tree_of old)) (sym same) ∙ file.3) in
         (folder ++ temp_names number, file.1, file.2 ∙ ap Ok same, ap (λ t. look t (folder ++ temp_names number)) (logs_lead old new c.ran.0 c.ran.2 c.logged).1 ∙ stays)
 
 not_taken : (q : Names) (step : PlainStep) → May (allows without_takings step) → Takes q step → ⊥

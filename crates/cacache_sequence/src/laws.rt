@@ -133,7 +133,8 @@ pub fn parts_laws()
 /// What calls answer whose steps all go well, as on a store in memory they do, unless memory is refused: each thing stands
 /// where it may, the cache's path names a folder, and no temporary file has a put's number. A put stores, unless its
 /// options refuse its bytes; a lookup, a read and a question answer what the cache holds; a removal is done where
-/// something lies. A new store has no temporary file, and a call leaves none that memory wasn't refused to.
+/// something lies; a listing reads each bucket, and a clearing is done. So it is of an open writer while its file stands.
+/// A new store has no temporary file, and a call leaves none that memory wasn't refused to.
 pub fn success_laws()
     ensures puts { PutsAnswer }
     ensures inserts { InsertionsAnswer }
