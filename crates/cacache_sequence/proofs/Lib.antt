@@ -64,3 +64,4 @@ pub mod SureClears
 pub mod SureWriters
 pub mod Unused
 pub mod SureStays
+pub mod SureExports

@@ -1,5 +1,5 @@
 -- A temporary file stays while calls neither move it nor remove anything.
-use Rattle.std.proofs.Common.{◌≡◌, inl, inr, ◌<◌, ◌^◌, ℕ, Bool, true, false, cond, List, [], ◌∷◌, ◌++◌, Option, None, Some, Result, Ok, Err, take, refl, sym, ap, subst, ◌∙◌}
+use Rattle.std.proofs.Common.{◌≡◌, ℕ, Bool, true, false, cond, List, [], ◌∷◌, ◌++◌, Option, None, Some, Result, Ok, Err, take, refl, sym, ap, subst, ◌∙◌}
 use Rattle.cacache_core.specs.declared.errors.Fault.{Fault}
 use Rattle.cacache_core.specs.declared.errors.Fault.TheVariants as faults
 use Rattle.cacache_core.specs.PathNames.{Names, names_of, home_of, names_below}
@@ -9,7 +9,7 @@ use Rattle.cacache_store.specs.declared.store.step.Step.TheVariants as steps
 use Rattle.cacache_store.specs.Plain.{PlainStep}
 use Rattle.cacache_disk.specs.declared.luck.Luck.TheVariants.{Plain}
 use Rattle.cacache_disk.specs.declared.node.Node.{Node}
-use Rattle.cacache_disk.specs.declared.node.Node.TheVariants.{Folder, File, Link}
+use Rattle.cacache_disk.specs.declared.node.Node.TheVariants.{File, Link}
 use Rattle.cacache_disk.specs.Tree.{Tree, look, put, cut, same_path}
 use Rattle.cacache_disk.specs.LedTo.{dirs, file_at, folder, free, kept, known, linked, place, replaceable, where_free, writable}
 use Rattle.cacache_disk.specs.Apply.{apply, lengthened, making, taken}
@@ -21,9 +21,8 @@ use Rattle.cacache_disk.proofs.Roots.{not_true}
 use Rattle.cacache_memory.specs.Replay.{tree_of}
 use Rattle.cacache_table.specs.declared.command.Command.{Command}
 use Rattle.cacache_table.specs.declared.command.Command.TheVariants as commands
-use Rattle.cacache_table.specs.declared.command.Put.{Put}
 use Rattle.cacache_table.specs.declared.reply.Reply.{Reply}
-use Rattle.cacache_table.specs.Licence.{AllMay, KeepsTo, Licence, May, allows}
+use Rattle.cacache_table.specs.Licence.{AllMay, Licence, May, allows}
 use Rattle.cacache_table.specs.Runs.{Moves, Runs}
 use Rattle.cacache_table.specs.Sound.{Allowed, MayBegin, Sound}
 use Rattle.cacache_table.specs.State.{Site, State}

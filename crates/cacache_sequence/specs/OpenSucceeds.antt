@@ -1,17 +1,22 @@
--- Open writers on a store in memory whose steps all go well.
-use Rattle.std.specs.Prelude.{◌≡◌, ◌<◌, ◌^◌, ℕ, true, false, List, [], Some, Result, Ok, IfOk, IfErr}
+-- Open writers and exports on a store in memory whose steps all go well.
+use Rattle.std.specs.Prelude.{◌≡◌, ◌<◌, ◌^◌, ℕ, Bool, true, false, List, Some, Result, Ok, IfOk, IfErr, length}
 use Rattle.cacache_core.specs.declared.errors.Error.{Error}
 use Rattle.cacache_core.specs.declared.errors.Error.TheVariants.{OutOfMemory}
 use Rattle.cacache_core.specs.PathNames.{Names, names_of}
 use Rattle.cacache_store.specs.declared.store.log.LogItem.{LogItem}
 use Rattle.cacache_store.specs.declared.store.plain.PlainTemp.{PlainTemp}
 use Rattle.cacache_disk.specs.declared.node.Node.TheVariants.{File}
+use Rattle.cacache_disk.specs.LedTo.{free, writable}
 use Rattle.cacache_disk.specs.Tree.{look}
 use Rattle.cacache_memory.specs.Replay.{tree_of, IsLog}
 use Rattle.cacache_table.specs.declared.command.Command.{Command}
 use Rattle.cacache_table.specs.declared.command.Command.TheVariants as commands
+use Rattle.cacache_table.specs.declared.command.How.{How}
+use Rattle.cacache_table.specs.declared.command.How.TheVariants.{Copy, Reflink, HardLink}
 use Rattle.cacache_table.specs.declared.command.Put.{Put}
+use Rattle.cacache_table.specs.declared.command.Source.{Source}
 use Rattle.cacache_table.specs.declared.reply.Reply.{Reply}
+use Rattle.cacache_table.specs.declared.reply.Reply.TheVariants.{Copied, Done}
 use Rattle.cacache_table.specs.Licence.{KeepsTo, Licence}
 use Rattle.cacache_table.specs.Replies.{OrMemory}
 use Rattle.cacache_table.specs.Sound.{MayBegin}
@@ -19,6 +24,8 @@ use Rattle.cacache_table.specs.StepPaths.{temp_path}
 use Rattle.cacache_history.specs.History.{NamesIntegrity}
 use Rattle.cacache_history.specs.Setup.{call_site, is_outside, may_export}
 use Rattle.cacache_sequence.specs.Caches.{Called, IsCache, setup_at}
+use Rattle.cacache_sequence.specs.ExportEffects.{NamesBytes}
+use Rattle.cacache_sequence.specs.Exported.{export_by}
 use Rattle.cacache_sequence.specs.OpenWriters.{CommitsBytes, OpensWriter}
 use Rattle.cacache_sequence.specs.Standing.{IsStanding}
 use Rattle.cacache_sequence.specs.Succeeds.{NamesFolder, IsUnused, put_reply}
@@ -79,3 +86,26 @@ PutsKeepFiles =
     (is_outside (setup_at cache c.base)) (commands.Put p)
     → IsCache cache old → number < 2 ^ 64 → c.number < 2 ^ 64 → (number ≡ c.number → ⊥)
     → FileAt (temp_path cache number) old → FileAt (temp_path cache number) new
+
+-- ---- exports
+
+-- where an export may go: a copy to a file or where one can be made, another export where nothing stands
+abbrev pub MayTake : How → List ℕ → List LogItem → Type 0
+MayTake Copy to log = (names : Names) × (writable (tree_of log) to ≡ Ok names)
+MayTake Reflink to log = (names : Names) × (free (tree_of log) to ≡ Ok names)
+MayTake HardLink to log = (names : Names) × (free (tree_of log) to ≡ Ok names)
+
+-- what such an export of these bytes answers
+abbrev pub exported : How → List ℕ → Reply
+exported Copy bytes = Copied (length bytes)
+exported Reflink bytes = Done
+exported HardLink bytes = Done
+
+-- an export of bytes that are there is done, verified first or not, where the path may take it
+abbrev pub ExportsSucceed : Type 0
+ExportsSucceed =
+    (cache bytes to : List ℕ) (how : How) (source : Source) (checked : Bool) (r : Reply)
+    (old new : List LogItem)
+    → NamesFolder cache → IsStanding cache old → NamesBytes cache source bytes old
+    → MayTake how to old → Called cache (export_by how source checked to) r old new
+    → OrMemory (r ≡ exported how bytes) r

@@ -18,7 +18,7 @@ ghost use Rattle.cacache_sequence.specs.OpenWriters.{WritersOpen, CommitsLast, C
 ghost use Rattle.cacache_sequence.specs.Puts.{PutsLeave, PutsMayLead, CommitsLeave, CommitsKeep};
 ghost use Rattle.cacache_sequence.specs.GivenUp.{GivingUpLasts};
 ghost use Rattle.cacache_sequence.specs.OpenReaders.{ReadersOpen, ReadersOpenKey};
-ghost use Rattle.cacache_sequence.specs.OpenSucceeds.{OpeningsSucceed, CommitsAnswer, OthersKeepFiles, PutsKeepFiles};
+ghost use Rattle.cacache_sequence.specs.OpenSucceeds.{OpeningsSucceed, CommitsAnswer, OthersKeepFiles, PutsKeepFiles, ExportsSucceed};
 ghost use Rattle.cacache_sequence.specs.Succeeds.{PutsAnswer, InsertionsAnswer, DeletionsAnswer, LookupsAnswer, ContentReadsAnswer, KeyReadsAnswer, QuestionsAnswer, RemovalsAnswer, FullRemovalsAnswer, ListingsAnswer, ClearingsAnswer, OthersLeaveNone, PutsLeaveOwn, PutsLeaveTidy, FreshIsReady, SameIsReady};
 
 use cacache_memory::MemStore;
@@ -149,6 +149,7 @@ pub fn success_laws()
     ensures clears { ClearingsAnswer }
     ensures opens { OpeningsSucceed }
     ensures commits { CommitsAnswer }
+    ensures exports { ExportsSucceed }
     ensures keeps_files { OthersKeepFiles }
     ensures puts_keep_files { PutsKeepFiles }
     ensures others { OthersLeaveNone }
