@@ -24,7 +24,7 @@ pub use Rattle.cacache_sequence.specs.ExportEffects.{IsApart, NamesBytes}
 pub use Rattle.cacache_sequence.specs.OpenWriters.{LeavesKnownCache, NothingElse}
 pub use Rattle.cacache_sequence.specs.Succeeds.{NamesFolder, IsReady, IsTidy, IsUnused}
 pub use Rattle.cacache_sequence.specs.Succeeds.{ListsAll, Clears}
-pub use Rattle.cacache_sequence.specs.OpenSucceeds.{FileAt}
+pub use Rattle.cacache_sequence.specs.OpenSucceeds.{FileAt, MayTake}
 pub use Rattle.cacache_results.specs.Success.{FailsForMemory}
 pub use Rattle.cacache_results.specs.Reads.{GivesJust, GivesNoEntry, LiesWhole, KeyLiesWhole, LinksToFile, KeyRead, ContentRead, EntryFound, AskedContent}
 pub use Rattle.cacache_results.specs.Writes.{DontClash, KeepsUntouched, SaysPlain, KeyWritten, ContentWritten, KeyInserted}

@@ -1,13 +1,17 @@
 -- What exports gave and left.
-use Rattle.std.proofs.Common.{◌≡◌, ℕ, Bool, List, Some, Result, Ok, Err, length, refl}
+use Rattle.std.proofs.Common.{◌≡◌, ℕ, Bool, List, Option, None, Some, Result, Ok, Err, length, refl, ap}
 use Rattle.std.specs.Prelude.{MatchResult}
 use Rattle.cacache_core.specs.declared.errors.Error.{Error}
 use Rattle.cacache_store.specs.declared.env.Env.{Env}
 use Rattle.cacache_store.specs.declared.store.log.LogItem.{LogItem}
+use Rattle.cacache_disk.specs.declared.node.Node.{Node}
+use Rattle.cacache_disk.specs.Tree.{Names, Tree, look}
+use Rattle.cacache_disk.specs.LedTo.{followed, free, leads, place, where_free, writable}
+use Rattle.cacache_disk.proofs.FoundNodes.{and_then_ok}
 use Rattle.cacache_memory.specs.Replay.{IsLog, shown, tree_of}
 use Rattle.cacache_table.specs.declared.command.Command.{Command}
 use Rattle.cacache_table.specs.declared.command.How.{How}
-use Rattle.cacache_table.specs.declared.command.How.TheVariants.{Copy}
+use Rattle.cacache_table.specs.declared.command.How.TheVariants.{Copy, Reflink, HardLink}
 use Rattle.cacache_table.specs.declared.command.Source.{Source}
 use Rattle.cacache_table.specs.declared.reply.Reply.{Reply}
 use Rattle.cacache_table.specs.declared.reply.Reply.TheVariants.{Copied}
@@ -19,10 +23,14 @@ use Rattle.cacache_sequence.specs.Caches.{Called, IsCache, IsExcused}
 use Rattle.cacache_sequence.specs.Exported.{Arrives, export_by}
 use Rattle.cacache_sequence.specs.ExportEffects.{IsApart}
 use Rattle.cacache_sequence.specs.OpenWriters.{LeavesKnownCache}
+use Rattle.cacache_sequence.specs.OpenSucceeds.{MayTake, exported}
+use Rattle.cacache_sequence.proofs.Standing.{caches_stand}
+use Rattle.cacache_sequence.proofs.SureExports.{exports_succeed}
 use Rattle.cacache_sequence.proofs.Exported.{exports_arrive}
 use Rattle.cacache_sequence.proofs.ExportEffects.{exports_keep}
 use Rattle.cacache_sequence.proofs.Logs.{calls_grow}
 use Rattle.cacache_results.specs.Exports.{CopyMeans, SharingMeans}
+use Rattle.cacache_results.proofs.SureResults.{IsGiven, for_memory}
 use Rattle.cacache_results.proofs.Told.{called, excused}
 
 leaves : (cache : List ℕ) (source : Source) (how : How) (checked : Bool) (to : List ℕ) (r : Reply) (old new : List LogItem) → IsApart cache to → NamesSource source → IsCache cache old
@@ -42,12 +50,38 @@ copy_means cache source checked to r new logged old apart named sound ran =
     record {
       leaves = leaves cache source Copy checked to (reply_of Copied r) old.store new.store apart named sound c;
       arrives = λ bytes has. copied r bytes to old.store new.store (exports_arrive cache bytes to Copy source checked (reply_of Copied r) old.store new.store apart sound has c);
+      succeeds = λ bytes folder has may.
+          for_memory Copied r (Copied (length bytes)) tt (exports_succeed cache bytes to Copy source checked (reply_of Copied r) old.store new.store folder (caches_stand cache old.store sound) has may c);
     }
 
 shared : (r : Result (Unit {0}) Error) (bytes to : List ℕ) (old new : List LogItem) → Arrives bytes to (reply_of done r) old new
     → MatchResult r (λ u. shown (tree_of new) to ≡ Some bytes) (λ e. IsExcused e old new)
 shared (Ok u) bytes to old new h = h
 shared (Err e) bytes to old new h = excused e old new h
+
+-- ---- where an export may go
+
+-- where nothing stands a file can be written
+free_at : (here : Option Node) (old new : Names) → where_free here old ≡ Ok new → (here ≡ None) × (old ≡ new)
+free_at None old new e = (refl, cc)
+free_at (Some node) old new e = absurd cc
+
+free_writable : (t : Tree) (to : List ℕ) (names : Names) → free t to ≡ Ok names → writable t to ≡ Ok names
+unfolding free writable leads followed
+free_writable t to names e =
+    let f = and_then_ok (place t to) (λ names. where_free (look t names) names) names e in
+    let at = free_at (look t f.0) f.0 names f.2 in
+    rw (f.1, at.0, at.0) (ap Ok at.1)
+
+may_take : (how : How) (to : List ℕ) (log : List LogItem) → MayTake HardLink to log → MayTake how to log
+may_take Copy to log may = (may.0, free_writable (tree_of log) to may.0 may.1)
+may_take Reflink to log may = may
+may_take HardLink to log may = may
+
+is_given : (how : How) (bytes : List ℕ) → IsGiven (exported how bytes)
+is_given Copy bytes = tt
+is_given Reflink bytes = tt
+is_given HardLink bytes = tt
 
 pub sharing_means : {C N : Type 0} (cache : List ℕ) (source : Source) (how : How) (checked : Bool) (to : List ℕ) (r : Result (Unit {0}) Error) (new : Env (List LogItem) C N) → IsLog new.store
     → SharingMeans cache source how checked to r new
@@ -56,4 +90,7 @@ sharing_means cache source how checked to r new logged old apart named sound ran
     record {
       leaves = leaves cache source how checked to (reply_of done r) old.store new.store apart named sound c;
       arrives = λ bytes has. shared r bytes to old.store new.store (exports_arrive cache bytes to how source checked (reply_of done r) old.store new.store apart sound has c);
+      succeeds = λ bytes folder has may.
+          for_memory done r (exported how bytes) (is_given how bytes)
+          (exports_succeed cache bytes to how source checked (reply_of done r) old.store new.store folder (caches_stand cache old.store sound) has (may_take how to old.store may) c);
     }

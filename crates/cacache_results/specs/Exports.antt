@@ -5,7 +5,7 @@ use Rattle.cacache_store.specs.declared.env.Env.{Env}
 use Rattle.cacache_store.specs.declared.store.log.LogItem.{LogItem}
 use Rattle.cacache_memory.specs.Replay.{shown, tree_of}
 use Rattle.cacache_table.specs.declared.command.How.{How}
-use Rattle.cacache_table.specs.declared.command.How.TheVariants.{Copy}
+use Rattle.cacache_table.specs.declared.command.How.TheVariants.{Copy, HardLink}
 use Rattle.cacache_table.specs.declared.command.Source.{Source}
 use Rattle.cacache_table.specs.declared.reply.Reply.TheVariants.{Copied}
 use Rattle.cacache_table.specs.Replies.{done}
@@ -15,7 +15,10 @@ use Rattle.cacache_reads.specs.Exports.{exporting}
 use Rattle.cacache_history.specs.History.{NamesSource}
 use Rattle.cacache_sequence.specs.Caches.{IsCache, IsExcused}
 use Rattle.cacache_sequence.specs.ExportEffects.{IsApart, NamesBytes}
+use Rattle.cacache_sequence.specs.OpenSucceeds.{MayTake}
 use Rattle.cacache_sequence.specs.OpenWriters.{LeavesKnownCache}
+use Rattle.cacache_sequence.specs.Succeeds.{NamesFolder}
+use Rattle.cacache_results.specs.Success.{FailsForMemory}
 
 -- a copy: the bytes stand where the path leads, and the count is theirs, or the error is excused
 pub record CopiedOut (cache : List ℕ) (source : Source) (to : List ℕ) (r : Result ℕ Error)
@@ -24,6 +27,8 @@ pub record CopiedOut (cache : List ℕ) (source : Source) (to : List ℕ) (r : R
   pub arrives : (bytes : List ℕ) → NamesBytes cache source bytes old
       → MatchResult r (λ n. (shown (tree_of new) to ≡ Some bytes) × (n ≡ length bytes))
       (λ e. IsExcused e old new)
+  pub succeeds : (bytes : List ℕ) → NamesFolder cache → NamesBytes cache source bytes old
+      → MayTake Copy to old → FailsForMemory r
 
 -- a reflink or a hard link: the bytes stand where the path leads, or the error is excused
 pub record SharedOut (cache : List ℕ) (source : Source) (to : List ℕ) (r : Result (Unit {0}) Error)
@@ -31,6 +36,8 @@ pub record SharedOut (cache : List ℕ) (source : Source) (to : List ℕ) (r : R
   pub leaves : LeavesKnownCache cache old new
   pub arrives : (bytes : List ℕ) → NamesBytes cache source bytes old
       → MatchResult r (λ u. shown (tree_of new) to ≡ Some bytes) (λ e. IsExcused e old new)
+  pub succeeds : (bytes : List ℕ) → NamesFolder cache → NamesBytes cache source bytes old
+      → MayTake HardLink to old → FailsForMemory r
 
 -- ---- laws, of the environment that a call left
 
