@@ -25,6 +25,8 @@ AS_FUTURE = ["find", "get"]
 # Blocks of SHA-256 in an operation on 1 KiB: 17 of the content where it is hashed, and 3 of the line's text where there is one
 # (2 of a tombstone's). With a key there is also one block of SHA-1, of the key.
 BLOCKS = {"put": 20, "get": 20, "put-again": 20, "get-hash": 17, "find": 3, "remove": 2, "exists": 0, "ls": 3}
+# Calls that look after a cache, each over a new one that the word makes first; the bench's word floor-KIND does the same through the kit alone.
+KEPT = {"sweep": ["10000"], "compact": ["10000", "10"], "repair": ["10000"], "plan": ["10000"]}
 KEYED = ["put", "get", "put-again", "find", "remove"]
 
 figures = {}  # name -> list of (ns by the clock, ns of the processor)
@@ -78,6 +80,13 @@ def run_listing(bench, floor, at):
             if who == "ours":
                 run(f"ls {keys} kit", [bench, "floor-ls", folder, str(keys)], keys)
             shutil.rmtree(folder)
+
+
+def run_kept(bench, at):
+    for kind, words in KEPT.items():
+        for who, word in (("ours", kind), ("kit", f"floor-{kind}")):
+            run(f"{kind} {who}", [bench, word, f"{at}/kept", *words], int(words[0]))
+            shutil.rmtree(f"{at}/kept")
 
 
 def run_large(bench, at):
@@ -151,6 +160,9 @@ def tell():
         ours, floor = f"ls {keys} ours", f"ls {keys} floor"
         with_digests = median(ours) / (median(floor) + BLOCKS["ls"] * block)
         print(f"  {keys:7} entries  ours {median(ours) / 1e3:6.2f}  floor {median(floor) / 1e3:6.2f}  by the clock {ratio(ours, floor)}  by the processor {ratio(ours, floor, 1)}  over floor and digests {with_digests:.2f}{over_kit(f'ls {keys}')}")
+    print("calls that look after a cache, us a file, bucket or content")
+    for kind in KEPT:
+        print(f"  {kind:10} ours {median(f'{kind} ours') / 1e3:6.2f}{over_kit(kind)}")
     print(f"{MIB} MiB, ms; over the digest")
     for kind in [name for name in figures if name in ("digest", "digest-sha1", "reader", "copy", "writer") or "large" in name or "<" in name or ">" in name]:
         print(f"  {kind:16} {median(kind) / 1e6:7.1f}  {ratio(kind, 'digest')}  peak memory {peaks[kind] / 1024 / MIB:.2f} times the content")
@@ -178,6 +190,7 @@ def main():
             run_small(bench, floor, at)
             run_handles(bench, at)
             run_listing(bench, floor, at)
+            run_kept(bench, at)
             run_large(bench, at)
             run_deep(bench, at)
             run_program(bench, program, at)

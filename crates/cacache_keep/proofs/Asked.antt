@@ -3,7 +3,7 @@ use Rattle.std.proofs.Common.{◌≡◌, ℕ, List, [], ◌∷◌, ◌++◌, Boo
 use Rattle.std.specs.List.{filter}
 use Rattle.std.proofs.lemmas.List.{map-append}
 use Rattle.std.proofs.lemmas.List.Elements.{filter-append}
-use Rattle.std.specs.Prelude.{not}
+use Rattle.std.specs.Prelude.{OnOk, not}
 use Rattle.cacache_store.specs.declared.env.Env.{Env}
 use Rattle.cacache_store.specs.declared.store.log.LogItem.{LogItem}
 use Rattle.cacache_entry.specs.Latest.{Found}
@@ -91,6 +91,16 @@ entries_listed site items entries old new ran is =
 pub value_so : {X E : Type 0} {P Q : X → Type 0} (r : Result X E) → ((x : X) → P x → Q x) → IfOk r P → IfOk r Q
 value_so (Ok x) f h = f x h
 value_so (Err e) f h = h
+
+-- what holds of a value, where two things do
+pub value_both : {X E : Type 0} {P Q R : X → Type 0} (r : Result X E) → ((x : X) → P x → Q x → R x) → IfOk r P → IfOk r Q → IfOk r R
+value_both (Ok x) f p q = f x p q
+value_both (Err e) f p q = p
+
+-- what holds where a call was done, where something else does
+pub done_so : {X E P Q : Type 0} (r : Result X E) → (P → Q) → OnOk r P → OnOk r Q
+done_so (Ok x) f h = f h
+done_so (Err e) f h = h
 
 -- ---- at the same place
 

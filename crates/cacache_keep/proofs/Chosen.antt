@@ -1,5 +1,5 @@
 -- What the steps of a choice show of the tree of a log, and what a plan foretells.
-use Rattle.std.proofs.Common.{◌≡◌, ◌+◌, ℕ, List, [], ◌∷◌, ◌++◌, Option, Some, inl, inr, map, length, refl, sym, ap, ap₂, subst, ◌∙◌, arith, filter}
+use Rattle.std.proofs.Common.{◌≡◌, ℕ, List, [], ◌∷◌, ◌++◌, Option, Some, inl, inr, map, length, refl, sym, ap, ap₂, subst, ◌∙◌, arith, filter}
 use Rattle.std.specs.Prelude.{not}
 use Rattle.cacache_core.specs.declared.errors.Fault.TheVariants.{NotFound}
 use Rattle.cacache_core.specs.declared.integrity.digest.Hash.{Hash}

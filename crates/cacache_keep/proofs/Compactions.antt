@@ -13,7 +13,7 @@ use Rattle.cacache_table.specs.SingleSteps.{Does}
 use Rattle.cacache_keep_laws.specs.Compacting.{compact_text}
 use Rattle.cacache_keep_laws.specs.Temporary.{total}
 use Rattle.cacache_keep.specs.Compacting.{Bucket, Changes, CompactsAll, CompactsBucket, CompactsEach, RewritesIf, Saves, Settles, StopsBucket, StopsCompactingEach, StopsSettling, is_loose, same_bytes, saved}
-use Rattle.cacache_keep.specs.declared.compacting.Lean.{Lean}
+use Rattle.cacache_keep.specs.declared.settling.Lean.{Lean}
 use Rattle.cacache_keep.specs.Rewriting.{Rewrites, StopsRewriting}
 use Rattle.cacache_keep.proofs.Asked.{kept, passed}
 use Rattle.cacache_keep.proofs.Sweeps.{total_more}
@@ -29,53 +29,53 @@ other_text bytes text given true e = absurd cc
 other_text bytes text given false e = (refl, cc)
 
 -- a bucket that doesn't change was only read
-pub left_alone : (cache path bytes : List ℕ) (old read : Option (List LogItem)) → Does (steps.ReadAll path) (answers.Bytes bytes) old read → Changes bytes None → (is_loose (path, bytes) ≡ false) × CompactsBucket cache (path, bytes) old read
-left_alone cache path bytes old read does same =
+pub left_alone : (durable : Bool) (cache path bytes : List ℕ) (old read : Option (List LogItem)) → Does (steps.ReadAll path) (answers.Bytes bytes) old read → Changes bytes None → (is_loose (path, bytes) ≡ false) × CompactsBucket durable cache (path, bytes) old read
+left_alone durable cache path bytes old read does same =
     let is : is_loose (path, bytes) ≡ false = ap not (same_text bytes (compact_text bytes) (same_bytes (compact_text bytes) bytes) same) in
-    (is, (read, does, subst (λ (b : Bool). RewritesIf b cache (path, bytes) read read) (sym is) refl))
+    (is, (read, does, subst (λ (b : Bool). RewritesIf b durable cache (path, bytes) read read) (sym is) refl))
 
 -- another was written anew
-pub written_anew : (cache path bytes text : List ℕ) (n : ℕ) (old read new : Option (List LogItem)) → Does (steps.ReadAll path) (answers.Bytes bytes) old read → Changes bytes (Some text) → n ≡ length bytes - length text → Rewrites cache path text read new
-    → Saves (path, bytes) (Some n) × CompactsBucket cache (path, bytes) old new
-written_anew cache path bytes text n old read new does other size writes =
+pub written_anew : (durable : Bool) (cache path bytes text : List ℕ) (n : ℕ) (old read new : Option (List LogItem)) → Does (steps.ReadAll path) (answers.Bytes bytes) old read → Changes bytes (Some text) → n ≡ length bytes - length text → Rewrites durable cache path text read new
+    → Saves (path, bytes) (Some n) × CompactsBucket durable cache (path, bytes) old new
+written_anew durable cache path bytes text n old read new does other size writes =
     let is = other_text bytes (compact_text bytes) text (same_bytes (compact_text bytes) bytes) other in
     let loose : is_loose (path, bytes) ≡ true = ap not is.0 in
-    let anew : Rewrites cache path (compact_text bytes) read new = subst (λ (t : List ℕ). Rewrites cache path t read new) is.1 writes in
-    ((loose, size ∙ ap (λ (t : List ℕ). length bytes - length t) is.1), (read, does, subst (λ (b : Bool). RewritesIf b cache (path, bytes) read new) (sym loose) anew))
+    let anew : Rewrites durable cache path (compact_text bytes) read new = subst (λ (t : List ℕ). Rewrites durable cache path t read new) is.1 writes in
+    ((loose, size ∙ ap (λ (t : List ℕ). length bytes - length t) is.1), (read, does, subst (λ (b : Bool). RewritesIf b durable cache (path, bytes) read new) (sym loose) anew))
 
 -- the error ended that
-pub unwritten_anew : (cache path bytes text : List ℕ) (e : Error) (old read new : Option (List LogItem)) → Does (steps.ReadAll path) (answers.Bytes bytes) old read → Changes bytes (Some text) → StopsRewriting cache path text e read new → StopsBucket cache path e old new
-unwritten_anew cache path bytes text e old read new does other stop =
+pub unwritten_anew : (durable : Bool) (cache path bytes text : List ℕ) (e : Error) (old read new : Option (List LogItem)) → Does (steps.ReadAll path) (answers.Bytes bytes) old read → Changes bytes (Some text) → StopsRewriting durable cache path text e read new → StopsBucket durable cache path e old new
+unwritten_anew durable cache path bytes text e old read new does other stop =
     let is = other_text bytes (compact_text bytes) text (same_bytes (compact_text bytes) bytes) other in
-    inr (bytes, read, does, subst (λ (t : List ℕ). StopsRewriting cache path t e read new) is.1 stop)
+    inr (bytes, read, does, subst (λ (t : List ℕ). StopsRewriting durable cache path t e read new) is.1 stop)
 
 -- what was settled, by the new bytes
-pub settled : (cache path bytes : List ℕ) (lean : Option Lean) (saving : Option ℕ) (old read new : Option (List LogItem)) → Does (steps.ReadAll path) (answers.Bytes bytes) old read → Changes bytes (option_map (λ (l : Lean). l.text.items) lean)
-    → IfSome lean (λ (l : Lean). l.saved ≡ length bytes - length l.text.items) → Settles cache path (option_map (λ (l : Lean). (l.text.items, l.saved)) lean) saving read new → (b : List ℕ) × Saves (path, b) saving × CompactsBucket cache (path, b) old new
-settled cache path bytes None saving old read new does same size done =
-    let alone = left_alone cache path bytes old read does same in
-    (bytes, subst (λ (s : Option ℕ). Saves (path, bytes) s) (sym done.0) alone.0, subst (λ (log : Option (List LogItem)). CompactsBucket cache (path, bytes) old log) (sym done.1) alone.1)
-settled cache path bytes (Some l) saving old read new does other size done =
-    let anew = written_anew cache path bytes l.text.items l.saved old read new does other size done.1 in
+pub settled : (durable : Bool) (cache path bytes : List ℕ) (lean : Option Lean) (saving : Option ℕ) (old read new : Option (List LogItem)) → Does (steps.ReadAll path) (answers.Bytes bytes) old read → Changes bytes (option_map (λ (l : Lean). l.text.items) lean)
+    → IfSome lean (λ (l : Lean). l.saved ≡ length bytes - length l.text.items) → Settles durable cache path (option_map (λ (l : Lean). (l.text.items, l.saved)) lean) saving read new → (b : List ℕ) × Saves (path, b) saving × CompactsBucket durable cache (path, b) old new
+settled durable cache path bytes None saving old read new does same size done =
+    let alone = left_alone durable cache path bytes old read does same in
+    (bytes, subst (λ (s : Option ℕ). Saves (path, bytes) s) (sym done.0) alone.0, subst (λ (log : Option (List LogItem)). CompactsBucket durable cache (path, bytes) old log) (sym done.1) alone.1)
+settled durable cache path bytes (Some l) saving old read new does other size done =
+    let anew = written_anew durable cache path bytes l.text.items l.saved old read new does other size done.1 in
     (bytes, subst (λ (s : Option ℕ). Saves (path, bytes) s) (sym done.0) anew.0, anew.1)
 
-pub unsettled : (cache path bytes : List ℕ) (lean : Option Lean) (e : Error) (old read new : Option (List LogItem)) → Does (steps.ReadAll path) (answers.Bytes bytes) old read → Changes bytes (option_map (λ (l : Lean). l.text.items) lean)
-    → StopsSettling cache path (option_map (λ (l : Lean). (l.text.items, l.saved)) lean) e read new → StopsBucket cache path e old new
-unsettled cache path bytes None e old read new does same stop = absurd stop
-unsettled cache path bytes (Some l) e old read new does other stop = unwritten_anew cache path bytes l.text.items e old read new does other stop
+pub unsettled : (durable : Bool) (cache path bytes : List ℕ) (lean : Option Lean) (e : Error) (old read new : Option (List LogItem)) → Does (steps.ReadAll path) (answers.Bytes bytes) old read → Changes bytes (option_map (λ (l : Lean). l.text.items) lean)
+    → StopsSettling durable cache path (option_map (λ (l : Lean). (l.text.items, l.saved)) lean) e read new → StopsBucket durable cache path e old new
+unsettled durable cache path bytes None e old read new does same stop = absurd stop
+unsettled durable cache path bytes (Some l) e old read new does other stop = unwritten_anew durable cache path bytes l.text.items e old read new does other stop
 
 -- memory ran out once it was read
-pub lost_read : (cache path bytes : List ℕ) (old read : Option (List LogItem)) → Does (steps.ReadAll path) (answers.Bytes bytes) old read → StopsBucket cache path OutOfMemory old read
-lost_read cache path bytes old read does = inr (bytes, read, does, inl (inl (inl refl)))
+pub lost_read : (durable : Bool) (cache path bytes : List ℕ) (old read : Option (List LogItem)) → Does (steps.ReadAll path) (answers.Bytes bytes) old read → StopsBucket durable cache path OutOfMemory old read
+lost_read durable cache path bytes old read does = inr (bytes, read, does, inl (inl (inl refl)))
 
 -- ---- buckets, one after another
 
-each_on : (cache : List ℕ) (buckets : List Bucket) (b : Bucket) (old mid new : Option (List LogItem)) → CompactsEach cache buckets old mid → CompactsBucket cache b mid new → CompactsEach cache (buckets ++ b ∷ []) old new
-each_on cache [] b old mid new h one = (new, subst (λ (log : Option (List LogItem)). CompactsBucket cache b log new) h one, refl)
-each_on cache (x ∷ buckets) b old mid new h one = (h.0, h.1, each_on cache buckets b h.0 mid new h.2 one)
+each_on : (durable : Bool) (cache : List ℕ) (buckets : List Bucket) (b : Bucket) (old mid new : Option (List LogItem)) → CompactsEach durable cache buckets old mid → CompactsBucket durable cache b mid new → CompactsEach durable cache (buckets ++ b ∷ []) old new
+each_on durable cache [] b old mid new h one = (new, subst (λ (log : Option (List LogItem)). CompactsBucket durable cache b log new) h one, refl)
+each_on durable cache (x ∷ buckets) b old mid new h one = (h.0, h.1, each_on durable cache buckets b h.0 mid new h.2 one)
 
-pub none_compacted : (cache : List ℕ) (log : Option (List LogItem)) → CompactsAll cache [] 0 0 log log
-none_compacted cache log = record { buckets = []; each = refl; compacting = refl; counted = refl; sized = refl }
+pub none_compacted : (durable : Bool) (cache : List ℕ) (log : Option (List LogItem)) → CompactsAll durable cache [] 0 0 log log
+none_compacted durable cache log = record { buckets = []; each = refl; compacting = refl; counted = refl; sized = refl }
 
 counts_on : (buckets : List Bucket) (b : Bucket) (saving : Option ℕ) (count : ℕ) → Saves b saving → count ≡ min (length (filter is_loose buckets)) (2 ^ 64 - 1) → min (count + length (option_to_list saving)) (2 ^ 64 - 1) ≡ min (length (filter is_loose (buckets ++ b ∷ []))) (2 ^ 64 - 1)
 counts_on buckets b None count saves is = let same = ap length (passed is_loose buckets b saves) in omega (arith, is, same)
@@ -96,22 +96,22 @@ sums_on buckets b (Some n) bytes saves is =
     ∙ ap total (sym (map-append saved (filter is_loose buckets) (b ∷ []))) ∙ ap (λ (l : List Bucket). total (map saved l)) (sym (kept is_loose buckets b saves.0))
 
 -- one bucket more
-pub one_compacted : (cache : List ℕ) (paths : List (List ℕ)) (k : ℕ) (path bytes : List ℕ) (saving : Option ℕ) (count size more sum_more : ℕ) (old mid new : Option (List LogItem)) → k < length paths → path ≡ get_or paths k path
-    → CompactsAll cache (take k paths) count size old mid → Saves (path, bytes) saving → CompactsBucket cache (path, bytes) mid new → more ≡ min (count + length (option_to_list saving)) (2 ^ 64 - 1) → sum_more ≡ min (size + sum (option_to_list saving)) (2 ^ 64 - 1)
-    → CompactsAll cache (take (k + 1) paths) more sum_more old new
-one_compacted cache paths k path bytes saving count size more sum_more old mid new below is so saves one counts sums =
+pub one_compacted : (durable : Bool) (cache : List ℕ) (paths : List (List ℕ)) (k : ℕ) (path bytes : List ℕ) (saving : Option ℕ) (count size more sum_more : ℕ) (old mid new : Option (List LogItem)) → k < length paths → path ≡ get_or paths k path
+    → CompactsAll durable cache (take k paths) count size old mid → Saves (path, bytes) saving → CompactsBucket durable cache (path, bytes) mid new → more ≡ min (count + length (option_to_list saving)) (2 ^ 64 - 1) → sum_more ≡ min (size + sum (option_to_list saving)) (2 ^ 64 - 1)
+    → CompactsAll durable cache (take (k + 1) paths) more sum_more old new
+one_compacted durable cache paths k path bytes saving count size more sum_more old mid new below is so saves one counts sums =
     let b : Bucket = (path, bytes) in record {
       buckets = so.buckets ++ b ∷ [];
       each = map-append (λ (x : Bucket). x.0) so.buckets (b ∷ []) ∙ ap (λ (ps : List (List ℕ)). ps ++ path ∷ []) so.each ∙ sym (take_more paths k path below ∙ ap (λ (x : List ℕ). take k paths ++ x ∷ []) (sym is));
-      compacting = each_on cache so.buckets b old mid new so.compacting one;
+      compacting = each_on durable cache so.buckets b old mid new so.compacting one;
       counted = counts ∙ counts_on so.buckets b saving count saves so.counted;
       sized = sums ∙ sums_on so.buckets b saving size saves so.sized;
     }
 
 -- the next one stops it
-pub next_loose : (cache : List ℕ) (paths : List (List ℕ)) (k : ℕ) (path : List ℕ) (count size : ℕ) (e : Error) (old mid new : Option (List LogItem)) → k < length paths → path ≡ get_or paths k path → CompactsAll cache (take k paths) count size old mid
-    → StopsBucket cache path e mid new → StopsCompactingEach cache paths e old new
-next_loose cache paths k path count size e old mid new below is so stop = record {
+pub next_loose : (durable : Bool) (cache : List ℕ) (paths : List (List ℕ)) (k : ℕ) (path : List ℕ) (count size : ℕ) (e : Error) (old mid new : Option (List LogItem)) → k < length paths → path ≡ get_or paths k path → CompactsAll durable cache (take k paths) count size old mid
+    → StopsBucket durable cache path e mid new → StopsCompactingEach durable cache paths e old new
+next_loose durable cache paths k path count size e old mid new below is so stop = record {
   buckets = so.buckets;
   next = path;
   rest = drop (k + 1) paths;

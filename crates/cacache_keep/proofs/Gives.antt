@@ -1,5 +1,6 @@
 -- Reads of an open content, one after another, and why they end.
-use Rattle.std.proofs.Common.{◌≡◌, ◌==◌, inl, inr, ℕ, List, [], ◌∷◌, ◌++◌, Bool, true, false, Option, Result, Ok, Err, refl, sym, ap, subst, ◌∙◌, length, append_assoc, arith}
+use Rattle.std.proofs.Common.{◌≡◌, ◌==◌, ◌+◌, ◌-◌, ◌^◌, inl, inr, ℕ, List, [], ◌∷◌, ◌++◌, Bool, true, false, Option, Result, Ok, Err, refl, sym, ap, subst, ◌∙◌, length, length-append, append_assoc, arith}
+use Rattle.std.specs.Prelude.{min}
 use Rattle.std.proofs.lemmas.Bool.{eqb-true}
 use Rattle.cacache_core.specs.declared.errors.Error.{Error}
 use Rattle.cacache_core.specs.declared.errors.Error.TheVariants.{IoError, OutOfMemory}
@@ -90,6 +91,10 @@ gave_more file left g bytes (b ∷ bs) (answers.Got k c) old mid new h e logs so
     let move : PlainStep × PlainAnswer = (steps.Read left piece, answers.Got g (b ∷ bs)) in
     (h.0 ++ move ∷ [], pieces_on file left g h.0 bytes b bs h.1, gains_join old mid new h.0 (move ∷ []) h.2 logged)
 gave_more file left g bytes more t old mid new h e logs some = absurd cc
+
+-- and how many bytes that are
+pub size_more : (bytes more : List ℕ) (size sum count : ℕ) → size ≡ min (length bytes) (2 ^ 64 - 1) → count ≡ length more → sum ≡ min (size + count) (2 ^ 64 - 1) → sum ≡ min (length (bytes ++ more)) (2 ^ 64 - 1)
+size_more bytes more size sum count is so grows = omega (arith, is, so, grows, length-append bytes more)
 
 -- a read that gave none
 pub gave_all : (file left g : PlainFile) (bytes more : List ℕ) (t : PlainAnswer) (old mid new : Option (List LogItem)) → Gave file bytes left old mid → Ok (g, more) ≡ got_in t → Logs mid new (steps.Read left piece) t → (length more == 0) ≡ true → GaveAll file bytes old new

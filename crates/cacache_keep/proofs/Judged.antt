@@ -1,6 +1,6 @@
 -- Which contents their reads count as good, and which entries questions count as dangling.
-use Rattle.std.proofs.Common.{◌≡◌, ◌==◌, ◌<◌, inl, inr, ℕ, zero, suc, List, [], ◌∷◌, ◌++◌, Bool, true, false, cond, Option, Some, Result, Ok, Err, map, length, filter, take, drop, take-append-drop, append_assoc, refl, sym, ap, ap₂, subst, ◌∙◌, arith}
-use Rattle.std.specs.Prelude.{not}
+use Rattle.std.proofs.Common.{◌≡◌, ◌==◌, ◌<◌, ◌-◌, ◌^◌, inl, inr, ℕ, zero, suc, List, [], ◌∷◌, ◌++◌, Bool, true, false, cond, Option, Some, Result, Ok, Err, map, length, filter, take, drop, take-append-drop, append_assoc, refl, sym, ap, ap₂, subst, ◌∙◌, arith}
+use Rattle.std.specs.Prelude.{min, not}
 use Rattle.cacache_core.specs.declared.errors.Error.TheVariants as errors
 use Rattle.cacache_core.specs.declared.errors.Fault.{Fault}
 use Rattle.cacache_core.specs.declared.errors.Fault.TheVariants.{Closed, IsADirectory, NotFound}
@@ -28,7 +28,8 @@ use Rattle.cacache_table.specs.StepPaths.{content_path}
 use Rattle.cacache_table.specs.Table.{piece}
 use Rattle.cacache_table.proofs.Replies.{exists_shown}
 use Rattle.cacache_sequence.specs.Sequence.{AreAnswered, tree_on}
-use Rattle.cacache_keep_laws.specs.Contents.{IsHeld}
+use Rattle.cacache_value.specs.Shows.{blob_bytes}
+use Rattle.cacache_keep_laws.specs.Contents.{IsHeld, content_in}
 use Rattle.cacache_keep_laws.specs.Answers.{AnsweredBy, AnswersOn}
 use Rattle.cacache_keep_laws.specs.Index.{IndexLists, entries_in, is_failure}
 use Rattle.cacache_keep_laws.specs.Verifying.{is_good, is_met, says_yes, has_content}
@@ -122,28 +123,36 @@ open_finds_none t path = by (file_at t path IsADirectory)
 
 -- ---- contents
 
+-- how many bytes a content has; none where it can't be read
+abbrev pub size_given : Result (List ℕ) Fault → ℕ
+size_given (Ok bytes) = min (length bytes) (2 ^ 64 - 1)
+size_given (Err fault) = 0
+
 module _ (site : Site) (home : Names) (t : Tree) (is : home_of site.cache ≡ Some home) (rooted : Rooted t) where
+  -- how many bytes the content at the address has
+  abbrev pub size_in : Hash → ℕ
+  size_in h = size_given (blob_bytes t (content_in home t h))
+
   -- Moves that a log gained. On a tree that holds the content and answers them they say whether it
-  -- is good, and it stays.
-  record Tells (h : Hash) (good : Bool) (old new : Option (List LogItem)) : Type 0 where
+  -- is good, and how many bytes it has, and it stays.
+  record Tells (h : Hash) (good : Bool) (size : ℕ) (old new : Option (List LogItem)) : Type 0 where
     pub moves : Moves
     pub gains : Gains old new moves
-    pub tells : IsHash h × IsHeld home t h → AreAnswered t moves → (good ≡ is_good home t h) × (tree_on t moves ≡ t)
+    pub tells : IsHash h × IsHeld home t h → AreAnswered t moves → (good ≡ is_good home t h) × (size ≡ size_in h) × (tree_on t moves ≡ t)
 
-  good_told : (h : Hash) (good : Bool) (old new : Option (List LogItem)) → SaysGood site.cache (h ∷ []) good old new → Tells h good old new
-  good_told h good old new (inl (bytes, met, read)) =
-      let file = read.0 in
-      let mid = read.1 in
-      let left = read.3.0 in
-      let last = read.3.1 in
-      let late = read.3.2 in
-      let gave = read.3.3 in
+  good_told : (h : Hash) (good : Bool) (size : ℕ) (old new : Option (List LogItem)) → SaysGood site.cache (h ∷ []) good size old new → Tells h good size old new
+  good_told h good size old new (inl (file, mid, opens, judges)) =
+      let bytes = judges.0 in
+      let left = judges.3.0 in
+      let last = judges.3.1 in
+      let late = judges.3.2 in
+      let gave = judges.3.3 in
       let path = content_path site.cache (h ∷ []) in
       let opening : Moves = (steps.Open path, answers.File file) ∷ [] in
       let ending : Moves = (steps.Read left piece, answers.Got last []) ∷ [] in
       record {
         moves = opening ++ (gave.0 ++ ending);
-        gains = gains_join old mid new opening (gave.0 ++ ending) read.2 (gains_join mid late new gave.0 ending gave.2 read.3.4);
+        gains = gains_join old mid new opening (gave.0 ++ ending) opens (gains_join mid late new gave.0 ending gave.2 judges.3.4);
         tells = λ held a.
             let there = content_file site home t h held.1.0 is rooted held.0 held.1.1 in
             let stays = open_keeps t path in
@@ -155,7 +164,8 @@ module _ (site : Site) (home : Names) (t : Tree) (is : home_of site.cache ≡ So
             let at_end = read_gives t left last piece given_all.rest [] given_all.known late_part.0 in
             let none = no_rest piece given_all.rest (omega arith) at_end.0 in
             let all_bytes : bytes ≡ opened_as.0 = sym (append_nil bytes) ∙ ap (λ (l : List ℕ). bytes ++ l) (sym none) ∙ given_all.whole in (
-              met ∙ ap (λ (r : Result (List ℕ) Fault). is_met (h ∷ []) r) (ap Ok all_bytes ∙ sym opened_as.1 ∙ there),
+              judges.1 ∙ ap (λ (r : Result (List ℕ) Fault). is_met (h ∷ []) r) (ap Ok all_bytes ∙ sym opened_as.1 ∙ there),
+              judges.2 ∙ ap size_given (ap Ok all_bytes ∙ sym opened_as.1 ∙ there),
               ap (λ (x : Tree). tree_on x (gave.0 ++ ending)) stays ∙ tree_rest t gave.0 ending given_all.stays ∙ read_keeps t left piece,
             );
       }
@@ -163,18 +173,25 @@ module _ (site : Site) (home : Names) (t : Tree) (is : home_of site.cache ≡ So
       append_nil : (l : List ℕ) → l ++ [] ≡ l
       append_nil [] = refl
       append_nil (x ∷ l) = ap (λ (k : List ℕ). x ∷ k) (append_nil l)
-  good_told h good old new (inr (bad, finds)) =
+  good_told h good size old new (inr (bad, none, finds)) =
       let path = content_path site.cache (h ∷ []) in
       record {
         moves = (steps.Open path, answers.Failed NotFound) ∷ [];
         gains = finds;
         tells = λ held a.
             let there = content_file site home t h held.1.0 is rooted held.0 held.1.1 in
-            (bad ∙ ap (λ (r : Result (List ℕ) Fault). is_met (h ∷ []) r) (sym (open_finds_none t path a.0) ∙ there), open_keeps t path);
+            let failed = sym (open_finds_none t path a.0) ∙ there in
+            (bad ∙ ap (λ (r : Result (List ℕ) Fault). is_met (h ∷ []) r) failed, none ∙ ap size_given failed, open_keeps t path);
       }
 
   abbrev pub judged : Hash → Judged
-  judged h = (h ∷ [], is_good home t h)
+  judged h = (h ∷ [], is_good home t h, size_in h)
+
+  abbrev read_of : List Hash → Bool → ℕ → Judged
+  read_of i good size = (i, good, size)
+
+  same_read : (i j : List Hash) (a b : Bool) (m n : ℕ) → i ≡ j → a ≡ b → m ≡ n → read_of i a m ≡ read_of j b n
+  same_read i j a b m n one two three = rw (one, two, three) refl
 
   -- Moves that a log gained. On a tree that holds these contents and answers them they judge them,
   -- and it stays.
@@ -190,16 +207,16 @@ module _ (site : Site) (home : Names) (t : Tree) (is : home_of site.cache ≡ So
   reads_judged (h ∷ hs) (r ∷ rs) old new each says =
       let first : r.0 ≡ h ∷ [] = cc in
       let later : map (λ (x : Judged). x.0) rs ≡ map (λ (x : Hash). x ∷ []) hs = cc in
-      let one = good_told h r.1 old says.0 (subst (λ (i : List Hash). SaysGood site.cache i r.1 old says.0) first says.1) in
+      let one = good_told h r.1 r.2 old says.0 (subst (λ (i : List Hash). SaysGood site.cache i r.1 r.2 old says.0) first says.1) in
       let more = reads_judged hs rs says.0 new later says.2 in
       record {
         moves = one.moves ++ more.moves;
         gains = gains_join old says.0 new one.moves more.moves one.gains more.gains;
         tells = λ held a.
             let told = one.tells (held h (inl refl)) (answered_split t one.moves more.moves a).0 in
-            let rest = more.tells (λ x m. held x (inr m)) (answered_rest t one.moves more.moves told.1 a) in (
-              ap₂ (λ (x : Judged) (l : List Judged). x ∷ l) (ap₂ (λ (i : List Hash) (b : Bool). (i, b)) first told.0) rest.0,
-              tree_rest t one.moves more.moves told.1 ∙ rest.1,
+            let rest = more.tells (λ x m. held x (inr m)) (answered_rest t one.moves more.moves told.2 a) in (
+              ap₂ (λ (x : Judged) (l : List Judged). x ∷ l) (same_read r.0 (h ∷ []) r.1 (is_good home t h) r.2 (size_in h) first told.0 told.1) rest.0,
+              tree_rest t one.moves more.moves told.2 ∙ rest.1,
             );
       }
 

@@ -14,25 +14,18 @@ use Rattle.cacache_disk.specs.Tree.{Tree}
 use Rattle.cacache_disk.specs.Apply.{apply}
 use Rattle.cacache_memory.specs.Replay.{tree_of, IsLog}
 use Rattle.cacache_entry.specs.Latest.{Found}
-use Rattle.cacache_table.specs.declared.command.Command.{Command}
-use Rattle.cacache_table.specs.declared.reply.Reply.{Reply}
 use Rattle.cacache_table.specs.State.{Site}
 use Rattle.cacache_table.specs.Runs.{Moves, Gains}
 use Rattle.cacache_sequence.specs.Sequence.{tree_on, AreAnswered}
-use Rattle.cacache_sequence.proofs.Looks.{tree_stays}
 use Rattle.cacache_keep_laws.specs.Contents.{HoldsJust}
 use Rattle.cacache_keep_laws.specs.Index.{IndexLists}
 use Rattle.cacache_keep_laws.specs.Collecting.{LeavesLive, Removes, is_live}
-use Rattle.cacache_keep_laws.specs.Idle.{LacksIdle}
 use Rattle.cacache_keep_laws.proofs.Collected.{lacks, leaves, others_gone, picked_left, rest_stays}
-use Rattle.cacache_keep_laws.proofs.Idle.{idle_is_unseen}
-use Rattle.cacache_keep_laws.proofs.BothLogs.{still_lacks_idle}
-use Rattle.cacache_keep_laws.proofs.Fully.{lacks_at}
 use Rattle.cacache_keep_laws.proofs.Logged.{gains_join, log_rooted}
 use Rattle.cacache_keep_laws.proofs.Removed.{removals_run}
 use Rattle.cacache_keep.specs.Calls.{MadeCalls, has_entry, removal}
 use Rattle.cacache_keep.specs.Keeping.{Collects}
-use Rattle.cacache_keep.specs.Kept.{Cleaned, CollectionsLackIdle, CollectionsLeave, LaterReadsStay, Looked}
+use Rattle.cacache_keep.specs.Kept.{CollectionsLackIdle, CollectionsLeave}
 use Rattle.cacache_keep.proofs.Chosen.{choice}
 use Rattle.cacache_keep.proofs.Parts.{gains_none}
 
@@ -130,22 +123,3 @@ pub collections_lack_idle : CollectionsLackIdle
 collections_lack_idle site home kept dropped old new is logged out c =
     let d = steps_done site home kept dropped old new is logged c in
     lacks site home (tree_of old) (tree_of new) c.1.order.hashes c.1.strange c.1.entries is d.holds d.index d.removes (log_rooted old) out c.1.unused.formed
-
--- ---- later reads
-
-looks_stay : (calls : List (List ℕ × Command × Reply)) (old new : List LogItem) → Looked calls old new → tree_of new ≡ tree_of old
-looks_stay [] old new l = ap tree_of l
-looks_stay (c ∷ calls) old new l = looks_stay calls l.0 new l.3 ∙ tree_stays c.0 c.1 c.2 old l.0 l.1 l.2
-
--- after the same removals too it lacks idle contents alone
-cleaned : (cache : List ℕ) (home : Names) (removals : List Command) (full rest lean left : List LogItem) → home_of cache ≡ Some home → Cleaned cache removals full rest → Cleaned cache removals lean left → LacksIdle cache home (tree_of full) (tree_of lean)
-    → LacksIdle cache home (tree_of rest) (tree_of left)
-cleaned cache home [] full rest lean left is one two l = lacks_at cache home (tree_of rest) (tree_of left) (tree_of full) (tree_of lean) (looks_stay one.0 full rest one.1) (looks_stay two.0 lean left two.1) l
-cleaned cache home (removal ∷ removals) full rest lean left is one two l =
-    let before = lacks_at cache home (tree_of one.1) (tree_of two.1) (tree_of full) (tree_of lean) (looks_stay one.0 full one.1 one.2) (looks_stay two.0 lean two.1 two.2) l in
-    cleaned cache home removals one.3 rest two.3 left is one.5 two.5 (still_lacks_idle cache home removal one.1 one.3 two.1 two.3 is one.4 two.4 before)
-
-pub later_reads_stay : LaterReadsStay
-later_reads_stay site home kept dropped removals old collected later other is logged out c with_it without =
-    idle_is_unseen site home (tree_of other) (tree_of later) is
-    (cleaned site.cache home removals old other collected later is without with_it (collections_lack_idle site home kept dropped old collected is logged out c))

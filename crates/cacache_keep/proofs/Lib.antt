@@ -20,3 +20,14 @@ mod LineLoops
 mod IndexParts
 mod Rewrites
 mod Compactions
+mod Tidying
+mod Settled
+mod TreeRuns
+mod FoundBuckets
+mod HexNames
+mod MovedFiles
+mod Rewritten
+mod SyncedTrees
+mod TightBuckets
+mod CompactedTrees
+mod WholeCompactions

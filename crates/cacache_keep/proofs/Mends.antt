@@ -1,5 +1,5 @@
 -- A repair leaves the good contents, and hides the keys that led to none.
-use Rattle.std.proofs.Common.{◌≡◌, inl, inr, ℕ, Bool, true, false, cond, List, [], ◌∷◌, ◌++◌, Option, None, Some, map, filter, refl, sym, ap, ap₂, subst, ◌∙◌}
+use Rattle.std.proofs.Common.{◌≡◌, inl, inr, ℕ, Bool, true, false, cond, List, [], ◌∷◌, ◌++◌, Some, map, filter, refl, sym, ap, ap₂, subst, ◌∙◌}
 use Rattle.std.specs.Prelude.{not}
 use Rattle.sha1.specs.Sha1.{sha1}
 use Rattle.cacache_core.specs.declared.integrity.digest.Hash.{Hash}
@@ -19,7 +19,7 @@ use Rattle.cacache_table.specs.State.{Site}
 use Rattle.cacache_value.specs.Placed.{Placed}
 use Rattle.cacache_value.specs.Acts.{list_of}
 use Rattle.cacache_value.proofs.Traces.{steps_keep_placed}
-use Rattle.cacache_sequence.specs.Sequence.{tree_on, AreAnswered}
+use Rattle.cacache_sequence.specs.Sequence.{tree_on}
 use Rattle.cacache_sequence.proofs.InParts.{logs_lead}
 use Rattle.cacache_walks.specs.Listing.{content_area_in}
 use Rattle.cacache_walks.specs.Reading.{top_folder}

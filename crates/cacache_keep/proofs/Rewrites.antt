@@ -1,5 +1,5 @@
 -- A file that is written anew, step by step, and why that ends.
-use Rattle.std.proofs.Common.{◌≡◌, ℕ, List, [], ◌∷◌, ◌++◌, drop, Option, Result, Ok, Err, IfErr, inl, inr, refl, sym, ap, subst}
+use Rattle.std.proofs.Common.{◌≡◌, ℕ, List, [], ◌∷◌, ◌++◌, Bool, drop, Option, Result, Ok, Err, IfErr, inl, inr, refl, sym, ap, subst, ◌∙◌}
 use Rattle.cacache_core.specs.declared.errors.Error.{Error}
 use Rattle.cacache_core.specs.declared.errors.Error.TheVariants.{OutOfMemory}
 use Rattle.cacache_core.specs.declared.errors.Fault.TheVariants as faults
@@ -10,15 +10,14 @@ use Rattle.cacache_store.specs.declared.store.step.Step.TheVariants as steps
 use Rattle.cacache_store.specs.Fits.{Fits, Logs}
 use Rattle.cacache_store.specs.Plain.{PlainStep, PlainAnswer}
 use Rattle.cacache_table.specs.declared.answers.Refusal.{Refusal}
-use Rattle.cacache_table.specs.declared.answers.Refusal.TheVariants as refusals
-use Rattle.cacache_table.specs.Answers.{bytes_in, done_in, temp_in, written_in}
+use Rattle.cacache_table.specs.Answers.{bytes_in, done_in, synced_in, temp_in, written_in}
 use Rattle.cacache_table.specs.Common.{fails, refuse}
 use Rattle.cacache_table.specs.Runs.{EndsAs, Moves}
 use Rattle.cacache_table.specs.SingleSteps.{Does, FailsAt}
 use Rattle.cacache_table.proofs.Going.{no_gain}
 use Rattle.cacache_keep_laws.proofs.Logged.{gains_join}
 use Rattle.cacache_jobs.specs.Brought.{Brings, EndsRefused}
-use Rattle.cacache_keep.specs.Rewriting.{StopsWriting, Takes, Took}
+use Rattle.cacache_keep.specs.Rewriting.{MakesTemp, Rewrites, StopsMoving, StopsRewriting, StopsSecuring, StopsSyncing, StopsWriting, SyncsFolder, SyncsTemp, Takes, Took}
 use Rattle.cacache_keep.proofs.Sweeps.{Refuses, step_fails}
 
 -- ---- a step that was refused
@@ -34,6 +33,18 @@ move_refused file path (answers.Failed fault) refusal is fits = cc
 move_refused file path (answers.NoMemory b) refusal is fits = cc
 move_refused file path answers.Done refusal is fits = absurd cc
 move_refused file path t refusal is fits = absurd fits
+
+pub sync_refused : (file : PlainTemp) (t : PlainAnswer) (refusal : Refusal) → Err refusal ≡ synced_in t → Fits (steps.SyncTemp file) t → Refuses t refusal
+sync_refused file (answers.Failed fault) refusal is fits = cc
+sync_refused file (answers.NoMemory b) refusal is fits = cc
+sync_refused file (answers.Synced f) refusal is fits = absurd cc
+sync_refused file t refusal is fits = absurd fits
+
+pub securing_refused : (path : List ℕ) (t : PlainAnswer) (refusal : Refusal) → Err refusal ≡ done_in t → Fits (steps.SyncDir path) t → Refuses t refusal
+securing_refused path (answers.Failed fault) refusal is fits = cc
+securing_refused path (answers.NoMemory b) refusal is fits = cc
+securing_refused path answers.Done refusal is fits = absurd cc
+securing_refused path t refusal is fits = absurd fits
 
 pub read_refused : (path : List ℕ) (t : PlainAnswer) (refusal : Refusal) → Err refusal ≡ bytes_in t → Fits (steps.ReadAll path) t → Refuses t refusal
 read_refused path (answers.Failed fault) refusal is fits = cc
@@ -66,6 +77,13 @@ was_read a t bytes old new is logs = absurd cc
 pub was_made : (a : PlainStep) (t : PlainAnswer) (file : PlainTemp) (old new : Option (List LogItem)) → temp_in t ≡ Ok file → Logs old new a t → Does a (answers.Temp file) old new
 was_made a (answers.Temp f) file old new is logs = let same : f ≡ file = cc in rw same at logs
 was_made a t file old new is logs = absurd cc
+
+pub was_synced : (file synced : PlainTemp) (t : PlainAnswer) (old new : Option (List LogItem)) → Ok synced ≡ synced_in t → Fits (steps.SyncTemp file) t → Logs old new (steps.SyncTemp file) t → (synced ≡ file) × Does (steps.SyncTemp file) (answers.Synced file) old new
+was_synced file synced (answers.Synced f) old new is fits logs =
+    let same : f ≡ file = fits in
+    let given : synced ≡ f = cc in
+    (given ∙ same, rw same at logs)
+was_synced file synced t old new is fits logs = absurd cc
 
 -- ---- writes
 
@@ -129,3 +147,40 @@ pub brings_stops : {X : Type 0} (seen : X → PlainTemp) (path : List ℕ) (t : 
     → IfErr r (λ e. FailsAt (steps.CreateTemp path) e old new)
 brings_stops seen path t (Ok x) old new brings fits logs = tt
 brings_stops seen path t (Err e) old new brings fits logs = made_stops path t (temp_in t) e old new refl brings fits logs
+
+-- ---- behind the writes
+
+module _ (durable : Bool) (cache path bytes : List ℕ) (file full ready : PlainTemp) (old made written synced : Option (List LogItem)) (makes : MakesTemp cache file old made) (writes : Took file bytes full [] made written) (syncs : SyncsTemp durable full written synced) (same : ready ≡ full) where
+  -- the error ended what comes there
+  stops_behind : (e : Error) (new : Option (List LogItem)) → StopsMoving durable full path e written new → StopsRewriting durable cache path bytes e old new
+  stops_behind e new stop = inr (file, made, makes, inr (full, written, writes, stop))
+
+  -- the file that was to be moved is the one that was written
+  moved_full : (moved : Option (List LogItem)) → Does (steps.Persist ready path) answers.Done synced moved → Does (steps.Persist full path) answers.Done synced moved
+  moved_full moved moves = subst (λ (f : PlainTemp). Does (steps.Persist f path) answers.Done synced moved) same moves
+
+  pub unmoved : (e : Error) (new : Option (List LogItem)) → FailsAt (steps.Persist ready path) e synced new → StopsRewriting durable cache path bytes e old new
+  unmoved e new fails = stops_behind e new (inr (synced, syncs, inl (subst (λ (f : PlainTemp). FailsAt (steps.Persist f path) e synced new) same fails)))
+
+  pub unsecured : (moved : Option (List LogItem)) (e : Error) (new : Option (List LogItem)) → Does (steps.Persist ready path) answers.Done synced moved → StopsSecuring durable path e moved new → StopsRewriting durable cache path bytes e old new
+  unsecured moved e new moves stop = stops_behind e new (inr (synced, syncs, inr (moved, moved_full moved moves, stop)))
+
+  pub secured : (moved new : Option (List LogItem)) → Does (steps.Persist ready path) answers.Done synced moved → SyncsFolder durable path moved new → Rewrites durable cache path bytes old new
+  secured moved new moves secures = record {
+    file = file;
+    made = made;
+    making = makes;
+    full = full;
+    written = written;
+    writing = writes;
+    synced = synced;
+    syncing = syncs;
+    moved = moved;
+    moving = moved_full moved moves;
+    securing = secures;
+  }
+
+-- the file wasn't synced
+pub unsynced : (durable : Bool) (cache path bytes : List ℕ) (file full : PlainTemp) (old made written : Option (List LogItem)) (e : Error) (new : Option (List LogItem)) → MakesTemp cache file old made → Took file bytes full [] made written → StopsSyncing durable full e written new
+    → StopsRewriting durable cache path bytes e old new
+unsynced durable cache path bytes file full old made written e new makes writes stop = inr (file, made, makes, inr (full, written, writes, inl stop))

@@ -1,6 +1,6 @@
 -- A verification behind a repair finds nothing damaged and nothing that dangles, and good keys stay.
-use Rattle.std.proofs.Common.{◌≡◌, ◌<◌, inl, inr, ℕ, Bool, true, false, cond, List, [], ◌∷◌, Option, None, Some, map, filter, refl, sym, ap, subst, ◌∙◌}
-use Rattle.std.specs.Prelude.{Contains, not}
+use Rattle.std.proofs.Common.{◌≡◌, inl, inr, ℕ, Bool, true, false, cond, List, [], ◌∷◌, None, Some, map, filter, refl, sym, ap, subst, ◌∙◌}
+use Rattle.std.specs.Prelude.{not}
 use Rattle.std.proofs.lemmas.List.Elements.{All-head}
 use Rattle.sha1.specs.Sha1.{sha1}
 use Rattle.cacache_core.specs.declared.integrity.digest.Hash.{Hash}
@@ -22,7 +22,7 @@ use Rattle.cacache_keep_laws.specs.Contents.{content_in}
 use Rattle.cacache_keep_laws.specs.Housed.{Housed, Still}
 use Rattle.cacache_keep_laws.specs.Mending.{LeavesGood, found_in}
 use Rattle.cacache_keep_laws.specs.Verifying.{Judges, has_content, is_good, says_yes}
-use Rattle.cacache_keep_laws.proofs.Collected.{dropped_hash, from_kept, kept_in, leaves, picked_left}
+use Rattle.cacache_keep_laws.proofs.Collected.{dropped_hash, kept_in, leaves, picked_left}
 use Rattle.cacache_keep_laws.proofs.Housed.{removes_house, removes_root, removes_still}
 use Rattle.cacache_keep_laws.proofs.Led.{found_integrity, found_listed, indexes_lead}
 use Rattle.cacache_keep_laws.proofs.Logged.{log_rooted}

@@ -9,7 +9,7 @@ use Rattle.cacache_store.specs.declared.store.step.Step.TheVariants as steps
 use Rattle.cacache_table.specs.SingleSteps.{Does, FailsAt}
 use Rattle.cacache_keep_laws.specs.Compacting.{compact_text}
 use Rattle.cacache_keep_laws.specs.Temporary.{total}
-use Rattle.cacache_keep.specs.declared.compacting.Lean.{Lean}
+use Rattle.cacache_keep.specs.declared.settling.Lean.{Lean}
 use Rattle.cacache_keep.specs.Buckets.{FindsBuckets, StopsFinding}
 use Rattle.cacache_keep.specs.Rewriting.{Rewrites, StopsRewriting}
 
@@ -32,25 +32,25 @@ abbrev pub saved : Bucket → ℕ
 saved b = length b.1 - length (compact_text b.1)
 
 -- a bucket that changes is written anew; the log gained nothing for another
-abbrev pub RewritesIf : Bool → List ℕ → Bucket
+abbrev pub RewritesIf : Bool → Bool → List ℕ → Bucket
     → Option (List LogItem) → Option (List LogItem) → Type 0
-RewritesIf true cache b old new = Rewrites cache b.0 (compact_text b.1) old new
-RewritesIf false cache b old new = new ≡ old
+RewritesIf true durable cache b old new = Rewrites durable cache b.0 (compact_text b.1) old new
+RewritesIf false durable cache b old new = new ≡ old
 
 -- the log gained a read of the bucket, and what wrote it anew, if that changes it
 abbrev pub CompactsBucket :
-    List ℕ → Bucket → Option (List LogItem) → Option (List LogItem) → Type 0
-CompactsBucket cache b old new =
+    Bool → List ℕ → Bucket → Option (List LogItem) → Option (List LogItem) → Type 0
+CompactsBucket durable cache b old new =
     (read : Option (List LogItem)) × Does (steps.ReadAll b.0) (answers.Bytes b.1) old read
-    × RewritesIf (is_loose b) cache b read new
+    × RewritesIf (is_loose b) durable cache b read new
 
 -- so it did of each of these buckets, in turn
 abbrev pub CompactsEach :
-    List ℕ → List Bucket → Option (List LogItem) → Option (List LogItem) → Type 0
-CompactsEach cache [] old new = new ≡ old
-CompactsEach cache (b ∷ buckets) old new =
-    (next : Option (List LogItem)) × CompactsBucket cache b old next
-    × CompactsEach cache buckets next new
+    Bool → List ℕ → List Bucket → Option (List LogItem) → Option (List LogItem) → Type 0
+CompactsEach durable cache [] old new = new ≡ old
+CompactsEach durable cache (b ∷ buckets) old new =
+    (next : Option (List LogItem)) × CompactsBucket durable cache b old next
+    × CompactsEach durable cache buckets next new
 
 -- these are the bytes of the compacted bucket, if that changes it
 abbrev pub Changes : List ℕ → Option (List ℕ) → Type 0
@@ -63,10 +63,11 @@ Saves b None = is_loose b ≡ false
 Saves b (Some bytes) = (is_loose b ≡ true) × (bytes ≡ saved b)
 
 -- the bucket at the path was compacted, and this is what that saved, if it changed
-abbrev pub CompactsAt : List ℕ → List ℕ → Option ℕ
+abbrev pub CompactsAt : Bool → List ℕ → List ℕ → Option ℕ
     → Option (List LogItem) → Option (List LogItem) → Type 0
-CompactsAt cache path saving old new =
-    (bytes : List ℕ) × Saves (path, bytes) saving × CompactsBucket cache (path, bytes) old new
+CompactsAt durable cache path saving old new =
+    (bytes : List ℕ) × Saves (path, bytes) saving
+    × CompactsBucket durable cache (path, bytes) old new
 
 -- the bytes of a compacted bucket, and how many that saves, as values hold them
 abbrev pub lean_view : Option Lean → Option (List ℕ × ℕ)
@@ -74,65 +75,66 @@ lean_view lean = option_map (λ (l : Lean). (l.text.items, l.saved)) lean
 
 -- new bytes are written to the path, and what they save is told; where there are none, nothing was
 -- done
-abbrev pub Settles : List ℕ → List ℕ → Option (List ℕ × ℕ) → Option ℕ
+abbrev pub Settles : Bool → List ℕ → List ℕ → Option (List ℕ × ℕ) → Option ℕ
     → Option (List LogItem) → Option (List LogItem) → Type 0
-Settles cache path None saving old new = (saving ≡ None) × (new ≡ old)
-Settles cache path (Some lean) saving old new =
-    (saving ≡ Some lean.1) × Rewrites cache path lean.0 old new
+Settles durable cache path None saving old new = (saving ≡ None) × (new ≡ old)
+Settles durable cache path (Some lean) saving old new =
+    (saving ≡ Some lean.1) × Rewrites durable cache path lean.0 old new
 
 -- the error ended that
-abbrev pub StopsSettling : List ℕ → List ℕ → Option (List ℕ × ℕ) → Error
+abbrev pub StopsSettling : Bool → List ℕ → List ℕ → Option (List ℕ × ℕ) → Error
     → Option (List LogItem) → Option (List LogItem) → Type 0
-StopsSettling cache path None e old new = ⊥
-StopsSettling cache path (Some lean) e old new = StopsRewriting cache path lean.0 e old new
+StopsSettling durable cache path None e old new = ⊥
+StopsSettling durable cache path (Some lean) e old new =
+    StopsRewriting durable cache path lean.0 e old new
 
 -- ---- a compaction
 
--- the buckets at these paths are read, in turn, and those that change are written anew; so many
--- did, and this is what that saved
+-- the buckets at these paths are read, in turn, and those that change are written anew, durably if
+-- that is asked for; so many did, and this is what that saved
 pub record CompactsAll
-    (cache : List ℕ) (paths : List (List ℕ)) (count bytes : ℕ) (old new : Option (List LogItem))
-    : Type 0 where
+    (durable : Bool) (cache : List ℕ) (paths : List (List ℕ)) (count bytes : ℕ)
+    (old new : Option (List LogItem)) : Type 0 where
   pub buckets : List Bucket
   pub each : map (λ b. b.0) buckets ≡ paths
-  pub compacting : CompactsEach cache buckets old new
+  pub compacting : CompactsEach durable cache buckets old new
   pub counted : count ≡ min (length (filter is_loose buckets)) (2 ^ 64 - 1)
   pub sized : bytes ≡ total (map saved (filter is_loose buckets))
 
 -- the buckets of the index are found, and all of them are compacted
 abbrev pub CompactsCache :
-    List ℕ → ℕ → ℕ → Option (List LogItem) → Option (List LogItem) → Type 0
-CompactsCache cache count bytes old new =
+    Bool → List ℕ → ℕ → ℕ → Option (List LogItem) → Option (List LogItem) → Type 0
+CompactsCache durable cache count bytes old new =
     (paths : List (List ℕ)) × (found : Option (List LogItem))
-    × FindsBuckets cache paths old found × CompactsAll cache paths count bytes found new
+    × FindsBuckets cache paths old found × CompactsAll durable cache paths count bytes found new
 
 -- ---- errors
 
 -- the error ended the reading of the bucket at the path, or what was to write it anew
 abbrev pub StopsBucket :
-    List ℕ → List ℕ → Error → Option (List LogItem) → Option (List LogItem) → Type 0
-StopsBucket cache path e old new =
+    Bool → List ℕ → List ℕ → Error → Option (List LogItem) → Option (List LogItem) → Type 0
+StopsBucket durable cache path e old new =
     FailsAt (steps.ReadAll path) e old new
     ⊎ ((bytes : List ℕ) × (read : Option (List LogItem))
     × Does (steps.ReadAll path) (answers.Bytes bytes) old read
-    × StopsRewriting cache path (compact_text bytes) e read new)
+    × StopsRewriting durable cache path (compact_text bytes) e read new)
 
 -- some of the buckets at these paths were compacted, and the error ended that of the next
 pub record StopsCompactingEach
-    (cache : List ℕ) (paths : List (List ℕ)) (e : Error)
+    (durable : Bool) (cache : List ℕ) (paths : List (List ℕ)) (e : Error)
     (old new : Option (List LogItem)) : Type 0 where
   pub buckets : List Bucket
   pub next : List ℕ
   pub rest : List (List ℕ)
   pub split : paths ≡ map (λ b. b.0) buckets ++ next ∷ rest
   pub between : Option (List LogItem)
-  pub compacting : CompactsEach cache buckets old between
-  pub stop : StopsBucket cache next e between new
+  pub compacting : CompactsEach durable cache buckets old between
+  pub stop : StopsBucket durable cache next e between new
 
 -- the error ended the finding of the buckets, or a compaction of one
 abbrev pub StopsCompacting :
-    List ℕ → Error → Option (List LogItem) → Option (List LogItem) → Type 0
-StopsCompacting cache e old new =
+    Bool → List ℕ → Error → Option (List LogItem) → Option (List LogItem) → Type 0
+StopsCompacting durable cache e old new =
     StopsFinding cache e old new
     ⊎ ((paths : List (List ℕ)) × (found : Option (List LogItem))
-    × FindsBuckets cache paths old found × StopsCompactingEach cache paths e found new)
+    × FindsBuckets cache paths old found × StopsCompactingEach durable cache paths e found new)

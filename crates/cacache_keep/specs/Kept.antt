@@ -1,10 +1,14 @@
 -- What the calls come to on a store in memory.
-use Rattle.std.specs.Prelude.{◌≡◌, ℕ, List, [], ◌∷◌, true, None, Some, Contains, filter, map, not}
+use Rattle.std.specs.Prelude.{◌≡◌, ◌⊎◌, ◌++◌, ℕ, List, [], ◌∷◌, Bool, Option, true, None, Some, Contains, filter, filter_map, map, not}
+use Rattle.cacache_core.specs.declared.errors.Error.{Error}
 use Rattle.cacache_core.specs.declared.integrity.digest.Hash.{Hash}
 use Rattle.cacache_core.specs.Integrity.{address as address_of}
+use Rattle.cacache_core.specs.PathLaws.{IsKeyDigest}
 use Rattle.cacache_core.specs.PathNames.{Names, home_of}
+use Rattle.cacache_core.specs.Paths.{bucket_names_of}
 use Rattle.cacache_store.specs.declared.store.log.LogItem.{LogItem}
-use Rattle.cacache_disk.specs.Tree.{Tree}
+use Rattle.cacache_disk.specs.declared.node.Node.TheVariants.{File}
+use Rattle.cacache_disk.specs.Tree.{Tree, look}
 use Rattle.cacache_memory.specs.Replay.{tree_of, IsLog}
 use Rattle.cacache_entry.specs.Latest.{Found}
 use Rattle.cacache_table.specs.declared.command.Command.{Command}
@@ -14,6 +18,8 @@ use Rattle.cacache_value.specs.Placed.{Placed}
 use Rattle.cacache_sequence.specs.Caches.{Called}
 use Rattle.cacache_sequence.specs.Looks.{OnlyLooks}
 use Rattle.cacache_walks.specs.Listing.{IsByHash, ListsContents}
+use Rattle.cacache_keep_laws.specs.Compacted.{Compacted, CutShort, KeepsFound}
+use Rattle.cacache_keep_laws.specs.Compacting.{compact_text}
 use Rattle.cacache_keep_laws.specs.Contents.{HoldsJust, content_in}
 use Rattle.cacache_keep_laws.specs.Housed.{Housed}
 use Rattle.cacache_keep_laws.specs.Verifying.{Judges, is_good}
@@ -21,6 +27,7 @@ use Rattle.cacache_keep_laws.specs.Collecting.{LeavesLive, LinksLeadOut, ReadsAs
 use Rattle.cacache_keep_laws.specs.Idle.{LacksIdle, Removed}
 use Rattle.cacache_keep_laws.specs.Mending.{LeavesGood, found_in}
 use Rattle.cacache_keep_laws.specs.Temporary.{LeavesUntemporary}
+use Rattle.cacache_keep.specs.Compacting.{CompactsCache, StopsCompacting}
 use Rattle.cacache_keep.specs.Keeping.{Collects, VerifiesCache}
 use Rattle.cacache_keep.specs.Planning.{PlansCache, Sized}
 use Rattle.cacache_keep.specs.Repairing.{RepairsCache}
@@ -65,6 +72,17 @@ CollectionsLackIdle =
     → home_of site.cache ≡ Some home → IsLog new → LinksLeadOut home (tree_of old)
     → Collects site kept dropped (Some old) (Some new)
     → LacksIdle site.cache home (tree_of old) (tree_of new)
+
+-- and a second one, made on the tree that the first one left, drops nothing and keeps as many
+abbrev pub CollectionsSettle : Type 0
+CollectionsSettle =
+    (site : Site) (home : Names) (kept again : ℕ) (dropped others : List (List Hash))
+    (old collected later new : List LogItem)
+    → home_of site.cache ≡ Some home → IsLog collected → IsLog new → LinksLeadOut home (tree_of old)
+    → LeavesTree collected later
+    → Collects site kept dropped (Some old) (Some collected)
+    → Collects site again others (Some later) (Some new)
+    → (again ≡ kept) × (others ≡ [])
 
 -- a plan changes nothing
 abbrev pub PlansLeave : Type 0
@@ -120,6 +138,47 @@ RepairsMend =
     → RepairsCache site damaged dangling (Some old) (Some new)
     → MendsCache site home (tree_of old) (tree_of new) damaged dangling
 
+-- ---- a compaction
+
+-- all is as it was, but that each key's bucket has its compacted bytes, and the folder of temporary
+-- files may be new
+pub record LeavesCompacted (home : Names) (t new : Tree) : Type 0 where
+  pub tree : Compacted home t new
+  pub buckets : (digest bytes : List ℕ) → IsKeyDigest digest
+      → look t (home ++ bucket_names_of digest) ≡ Some (File bytes)
+      → look new (home ++ bucket_names_of digest) ≡ Some (File (compact_text bytes))
+
+-- so a compaction leaves it
+abbrev pub CompactionsLeave : Type 0
+CompactionsLeave =
+    (durable : Bool) (cache : List ℕ) (home : Names) (count bytes : ℕ) (old new : List LogItem)
+    → home_of cache ≡ Some home → IsLog new
+    → CompactsCache durable cache count bytes (Some old) (Some new)
+    → LeavesCompacted home (tree_of old) (tree_of new)
+
+-- one that an error ends leaves each bucket as it was or compacted, and perhaps temporary files
+abbrev pub CompactionsStop : Type 0
+CompactionsStop =
+    (durable : Bool) (cache : List ℕ) (home : Names) (e : Error) (old new : List LogItem)
+    → home_of cache ≡ Some home → IsLog new
+    → StopsCompacting durable cache e (Some old) (Some new)
+    → CutShort home (tree_of old) (tree_of new)
+
+-- the log gained a compaction, durable or not, or as much of one as came before an error
+abbrev pub MayCompact : List ℕ → Option (List LogItem) → Option (List LogItem) → Type 0
+MayCompact cache old new =
+    ((durable : Bool) × (count bytes : ℕ) × CompactsCache durable cache count bytes old new)
+    ⊎ ((durable : Bool) × (e : Error) × StopsCompacting durable cache e old new)
+
+-- then each key leads where it led, and each address has the content that it had; and where each
+-- thing lies in its place, lookups, reads by key and listings answer as before
+abbrev pub CompactionsAreUnseen : Type 0
+CompactionsAreUnseen =
+    (site : Site) (home : Names) (old new : List LogItem)
+    → home_of site.cache ≡ Some home → IsLog new → MayCompact site.cache (Some old) (Some new)
+    → KeepsFound home (tree_of old) (tree_of new)
+    × (Housed (Some home) (tree_of old) → ReadsAsBefore site (tree_of old) (tree_of new))
+
 -- ---- a verification behind a repair
 
 -- where each thing lies in its place, a verification of what a repair left finds no damaged content
@@ -160,22 +219,40 @@ Looked [] old new = new ≡ old
 Looked (c ∷ calls) old new =
     (next : List LogItem) × OnlyLooks c.1 × Called c.0 c.1 c.2 old next × Looked calls next new
 
+-- that leaves the tree that the log led to, as listings, verifications and plans do too
+abbrev pub LooksStay : Type 0
+LooksStay =
+    (calls : List (List ℕ × Command × Reply)) (old new : List LogItem)
+    → Looked calls old new → LeavesTree old new
+
 -- the log gained these removals from the cache, one after another, none of which broke off; before,
--- between and behind them it gained calls that only look
+-- between and behind them it went on to lead to the same tree
 abbrev pub Cleaned : List ℕ → List Command → List LogItem → List LogItem → Type 0
-Cleaned cache [] old new = (looks : List (List ℕ × Command × Reply)) × Looked looks old new
+Cleaned cache [] old new = LeavesTree old new
 Cleaned cache (removal ∷ removals) old new =
-    (looks : List (List ℕ × Command × Reply)) × (found : List LogItem) × Looked looks old found
+    (found : List LogItem) × LeavesTree old found
     × (left : List LogItem) × Removed cache removal found left × Cleaned cache removals left new
 
--- where links lead out of the cache, let the same removals come with a collection before them and
--- without it: each later lookup and each verified read by key answers with it what it may answer
--- without it
+-- so it gained these removals, and a collection for each None
+abbrev pub Tidied : Site → List (Option Command) → List LogItem → List LogItem → Type 0
+Tidied site [] old new = LeavesTree old new
+Tidied site (None ∷ events) old new =
+    (found : List LogItem) × LeavesTree old found
+    × (kept : ℕ) × (dropped : List (List Hash)) × (left : List LogItem) × IsLog left
+    × Collects site kept dropped (Some found) (Some left) × Tidied site events left new
+Tidied site (Some removal ∷ events) old new =
+    (found : List LogItem) × LeavesTree old found
+    × (left : List LogItem) × Removed site.cache removal found left × Tidied site events left new
+
+-- where links lead out of the cache, let the same removals come with a collection before them, and
+-- perhaps more between them, and without any: each later lookup, verified read by key and listing
+-- answers with them what it may answer without them
 abbrev pub LaterReadsStay : Type 0
 LaterReadsStay =
-    (site : Site) (home : Names) (kept : ℕ) (dropped : List (List Hash)) (removals : List Command)
-    (old collected later other : List LogItem)
+    (site : Site) (home : Names) (kept : ℕ) (dropped : List (List Hash))
+    (events : List (Option Command)) (old collected later other : List LogItem)
     → home_of site.cache ≡ Some home → IsLog collected → LinksLeadOut home (tree_of old)
     → Collects site kept dropped (Some old) (Some collected)
-    → Cleaned site.cache removals collected later → Cleaned site.cache removals old other
+    → Tidied site events collected later
+    → Cleaned site.cache (filter_map (λ e. e) events) old other
     → ReadsAsBefore site (tree_of other) (tree_of later)

@@ -1,5 +1,5 @@
 -- Contents that are read in pieces, and which of them are good.
-use Rattle.std.specs.Prelude.{◌≡◌, ◌⊎◌, ◌++◌, ◌+◌, ℕ, List, [], ◌∷◌, Bool, true, false, Option, filter, length, map, not}
+use Rattle.std.specs.Prelude.{◌≡◌, ◌⊎◌, ◌++◌, ◌+◌, ◌-◌, ◌^◌, ℕ, List, [], ◌∷◌, Bool, true, false, Option, filter, length, map, min, not}
 use Rattle.cacache_core.specs.declared.errors.Error.{Error}
 use Rattle.cacache_core.specs.declared.errors.Error.TheVariants.{IoError, OutOfMemory}
 use Rattle.cacache_core.specs.declared.errors.Fault.TheVariants.{NotFound}
@@ -15,6 +15,7 @@ use Rattle.cacache_table.specs.Runs.{Moves, Gains}
 use Rattle.cacache_table.specs.SingleSteps.{Does, FailsAt}
 use Rattle.cacache_table.specs.StepPaths.{content_path}
 use Rattle.cacache_table.specs.Table.{piece}
+use Rattle.cacache_keep_laws.specs.Temporary.{total}
 
 -- ---- an open file
 
@@ -36,6 +37,14 @@ abbrev pub GaveAll : PlainFile → List ℕ → Option (List LogItem) → Option
 GaveAll file bytes old new =
     (left last : PlainFile) × (mid : Option (List LogItem)) × Gave file bytes left old mid
     × Does (steps.Read left piece) (answers.Got last []) mid new
+
+-- so it gave all, and whether these bytes meet the address, and how many they are; 2^64 - 1 where
+-- that are more
+abbrev pub JudgesBytes : List Hash → PlainFile → Bool → ℕ
+    → Option (List LogItem) → Option (List LogItem) → Type 0
+JudgesBytes i file good size old new =
+    (bytes : List ℕ) × (good ≡ meets i bytes) × (size ≡ min (length bytes) (2 ^ 64 - 1))
+    × GaveAll file bytes old new
 
 -- the next read failed
 abbrev pub FailsToGive : PlainFile → Error → Option (List LogItem) → Option (List LogItem) → Type 0
@@ -70,17 +79,17 @@ module _ (cache : List ℕ) (i : List Hash) where
   abbrev pub FindsNone : Option (List LogItem) → Option (List LogItem) → Type 0
   FindsNone old new = Does (steps.Open (content_path cache i)) (answers.Failed NotFound) old new
 
-  -- it was opened and read to its end, and gave these bytes
-  abbrev pub ReadsWhole : List ℕ → Option (List LogItem) → Option (List LogItem) → Type 0
-  ReadsWhole bytes old new =
+  -- it was opened and read to its end, and its bytes were judged so
+  abbrev pub ReadsWhole : Bool → ℕ → Option (List LogItem) → Option (List LogItem) → Type 0
+  ReadsWhole good size old new =
       (file : PlainFile) × (mid : Option (List LogItem)) × Opens file old mid
-      × GaveAll file bytes mid new
+      × JudgesBytes i file good size mid new
 
-  -- the content is good exactly where its bytes meet the address; one that is gone isn't
-  abbrev pub SaysGood : Bool → Option (List LogItem) → Option (List LogItem) → Type 0
-  SaysGood good old new =
-      ((bytes : List ℕ) × (good ≡ meets i bytes) × ReadsWhole bytes old new)
-      ⊎ ((good ≡ false) × FindsNone old new)
+  -- the content is good exactly where its bytes meet the address, and they are so many; one that is
+  -- gone isn't good, and has none
+  abbrev pub SaysGood : Bool → ℕ → Option (List LogItem) → Option (List LogItem) → Type 0
+  SaysGood good size old new =
+      ReadsWhole good size old new ⊎ ((good ≡ false) × (size ≡ 0) × FindsNone old new)
 
   -- the error ended that: the content couldn't be opened though it isn't gone, or not be read
   abbrev pub StopsContent : Error → Option (List LogItem) → Option (List LogItem) → Type 0
@@ -91,16 +100,24 @@ module _ (cache : List ℕ) (i : List Hash) where
 
 -- ---- contents, one after another
 
--- a content's address, and whether it is good
+-- a content's address, whether it is good, and how many bytes it gave
 abbrev pub Judged : Type 0
-Judged = List Hash × Bool
+Judged = List Hash × Bool × ℕ
+
+-- how many bytes the good ones of these gave; 2^64 - 1 where that are more
+abbrev pub good_bytes_of : List Judged → ℕ
+good_bytes_of reads = total (map (λ r. r.2) (filter (λ r. r.1) reads))
+
+-- and how many the others gave
+abbrev pub damaged_bytes_of : List Judged → ℕ
+damaged_bytes_of reads = total (map (λ r. r.2) (filter (λ r. not r.1) reads))
 
 -- the log gained what says so of each of these contents, in turn
 abbrev pub SaysOfEach :
     List ℕ → List Judged → Option (List LogItem) → Option (List LogItem) → Type 0
 SaysOfEach cache [] old new = new ≡ old
 SaysOfEach cache (r ∷ reads) old new =
-    (next : Option (List LogItem)) × SaysGood cache r.0 r.1 old next
+    (next : Option (List LogItem)) × SaysGood cache r.0 r.1 r.2 old next
     × SaysOfEach cache reads next new
 
 -- The contents at these addresses were read, each in turn: so many are good, and these are damaged.
@@ -114,6 +131,19 @@ pub record ReadsEach
   pub whole : good ≡ length (filter (λ r. r.1) reads)
   pub broken : damaged ≡ map (λ r. r.0) (filter (λ r. not r.1) reads)
   pub counts : good + length damaged ≡ length addresses
+
+-- so they were, and the good ones and the damaged ones gave so many bytes
+abbrev pub WeighsEach : List ℕ → List (List Hash) → ℕ → ℕ → List (List Hash) → ℕ
+    → Option (List LogItem) → Option (List LogItem) → Type 0
+WeighsEach cache addresses good good_bytes damaged damaged_bytes old new =
+    (it : ReadsEach cache addresses good damaged old new)
+    × (good_bytes ≡ good_bytes_of it.reads) × (damaged_bytes ≡ damaged_bytes_of it.reads)
+
+-- the same, where the good ones aren't counted
+abbrev pub WeighsOthers : List ℕ → List (List Hash) → ℕ → List (List Hash) → ℕ
+    → Option (List LogItem) → Option (List LogItem) → Type 0
+WeighsOthers cache addresses good_bytes damaged damaged_bytes old new =
+    (good : ℕ) × WeighsEach cache addresses good good_bytes damaged damaged_bytes old new
 
 -- the error ended the reading of the first of these contents; or there is none, and memory ran out
 abbrev pub StopsNext :

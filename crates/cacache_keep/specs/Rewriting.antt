@@ -1,5 +1,6 @@
 -- How a file is written anew, over any store.
-use Rattle.std.specs.Prelude.{◌≡◌, ◌⊎◌, ℕ, List, [], ◌∷◌, Option, drop}
+use Rattle.std.specs.Prelude.{◌≡◌, ◌⊎◌, ℕ, List, [], ◌∷◌, Bool, true, false, Option, drop, unwrap_or}
+use Rattle.std.specs.Path.{path_parent}
 use Rattle.cacache_core.specs.declared.errors.Error.{Error}
 use Rattle.cacache_core.specs.declared.errors.Fault.TheVariants as faults
 use Rattle.cacache_store.specs.declared.store.answer.Answer.TheVariants as answers
@@ -33,16 +34,39 @@ MakesTemp cache file old new =
     × Does (steps.MakeDirs (temp_folder cache)) answers.Done old made
     × Does (steps.CreateTemp (temp_path cache number)) (answers.Temp file) made new
 
--- the bytes were written to a temporary file, and that was moved to the path
+-- ---- syncs, where the rewrite is durable
+
+-- the folder that holds what stands at the path
+abbrev pub folder_of : List ℕ → List ℕ
+folder_of path = unwrap_or (path_parent path) path
+
+-- the temporary file was synced, if that is asked for
+abbrev pub SyncsTemp :
+    Bool → PlainTemp → Option (List LogItem) → Option (List LogItem) → Type 0
+SyncsTemp true file old new = Does (steps.SyncTemp file) (answers.Synced file) old new
+SyncsTemp false file old new = new ≡ old
+
+-- so was the folder that holds the path
+abbrev pub SyncsFolder :
+    Bool → List ℕ → Option (List LogItem) → Option (List LogItem) → Type 0
+SyncsFolder true path old new = Does (steps.SyncDir (folder_of path)) answers.Done old new
+SyncsFolder false path old new = new ≡ old
+
+-- the bytes were written to a temporary file, and that was moved to the path; where it is durable,
+-- the file was synced before the move, and the path's folder after it
 pub record Rewrites
-    (cache path bytes : List ℕ) (old new : Option (List LogItem)) : Type 0 where
+    (durable : Bool) (cache path bytes : List ℕ) (old new : Option (List LogItem)) : Type 0 where
   pub file : PlainTemp
   pub made : Option (List LogItem)
   pub making : MakesTemp cache file old made
   pub full : PlainTemp
   pub written : Option (List LogItem)
   pub writing : Took file bytes full [] made written
-  pub moving : Does (steps.Persist full path) answers.Done written new
+  pub synced : Option (List LogItem)
+  pub syncing : SyncsTemp durable full written synced
+  pub moved : Option (List LogItem)
+  pub moving : Does (steps.Persist full path) answers.Done synced moved
+  pub securing : SyncsFolder durable path moved new
 
 -- ---- errors
 
@@ -69,13 +93,35 @@ StopsMaking cache e old new =
     × Does (steps.MakeDirs (temp_folder cache)) answers.Done old made
     × FailsAt (steps.CreateTemp (temp_path cache number)) e made new)
 
--- it ended that, a write, or the move to the path
-abbrev pub StopsRewriting : List ℕ → List ℕ → List ℕ → Error
+-- it ended the sync of the temporary file, which is made only where that is asked for
+abbrev pub StopsSyncing :
+    Bool → PlainTemp → Error → Option (List LogItem) → Option (List LogItem) → Type 0
+StopsSyncing true file e old new = FailsAt (steps.SyncTemp file) e old new
+StopsSyncing false file e old new = ⊥
+
+-- so it did with the sync of the path's folder
+abbrev pub StopsSecuring :
+    Bool → List ℕ → Error → Option (List LogItem) → Option (List LogItem) → Type 0
+StopsSecuring true path e old new = FailsAt (steps.SyncDir (folder_of path)) e old new
+StopsSecuring false path e old new = ⊥
+
+-- the file that has all of the bytes wasn't synced; or it was, and wasn't moved; or it was moved, and
+-- the path's folder wasn't synced
+abbrev pub StopsMoving :
+    Bool → PlainTemp → List ℕ → Error → Option (List LogItem) → Option (List LogItem) → Type 0
+StopsMoving durable full path e old new =
+    StopsSyncing durable full e old new
+    ⊎ ((synced : Option (List LogItem)) × SyncsTemp durable full old synced
+    × (FailsAt (steps.Persist full path) e synced new
+    ⊎ ((moved : Option (List LogItem)) × Does (steps.Persist full path) answers.Done synced moved
+    × StopsSecuring durable path e moved new)))
+
+-- the error ended the making, a write, or what comes behind the writes
+abbrev pub StopsRewriting : Bool → List ℕ → List ℕ → List ℕ → Error
     → Option (List LogItem) → Option (List LogItem) → Type 0
-StopsRewriting cache path bytes e old new =
+StopsRewriting durable cache path bytes e old new =
     StopsMaking cache e old new
     ⊎ ((file : PlainTemp) × (made : Option (List LogItem)) × MakesTemp cache file old made
     × (StopsWriting file bytes e made new
     ⊎ ((full : PlainTemp) × (written : Option (List LogItem))
-    × Took file bytes full [] made written
-    × FailsAt (steps.Persist full path) e written new)))
+    × Took file bytes full [] made written × StopsMoving durable full path e written new)))

@@ -1,5 +1,5 @@
 -- What the calls' values tell of their logs.
-use Rattle.std.specs.Prelude.{ℕ, List, Option, map, string_bytes}
+use Rattle.std.specs.Prelude.{◌≡◌, ℕ, List, Option, map, string_bytes}
 use Rattle.cacache_store.specs.declared.store.log.LogItem.{LogItem}
 use Rattle.cacache_entry.specs.Latest.{Found}
 use Rattle.cacache_entry.specs.View.{found_view}
@@ -10,15 +10,22 @@ use Rattle.cacache_keep.specs.declared.sweeping.Swept.{Swept}
 use Rattle.cacache_keep.specs.declared.verifying.Verdict.{Verdict}
 use Rattle.cacache_keep.specs.Calls.{AsksEach}
 use Rattle.cacache_keep.specs.Keeping.{VerifiesCache}
+use Rattle.cacache_keep.specs.Reading.{Judged, damaged_bytes_of, good_bytes_of}
 use Rattle.cacache_keep.specs.Repairing.{BuriesEach, RepairsCache}
 use Rattle.cacache_keep.specs.Sweeping.{SweepsCache}
+
+-- these contents were read, and the verdict tells the bytes of the good ones and of the damaged ones
+abbrev pub TellsBytes : Verdict → List Judged → Type 0
+TellsBytes v reads =
+    (v.good_bytes ≡ good_bytes_of reads) × (v.damaged_bytes ≡ damaged_bytes_of reads)
 
 -- the log gained a verification, and this is its verdict
 abbrev pub VerifiesAs :
     Site → Verdict → Option (List LogItem) → Option (List LogItem) → Type 0
 VerifiesAs site v old new =
-    VerifiesCache site v.good v.damaged.items
-    (map found_view v.dangling.items) (map string_bytes v.strange.items) old new
+    (it : VerifiesCache site v.good v.damaged.items
+    (map found_view v.dangling.items) (map string_bytes v.strange.items) old new)
+    × TellsBytes v it.reading.reads
 
 -- the log gained a question for the content of each entry, and these are those without one
 abbrev pub AsksAs : Site → List Found → List Metadata

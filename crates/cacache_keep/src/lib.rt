@@ -16,11 +16,12 @@ mod reading;
 mod removing;
 mod repairing;
 mod rewriting;
+mod settling;
 mod sweeping;
 mod verifying;
 
 pub use collecting::{Collected, collect};
-pub use compacting::{Compacted, compact};
+pub use compacting::{CompactOpts, Compacted, compact};
 pub use laws::keep_laws;
 pub use planning::{Planned, Unused, plan};
 pub use repairing::{Repaired, repair};

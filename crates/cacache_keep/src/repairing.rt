@@ -45,7 +45,12 @@ pub fn repair<S: Store, C: Clock, N: Names>(env: &mut Env<S, C, N>, cache: &str)
 {
     let Contents { addresses, strange } = list(env, cache)?;
     let_go(strange);
-    let Read { good: _, damaged } = read_each(env.alloc, &mut env.store, cache, addresses)?;
+    let Read {
+        good: _,
+        good_bytes: _,
+        damaged,
+        damaged_bytes: _,
+    } = read_each(env.alloc, &mut env.store, cache, addresses)?;
     remove_each(env, cache, damaged.as_slice())?;
     let entries = entries(env, cache)?;
     let dangling = dangling_of(env, cache, entries)?;

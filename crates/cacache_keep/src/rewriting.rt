@@ -1,10 +1,10 @@
-//! A file that is written anew: a temporary file is moved over it.
+//! A file that is written anew: a temporary file is moved over it, and both are synced where that is asked for.
 ghost use Rattle.std.specs.Prelude.{◌≡◌, [], IfOk, IfErr, OnOk};
 ghost use Rattle.cacache_store.specs.declared.store.answer.Answer.TheVariants as answers;
 ghost use Rattle.cacache_store.specs.declared.store.step.Step.TheVariants as steps;
 ghost use Rattle.cacache_table.specs.SingleSteps.{Does, FailsAt};
 ghost use Rattle.cacache_table.specs.StepPaths.{temp_folder as temp_folder_of, temp_path as temp_path_of};
-ghost use Rattle.cacache_keep.specs.Rewriting.{MakesTemp, Rewrites, StopsMaking, StopsRewriting, StopsWriting, Took};
+ghost use Rattle.cacache_keep.specs.Rewriting.{MakesTemp, Rewrites, StopsMaking, StopsRewriting, StopsSecuring, StopsSyncing, StopsWriting, SyncsFolder, SyncsTemp, Took, folder_of as folder_of_path};
 
 use cacache_core::bytes::Bytes;
 use cacache_core::errors::{Fault, Result};
@@ -12,8 +12,9 @@ use cacache_core::text::Text;
 use cacache_jobs::{made_temp, messages, refused, temp_folder, temp_path};
 use cacache_store::store::{Step, Store};
 use cacache_table::Refusal;
-use cacache_table::answers::{Written, done_of, written_of};
+use cacache_table::answers::{Written, done_of, synced_of, written_of};
 use std::alloc::{AllocError, Global};
+use std::path::Path;
 
 /// Makes the folder of temporary files.
 fn make_folder<S: Store>(alloc: Global, store: &mut S, cache: &str) -> Result<()>
@@ -93,6 +94,34 @@ fn write_all<S: Store>(
     }
 }
 
+/// The temporary file wasn't synced, and not moved.
+fn unsynced(alloc: Global, path: &Text) -> std::result::Result<Text, AllocError> {
+    Ok(Text::new(format!(in alloc; "Failed to sync the new bytes of bucket {path}")?))
+}
+
+/// Syncs the temporary file for the path, if that is asked for.
+fn sync_temp<S: Store>(
+    alloc: Global,
+    store: &mut S,
+    durable: bool,
+    file: S::Temp,
+    path: &Text,
+) -> Result<S::Temp>
+    ensures same { IfOk result (λ synced. S.Temp.seen synced ≡ S.Temp.seen file) }
+    ensures syncs { OnOk result
+        (SyncsTemp durable (S.Temp.seen file) (S.log store.old) (S.log store.new)) }
+    ensures stops { IfErr result (λ e. StopsSyncing durable (S.Temp.seen file) e
+        (S.log store.old) (S.log store.new)) }
+{
+    if !durable {
+        return Ok(file);
+    }
+    match synced_of(store.step(Step::SyncTemp(file))) {
+        Ok(file) => Ok(file),
+        Err(refusal) => Err(refused(refusal, unsynced(alloc, path))),
+    }
+}
+
 /// Moves the temporary file to the path.
 fn move_to<S: Store>(alloc: Global, store: &mut S, file: S::Temp, path: &Text) -> Result<()>
     ensures moves { OnOk result (Does (steps.Persist (S.Temp.seen file) path.now) answers.Done
@@ -107,22 +136,68 @@ fn move_to<S: Store>(alloc: Global, store: &mut S, file: S::Temp, path: &Text) -
     }
 }
 
+/// The folder that holds what stands at the path.
+fn folder_of(alloc: Global, path: &Text) -> std::result::Result<Text, AllocError>
+    ensures { IfOk result (λ folder. folder ≡ folder_of_path path.now) }
+{
+    match Path::new(path.as_str()).parent() {
+        Some(folder) => Text::from_str(alloc, folder.as_str()),
+        None => path.clone(),
+    }
+}
+
+/// The folder wasn't synced, and the file is already moved.
+fn unsecured(alloc: Global, path: &Text) -> std::result::Result<Text, AllocError> {
+    Ok(Text::new(format!(in alloc; "Failed to sync the folder of bucket {path}, which is anew")?))
+}
+
+/// Syncs the folder of the path.
+fn sync_folder<S: Store>(alloc: Global, store: &mut S, path: &Text) -> Result<()>
+    ensures syncs { OnOk result (Does (steps.SyncDir (folder_of_path path.now)) answers.Done
+        (S.log store.old) (S.log store.new)) }
+    ensures stops { IfErr result (λ e. FailsAt (steps.SyncDir (folder_of_path path.now)) e
+        (S.log store.old) (S.log store.new)) }
+{
+    let folder = folder_of(alloc, path)?;
+    match done_of(store.step(Step::SyncDir(folder))) {
+        Ok(()) => Ok(()),
+        Err(refusal) => Err(refused(refusal, unsecured(alloc, path))),
+    }
+}
+
+/// The same, if that is asked for.
+fn secure<S: Store>(alloc: Global, store: &mut S, durable: bool, path: &Text) -> Result<()>
+    ensures syncs { OnOk result
+        (SyncsFolder durable path.now (S.log store.old) (S.log store.new)) }
+    ensures stops { IfErr result
+        (λ e. StopsSecuring durable path.now e (S.log store.old) (S.log store.new)) }
+{
+    if !durable {
+        return Ok(());
+    }
+    sync_folder(alloc, store, path)
+}
+
 /// Writes the bytes to a temporary file of this number and moves that to the path. A file there is
-/// whole at any time: it has its old bytes, or these.
+/// whole at any time: it has its old bytes, or these. Where that is durable, the temporary file is synced
+/// before the move, and the path's folder after it.
 pub(crate) fn rewrite<S: Store>(
     alloc: Global,
     store: &mut S,
+    durable: bool,
     cache: &str,
     number: u64,
     path: &Text,
     bytes: Bytes,
 ) -> Result<()>
     ensures rewrites { OnOk result
-        (Rewrites cache.now path.now bytes (S.log store.old) (S.log store.new)) }
-    ensures stops { IfErr result
-        (λ e. StopsRewriting cache.now path.now bytes e (S.log store.old) (S.log store.new)) }
+        (Rewrites durable cache.now path.now bytes (S.log store.old) (S.log store.new)) }
+    ensures stops { IfErr result (λ e. StopsRewriting durable cache.now path.now bytes e
+        (S.log store.old) (S.log store.new)) }
 {
     let file = make_temp(alloc, store, cache, number)?;
     let file = write_all(alloc, store, path, file, bytes)?;
-    move_to(alloc, store, file, path)
+    let file = sync_temp(alloc, store, durable, file, path)?;
+    move_to(alloc, store, file, path)?;
+    secure(alloc, store, durable, path)
 }

@@ -19,8 +19,12 @@ use cacache_walks::{Contents, list};
 pub struct Verdict {
     /// How many contents have the bytes that their address says.
     pub good: u64,
+    /// How many bytes they have; 2^64 - 1 where that are more.
+    pub good_bytes: u64,
     /// The addresses of the others, in the order of the listing.
     pub damaged: Vec<Integrity>,
+    /// How many bytes these have, of which one that is gone has none; 2^64 - 1 where that are more.
+    pub damaged_bytes: u64,
     /// The entries whose content isn't there.
     pub dangling: Vec<Metadata>,
     /// The paths of what lies among the contents and is none, by their bytes.
@@ -28,8 +32,8 @@ pub struct Verdict {
 }
 
 /// Reads each content of a cache, and asks of each entry whether its content is there. Nothing
-/// changes. A content is read in pieces of 8 KiB, of which one is in memory at a time. Of a cache
-/// whose folder isn't there the verdict has nothing.
+/// changes. A content is read in pieces of 8 KiB, of which one is in memory at a time, and its bytes
+/// are counted. Of a cache whose folder isn't there the verdict has nothing.
 ///
 /// A content whose bytes don't meet its address is damaged, and so is one that was gone when it was
 /// to be opened. One that is a link is judged by its target's bytes, and is damaged where it leads to
@@ -47,12 +51,19 @@ pub fn verify<S: Store, C: Clock, N: Names>(env: &mut Env<S, C, N>, cache: &str)
     ensures base { env.new.base ≡ env.old.base }
 {
     let Contents { addresses, strange } = list(env, cache)?;
-    let Read { good, damaged } = read_each(env.alloc, &mut env.store, cache, addresses)?;
+    let Read {
+        good,
+        good_bytes,
+        damaged,
+        damaged_bytes,
+    } = read_each(env.alloc, &mut env.store, cache, addresses)?;
     let entries = entries(env, cache)?;
     let dangling = dangling_of(env, cache, entries)?;
     Ok(Verdict {
         good,
+        good_bytes,
         damaged,
+        damaged_bytes,
         dangling,
         strange,
     })

@@ -30,12 +30,12 @@ abbrev pub AreLines : List Line → Type 0
 AreLines [] = Unit {0}
 AreLines (l ∷ ls) = IsLine l × AreLines ls
 
-abbrev AllLack : ℕ → List (List ℕ) → Type 0
+abbrev pub AllLack : ℕ → List (List ℕ) → Type 0
 AllLack at [] = Unit {0}
 AllLack at (p ∷ ps) = (lacks at p ≡ true) × AllLack at ps
 
 -- the pieces of a cut lack the byte
-pieces_lack : (at : ℕ) (xs : List ℕ) → AllLack at (cut at xs)
+pub pieces_lack : (at : ℕ) (xs : List ℕ) → AllLack at (cut at xs)
 pieces_lack at [] = (refl, tt)
 pieces_lack at (x ∷ xs) = by (x == at) refl (cut at xs) (pieces_lack at xs)
   where
@@ -84,7 +84,7 @@ text_holds ls h = text_adds [] ls h ∙ ap (λ (es : List Entry). es ++ entries_
 -- ---- the line of a key
 
 -- the line is a line, and answers what is found
-abbrev Agrees : List ℕ → Option Line → Option Found → Type 0
+abbrev pub Agrees : List ℕ → Option Line → Option Found → Type 0
 Agrees key None None = Unit {0}
 Agrees key None (Some found) = ⊥
 Agrees key (Some l) None = ⊥
@@ -100,7 +100,7 @@ agrees key (l ∷ ls) kept found h a = agrees key ls (after_line key kept l) (af
     by (Some (Some f)) e = (e, h.0)
 
 -- what answers to a key has it
-own_key : (key : List ℕ) (e : Entry) (o : Option Found) → answer_to key e ≡ Some o → e.key ≡ key
+pub own_key : (key : List ℕ) (e : Entry) (o : Option Found) → answer_to key e ≡ Some o → e.key ≡ key
 own_key key e o is = by (bytes_eq e.key key) refl
   where
     by : (b : Bool) → bytes_eq e.key key ≡ b → e.key ≡ key
@@ -108,7 +108,7 @@ own_key key e o is = by (bytes_eq e.key key) refl
     by false differs = let no : None ≡ Some o = sym (ap (λ b. cond b (answer_of e e.integrity) None) differs) ∙ is in absurd cc
 
 -- an entry of another key answers nothing
-other_silent : (key : List ℕ) (e : Entry) → bytes_eq key e.key ≡ false → answer_to key e ≡ None
+pub other_silent : (key : List ℕ) (e : Entry) → bytes_eq key e.key ≡ false → answer_to key e ≡ None
 other_silent key e differs = by (bytes_eq e.key key) refl
   where
     by : (b : Bool) → bytes_eq e.key key ≡ b → cond b (answer_of e e.integrity) None ≡ None
@@ -118,12 +118,12 @@ other_silent key e differs = by (bytes_eq e.key key) refl
 -- ---- keys that come once
 
 -- none of the keys comes again
-abbrev Distinct : List (List ℕ) → Type 0
+abbrev pub Distinct : List (List ℕ) → Type 0
 Distinct [] = Unit {0}
 Distinct (k ∷ ks) = (list_any (bytes_eq k) ks ≡ false) × Distinct ks
 
 -- each key is still among those that come once
-once_has : (key : List ℕ) (ks : List (List ℕ)) → list_any (bytes_eq key) (once ks) ≡ list_any (bytes_eq key) ks
+pub once_has : (key : List ℕ) (ks : List (List ℕ)) → list_any (bytes_eq key) (once ks) ≡ list_any (bytes_eq key) ks
 once_has key [] = refl
 once_has key (k ∷ ks) = by (list_any (bytes_eq k) ks) refl (bytes_eq key k) refl (once_has key ks)
   where
@@ -133,7 +133,7 @@ once_has key (k ∷ ks) = by (list_any (bytes_eq k) ks) refl (bytes_eq key k) re
     by true again false differs rest = rest
     by false last c is rest = ap (λ (t : Bool). t || list_any (bytes_eq key) (once ks)) is ∙ ap (λ (t : Bool). c || t) rest
 
-once_distinct : (ks : List (List ℕ)) → Distinct (once ks)
+pub once_distinct : (ks : List (List ℕ)) → Distinct (once ks)
 once_distinct [] = tt
 once_distinct (k ∷ ks) = by (list_any (bytes_eq k) ks) refl (once_distinct ks)
   where
@@ -150,11 +150,11 @@ keys_fuse : (ls : List Line) → map (λ (e : Entry). e.key) (entries_in ls) ≡
 keys_fuse [] = refl
 keys_fuse (l ∷ ls) = ap (λ (ks : List (List ℕ)). l.1.key ∷ ks) (keys_fuse ls)
 
-silent : (key : List ℕ) (ls : List Line) → list_any (bytes_eq key) (keys_of ls) ≡ false → NoneAnswers key (entries_in ls)
+pub silent : (key : List ℕ) (ls : List Line) → list_any (bytes_eq key) (keys_of ls) ≡ false → NoneAnswers key (entries_in ls)
 silent key [] none = tt
 silent key (l ∷ ls) none = let parts = neither (bytes_eq key l.1.key) (list_any (bytes_eq key) (keys_of ls)) none in (other_silent key l.1 parts.0, silent key ls parts.1)
 
-same_filter : {X Y : Type 0} (f g : X → Option Y) (xs : List X) → ((x : X) → f x ≡ g x) → filter_map f xs ≡ filter_map g xs
+pub same_filter : {X Y : Type 0} (f g : X → Option Y) (xs : List X) → ((x : X) → f x ≡ g x) → filter_map f xs ≡ filter_map g xs
 same_filter f g [] same = refl
 same_filter f g (x ∷ xs) same = ap (λ o. cons_option o (filter_map f xs)) (same x) ∙ ap (cons_option (g x)) (same_filter f g xs same)
 
@@ -171,16 +171,16 @@ either_none (Some f) = refl
 
 module _ (ls : List Line) (h : AreLines ls) where
   -- what the lookup of a key finds, and as an item
-  abbrev found : List ℕ → Option Found
+  abbrev pub found : List ℕ → Option Found
   found key = latest key (entries_in ls)
 
   abbrev item : List ℕ → Option Item
   item key = option_map Ok (found key)
 
-  abbrev kept : List (List ℕ) → List Line
+  abbrev pub kept : List (List ℕ) → List Line
   kept keys = filter_map (λ key. line_for key ls) keys
 
-  agree : (key : List ℕ) → Agrees key (line_for key ls) (found key)
+  pub agree : (key : List ℕ) → Agrees key (line_for key ls) (found key)
   agree key = agrees key ls None None h tt
 
   kept_are : (ks : List (List ℕ)) → AreLines (kept ks)
@@ -192,7 +192,7 @@ module _ (ls : List Line) (h : AreLines ls) where
       by (Some l) None a rest = absurd a
       by (Some l) (Some f) a rest = (a.1, rest)
 
-  kept_among : (key : List ℕ) (ks : List (List ℕ)) → list_any (bytes_eq key) ks ≡ false → list_any (bytes_eq key) (keys_of (kept ks)) ≡ false
+  pub kept_among : (key : List ℕ) (ks : List (List ℕ)) → list_any (bytes_eq key) ks ≡ false → list_any (bytes_eq key) (keys_of (kept ks)) ≡ false
   kept_among key [] none = refl
   kept_among key (k ∷ ks) none = let parts = neither (bytes_eq key k) (list_any (bytes_eq key) ks) none in by (line_for k ls) (found k) (agree k) parts.0 (kept_among key ks parts.1)
     where

@@ -32,7 +32,7 @@ use Rattle.cacache_value.specs.Kinds.{Content, Bucket, path_kind, is_used}
 use Rattle.cacache_value.proofs.KindsApart.{kind-below}
 use Rattle.cacache_keep_laws.specs.Walks.{is_leaf}
 use Rattle.cacache_keep_laws.specs.Answers.{AnsweredBy}
-use Rattle.cacache_keep_laws.specs.Idle.{Finds, IsNeeded, IsIdle, LacksIdle, IdleIsUnseen}
+use Rattle.cacache_keep_laws.specs.Idle.{Finds, IsNeeded, IsIdle, LacksIdle}
 use Rattle.cacache_keep_laws.proofs.Agreeing.{read_same}
 use Rattle.cacache_keep_laws.proofs.Within.{Within, finds_within}
 
@@ -116,7 +116,7 @@ module _ (cache : List ℕ) (home : Names) (full lean : Tree) (is : home_of cach
       let named : names_of (joined cache (content_names a.0)) ≡ Ok (home ++ content_names a.0) = joined_texts_name cache (content_names a.0) (names_are_proper.contents a.0 a.1) (omega arith) ∙ rw is refl in
       (home ++ content_names a.0, rw a.2 named, kind-below home (content_names a.0))
 
-  content_read : (key : List ℕ) (found : Found) → Finds cache full key found → (apply lean (ReadAll (content_path cache found.integrity)) Plain).0 ≡ (apply full (ReadAll (content_path cache found.integrity)) Plain).0
+  pub content_read : (key : List ℕ) (found : Found) → Finds cache full key found → (apply lean (ReadAll (content_path cache found.integrity)) Plain).0 ≡ (apply full (ReadAll (content_path cache found.integrity)) Plain).0
   content_read key found f =
       let c = content_named found.integrity (l.formed key found f) in
       read_same home full lean same_node l.links (content_path cache found.integrity) c.0 c.1 (inl (ap is_used c.2)) (needed_node key found c.0 f c.1)
@@ -150,26 +150,3 @@ module _ (cache : List ℕ) (home : Names) (full lean : Tree) (is : home_of cach
         let step : ReadAll (bucket_path cache key) ≡ m.0 = (let e : Some (ReadAll (bucket_path cache key)) ≡ Some m.0 = run.0 in cc) in
         let now = moved_same full lean m (ReadAll (bucket_path cache key)) step a.0 (bucket_read key) in
         (now, bucket_moves m.1 more (ap (λ s. (apply full s Plain).0) step ∙ sym now) run.2 a.1)
-
-    -- ---- lookups
-
-    abbrev by_report : Lookup
-    by_report = record { cache = cache; key = key; aim = aims.Report }
-
-    report_over : (u : PlainAnswer) (more : Moves) → Runs (after (looking by_report) u) more reply → AnsweredBy full more
-    report_over (answers.Bytes b) more run = over_done full _ more reply run
-    report_over (answers.Failed NotFound) more run = over_done full _ more reply run
-    report_over (answers.Failed other) more run = over_done full _ more reply run
-    report_over other more run = over_done full _ more reply run
-
-    pub find_moves : (moves : Moves) → Runs (looking by_report) moves reply → AnsweredBy lean moves → AnsweredBy full moves
-    find_moves [] run a = tt
-    find_moves (m ∷ more) run a =
-        let step : ReadAll (bucket_path cache key) ≡ m.0 = (let e : Some (ReadAll (bucket_path cache key)) ≡ Some m.0 = run.0 in cc) in
-        (moved_same full lean m (ReadAll (bucket_path cache key)) step a.0 (bucket_read key), report_over m.1 more run.2)
-
-pub idle_is_unseen : IdleIsUnseen
-idle_is_unseen site home full lean is l = record {
-  finds = λ key r a. (a.0, a.1, find_moves site.cache home full lean is l key r a.0 a.1 a.2);
-  gets = λ key r a. (a.0, a.1, get_moves site.cache home full lean is l key r a.0 a.1 a.2);
-}

@@ -1,5 +1,5 @@
 -- In a cache where each thing lies in its place a listing of the index lists what lookups find.
-use Rattle.std.proofs.Common.{◌≡◌, ◌⊎◌, inl, inr, ℕ, Bool, true, false, cond, List, [], ◌∷◌, ◌++◌, Option, None, Some, Result, Ok, Err, take, refl, sym, ap, subst, ◌∙◌}
+use Rattle.std.proofs.Common.{◌≡◌, inl, inr, ℕ, Bool, true, false, cond, List, [], ◌∷◌, ◌++◌, Option, None, Some, Ok, Err, take, refl, sym, ap, subst, ◌∙◌}
 use Rattle.std.specs.Prelude.{All, Contains}
 use Rattle.std.proofs.lemmas.List.Elements.{All-nil, All-cons, All-head, All-tail, All-append, All-take}
 use Rattle.sha1.specs.Sha1.{sha1}
@@ -40,7 +40,7 @@ use Rattle.cacache_value.specs.Acts.{list_of}
 use Rattle.cacache_value.specs.Kinds.{NamesBelow}
 use Rattle.cacache_value.specs.Placed.{Placed}
 use Rattle.cacache_value.specs.Shows.{ShowsBucket}
-use Rattle.cacache_value.specs.Value.{bucket_in}
+use Rattle.cacache_value.specs.Value.{bucket_in, value_of_tree}
 use Rattle.cacache_value.proofs.Shows.{trees_show}
 use Rattle.cacache_history.specs.Buckets.{BucketsHaveKeys}
 use Rattle.cacache_history.specs.ListingTurns.{is_past, listing_of}
@@ -60,11 +60,13 @@ use Rattle.cacache_sequence.proofs.ListedTurns.{Leads, turns_lead}
 use Rattle.cacache_sequence.proofs.Looks.{moves_keep, moves_place}
 use Rattle.cacache_sequence.proofs.Sequence.{turns_made}
 use Rattle.cacache_keep_laws.specs.Answers.{AnsweredBy, AnswersOn}
+use Rattle.cacache_keep_laws.specs.Compacted.{HousesAreFit}
 use Rattle.cacache_keep_laws.specs.Housed.{CachesAreHoused, Housed, IndexesLead}
 use Rattle.cacache_keep_laws.specs.Index.{IndexLists, entries_in}
 use Rattle.cacache_keep_laws.specs.Mending.{found_in}
 use Rattle.cacache_keep_laws.proofs.Agreeing.{said}
 use Rattle.cacache_keep_laws.proofs.Collected.{indexes_find}
+use Rattle.cacache_keep_laws.proofs.Links.{links_out}
 use Rattle.cacache_keep_laws.proofs.Members.{Member, member_contains}
 use Rattle.cacache_keep_laws.proofs.Within.{read_answer}
 
@@ -154,6 +156,10 @@ file_read : (t : Tree) (path : List ℕ) (names : Names) (bytes : List ℕ) → 
 unfolding file_at leads place followed
 file_read t path names bytes rooted is there = rw (is, way_clear t [] names (File bytes) rooted there, there, there) refl
 
+-- a file that stands is read
+pub file_shown : (t : Tree) (path : List ℕ) (names : Names) (bytes : List ℕ) → Rooted t → names_of path ≡ Ok names → look t names ≡ Some (File bytes) → (apply t (ReadAll path) Plain).0 ≡ answers.Bytes bytes
+file_shown t path names bytes rooted is there = read_answer t path ∙ ap said (file_read t path names bytes rooted is there)
+
 bucket_at : (key : List ℕ) (found : Found) (here node : Option Node) → node ≡ here → latest key (list_of (bucket_in here)) ≡ Some found → (bytes : List ℕ) × (node ≡ Some (File bytes)) × (latest key (entries_of bytes) ≡ Some found)
 bucket_at key found None there is e = absurd cc
 bucket_at key found (Some Folder) there is e = absurd cc
@@ -186,3 +192,13 @@ module _ (site : Site) (home : Names) (t : Tree) (is : home_of site.cache ≡ So
 -- what a lookup finds has an integrity
 pub found_integrity : (home : Names) (t : Tree) (key : List ℕ) (found : Found) → Housed (Some home) t → found_in home t key ≡ Some found → IsIntegrity found.integrity
 found_integrity home t key found housed e = subst HasIntegrity e (latest_has key (entries_on (Some home) t key) (housed.formed (sha1 key)))
+
+pub houses_are_fit : HousesAreFit
+houses_are_fit cache home t is rooted housed = (
+  links_out home t housed.placed,
+  λ key found f.
+      let site : Site = record { cache = cache; base = []; number = 0 } in
+      let shows = (trees_show (Some home) t housed.placed rooted).bucket (sha1 key) (bucket_path cache key) Plain (below site home t is rooted key) in
+      let bucket = subst (ShowsBucket ((value_of_tree (Some home) t).buckets (sha1 key))) f.1 shows in
+      found_integrity home t key found housed (ap (λ b. latest key (list_of b)) bucket ∙ f.2),
+)

@@ -31,3 +31,10 @@ pub mod StillThere
 pub mod Led
 pub mod Housed
 pub mod CompactLines
+pub mod CompactTwice
+mod Shapes
+pub mod LeanTrees
+mod LeanReads
+mod Follows
+pub mod Unseen
+pub mod LeanCalls

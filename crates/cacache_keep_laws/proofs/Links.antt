@@ -13,7 +13,7 @@ link_out home target Content may = may
 link_out home target Elsewhere may = may
 link_out home target other may = absurd may
 
-links_out : (home : Names) (t : Tree) → Placed (Some home) t → LinksLeadOut home t
+pub links_out : (home : Names) (t : Tree) → Placed (Some home) t → LinksLeadOut home t
 links_out home t placed names target is = link_out home target (path_kind (Some home) names) (subst (λ o. MayStand (Some home) o (path_kind (Some home) names)) is (placed names))
 
 pub caches_link_out : CachesLinkOut

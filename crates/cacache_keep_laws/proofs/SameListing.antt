@@ -16,11 +16,11 @@ child_kept : (p : Names) (e : Names × Node) (b : Bool) (kept : List (Names × N
 child_kept p e true kept names is same = ap (cons_option (child_of p e)) same
 child_kept p e false kept names is same = rw is same
 
-of_children : (p : Names) (es : List (Names × Node)) → filter_map (child_of p) (where_key names_cmp (is_child p) es) ≡ filter_map (child_of p) es
+pub of_children : (p : Names) (es : List (Names × Node)) → filter_map (child_of p) (where_key names_cmp (is_child p) es) ≡ filter_map (child_of p) es
 of_children p [] = refl
 of_children p (e ∷ es) = child_kept p e (is_child p e.0) (where_key names_cmp (is_child p) es) (filter_map (child_of p) es) refl (of_children p es)
 
-where_child : (b : Bool) (x y : Option Node) → (b ≡ true → x ≡ y) → cond b x None ≡ cond b y None
+pub where_child : (b : Bool) (x y : Option Node) → (b ≡ true → x ≡ y) → cond b x None ≡ cond b y None
 where_child true x y same = same refl
 where_child false x y same = refl
 

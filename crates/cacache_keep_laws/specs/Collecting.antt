@@ -125,10 +125,11 @@ pub record LeavesLive
       → ((h : Hash) → IsHash h → is_live entries h ≡ false → names ≡ home ++ content_names h → ⊥)
       → look new names ≡ look t names
 
--- each lookup and each verified read by key that is made on the new tree answers what it may
--- answer on the old one
+-- each lookup, each verified read by key and each listing of the index that is made on the new tree
+-- answers what it may answer on the old one
 pub record ReadsAsBefore (site : Site) (t new : Tree) : Type 0 where
   pub finds : (key : List ℕ) (r : Reply)
       → AnswersOn site new (commands.Find key) r → AnswersOn site t (commands.Find key) r
   pub gets : (key : List ℕ) (r : Reply)
       → AnswersOn site new (commands.Get key) r → AnswersOn site t (commands.Get key) r
+  pub lists : (r : Reply) → AnswersOn site new commands.Ls r → AnswersOn site t commands.Ls r

@@ -60,3 +60,7 @@ pub record IsCompactOf (x y : List ℕ) : Type 0 where
 -- so it is with a bucket's bytes that are compacted
 abbrev pub CompactTextsAnswer : Type 0
 CompactTextsAnswer = (x : List ℕ) → IsCompactOf x (compact_text x)
+
+-- compacted bytes stay as they are where they are compacted again
+abbrev pub CompactTextsSettle : Type 0
+CompactTextsSettle = (x : List ℕ) → compact_text (compact_text x) ≡ compact_text x

@@ -10,3 +10,4 @@ pub mod Temporary
 pub mod Mending
 pub mod Housed
 pub mod Compacting
+pub mod Compacted

@@ -1,5 +1,5 @@
 -- Temporary files, and what a sweep leaves.
-use Rattle.std.specs.Prelude.{◌≡◌, ◌++◌, ◌&&◌, ℕ, List, [], ◌∷◌, Bool, true, false, None, Some, codes, filter, length, map, min, ◌+◌, ◌-◌, ◌^◌}
+use Rattle.std.specs.Prelude.{◌≡◌, ◌++◌, ◌&&◌, ℕ, List, [], ◌∷◌, Bool, true, false, None, Some, codes, filter, length, map, min, ◌-◌, ◌^◌}
 use Rattle.std.specs.List.{starts_with, sum}
 use Rattle.std.specs.Bool.{nat_eq}
 use Rattle.cacache_core.specs.declared.integrity.digest.Hash.{Hash}

@@ -1,7 +1,8 @@
 //! Laws, on functions that do nothing.
 ghost use Rattle.cacache_keep_laws.specs.Answers.{AnswersAgree, LooksAnswer, TreesAreRooted};
 ghost use Rattle.cacache_keep_laws.specs.Collecting.{CachesLinkOut, CollectionsKeepLookups, CollectionsKeepReads, RemovalsLeave};
-ghost use Rattle.cacache_keep_laws.specs.Compacting.{CompactTextsAnswer};
+ghost use Rattle.cacache_keep_laws.specs.Compacted.{CompactionsAnswer, CompactionsKeep, HousesAreFit};
+ghost use Rattle.cacache_keep_laws.specs.Compacting.{CompactTextsAnswer, CompactTextsSettle};
 ghost use Rattle.cacache_keep_laws.specs.Contents.{ContentsShown, HoldingsAgree, ListingsHold};
 ghost use Rattle.cacache_keep_laws.specs.Housed.{CachesAreHoused, IndexesLead, TombstonesHouse};
 ghost use Rattle.cacache_keep_laws.specs.Idle.{IdleIsUnseen, StillLacksIdle};
@@ -56,7 +57,7 @@ pub fn collect_laws()
 {}
 
 /// Where all that a tree lacks of another are contents that no lookup leads to: so it is still after a
-/// removal that is made on both, and neither a lookup nor a verified read by key sees it.
+/// removal that is made on both, and no lookup, no verified read by key and no listing of the index sees it.
 pub fn idle_laws()
     ensures removals { StillLacksIdle }
     ensures unseen { IdleIsUnseen }
@@ -80,7 +81,14 @@ pub fn repair_laws()
 {}
 
 /// A bucket's bytes that are compacted answer each lookup as before, and list the same, with one entry for
-/// each item.
+/// each item, and stay as they are where they are compacted again. So where buckets of a tree are compacted, also if that is cut short, each key leads where it led, and
+/// each address has the content that it had. Where links lead out of the cache, and each entry that a lookup
+/// finds has an integrity, lookups, reads by key and listings answer what they may answer before; so it is
+/// where each thing lies in its place, and each entry in its key's bucket.
 pub fn compact_laws()
     ensures answer { CompactTextsAnswer }
+    ensures settle { CompactTextsSettle }
+    ensures keeps { CompactionsKeep }
+    ensures calls { CompactionsAnswer }
+    ensures fit { HousesAreFit }
 {}

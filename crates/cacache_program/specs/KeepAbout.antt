@@ -3,7 +3,7 @@ use Rattle.std.specs.Prelude.{ℕ, List, ◌++◌, codes}
 
 -- what is said to wrong words
 abbrev pub usage_text : List ℕ
-usage_text = codes "usage: cacache-keep verify|collect|plan|sweep|repair CACHE\n"
+usage_text = codes "usage: cacache-keep verify|collect|plan|sweep|repair|compact CACHE\n"
 
 -- a line for each word
 abbrev pub words_text : List ℕ
@@ -16,6 +16,9 @@ words_text =
     ++ codes "  plan CACHE     counts what collect would keep and drop, and changes nothing\n"
     ++ codes "  sweep CACHE    removes temporary files, and counts them, their bytes, and other files there\n"
     ++ codes "  repair CACHE   removes damaged contents, and the keys that lead to none, and counts both\n"
+    ++ codes "  compact CACHE  writes the index anew without old lines, and counts the buckets and bytes saved\n"
+    ++ codes "  compact --durable CACHE\n"
+    ++ codes "                 the same, and syncs each bucket that it writes, and its folder\n"
     ++ codes "  --why          before these words: says in brackets why a call failed\n"
     ++ codes "  --help         prints this\n"
     ++ codes "  --version      prints the version\n"

@@ -2,11 +2,13 @@
 use Rattle.std.specs.Prelude.{ℕ, List, Option, length, map, string_bytes}
 use Rattle.cacache.specs.Entries.{found_view}
 use Rattle.cacache_keep.specs.declared.collecting.Collected.{Collected}
+use Rattle.cacache_keep.specs.declared.compacting.Compacted.{Compacted}
 use Rattle.cacache_keep.specs.declared.planning.Planned.{Planned}
 use Rattle.cacache_keep.specs.declared.repairing.Repaired.{Repaired}
 use Rattle.cacache_keep.specs.declared.sweeping.Swept.{Swept}
 use Rattle.cacache_keep.specs.declared.verifying.Verdict.{Verdict}
 use Rattle.cacache_program.specs.WordCollect.{collected_text}
+use Rattle.cacache_program.specs.WordCompact.{compacted_text}
 use Rattle.cacache_program.specs.WordList.{TellsList, listed_text}
 use Rattle.cacache_program.specs.WordPlan.{planned_text}
 use Rattle.cacache_program.specs.WordRepair.{repaired_text}
@@ -60,3 +62,7 @@ text_of_swept s = swept_text s.files s.bytes (length s.strange.items)
 -- those of a repair
 abbrev pub text_of_repaired : Repaired → List ℕ
 text_of_repaired r = repaired_text (length r.damaged.items) (length r.dangling.items)
+
+-- those of a compaction
+abbrev pub text_of_compacted : Compacted → List ℕ
+text_of_compacted c = compacted_text c.buckets c.bytes

@@ -7,10 +7,15 @@ abbrev pub IsNoWord : List ℕ → Type 0
 IsNoWord name =
     (name ≢ codes "verify") × (name ≢ codes "collect")
     × (name ≢ codes "plan") × (name ≢ codes "sweep") × (name ≢ codes "repair")
+    × (name ≢ codes "compact")
 
--- what is asked for is nothing that the program knows: another name, or a word more that isn't the
--- `--list` between `verify` and a cache
+-- the name with a word more isn't `verify --list` nor `compact --durable`
+abbrev pub IsNoOption : List ℕ → List ℕ → Type 0
+IsNoOption name word =
+    (name ≡ codes "verify" → word ≢ codes "--list")
+    × (name ≡ codes "compact" → word ≢ codes "--durable")
+
+-- what is asked for is nothing that the program knows: another name, or a word more than a name and
+-- its option before a cache
 abbrev pub IsWrong : Asked → Type 0
-IsWrong a =
-    MatchOption a.key (IsNoWord a.name)
-    (λ cache. a.name ≡ codes "verify" → a.cache ≢ codes "--list")
+IsWrong a = MatchOption a.key (IsNoWord a.name) (λ cache. IsNoOption a.name a.cache)

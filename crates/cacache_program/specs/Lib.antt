@@ -18,5 +18,6 @@ pub mod KeepAbout
 pub mod WordPlan
 pub mod WordRepair
 pub mod WordSweep
+pub mod WordCompact
 pub mod KeepFails
 pub mod KeepValues

@@ -4,11 +4,12 @@ use cacache::env::{Clock, Env, Names, Reasons};
 use cacache::store::Store;
 use cacache::{Integrity, Result as Answered, WriteOpts};
 use cacache_keep::{
-    Collected, Compacted, Planned, Repaired, Swept, Unused, collect, compact, plan, repair, sweep,
+    Collected, CompactOpts, Compacted, Planned, Repaired, Swept, Unused, Verdict, collect, compact,
+    plan, repair, sweep, verify,
 };
 use cacache_program::keep::{run, said};
 use cacache_program::{Errors, asks_why, tell};
-use row_places::planting::{plant, plant_link};
+use row_places::planting::{held, make_folder, plant, plant_link};
 use row_places::{On, on};
 use rows::Flaw;
 use rows::answers::refused;
@@ -113,10 +114,39 @@ fn repaired<S: Store>(env: &mut On<S>, cache: &str) -> Answered<Result<String, A
 }
 
 /// What a compaction tells.
-fn compacted<S: Store>(env: &mut On<S>, cache: &str) -> Answered<Result<String, AllocError>> {
-    let alloc = env.alloc;
-    let Compacted { buckets, bytes } = compact(env, cache)?;
+fn compacted(alloc: Global, answer: Answered<Compacted>) -> Answered<Result<String, AllocError>> {
+    let Compacted { buckets, bytes } = answer?;
     Ok(format!(in alloc; "buckets {buckets} bytes {bytes}"))
+}
+
+/// Compacts a cache durably.
+fn compact_durably<S: Store>(env: &mut On<S>, cache: &str) -> Answered<Compacted> {
+    CompactOpts::new().durable(true).compact(env, cache)
+}
+
+/// The counts and the bytes that a verification tells.
+fn verified<S: Store>(env: &mut On<S>, cache: &str) -> Answered<Result<String, AllocError>> {
+    let alloc = env.alloc;
+    let Verdict {
+        good,
+        good_bytes,
+        damaged,
+        damaged_bytes,
+        dangling,
+        strange,
+    } = verify(env, cache)?;
+    let (bad, keys, others) = (damaged.len(), dangling.len(), strange.len());
+    Ok(format!(in alloc;
+        "good {good} of {good_bytes} bytes damaged {bad} of {damaged_bytes} bytes dangling {keys} strange {others}"
+    ))
+}
+
+/// What the file at a path holds, if it can be read.
+fn found(alloc: Global, bytes: Option<Vec<u8>>) -> Result<String, AllocError> {
+    match bytes {
+        Some(bytes) => written_out(alloc, word_of(&bytes)),
+        None => String::from_str(alloc, "none"),
+    }
 }
 
 /// The text of what a key leads to.
@@ -155,11 +185,15 @@ fn acted<S: Reasons>(env: &mut On<S>, act: &str, input: &str) -> Result<String, 
         "remove_hash_sync" => return removed(env, cache, rest),
         "plant" => done(alloc, plant(env, cache, &bytes)?),
         "link" => done(alloc, plant_link(env, rest, cache)?),
+        "folder" => done(alloc, make_folder(env, cache)?),
+        "held" => found(alloc, held(env, cache)?),
         "sweep" => listed(alloc, swept(env, cache)),
         "plan" => listed(alloc, planned(env, cache)),
         "repair" => listed(alloc, repaired(env, cache)),
         "collect" => listed(alloc, collected(env, cache)),
-        "compact" => listed(alloc, compacted(env, cache)),
+        "compact" => listed(alloc, compacted(alloc, compact(env, cache))),
+        "compact_durably" => listed(alloc, compacted(alloc, compact_durably(env, cache))),
+        "verify" => listed(alloc, verified(env, cache)),
         "read_sync" => listed(alloc, read(env, cache, rest)),
         "sized" => told(alloc, sized(env, cache, rest, &bytes)),
         "cacache-keep" => ran(env, words),

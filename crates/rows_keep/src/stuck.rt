@@ -21,6 +21,8 @@ pub(crate) enum Kind {
     Create,
     Write,
     Persist,
+    SyncTemp,
+    SyncDir,
 }
 
 impl Kind {
@@ -37,6 +39,8 @@ impl Kind {
             "create" => Some(Kind::Create),
             "write" => Some(Kind::Write),
             "persist" => Some(Kind::Persist),
+            "sync_temp" => Some(Kind::SyncTemp),
+            "sync_dir" => Some(Kind::SyncDir),
             _ => None,
         }
     }
@@ -54,6 +58,8 @@ impl Kind {
             Step::CreateTemp(_) => matches!(self, Kind::Create),
             Step::Write(_, _) => matches!(self, Kind::Write),
             Step::Persist(_, _) => matches!(self, Kind::Persist),
+            Step::SyncTemp(_) => matches!(self, Kind::SyncTemp),
+            Step::SyncDir(_) => matches!(self, Kind::SyncDir),
             _ => false,
         }
     }

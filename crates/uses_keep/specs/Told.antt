@@ -12,6 +12,7 @@ use Rattle.cacache_value.specs.Placed.{Placed}
 use Rattle.cacache_jobs.specs.Sites.{site_of}
 use Rattle.cacache_keep_laws.specs.Answers.{AnswersOn}
 use Rattle.cacache_keep_laws.specs.Collecting.{LeavesLive, LinksLeadOut}
+use Rattle.cacache_keep_laws.specs.Housed.{Housed}
 use Rattle.cacache_keep_laws.specs.Idle.{Removed}
 use Rattle.cacache_keep_laws.specs.Verifying.{Judges}
 use Rattle.cacache_keep.specs.declared.collecting.Collected.{Collected}
@@ -59,6 +60,16 @@ ReadsAsRemoved cache base gone key result old =
     → LinksLeadOut home (tree_of old)
     → Removed cache (commands.RemoveFully gone) old other
     → IfOk result (λ bytes. MayRead (site_of cache base 0) key other bytes.items)
+
+-- ---- compactions
+
+-- where each thing lies in its place, a read gives what it might have given on the older log
+abbrev pub ReadsHoused :
+    {A : Type 0} → List ℕ → List ℕ → List ℕ → Result (Vec ℕ A) Error → List LogItem → Type 0
+ReadsHoused cache base key result old =
+    (home : Names) → home_of cache ≡ Some home
+    → Housed (Some home) (tree_of old)
+    → IfOk result (λ bytes. MayRead (site_of cache base 0) key old bytes.items)
 
 -- ---- repairs
 

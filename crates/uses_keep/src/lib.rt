@@ -1,19 +1,21 @@
-//! Functions of a caller's own that verify a cache in memory, sweep, repair and collect it. Their contracts
+//! Functions of a caller's own that verify a cache in memory, sweep, repair, collect and compact it. Their contracts
 //! are proved from clauses alone: those of the calls, of `keep_laws` and of `answer_laws`.
 #![tactic(auto)]
 
-ghost use Rattle.std.specs.Prelude.{◌≡◌, Some, IfOk, map};
+ghost use Rattle.std.specs.Prelude.{◌≡◌, [], Some, IfOk, map};
 ghost use Rattle.cacache_core.specs.PathNames.{Names as PathNames, home_of};
 ghost use Rattle.cacache_memory.specs.Replay.{tree_of};
 ghost use Rattle.cacache_jobs.specs.Sites.{site_of};
+ghost use Rattle.cacache_keep_laws.specs.Collecting.{LinksLeadOut};
 ghost use Rattle.cacache_keep_laws.specs.Housed.{Housed};
 ghost use Rattle.cacache_keep_laws.specs.Temporary.{LeavesUntemporary};
-ghost use Rattle.uses_keep.specs.Told.{IsMended, JudgesAs, LeavesAs, MendsPlaced, ReadsStill, ReadsAsRemoved};
+ghost use Rattle.uses_keep.specs.Told.{IsMended, JudgesAs, LeavesAs, MendsPlaced, ReadsHoused, ReadsStill, ReadsAsRemoved};
 
 use cacache_core::errors::Result;
 use cacache_core::keeping::let_go;
 use cacache_keep::{
-    Collected, Planned, Repaired, Swept, Verdict, collect, keep_laws, plan, repair, sweep, verify,
+    Collected, Planned, Repaired, Swept, Verdict, collect, compact, keep_laws, plan, repair, sweep,
+    verify,
 };
 use cacache_keep_laws::answer_laws;
 use cacache_memory::MemStore;
@@ -132,4 +134,36 @@ pub fn repaired_whole<C: Clock, N: Names>(
     let after = verify(env, cache)?;
     keep_laws(&env.store);
     Ok(after)
+}
+
+/// Collects a cache in memory twice. The second time nothing is dropped.
+pub fn collected_twice<C: Clock, N: Names>(
+    env: &mut Env<MemStore, C, N>,
+    cache: &str,
+) -> Result<Collected>
+    ensures { (home : PathNames) → home_of cache.now ≡ Some home
+        → LinksLeadOut home (tree_of env.old.store) → IfOk result (λ c. c.dropped.items ≡ []) }
+{
+    let_go(collect(env, cache)?);
+    keep_laws(&env.store);
+    let again = collect(env, cache)?;
+    keep_laws(&env.store);
+    Ok(again)
+}
+
+/// Compacts a cache in memory where each thing lies in its place, and reads by a key. It reads what it would
+/// have read without the compaction.
+pub fn read_compacted<C: Clock, N: Names>(
+    env: &mut Env<MemStore, C, N>,
+    cache: &str,
+    key: &str,
+) -> Result<Vec<u8>>
+    ensures { ReadsHoused cache.now env.old.base key.now result env.old.store }
+{
+    let_go(compact(env, cache)?);
+    keep_laws(&env.store);
+    let bytes = read_sync(env, cache, key)?;
+    keep_laws(&env.store);
+    answer_laws();
+    Ok(bytes)
 }

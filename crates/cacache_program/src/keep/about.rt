@@ -5,10 +5,10 @@ ghost use Rattle.cacache_program.specs.KeepAbout.{help_text, usage_text, version
 use crate::about::About;
 
 /// What the program says to wrong words.
-pub const USAGE: &str = "usage: cacache-keep verify|collect|plan|sweep|repair CACHE\n";
+pub const USAGE: &str = "usage: cacache-keep verify|collect|plan|sweep|repair|compact CACHE\n";
 
 /// What the program says to `--help`: the usage, and a line for each word.
-pub const HELP: &str = "usage: cacache-keep verify|collect|plan|sweep|repair CACHE
+pub const HELP: &str = "usage: cacache-keep verify|collect|plan|sweep|repair|compact CACHE
   verify CACHE   counts good and damaged contents, entries without one, and other files;
                  the status is 3 if there are any but good contents
   verify --list CACHE
@@ -17,6 +17,9 @@ pub const HELP: &str = "usage: cacache-keep verify|collect|plan|sweep|repair CAC
   plan CACHE     counts what collect would keep and drop, and changes nothing
   sweep CACHE    removes temporary files, and counts them, their bytes, and other files there
   repair CACHE   removes damaged contents, and the keys that lead to none, and counts both
+  compact CACHE  writes the index anew without old lines, and counts the buckets and bytes saved
+  compact --durable CACHE
+                 the same, and syncs each bucket that it writes, and its folder
   --why          before these words: says in brackets why a call failed
   --help         prints this
   --version      prints the version

@@ -81,7 +81,9 @@ fn listed_text(alloc: Global, verdict: Verdict) -> Result<Vec<u8>>
     let mut text = verdict_text(alloc, &verdict)?.into_bytes();
     let Verdict {
         good: _,
+        good_bytes: _,
         damaged,
+        damaged_bytes: _,
         dangling,
         strange,
     } = verdict;

@@ -1,12 +1,12 @@
 //! What goes to the output.
 ghost use Rattle.std.specs.Prelude.{◌≡◌, ◌⊎◌, IfOk, string_bytes};
 ghost use Rattle.cacache_program.specs.Output.{PutsOut};
-ghost use Rattle.cacache_program.specs.KeepValues.{PutsVerdict, status_of_verdict, text_of_collected, text_of_planned, text_of_repaired, text_of_swept, text_of_verdict};
+ghost use Rattle.cacache_program.specs.KeepValues.{PutsVerdict, status_of_verdict, text_of_collected, text_of_compacted, text_of_planned, text_of_repaired, text_of_swept, text_of_verdict};
 
 use crate::errors::{Errors, tell_failed_call};
 use crate::output::{put_out, put_out_with};
 use cacache::errors::Error;
-use cacache_keep::{Collected, Planned, Repaired, Swept, Verdict};
+use cacache_keep::{Collected, Compacted, Planned, Repaired, Swept, Verdict};
 use std::alloc::{AllocError, Global};
 use std::io::Write;
 
@@ -144,6 +144,31 @@ pub(crate) fn print_repaired<W: Write, E: Write>(
     ensures quiet { result ≡ 0 → errors.new ≡ errors.old }
 {
     match repaired_text(alloc, repaired) {
+        Ok(text) => put_out(output, text.as_bytes(), errors),
+        Err(_) => tell_failed_call(errors, &Error::OutOfMemory, None),
+    }
+}
+
+/// What is printed of a compaction.
+fn compacted_text(alloc: Global, compacted: &Compacted) -> Result<String, AllocError>
+    ensures { IfOk result (λ text. string_bytes text ≡ text_of_compacted compacted.now) }
+{
+    let (buckets, bytes) = (compacted.buckets, compacted.bytes);
+    format!(in alloc; "buckets {buckets}\nbytes {bytes}\n")
+}
+
+/// Prints what a compaction did, and returns the status: 0, or 1 where the text can't be had or printed.
+pub(crate) fn print_compacted<W: Write, E: Write>(
+    alloc: Global,
+    compacted: &Compacted,
+    output: &mut W,
+    errors: &mut Errors<E>,
+) -> u8
+    ensures tells { PutsOut (text_of_compacted compacted.now)
+        (W.contents output.old) (W.contents output.new) result }
+    ensures quiet { result ≡ 0 → errors.new ≡ errors.old }
+{
+    match compacted_text(alloc, compacted) {
         Ok(text) => put_out(output, text.as_bytes(), errors),
         Err(_) => tell_failed_call(errors, &Error::OutOfMemory, None),
     }

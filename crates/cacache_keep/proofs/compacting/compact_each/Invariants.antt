@@ -4,5 +4,5 @@ use Rattle.cacache_keep.proofs.compacting.compact_each.Given as goal
 
 abbrev pub invariant-loop-path : goal.invariant-loop-path
 invariant-loop-path g l =
-    CompactsAll l.cache (take l.path-index l.paths) l.done.buckets l.done.bytes (g.S.Store.log l.fn.env.store) (g.S.Store.log l.env.store)
+    CompactsAll l.durable l.cache (take l.path-index l.paths) l.done.buckets l.done.bytes (g.S.Store.log l.fn.env.store) (g.S.Store.log l.env.store)
     × (l.env.clock ≡ l.fn.env.clock) × (l.env.base ≡ l.fn.env.base)

@@ -1,7 +1,10 @@
 use Rattle.cacache_keep.proofs.Chosen.{plans_foretell, plans_leave}
-use Rattle.cacache_keep.proofs.Leaving.{collections_lack_idle, collections_leave, later_reads_stay}
+use Rattle.cacache_keep.proofs.WholeCompactions.{compactions_are_unseen, compactions_leave, compactions_stop}
+use Rattle.cacache_keep.proofs.Leaving.{collections_lack_idle, collections_leave}
 use Rattle.cacache_keep.proofs.Mends.{repairs_mend}
+use Rattle.cacache_keep.proofs.Settled.{collections_settle}
 use Rattle.cacache_keep.proofs.SweptCaches.{caches_are_swept}
+use Rattle.cacache_keep.proofs.Tidying.{later_reads_stay, looks_stay}
 use Rattle.cacache_keep.proofs.Verdicts.{lists_hold, verdicts_judge}
 use Rattle.cacache_keep.proofs.Whole.{repairs_keep_good, repairs_verify}
 use Rattle.cacache_keep.proofs.laws.keep_laws.Goals as goal
@@ -17,6 +20,12 @@ returns-clause-collects c = collections_leave
 
 pub returns-clause-lacks : goal.returns-clause-lacks
 returns-clause-lacks c = collections_lack_idle
+
+pub returns-clause-settles : goal.returns-clause-settles
+returns-clause-settles c = collections_settle
+
+pub returns-clause-looks : goal.returns-clause-looks
+returns-clause-looks c = looks_stay
 
 pub returns-clause-later : goal.returns-clause-later
 returns-clause-later c = later_reads_stay
@@ -38,3 +47,12 @@ returns-clause-verified c = repairs_verify
 
 pub returns-clause-good : goal.returns-clause-good
 returns-clause-good c = repairs_keep_good
+
+pub returns-clause-compacts : goal.returns-clause-compacts
+returns-clause-compacts c = compactions_leave
+
+pub returns-clause-cut_short : goal.returns-clause-cut_short
+returns-clause-cut_short c = compactions_stop
+
+pub returns-clause-unseen : goal.returns-clause-unseen
+returns-clause-unseen c = compactions_are_unseen

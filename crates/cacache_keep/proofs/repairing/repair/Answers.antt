@@ -19,7 +19,7 @@ returns-in_err-remove_each-clause-stops g c =
     let stop : StopsRemoving (site_of cache c.list.new.env.base 0) damaged e read new = search (rules, c.in_err-remove_each.ensures.stops) in
     let stops = at_base (λ s. StopsRemoving s damaged e read new) cache base c.list.new.env.base c.list.ensures.base stop in
     error_as (λ x. StopsRepairing site x (log c.args.env.now.store) new) c.from_residual-in_err-remove_each.result e c.from_residual-in_err-remove_each.ensures.1
-    (inl (inr (c.in_ok-addresses.field-0.addresses.items, map string_bytes c.in_ok-addresses.field-0.strange.items, log c.list.new.env.store, c.in_ok-addresses.ensures.lists, inr (_, damaged, read, c.in_ok-damaged.ensures.reads, stops))))
+    (inl (inr (c.in_ok-addresses.field-0.addresses.items, map string_bytes c.in_ok-addresses.field-0.strange.items, log c.list.new.env.store, c.in_ok-addresses.ensures.lists, inr (_, damaged, read, c.in_ok-damaged.ensures.reads.0, stops))))
 
 pub returns-in_err-dangling-clause-stops : goal.returns-in_err-dangling-clause-stops
 returns-in_err-dangling-clause-stops g c =
@@ -46,7 +46,7 @@ returns-in_err-dangling-clause-stops g c =
       good = _;
       damaged = damaged;
       read = read;
-      reading = c.in_ok-damaged.ensures.reads;
+      reading = c.in_ok-damaged.ensures.reads.0;
       removing = removing;
     } in
     error_as (λ x. StopsRepairing site x (log c.args.env.now.store) new) c.from_residual-in_err-dangling.result e c.from_residual-in_err-dangling.ensures.1
@@ -81,7 +81,7 @@ returns-in_err-dangling-2-clause-stops g c =
       good = _;
       damaged = damaged;
       read = read;
-      reading = c.in_ok-damaged.ensures.reads;
+      reading = c.in_ok-damaged.ensures.reads.0;
       removing = removing;
     } in
     error_as (λ x. StopsRepairing site x (log c.args.env.now.store) new) c.from_residual-in_err-dangling-2.result e c.from_residual-in_err-dangling-2.ensures.1

@@ -1,5 +1,15 @@
 use Rattle.cacache_keep_laws.proofs.CompactLines.{compact_texts_answer}
+use Rattle.cacache_keep_laws.proofs.CompactTwice.{compact_twice}
+use Rattle.cacache_keep_laws.proofs.LeanCalls.{compactions_answer}
+use Rattle.cacache_keep_laws.proofs.LeanTrees.{compactions_keep}
+use Rattle.cacache_keep_laws.proofs.Led.{houses_are_fit}
 use Rattle.cacache_keep_laws.proofs.laws.compact_laws.Goals as goal
 
 pub returns : goal.returns
-returns c = record { answer = compact_texts_answer }
+returns c = record {
+  answer = compact_texts_answer;
+  settle = compact_twice;
+  keeps = compactions_keep;
+  calls = compactions_answer;
+  fit = houses_are_fit;
+}

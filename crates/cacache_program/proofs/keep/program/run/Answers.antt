@@ -1,9 +1,10 @@
 -- The word that was parsed did what it does.
-use Rattle.std.proofs.Common.{◌≡◌, ap, codes, subst}
+use Rattle.std.proofs.Common.{◌≡◌, ap, codes, false, subst, true}
 use Rattle.std.specs.Prelude.{option_map}
 use Rattle.cacache_program.specs.Words.{asked_of}
 use Rattle.cacache_program.specs.WordVerify.{Verifies}
 use Rattle.cacache_program.specs.WordCollect.{CollectsUnused}
+use Rattle.cacache_program.specs.WordCompact.{Compacts}
 use Rattle.cacache_program.specs.WordPlan.{Plans}
 use Rattle.cacache_program.specs.WordRepair.{Repairs}
 use Rattle.cacache_program.specs.WordSweep.{Sweeps}
@@ -36,3 +37,7 @@ returns-in-verify-text-Some-clause-lists g c =
     keyed_by (asked_of c.args.words.now) _ (codes "verify") c.in-verify-text-Some.cache.now (λ word cache. word ≡ codes "--list" → ListsVerdict g.S.Store.log cache c.args.env.now c.verify_and_list.new.env (g.W.Write.contents c.args.output.now) (g.W.Write.contents c.verify_and_list.new.output) c.verify_and_list.result) c.parse_words.ensures
     (ap (option_map (λ k. k.now)) c.in-verify-text-Some.is-2)
     (λ is. subst (λ cache. ListsVerdict g.S.Store.log cache.now c.args.env.now c.verify_and_list.new.env (g.W.Write.contents c.args.output.now) (g.W.Write.contents c.verify_and_list.new.output) c.verify_and_list.result) c.in-verify-text-Some.cache-is c.verify_and_list.ensures.does)
+
+pub returns-in-compact-default-None-clause-compacts : goal.returns-in-compact-default-None-clause-compacts
+returns-in-compact-default-None-clause-compacts g c =
+    unkeyed_holds (asked_of c.args.words.now) _ (codes "compact") (λ cache. Compacts g.S.Store.log false cache c.args.env.now c.compact_and_print.new.env (g.W.Write.contents c.args.output.now) (g.W.Write.contents c.compact_and_print.new.output) c.compact_and_print.result) c.parse_words.ensures c.compact_and_print.ensures.does

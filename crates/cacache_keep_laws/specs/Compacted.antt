@@ -1,0 +1,90 @@
+-- What a compaction leaves of a tree, and what lookups, reads and listings answer there.
+use Rattle.std.specs.Prelude.{◌≡◌, ◌⊎◌, ◌++◌, ℕ, List, [], ◌∷◌, true, Option, None, Some}
+use Rattle.cacache_core.specs.declared.integrity.digest.Hash.{Hash}
+use Rattle.cacache_core.specs.Integrity.{IsIntegrity}
+use Rattle.cacache_core.specs.PathNames.{Names, home_of}
+use Rattle.cacache_core.specs.Paths.{temp_area}
+use Rattle.cacache_disk.specs.declared.node.Node.{Node}
+use Rattle.cacache_disk.specs.declared.node.Node.TheVariants.{Folder, File}
+use Rattle.cacache_disk.specs.Rooted.{Rooted}
+use Rattle.cacache_disk.specs.Tree.{Tree, look}
+use Rattle.cacache_entry.specs.Latest.{Found}
+use Rattle.cacache_table.specs.State.{Site}
+use Rattle.cacache_value.specs.Kinds.{Bucket, path_kind}
+use Rattle.cacache_keep_laws.specs.Collecting.{LinksLeadOut, ReadsAsBefore}
+use Rattle.cacache_keep_laws.specs.Compacting.{compact_text}
+use Rattle.cacache_keep_laws.specs.Contents.{content_in}
+use Rattle.cacache_keep_laws.specs.Housed.{Housed}
+use Rattle.cacache_keep_laws.specs.Idle.{Finds}
+use Rattle.cacache_keep_laws.specs.Mending.{found_in}
+use Rattle.cacache_keep_laws.specs.Temporary.{is_temp_name, temp_at}
+
+-- ---- at one path, from what stood there to what stands there
+
+-- it is a bucket, and its bytes are compacted
+abbrev pub IsCompacted : Names → Names → Option Node → Option Node → Type 0
+IsCompacted home names old new =
+    (path_kind (Some home) names ≡ Bucket) × (bytes : List ℕ)
+    × (old ≡ Some (File bytes)) × (new ≡ Some (File (compact_text bytes)))
+
+-- it is the folder of temporary files, and was made
+abbrev pub IsTempFolder : Names → Names → Option Node → Option Node → Type 0
+IsTempFolder home names old new =
+    (names ≡ home ++ temp_area ∷ []) × (old ≡ None) × (new ≡ Some Folder)
+
+-- it is a temporary file that was left, of which nothing stood there
+abbrev pub IsLeftOver : Names → Names → Option Node → Option Node → Type 0
+IsLeftOver home names old new =
+    (name : List ℕ) × (names ≡ temp_at home name) × (is_temp_name name ≡ true)
+    × (old ≡ None) × (new ≡ Some (File []))
+
+-- ---- of the whole tree
+
+-- all stands as it stood, but buckets may be compacted, and the folder of temporary files be new
+abbrev pub Compacted : Names → Tree → Tree → Type 0
+Compacted home t new =
+    (names : Names)
+    → (look new names ≡ look t names)
+    ⊎ (IsCompacted home names (look t names) (look new names)
+    ⊎ IsTempFolder home names (look t names) (look new names))
+
+-- so it is where that was cut short, but that temporary files may be left
+abbrev pub CutShort : Names → Tree → Tree → Type 0
+CutShort home t new =
+    (names : Names)
+    → (look new names ≡ look t names)
+    ⊎ (IsCompacted home names (look t names) (look new names)
+    ⊎ (IsTempFolder home names (look t names) (look new names)
+    ⊎ IsLeftOver home names (look t names) (look new names)))
+
+-- ---- what is found there
+
+-- each key leads where it led, and each address has the content that it had
+pub record KeepsFound (home : Names) (t new : Tree) : Type 0 where
+  pub keys : (key : List ℕ) → found_in home new key ≡ found_in home t key
+  pub contents : (h : Hash) → content_in home new h ≡ content_in home t h
+
+-- each entry that a lookup finds has an integrity
+abbrev pub FindsFormed : List ℕ → Tree → Type 0
+FindsFormed cache t =
+    (key : List ℕ) (found : Found) → Finds cache t key found → IsIntegrity found.integrity
+
+-- ---- laws
+
+-- a compaction keeps what is found, also where it is cut short
+abbrev pub CompactionsKeep : Type 0
+CompactionsKeep = (home : Names) (t new : Tree) → CutShort home t new → KeepsFound home t new
+
+-- where links lead out of the cache and found entries have integrities, calls answer as before
+abbrev pub CompactionsAnswer : Type 0
+CompactionsAnswer =
+    (site : Site) (home : Names) (t new : Tree)
+    → home_of site.cache ≡ Some home → LinksLeadOut home t → FindsFormed site.cache t
+    → CutShort home t new → ReadsAsBefore site t new
+
+-- so it is where each thing lies in its place, and entries in the buckets of their keys
+abbrev pub HousesAreFit : Type 0
+HousesAreFit =
+    (cache : List ℕ) (home : Names) (t : Tree)
+    → home_of cache ≡ Some home → Rooted t → Housed (Some home) t
+    → LinksLeadOut home t × FindsFormed cache t
