@@ -17,7 +17,6 @@ use Rattle.cacache_disk.specs.Tree.{Tree, look}
 use Rattle.cacache_entry.specs.Entry.{Entry, line_of}
 use Rattle.cacache_entry.specs.FittingEntries.{IsEntry, IsWritable}
 use Rattle.cacache_entry.specs.Bucket.{entries_of}
-use Rattle.cacache_entry.specs.FittingEntries.{IsEntry, IsWritable}
 use Rattle.cacache_value.specs.Kinds.{Content, Bucket, Temporary, Way, Stray, Elsewhere, path_kind}
 use Rattle.cacache_value.specs.Value.{Value, InFile, AtLink, empty_value, value_of_tree}
 use Rattle.cacache_value.specs.Acts.{act_of, change, list_of}
