@@ -135,7 +135,7 @@ module _ {C N : Type 0} where
       (reply_of Stored r)
       → CommittedBytes cache key s bytes r old.store new.store
 
-  -- while its file stands, a commit for which nothing is expected and said but a time fails for memory alone
+  -- while its file stands, a commit of which nothing was said but a time fails for memory alone
   abbrev pub CommitsSucceed : (C → Option (List ℕ)) → Env (List LogItem) C N → Type 0
   CommitsSucceed moments new =
       (cache : List ℕ) (key : Option (List ℕ)) (s : Said) (bytes : List ℕ) (w : MemWriter)

@@ -60,7 +60,8 @@ abbrev pub FailsClearing : List ℕ → List LogItem → Error → Type 0
 FailsClearing cache old e =
     (e ≡ OutOfMemory)
     ⊎ ((without_message e ≡ IoError TooDeep [])
-    ⊎ ((node_below (home_of cache) (tree_of old) [] ≡ None) × (without_message e ≡ IoError NotFound [])))
+    ⊎ ((node_below (home_of cache) (tree_of old) [] ≡ None)
+    × (without_message e ≡ IoError NotFound [])))
 
 -- a clearing: the cache is empty
 pub record Cleared (cache : List ℕ) (r : Result (Unit {0}) Error) (old new : List LogItem)

@@ -39,8 +39,8 @@ pub record KeepsUntouched (cache : List ℕ) (written : Option (List ℕ)) (own 
 
 -- ---- writes
 
--- a write under a key: the key leads to the bytes, or the error is excused, and what wasn't written stays. On a cache
--- that is ready only memory fails it, and it leaves it ready
+-- a write under a key: the key leads to the bytes, or the error is excused, and what wasn't written
+-- stays. On a cache that is ready only memory fails it, and it leaves it ready
 pub record KeyWritten (a : Algorithm) (cache key bytes : List ℕ) (r : Result (List Hash) Error)
     (old new : List LogItem) : Type 0 where
   pub sound : IsCache cache new

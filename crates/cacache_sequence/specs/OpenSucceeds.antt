@@ -89,7 +89,8 @@ PutsKeepFiles =
 
 -- ---- exports
 
--- where an export may go: a copy to a file or where one can be made, another export where nothing stands
+-- where an export may go: a copy to a file or where one can be made, another one where nothing
+-- stands
 abbrev pub MayTake : How → List ℕ → List LogItem → Type 0
 MayTake Copy to log = (names : Names) × (writable (tree_of log) to ≡ Ok names)
 MayTake Reflink to log = (names : Names) × (free (tree_of log) to ≡ Ok names)

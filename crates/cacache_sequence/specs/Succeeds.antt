@@ -117,7 +117,8 @@ abbrev pub removal_reply : {A : Type 0} → Option A → Reply
 removal_reply None = Refused (IoError NotFound [])
 removal_reply (Some there) = Done
 
--- a full removal is done where the content lies that the key leads to, or its bucket if it leads to nothing
+-- a full removal is done where the content lies that the key leads to; where it leads to nothing,
+-- where its bucket does
 abbrev pub fully_reply : Option Names → Tree → List ℕ → Option Found → Reply
 fully_reply folder t key None = removal_reply ((value_of_tree folder t).buckets (sha1 key))
 fully_reply folder t key (Some found) =
