@@ -16,6 +16,7 @@ mod Tombs
 mod Buried
 mod Mends
 mod Whole
+mod Houses
 mod LineLoops
 mod IndexParts
 mod Rewrites

@@ -43,7 +43,7 @@ none_kept p (x ∷ xs) never = by (p x) (never x (inl refl)) (none_kept p xs (λ
     by true e rest = absurd cc
     by false e rest = rest
 
-first_hash : (i : List Hash) (h : Hash) → address i ≡ Some h → (hs : List Hash) × (i ≡ h ∷ hs)
+pub first_hash : (i : List Hash) (h : Hash) → address i ≡ Some h → (hs : List Hash) × (i ≡ h ∷ hs)
 first_hash [] h e = absurd cc
 first_hash (g ∷ hs) h e = (hs, ap (λ (x : Hash). x ∷ hs) cc)
 
@@ -71,6 +71,9 @@ module _ (site : Site) (home : Names) (damaged : List (List Hash)) (hidden : Lis
 
   whole : Whole site home is v.burying.fates done.mid (tree_of new)
   whole = done.after.whole mid_housed mid_rooted
+
+  pub rehoused : Housed (Some home) (tree_of new)
+  rehoused = whole.housed
 
   all_still : Still (Some home) (tree_of old) (tree_of new)
   all_still q node k there = whole.still q node k (mid_still q node k there)

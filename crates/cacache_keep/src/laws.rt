@@ -1,5 +1,6 @@
 //! What `list`, `verify`, `collect`, `plan`, `sweep`, `repair` and `compact` come to on a store in memory.
 ghost use Rattle.cacache_memory.specs.Replay.{IsLog};
+ghost use Rattle.cacache_keep.specs.Houses.{RepairsHouse, SweepsHouse, SweepsKeepGood};
 ghost use Rattle.cacache_keep.specs.Kept.{CachesAreSwept, CollectionsLackIdle, CollectionsLeave, CollectionsSettle, CompactionsAreUnseen, CompactionsLeave, CompactionsStop, LaterReadsStay, ListsHold, LooksStay, PlansForetell, PlansLeave, RepairsKeepGood, RepairsMend, RepairsVerify, VerdictsJudge};
 
 use cacache_memory::MemStore;
@@ -9,7 +10,8 @@ use cacache_memory::MemStore;
 /// their address, and names the others. A collection leaves the contents that an entry has, a plan
 /// tells which it drops, and a second one drops nothing. A sweep leaves all but the temporary files. A repair leaves the good
 /// contents and the keys that lead to one, where nothing strange lies in the cache's folder. Where also each
-/// entry lies in its key's bucket, a verification behind it finds no damaged content and no entry without one.
+/// entry lies in its key's bucket, a verification behind it finds no damaged content and no entry without one. There
+/// a sweep and a repair leave each thing in its place, and each key that led to a good content leads to it.
 ///
 /// A compaction leaves all but buckets: each key's has its compacted bytes then. The folder of temporary
 /// files may be new. Where an error ends it, each bucket has its old bytes or its compacted ones, and temporary files may be left.
@@ -41,6 +43,9 @@ pub fn keep_laws(store: &MemStore)
     ensures repairs { RepairsMend }
     ensures verified { RepairsVerify }
     ensures good { RepairsKeepGood }
+    ensures houses { RepairsHouse }
+    ensures sweeps_house { SweepsHouse }
+    ensures sweeps_good { SweepsKeepGood }
     ensures compacts { CompactionsLeave }
     ensures cut_short { CompactionsStop }
     ensures unseen { CompactionsAreUnseen }

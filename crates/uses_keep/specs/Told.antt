@@ -1,9 +1,11 @@
 -- What the values that calls give tell of a cache in memory.
 use Rattle.std.specs.Prelude.{◌≡◌, ℕ, List, [], Some, IfOk, Result, Vec, map, string_bytes}
 use Rattle.cacache_core.specs.declared.errors.Error.{Error}
+use Rattle.cacache_core.specs.declared.integrity.digest.Hash.{Hash}
 use Rattle.cacache_core.specs.PathNames.{Names, home_of}
 use Rattle.cacache_store.specs.declared.store.log.LogItem.{LogItem}
 use Rattle.cacache_memory.specs.Replay.{tree_of}
+use Rattle.cacache_entry.specs.Latest.{Found}
 use Rattle.cacache_entry.specs.View.{found_view}
 use Rattle.cacache_table.specs.declared.command.Command.TheVariants as commands
 use Rattle.cacache_table.specs.declared.reply.Reply.TheVariants as replies
@@ -12,13 +14,15 @@ use Rattle.cacache_value.specs.Placed.{Placed}
 use Rattle.cacache_jobs.specs.Sites.{site_of}
 use Rattle.cacache_keep_laws.specs.Answers.{AnswersOn}
 use Rattle.cacache_keep_laws.specs.Collecting.{LeavesLive, LinksLeadOut}
+use Rattle.cacache_keep_laws.specs.Contents.{content_in}
 use Rattle.cacache_keep_laws.specs.Housed.{Housed}
 use Rattle.cacache_keep_laws.specs.Idle.{Removed}
+use Rattle.cacache_keep_laws.specs.Mending.{found_in}
 use Rattle.cacache_keep_laws.specs.Verifying.{Judges}
 use Rattle.cacache_keep.specs.declared.collecting.Collected.{Collected}
 use Rattle.cacache_keep.specs.declared.repairing.Repaired.{Repaired}
 use Rattle.cacache_keep.specs.declared.verifying.Verdict.{Verdict}
-use Rattle.cacache_keep.specs.Kept.{MendsCache}
+use Rattle.cacache_keep.specs.Kept.{LeadsToGood, MendsCache}
 
 -- ---- verdicts
 
@@ -81,3 +85,24 @@ MendsPlaced cache base result old new =
     → Placed (Some home) (tree_of old) → IfOk result (λ (r : Repaired).
     MendsCache (site_of cache base 0) home (tree_of old) (tree_of new)
     r.damaged.items (map found_view r.dangling.items))
+
+-- ---- a sweep, a repair and a compaction
+
+-- In between a log led to a tree where the key leads to this entry, whose content is good, and where a
+-- read may answer these bytes. On the new log the key leads to it, and the content is the old one.
+abbrev pub KeepsGood : Site → Names → List ℕ → Found → Hash → List LogItem → List LogItem → List ℕ
+    → Type 0
+KeepsGood site home key found hash old new bytes =
+    (between : List LogItem)
+    × LeadsToGood home (tree_of between) key found × MayRead site key between bytes
+    × (found_in home (tree_of new) key ≡ Some found)
+    × (content_in home (tree_of new) hash ≡ content_in home (tree_of old) hash)
+
+-- so it is of a key that led to a good content, where each thing lay in its place
+abbrev pub ReadsTended : {A : Type 0} → List ℕ → List ℕ → List ℕ → Result (Vec ℕ A) Error
+    → List LogItem → List LogItem → Type 0
+ReadsTended cache base key result old new =
+    (home : Names) (found : Found) → home_of cache ≡ Some home
+    → Housed (Some home) (tree_of old) → (led : LeadsToGood home (tree_of old) key found)
+    → IfOk result
+    (λ bytes. KeepsGood (site_of cache base 0) home key found led.hash old new bytes.items)

@@ -9,7 +9,7 @@ ghost use Rattle.cacache_jobs.specs.Sites.{site_of};
 ghost use Rattle.cacache_keep_laws.specs.Collecting.{LinksLeadOut};
 ghost use Rattle.cacache_keep_laws.specs.Housed.{Housed};
 ghost use Rattle.cacache_keep_laws.specs.Temporary.{LeavesUntemporary};
-ghost use Rattle.uses_keep.specs.Told.{IsMended, JudgesAs, LeavesAs, MendsPlaced, ReadsHoused, ReadsStill, ReadsAsRemoved};
+ghost use Rattle.uses_keep.specs.Told.{IsMended, JudgesAs, LeavesAs, MendsPlaced, ReadsHoused, ReadsStill, ReadsAsRemoved, ReadsTended};
 
 use cacache_core::errors::Result;
 use cacache_core::keeping::let_go;
@@ -160,6 +160,28 @@ pub fn read_compacted<C: Clock, N: Names>(
 ) -> Result<Vec<u8>>
     ensures { ReadsHoused cache.now env.old.base key.now result env.old.store }
 {
+    let_go(compact(env, cache)?);
+    keep_laws(&env.store);
+    let bytes = read_sync(env, cache, key)?;
+    keep_laws(&env.store);
+    answer_laws();
+    Ok(bytes)
+}
+
+/// Sweeps, repairs and compacts a cache in memory where each thing lies in its place, and reads by a key that led to a good
+/// content. The key still leads to the same entry, and its content is what it was. It reads what it might
+/// have read before the compaction.
+pub fn read_tended<C: Clock, N: Names>(
+    env: &mut Env<MemStore, C, N>,
+    cache: &str,
+    key: &str,
+) -> Result<Vec<u8>>
+    ensures { ReadsTended cache.now env.old.base key.now result env.old.store env.new.store }
+{
+    let_go(sweep(env, cache)?);
+    keep_laws(&env.store);
+    let_go(repair(env, cache)?);
+    keep_laws(&env.store);
     let_go(compact(env, cache)?);
     keep_laws(&env.store);
     let bytes = read_sync(env, cache, key)?;

@@ -1,5 +1,6 @@
 use Rattle.cacache_keep.proofs.Chosen.{plans_foretell, plans_leave}
 use Rattle.cacache_keep.proofs.WholeCompactions.{compactions_are_unseen, compactions_leave, compactions_stop}
+use Rattle.cacache_keep.proofs.Houses.{repairs_house, sweeps_house, sweeps_keep_good}
 use Rattle.cacache_keep.proofs.Leaving.{collections_lack_idle, collections_leave}
 use Rattle.cacache_keep.proofs.Mends.{repairs_mend}
 use Rattle.cacache_keep.proofs.Settled.{collections_settle}
@@ -47,6 +48,15 @@ returns-clause-verified c = repairs_verify
 
 pub returns-clause-good : goal.returns-clause-good
 returns-clause-good c = repairs_keep_good
+
+pub returns-clause-houses : goal.returns-clause-houses
+returns-clause-houses c = repairs_house
+
+pub returns-clause-sweeps_house : goal.returns-clause-sweeps_house
+returns-clause-sweeps_house c = sweeps_house
+
+pub returns-clause-sweeps_good : goal.returns-clause-sweeps_good
+returns-clause-sweeps_good c = sweeps_keep_good
 
 pub returns-clause-compacts : goal.returns-clause-compacts
 returns-clause-compacts c = compactions_leave
