@@ -1,0 +1,118 @@
+"""A disk that loses with its power what wasn't flushed, served as a network block device (NBD), for `tools/hostile/power`.
+
+What was written before a flush that was answered stays. Of each later write a loss keeps all, nothing, or some of its blocks, and what
+it keeps lands in the order of the writes. A disk may do so: its cache holds writes back, and gives them to the medium in any order.
+A block of 4 KiB is kept whole or not at all. Where single ones were torn at 512 bytes, ext4 couldn't always be mounted: a torn block of
+its journal is "corrupt", and a torn superblock has an "invalid checksum".
+"""
+import struct
+import threading
+
+BLOCK = 4096
+READ, WRITE, DISCONNECT, FLUSH = 0, 1, 2, 3
+HAS_FLAGS, SEND_FLUSH = 1, 4
+INVALID = 22
+GREETING = b"NBDMAGIC" + struct.pack(">Q", 0x00420281861253)
+REQUEST, REPLY = struct.Struct(">IHHQQI"), struct.Struct(">IIQ")
+REQUEST_MAGIC, REPLY_MAGIC = 0x25609513, 0x67446698
+
+
+class Cut(Exception):
+    """The power went, or the other side hung up."""
+
+
+class LosingDisk:
+    """A disk with the bytes of an image, which begins with all of them flushed."""
+
+    def __init__(self, image):
+        self.now = bytearray(image)
+        self.kept = bytearray(image)
+        self.waiting = []
+        self.left = None
+        self.cut = threading.Event()
+        self.counts = {"writes": 0, "flushes": 0}
+
+    def read(self, at, length):
+        return bytes(self.now[at : at + length])
+
+    def write(self, at, data):
+        self.counts["writes"] += 1
+        self.now[at : at + len(data)] = data
+        self.waiting.append((at, bytes(data)))
+
+    def flush(self):
+        self.counts["flushes"] += 1
+        for at, data in self.waiting:
+            self.kept[at : at + len(data)] = data
+        self.waiting = []
+
+    def lose(self, chance):
+        """The power goes: how many writes waited for a flush, and how many of them were kept whole, kept in part, and lost."""
+        kept, torn, share = 0, 0, chance.choice([0, 0.1, 0.5, 0.9])
+        lands = []
+        for at, data in self.waiting:
+            blocks = range(0, len(data), BLOCK)
+            stays = set(blocks) if chance.random() < share else set()
+            if chance.random() < 0.2:
+                stays = {it for it in blocks if chance.random() < 0.5}
+            lands += [(at + it, data[it : it + BLOCK]) for it in sorted(stays)]
+            kept, torn = kept + (len(stays) == len(blocks)), torn + (0 < len(stays) < len(blocks))
+        for at, data in lands:
+            self.kept[at : at + len(data)] = data
+        for at, data in self.waiting:
+            self.now[at : at + len(data)] = self.kept[at : at + len(data)]
+        waited, self.waiting = len(self.waiting), []
+        return {"waited": waited, "kept": kept, "torn": torn, "lost": waited - kept - torn}
+
+    def arm(self, requests):
+        """After so many further writes and flushes the power goes before the next one is answered; None: it stays on."""
+        self.cut.clear()
+        self.left = requests
+
+    def spend(self):
+        """One write or flush more has come."""
+        if self.left is not None:
+            self.left -= 1
+            if self.left < 0:
+                self.cut.set()
+                raise Cut
+
+    def serve(self, socket):
+        """Answers the requests on this socket until the power goes or the other side hangs up."""
+        try:
+            socket.sendall(GREETING + struct.pack(">QI124x", len(self.now), HAS_FLAGS | SEND_FLUSH))
+            while self.answer(socket):
+                pass
+        except (Cut, ConnectionError):
+            pass
+
+    def answer(self, socket):
+        """Answers one request, and whether there may be a further one."""
+        magic, _, kind, handle, at, length = REQUEST.unpack(received(socket, REQUEST.size))
+        if magic != REQUEST_MAGIC or kind == DISCONNECT:
+            return False
+        error, data = 0, b""
+        if kind == READ:
+            data = self.read(at, length)
+        elif kind == WRITE:
+            written = received(socket, length)
+            self.write(at, written)
+            self.spend()
+        elif kind == FLUSH:
+            self.spend()
+            self.flush()
+        else:
+            error = INVALID
+        socket.sendall(REPLY.pack(REPLY_MAGIC, error, handle) + data)
+        return True
+
+
+def received(socket, length):
+    """So many bytes of a socket."""
+    data = bytearray()
+    while len(data) < length:
+        piece = socket.recv(length - len(data))
+        if not piece:
+            raise Cut
+        data += piece
+    return data
