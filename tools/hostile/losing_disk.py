@@ -9,6 +9,7 @@ import struct
 import threading
 
 BLOCK = 4096
+SHARES, TORN = [0, 0.1, 0.5, 0.9], 0.2  # which share of the writes a loss may keep whole, and of how many it keeps single blocks
 READ, WRITE, DISCONNECT, FLUSH = 0, 1, 2, 3
 HAS_FLAGS, SEND_FLUSH = 1, 4
 INVALID = 22
@@ -22,47 +23,37 @@ class Cut(Exception):
 
 
 class LosingDisk:
-    """A disk with the bytes of an image, which begins with all of them flushed."""
+    """A disk with the bytes of an image, which begins with all of them flushed: what it has now, what a loss would leave of that at
+    least, and the writes in between."""
 
     def __init__(self, image):
-        self.now = bytearray(image)
-        self.kept = bytearray(image)
-        self.waiting = []
+        self.now, self.kept, self.waiting = bytearray(image), bytearray(image), []
         self.left = None
         self.cut = threading.Event()
-        self.counts = {"writes": 0, "flushes": 0}
 
     def read(self, at, length):
         return bytes(self.now[at : at + length])
 
     def write(self, at, data):
-        self.counts["writes"] += 1
         self.now[at : at + len(data)] = data
         self.waiting.append((at, bytes(data)))
 
     def flush(self):
-        self.counts["flushes"] += 1
         for at, data in self.waiting:
             self.kept[at : at + len(data)] = data
         self.waiting = []
 
     def lose(self, chance):
-        """The power goes: how many writes waited for a flush, and how many of them were kept whole, kept in part, and lost."""
-        kept, torn, share = 0, 0, chance.choice([0, 0.1, 0.5, 0.9])
-        lands = []
+        """The power goes: how many of the writes since the last flush were kept whole, kept in part, and lost."""
+        share, counts = chance.choice(SHARES), {"kept": 0, "torn": 0, "lost": 0}
         for at, data in self.waiting:
             blocks = range(0, len(data), BLOCK)
-            stays = set(blocks) if chance.random() < share else set()
-            if chance.random() < 0.2:
-                stays = {it for it in blocks if chance.random() < 0.5}
-            lands += [(at + it, data[it : it + BLOCK]) for it in sorted(stays)]
-            kept, torn = kept + (len(stays) == len(blocks)), torn + (0 < len(stays) < len(blocks))
-        for at, data in lands:
-            self.kept[at : at + len(data)] = data
-        for at, data in self.waiting:
-            self.now[at : at + len(data)] = self.kept[at : at + len(data)]
-        waited, self.waiting = len(self.waiting), []
-        return {"waited": waited, "kept": kept, "torn": torn, "lost": waited - kept - torn}
+            stays = staying(blocks, share, chance)
+            for it in stays:
+                self.kept[at + it : at + it + BLOCK] = data[it : it + BLOCK]
+            counts["kept" if len(stays) == len(blocks) else "torn" if stays else "lost"] += 1
+        self.now, self.waiting = bytearray(self.kept), []
+        return counts
 
     def arm(self, requests):
         """After so many further writes and flushes the power goes before the next one is answered; None: it stays on."""
@@ -95,8 +86,7 @@ class LosingDisk:
         if kind == READ:
             data = self.read(at, length)
         elif kind == WRITE:
-            written = received(socket, length)
-            self.write(at, written)
+            self.write(at, received(socket, length))
             self.spend()
         elif kind == FLUSH:
             self.spend()
@@ -105,6 +95,13 @@ class LosingDisk:
             error = INVALID
         socket.sendall(REPLY.pack(REPLY_MAGIC, error, handle) + data)
         return True
+
+
+def staying(blocks, share, chance):
+    """Which blocks of a write stay after a loss of power."""
+    if chance.random() < TORN:
+        return [it for it in blocks if chance.random() < 0.5]
+    return list(blocks) if chance.random() < share else []
 
 
 def received(socket, length):
