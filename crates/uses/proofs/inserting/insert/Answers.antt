@@ -17,7 +17,7 @@ returns g c =
     let old = c.args.env.now.store in
     let new = c.insert-inserted.new.env.store in
     let r = c.insert-inserted.result in
-    let opts = c.integrity-opts.ensures ∙ ap (λ (s : Said). record s { integrity = Some c.args.integrity }) c.new.ensures in
+    let opts = c.integrity-opts.ensures.said ∙ ap (λ (s : Said). record s { integrity = Some c.args.integrity }) c.new.ensures in
     let ran = timed (λ store. Some store) _ c.args.env.now c.insert-inserted.new.env cache key i c.integrity-opts.result _ opts c.insert-inserted.ensures.ran in
     let made = called Stored r cache c.args.env.now.base 0 (commands.Insert (plain_insert Sha256 key (Some i) ran.0)) old new (λ i. refl) ran.2 c.cache_laws.ensures.logged in
     let w = inserted laws.inserts laws.plain_inserts cache key i ran.0 r old new c.utf8.key ran.1 c.address-address.ensures.integrity c.requires made in
