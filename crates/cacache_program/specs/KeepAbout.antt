@@ -17,8 +17,6 @@ words_text =
     ++ codes "  sweep CACHE    removes temporary files, and counts them, their bytes, and other files there\n"
     ++ codes "  repair CACHE   removes damaged contents, and the keys that lead to none, and counts both\n"
     ++ codes "  compact CACHE  writes the index anew without old lines, and counts the buckets and bytes saved\n"
-    ++ codes "  compact --durable CACHE\n"
-    ++ codes "                 the same, and syncs each bucket that it writes, and its folder\n"
     ++ codes "  --why          before these words: says in brackets why a call failed\n"
     ++ codes "  --help         prints this\n"
     ++ codes "  --version      prints the version\n"

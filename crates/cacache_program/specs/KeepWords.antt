@@ -9,11 +9,9 @@ IsNoWord name =
     × (name ≢ codes "plan") × (name ≢ codes "sweep") × (name ≢ codes "repair")
     × (name ≢ codes "compact")
 
--- the name with a word more isn't `verify --list` nor `compact --durable`
+-- the name with a word more isn't `verify --list`
 abbrev pub IsNoOption : List ℕ → List ℕ → Type 0
-IsNoOption name word =
-    (name ≡ codes "verify" → word ≢ codes "--list")
-    × (name ≡ codes "compact" → word ≢ codes "--durable")
+IsNoOption name word = name ≡ codes "verify" → word ≢ codes "--list"
 
 -- what is asked for is nothing that the program knows: another name, or a word more than a name and
 -- its option before a cache

@@ -1,5 +1,5 @@
--- The words `compact` and `compact --durable` of the program `cacache-keep`.
-use Rattle.std.specs.Prelude.{◌≡◌, ◌⊎◌, ◌++◌, ℕ, List, Bool, true, Option, codes}
+-- The word `compact` of the program `cacache-keep`.
+use Rattle.std.specs.Prelude.{◌≡◌, ◌⊎◌, ◌++◌, ℕ, List, false, Option, codes}
 use Rattle.std.specs.Fmt.{decimal}
 use Rattle.cacache.specs.Stores.{LogItem}
 use Rattle.cacache.specs.Calls.{Env}
@@ -13,31 +13,24 @@ compacted_text buckets bytes =
     codes "buckets " ++ (decimal buckets ++ (codes "\nbytes " ++ (decimal bytes ++ codes "\n")))
 
 module _ {S C N : Type 0} (log : S → Option (List LogItem)) where
-  -- the log gained a compaction, durable or not, and its counts were told
-  abbrev pub PrintsCompaction : Bool
-      → List ℕ → Env S C N → Env S C N → Option (List ℕ) → Option (List ℕ) → ℕ → Type 0
-  PrintsCompaction durable cache old new before after status =
+  -- the log gained a compaction, and its counts were told
+  abbrev pub PrintsCompaction :
+      List ℕ → Env S C N → Env S C N → Option (List ℕ) → Option (List ℕ) → ℕ → Type 0
+  PrintsCompaction cache old new before after status =
       (buckets bytes : ℕ)
-      × CompactsCache durable cache buckets bytes (log old.store) (log new.store)
+      × CompactsCache false cache buckets bytes (log old.store) (log new.store)
       × PutsOut (compacted_text buckets bytes) before after status
 
   -- an error ended the compaction, and nothing was put out
-  abbrev pub FailsToCompact : Bool
-      → List ℕ → Env S C N → Env S C N → Option (List ℕ) → Option (List ℕ) → ℕ → Type 0
-  FailsToCompact durable cache old new before after status =
-      Fails log (StopsCompacting durable cache) old new before after status
+  abbrev pub FailsToCompact :
+      List ℕ → Env S C N → Env S C N → Option (List ℕ) → Option (List ℕ) → ℕ → Type 0
+  FailsToCompact cache old new before after status =
+      Fails log (StopsCompacting false cache) old new before after status
 
   -- one of the two, and the clock and the base folder stayed
-  abbrev pub Compacts : Bool
-      → List ℕ → Env S C N → Env S C N → Option (List ℕ) → Option (List ℕ) → ℕ → Type 0
-  Compacts durable cache old new before after status =
+  abbrev pub Compacts :
+      List ℕ → Env S C N → Env S C N → Option (List ℕ) → Option (List ℕ) → ℕ → Type 0
+  Compacts cache old new before after status =
       (new.clock ≡ old.clock) × (new.base ≡ old.base)
-      × (PrintsCompaction durable cache old new before after status
-      ⊎ FailsToCompact durable cache old new before after status)
-
-  -- so it is, durably, if the word before the cache is `--durable`
-  abbrev pub CompactsIfSaid :
-      List ℕ → List ℕ → Env S C N → Env S C N
-      → Option (List ℕ) → Option (List ℕ) → ℕ → Type 0
-  CompactsIfSaid word cache old new before after status =
-      word ≡ codes "--durable" → Compacts true cache old new before after status
+      × (PrintsCompaction cache old new before after status
+      ⊎ FailsToCompact cache old new before after status)

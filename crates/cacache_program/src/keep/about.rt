@@ -18,8 +18,6 @@ pub const HELP: &str = "usage: cacache-keep verify|collect|plan|sweep|repair|com
   sweep CACHE    removes temporary files, and counts them, their bytes, and other files there
   repair CACHE   removes damaged contents, and the keys that lead to none, and counts both
   compact CACHE  writes the index anew without old lines, and counts the buckets and bytes saved
-  compact --durable CACHE
-                 the same, and syncs each bucket that it writes, and its folder
   --why          before these words: says in brackets why a call failed
   --help         prints this
   --version      prints the version

@@ -5,7 +5,7 @@ ghost use Rattle.cacache_program.specs.KeepWords.{IsWrong};
 ghost use Rattle.cacache_program.specs.WordVerify.{Verifies};
 ghost use Rattle.cacache_program.specs.WordList.{ListsIfSaid, ListsVerdict};
 ghost use Rattle.cacache_program.specs.WordCollect.{CollectsUnused};
-ghost use Rattle.cacache_program.specs.WordCompact.{Compacts, CompactsIfSaid};
+ghost use Rattle.cacache_program.specs.WordCompact.{Compacts};
 ghost use Rattle.cacache_program.specs.WordPlan.{Plans};
 ghost use Rattle.cacache_program.specs.WordRepair.{Repairs};
 ghost use Rattle.cacache_program.specs.WordSweep.{Sweeps};
@@ -18,7 +18,7 @@ use crate::keep::output::{
 };
 use crate::words::parse_words;
 use cacache::env::{Clock, Env, Names, Reasons};
-use cacache_keep::{CompactOpts, collect, plan, repair, sweep, verify};
+use cacache_keep::{collect, compact, plan, repair, sweep, verify};
 use std::io::Write;
 
 /// Verifies the cache, and prints how many contents are good and damaged, entries dangle, and other files are there.
@@ -125,19 +125,18 @@ fn repair_and_print<S: Reasons, C: Clock, N: Names, W: Write, E: Write>(
     }
 }
 
-/// Compacts the cache, durably or not, and prints how many buckets were written anew, and how many bytes that saved.
+/// Compacts the cache, and prints how many buckets were written anew, and how many bytes that saved.
 fn compact_and_print<S: Reasons, C: Clock, N: Names, W: Write, E: Write>(
     env: &mut Env<S, C, N>,
-    durable: bool,
     cache: &str,
     output: &mut W,
     errors: &mut Errors<E>,
 ) -> u8
-    ensures does { Compacts S.log durable cache.now env.old env.new
+    ensures does { Compacts S.log cache.now env.old env.new
         (W.contents output.old) (W.contents output.new) result }
     ensures quiet { result ≡ 0 → errors.new ≡ errors.old }
 {
-    match CompactOpts::new().durable(durable).compact(env, cache) {
+    match compact(env, cache) {
         Ok(compacted) => print_compacted(env.alloc, &compacted, output, errors),
         Err(error) => tell_failed_call(errors, &error, env.store.reason()),
     }
@@ -167,9 +166,7 @@ pub fn run<S: Reasons, C: Clock, N: Names, W: Write, E: Write>(
         env.old env.new (W.contents output.old) (W.contents output.new) result }
     ensures repairs { UnkeyedDoes (asked_of words.now) (codes "repair") (Repairs S.log)
         env.old env.new (W.contents output.old) (W.contents output.new) result }
-    ensures compacts { UnkeyedDoes (asked_of words.now) (codes "compact") (Compacts S.log false)
-        env.old env.new (W.contents output.old) (W.contents output.new) result }
-    ensures durably { KeyedDoes (asked_of words.now) (codes "compact") (CompactsIfSaid S.log)
+    ensures compacts { UnkeyedDoes (asked_of words.now) (codes "compact") (Compacts S.log)
         env.old env.new (W.contents output.old) (W.contents output.new) result }
 {
     match parse_words(words) {
@@ -179,10 +176,7 @@ pub fn run<S: Reasons, C: Clock, N: Names, W: Write, E: Write>(
         ("plan", cache, None) => plan_and_print(env, cache, output, errors),
         ("sweep", cache, None) => sweep_and_print(env, cache, output, errors),
         ("repair", cache, None) => repair_and_print(env, cache, output, errors),
-        ("compact", cache, None) => compact_and_print(env, false, cache, output, errors),
-        ("compact", "--durable", Some(cache)) => {
-            compact_and_print(env, true, cache, output, errors)
-        }
+        ("compact", cache, None) => compact_and_print(env, cache, output, errors),
         _ => tell_misuse(USAGE, errors),
     }
 }

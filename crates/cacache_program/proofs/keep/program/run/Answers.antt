@@ -1,5 +1,5 @@
 -- The word that was parsed did what it does.
-use Rattle.std.proofs.Common.{◌≡◌, ap, codes, false, subst, true}
+use Rattle.std.proofs.Common.{◌≡◌, ap, codes, subst}
 use Rattle.std.specs.Prelude.{option_map}
 use Rattle.cacache_program.specs.Words.{asked_of}
 use Rattle.cacache_program.specs.WordVerify.{Verifies}
@@ -40,4 +40,4 @@ returns-in-verify-text-Some-clause-lists g c =
 
 pub returns-in-compact-default-None-clause-compacts : goal.returns-in-compact-default-None-clause-compacts
 returns-in-compact-default-None-clause-compacts g c =
-    unkeyed_holds (asked_of c.args.words.now) _ (codes "compact") (λ cache. Compacts g.S.Store.log false cache c.args.env.now c.compact_and_print.new.env (g.W.Write.contents c.args.output.now) (g.W.Write.contents c.compact_and_print.new.output) c.compact_and_print.result) c.parse_words.ensures c.compact_and_print.ensures.does
+    unkeyed_holds (asked_of c.args.words.now) _ (codes "compact") (λ cache. Compacts g.S.Store.log cache c.args.env.now c.compact_and_print.new.env (g.W.Write.contents c.args.output.now) (g.W.Write.contents c.compact_and_print.new.output) c.compact_and_print.result) c.parse_words.ensures c.compact_and_print.ensures.does
