@@ -17,7 +17,7 @@ use Rattle.cacache_jobs.specs.Environment.{MomentOf}
 use Rattle.cacache_polled.specs.declared.writer_core.WriterCore.{WriterCore}
 use Rattle.cacache_polled.specs.declared.kinds.Finish.{Finish}
 use Rattle.cacache_polled.specs.declared.kinds.Finish.TheVariants.{Busy, Closed, Cancelled, Failed, Held}
-use Rattle.cacache_polled.specs.Events.{CommitFinds, HasHeld}
+use Rattle.cacache_polled.specs.Events.{CommitFinds}
 use Rattle.cacache_async.specs.Waiting.{TellsFault}
 use Rattle.cacache_writers.specs.declared.about.About.{About}
 
@@ -60,9 +60,3 @@ module _ {T S C N : Type 0} (temp : T → PlainTemp) (log : S → Option (List L
   Gives core bytes file a r =
       ((r ≡ Err OutOfMemory) × (new ≡ old))
       ⊎ ((f : Finish) × CommitFinds core bytes f × GivesFor f file a r)
-
-  -- so it is for some core and file, those that lay under the lock
-  abbrev pub GivesLocked : About → Result (List Hash) Error → Type 0
-  GivesLocked a r =
-      (core : WriterCore) × (file : Option T)
-      × ((bytes : List ℕ) → HasHeld core bytes → Gives core bytes file (Some a) r)

@@ -1,6 +1,5 @@
 -- The opening of a polled writer: its temporary file, and what was said of the content.
 use Rattle.std.specs.Prelude.{◌≡◌, ◌⊎◌, ℕ, List, Option, Result, Ok, Err}
-use Rattle.std.specs.Arc.{arc_value}
 use Rattle.cacache_core.specs.declared.errors.Error.{Error}
 use Rattle.cacache_core.specs.declared.errors.Error.TheVariants.{OutOfMemory}
 use Rattle.cacache_store.specs.declared.env.Env.{Env}
@@ -11,7 +10,6 @@ use Rattle.cacache_content.specs.OpenWrites.{Makes, FailsToMake}
 use Rattle.cacache_put.specs.Options.{Said, options_of}
 use Rattle.cacache_writers.specs.declared.about.About.{About}
 use Rattle.cacache_writers.specs.declared.writer.Writer.{Writer}
-use Rattle.cacache_writers.specs.Sharing.{IsNew}
 
 -- what was said of a content under this key
 pub record IsAbout (cache : List ℕ) (key : Option (List ℕ)) (s : Said) (a : About) : Type 0 where
@@ -25,28 +23,20 @@ abbrev pub MadeTemp :
     List ℕ → ℕ → Option (List LogItem) → Option (List LogItem) → Type 0
 MadeTemp cache number old new = (file : PlainTemp) × Makes cache number file old new
 
--- what lay under the writer's lock at first: such a file, and a core of the algorithm that was said
-abbrev pub BeginsWith :
-    {T : Type 0} → (T → PlainTemp) → List ℕ → ℕ → Said → Writer T
-    → Option (List LogItem) → Option (List LogItem) → Type 0
-BeginsWith {T} temp cache number s w old new =
-    (file : T) × Makes cache number (temp file) old new
-    × IsNew s.algorithm file (arc_value w.file.shared).first.value
-
 -- a writer with a temporary file of this number, or why there is none; out of memory may come after the file
 abbrev pub OpensAt :
-    {T : Type 0} → (T → PlainTemp) → List ℕ → Option (List ℕ) → Said → Result (Writer T) Error
+    {T : Type 0} → List ℕ → Option (List ℕ) → Said → Result (Writer T) Error
     → Option (List LogItem) → Option (List LogItem) → ℕ → Type 0
-OpensAt temp cache key s (Ok w) old new number =
-    IsAbout cache key s w.about × BeginsWith temp cache number s w old new
-OpensAt temp cache key s (Err e) old new number =
+OpensAt cache key s (Ok w) old new number =
+    IsAbout cache key s w.about × MadeTemp cache number old new
+OpensAt cache key s (Err e) old new number =
     FailsToMake cache number e old new ⊎ ((e ≡ OutOfMemory) × MadeTemp cache number old new)
 
 -- the same with a number that was asked for once; the clock and the base folder stayed
 abbrev pub OpensWriter :
-    {T S C N : Type 0} → (T → PlainTemp) → (S → Option (List LogItem)) → (N → Option (List ℕ))
+    {T S C N : Type 0} → (S → Option (List LogItem)) → (N → Option (List ℕ))
     → Env S C N → Env S C N → List ℕ → Option (List ℕ) → Said → Result (Writer T) Error → Type 0
-OpensWriter temp log numbers old new cache key s r =
+OpensWriter log numbers old new cache key s r =
     (number : ℕ) × AddsAnswer (numbers old.names) (numbers new.names) number
-    × OpensAt temp cache key s r (log old.store) (log new.store) number
+    × OpensAt cache key s r (log old.store) (log new.store) number
     × (new.clock ≡ old.clock) × (new.base ≡ old.base)

@@ -35,8 +35,8 @@ pub struct WriterOpenCall<'a> {
 impl<'a, S: Store, C: Clock, N: Names> Call<S, C, N> for WriterOpenCall<'a> {
     type Output = Writer<S::Temp>;
 
-    ghost makes = { λ c old r new. OpensWriter S.Temp.seen S.log N.given old new
-        c.cache.now (option_map (λ key. key.now) c.key) c.opts r };
+    ghost makes = { λ c old r new. OpensWriter S.log N.given old new c.cache.now
+        (option_map (λ key. key.now) c.key) c.opts r };
 
     // A number is asked once, before the first step.
     fn make(self, env: &mut Env<S, C, N>) -> Result<Writer<S::Temp>> {

@@ -1,22 +1,18 @@
 //! A temporary file whose writes are polled.
-ghost use Rattle.std.specs.Prelude.{◌≡◌, IfOk, IfErr};
-ghost use Rattle.std.specs.Arc.{arc_value};
+ghost use Rattle.std.specs.Prelude.{◌≡◌, IfErr};
 ghost use Rattle.cacache_core.specs.declared.errors.Error.TheVariants.{OutOfMemory};
 ghost use Rattle.futures.specs.Poll.{OnPending};
 ghost use Rattle.futures.specs.Task.{IsArmed, Keeps};
-ghost use Rattle.cacache_writers.specs.Sharing.{IsNew};
-ghost use Rattle.cacache_writers.specs.Turning.{IsWorkerOf};
 
-use crate::kept::Kept;
-use crate::shared::Shared;
+use crate::shared::{Kept, Shared};
 use crate::worker::Worker;
 use cacache_core::errors::Result;
 use cacache_core::integrity::Algorithm;
-use cacache_polled::Request as Asked;
-use futures::task::{Context, Poll};
+use cacache_polled::{Request as Asked, WriterCore};
+use futures::task::{Context, Poll, Source};
 use std::alloc::Global;
-use std::sync::atomic::Ordering;
-use std::sync::{Arc, Wait};
+use std::sync::atomic::{AtomicBool, Ordering};
+use std::sync::{Arc, Mutex, Wait};
 
 /// A temporary file whose writes a worker does. The polls hand the work out and answer what came of it; one that is
 /// pending wakes its task when the work is done. Dropping it ends its workers.
@@ -36,19 +32,25 @@ impl<T: Drop> Drop for PolledFile<T> {
 impl<T: Drop> PolledFile<T> {
     /// A file that nothing was written to yet. `OutOfMemory` is the only error.
     pub fn new(alloc: Global, algorithm: Algorithm, temp: T) -> Result<PolledFile<T>>
-        ensures first { IfOk result
-            (λ file. IsNew algorithm temp (arc_value file.shared).first.value) }
-        ensures err { IfErr result (λ e. e ≡ OutOfMemory) }
+        ensures { IfErr result (λ e. e ≡ OutOfMemory) }
     {
-        let shared = Arc::new(alloc, Shared::new(Kept::new(algorithm, temp)))?;
+        let kept = Mutex::new(Kept {
+            core: WriterCore::new(algorithm),
+            temp: Some(temp),
+            work: None,
+            waker: None,
+        });
+        let shared = Shared {
+            source: Source::new(),
+            is_left: AtomicBool::new(false),
+            kept,
+        };
+        let shared = Arc::new(alloc, shared)?;
         Ok(PolledFile { shared, alloc })
     }
 
     /// A worker for this file. `OutOfMemory` is the only error.
-    pub fn worker(&self) -> Result<Worker<T>>
-        ensures worker { IfOk result (IsWorkerOf (arc_value self.now.shared)) }
-        ensures err { IfErr result (λ e. e ≡ OutOfMemory) }
-    {
+    pub fn worker(&self) -> Result<Worker<T>> {
         Ok(Worker::new(Arc::try_clone(&self.shared)?))
     }
 

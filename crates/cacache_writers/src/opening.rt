@@ -32,8 +32,7 @@ pub(crate) fn open_writer<S: Store>(
     key: Option<Text>,
     opts: WriteOpts,
 ) -> Result<Writer<S::Temp>>
-    ensures { OpensAt S.Temp.seen cache.now key opts result (S.log store.old) (S.log store.new)
-        number }
+    ensures { OpensAt cache.now key opts result (S.log store.old) (S.log store.new) number }
 {
     let about = About::new(alloc, cache, key, opts)?;
     let algorithm = about.options.algorithm;
