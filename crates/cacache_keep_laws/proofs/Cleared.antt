@@ -37,7 +37,7 @@ use Rattle.cacache_keep_laws.proofs.Covering.{home_named, named_on}
 use Rattle.cacache_keep_laws.proofs.Idle.{Follows, lacks_still, same_node}
 use Rattle.cacache_keep_laws.proofs.Fully.{lacks_at}
 use Rattle.cacache_keep_laws.proofs.SameListing.{same_listing}
-use Rattle.cacache_keep_laws.proofs.Sheds.{Shed, ShedAll, among, sheds_more}
+use Rattle.cacache_sequence.proofs.Sheds.{Shed, ShedAll, among, sheds_more}
 use Rattle.cacache_keep_laws.proofs.Stepping.{MadeOn, goes, over_stays}
 use Rattle.cacache_keep_laws.proofs.Swept.{Swept, alive, lists_folder, long_names, never_too_many, told_still, visited}
 

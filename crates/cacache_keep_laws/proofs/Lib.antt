@@ -10,7 +10,6 @@ mod Twice
 mod Stepping
 pub mod Fully
 mod SameListing
-mod Sheds
 mod Swept
 mod Cleared
 pub mod BothLogs

@@ -36,7 +36,7 @@ use Rattle.cacache_keep_laws.specs.Walks.{is_leaf}
 use Rattle.cacache_keep_laws.specs.Idle.{BreaksOff}
 use Rattle.cacache_keep_laws.proofs.Children.{none_below, proper_child, folder_there}
 use Rattle.cacache_keep_laws.proofs.Covering.{named_on}
-use Rattle.cacache_keep_laws.proofs.Sheds.{Shed, ShedAll, among, among_below, cut_sheds, folder_apart, listed_among, sheds_more, under, under_other, under_self}
+use Rattle.cacache_sequence.proofs.Sheds.{Shed, ShedAll, among, among_below, cut_sheds, folder_apart, listed_among, sheds_more, under, under_other, under_self}
 use Rattle.cacache_keep_laws.proofs.Stepping.{MadeOn, Whole, goes, said_over}
 use Rattle.cacache_keep_laws.proofs.Twice.{leaf_goes}
 
