@@ -1,10 +1,13 @@
 //! What a row does in an environment.
-use crate::answers::{bytes_of, done, read};
+use crate::answers::{bytes_of, done, found, read};
 use crate::linkers::linked_by_polls;
 use crate::readers::read_by_polls;
 use crate::writers::written;
+use cacache_async::index::find_async;
+use cacache_async::put::write;
 use cacache_async::read::{read as read_key, read_hash};
 use cacache_async::rm::clear;
+use cacache_core::keeping::let_go;
 use cacache_store::store::Store;
 use cacache_writers::RemovableTemp;
 use futures::executor::block_on;
@@ -38,6 +41,25 @@ fn planted<S: Store>(env: &mut On<S>, words: &str) -> Result<String, AllocError>
     String::from_str(env.alloc, if is_planted { "Ok" } else { "not planted" })
 }
 
+/// What the entry of a key says, or what is left of a write that was never polled.
+fn looked<R: Wait + RandomSource + AllocGlobal, S: Store>(
+    rt: &R,
+    env: &mut On<S>,
+    act: &str,
+) -> Result<String, Flaw> {
+    let alloc = env.alloc;
+    let (name, words) = cut(act);
+    let (cache, key) = cut(words);
+    match name {
+        "find" => Ok(found(alloc, given(block_on(rt, find_async(env, cache, key)))?)?),
+        "unpolled" => {
+            let_go(write(env, cache, key, b"hello"));
+            Ok(names(env, cache)?)
+        }
+        _ => Err(Flaw::NotRead),
+    }
+}
+
 /// What a call gives whose future is ready at once, or a look at a folder.
 fn called<R: Wait + RandomSource + AllocGlobal, S: Store>(
     rt: &R,
@@ -56,7 +78,7 @@ fn called<R: Wait + RandomSource + AllocGlobal, S: Store>(
         "clear" => Ok(done(alloc, given(block_on(rt, clear(env, cache)))?)?),
         "names" => Ok(names(env, words)?),
         "plant" => Ok(planted(env, words)?),
-        _ => Err(Flaw::NotRead),
+        _ => looked(rt, env, act),
     }
 }
 

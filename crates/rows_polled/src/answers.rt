@@ -1,5 +1,6 @@
 //! Answers as rows say them.
 use cacache_core::errors::Result as Answered;
+use cacache_entry::Metadata;
 use rows::answers::refused;
 use rows::words::{is_nothing, word_of, written_out};
 use std::alloc::{AllocError, Global};
@@ -40,4 +41,25 @@ pub(crate) fn read(alloc: Global, answer: Answered<Vec<u8>>) -> Result<String, A
         Ok(bytes) => written_out(alloc, word_of(&bytes)),
         Err(error) => refused(alloc, error),
     }
+}
+
+/// The answer on an entry that was looked up: its integrity, time, size, metadata and raw metadata.
+pub(crate) fn found(
+    alloc: Global,
+    answer: Answered<Option<Metadata>>,
+) -> Result<String, AllocError> {
+    match answer {
+        Ok(Some(entry)) => shown_entry(alloc, &entry),
+        Ok(None) => String::from_str(alloc, "nothing"),
+        Err(error) => refused(alloc, error),
+    }
+}
+
+/// What an entry says.
+fn shown_entry(alloc: Global, entry: &Metadata) -> Result<String, AllocError> {
+    let metadata = entry.metadata.to_string(alloc)?;
+    let raw = &entry.raw_metadata;
+    let integrity = &entry.integrity;
+    let (time, size) = (entry.time, entry.size);
+    format!(in alloc; "{integrity} {time} {size} {metadata} {raw:?}")
 }

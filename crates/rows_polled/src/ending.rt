@@ -80,6 +80,28 @@ where
     Ok(line)
 }
 
+/// A commit that is dropped before its first poll, which gives nothing.
+pub(crate) fn unpolled<R, S, T>(
+    rt: &R,
+    env: &mut On<S>,
+    desk: Desk<T>,
+    mut line: String,
+) -> Result<String, Flaw>
+where
+    R: Wait + AllocGlobal,
+    S: Store<Temp = T>,
+    T: RemovableTemp,
+{
+    let Desk {
+        task: _task,
+        writer,
+        worker: _worker,
+    } = desk;
+    let_go(writer.commit(rt, env));
+    add(&mut line, "-")?;
+    Ok(line)
+}
+
 /// What the worker's turns give once the writer is dropped.
 pub(crate) fn left<R: Wait + AllocGlobal, T: RemovableTemp>(
     rt: &R,

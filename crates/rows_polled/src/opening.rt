@@ -7,11 +7,33 @@ use futures::executor::block_on;
 use row_places::On;
 use rows::Flaw;
 use rows::answers::given;
-use rows::parts::algorithm_of;
+use rows::parts::{algorithm_of, integrity_of};
 use rows::words::{cut, number_of};
+use serde_json::Value;
 use std::alloc::AllocGlobal;
 use std::random::RandomSource;
 use std::sync::Wait;
+
+/// A writer that says all that a commit may be told: `with CACHE KEY INTEGRITY` expects five bytes of this integrity.
+fn opened_with_all<R: Wait + RandomSource + AllocGlobal, S: Store>(
+    rt: &R,
+    env: &mut On<S>,
+    cache: &str,
+    what: &str,
+) -> Result<Answered<Writer<S::Temp>>, Flaw> {
+    let alloc = rt.alloc();
+    let (key, integrity) = cut(what);
+    let sri = integrity_of(alloc, integrity)?;
+    let raw = vec![in alloc; 9; 2]?;
+    let opts = WriteOpts::new()
+        .size(5)
+        .time(7)
+        .metadata(Value::Bool(true))
+        .raw_metadata(raw)
+        .integrity(sri)
+        .durable(true);
+    given(block_on(rt, opts.open(env, cache, key)))
+}
 
 /// A writer that is opened with options: `open CACHE KEY SIZE` and `open_hash CACHE SIZE` expect so many bytes.
 fn opened_with<R: Wait + RandomSource + AllocGlobal, S: Store>(
@@ -31,6 +53,7 @@ fn opened_with<R: Wait + RandomSource + AllocGlobal, S: Store>(
             let opts = WriteOpts::new().size(number_of(what)?);
             given(block_on(rt, opts.open_hash(env, cache)))
         }
+        "with" => opened_with_all(rt, env, cache, what),
         _ => Err(Flaw::NotRead),
     }
 }

@@ -1,6 +1,6 @@
 //! Writers and their workers: what polls and turns give, one after another.
 use crate::answers::{add, bytes_of};
-use crate::ending::{committed, left};
+use crate::ending::{committed, left, unpolled};
 use crate::gates::turned;
 use crate::opening::opened;
 use crate::polls::{close, flush, write};
@@ -79,7 +79,8 @@ fn stepped_in_turn<R: Wait + AllocGlobal, T: RemovableTemp>(
     Ok(line)
 }
 
-/// What the steps give up to the end of the writer, its end, and the steps behind it: a commit, a close (`shut`), or a drop.
+/// What the steps give up to the end of the writer, its end, and the steps behind it: a commit, a close (`shut`), a commit
+/// that is never polled (`leave`), or a drop.
 fn made_with<R, S, T>(
     rt: &R,
     env: &mut On<S>,
@@ -98,6 +99,10 @@ where
     if let Some((before, after)) = steps.split_once("; shut") {
         let line = stepped_in_turn(rt, &mut desk, before)?;
         return committed(rt, env, desk, true, after, line);
+    }
+    if let Some((before, _)) = steps.split_once("; leave") {
+        let line = stepped_in_turn(rt, &mut desk, before)?;
+        return unpolled(rt, env, desk, line);
     }
     if let Some((before, after)) = steps.split_once("; drop") {
         let line = stepped_in_turn(rt, &mut desk, before)?;
