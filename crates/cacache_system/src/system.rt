@@ -8,16 +8,15 @@ ghost use Rattle.cacache_system.specs.CallLog.{MakesCall, said, said_bytes, said
 
 use crate::call::FileInfo;
 use std::io;
-use std::io::{Read, Write};
 
 /// What a store of real folders asks of the system: one call a method. Closing is no call: a file that is dropped is
 /// closed.
 pub trait System {
-    /// An open file, or a folder that was opened to be synced.
-    type File: Read + Write + Drop;
+    /// An open file, or a folder that was opened to be synced. It is read and written by calls alone.
+    type File: Drop;
 
     /// A folder that was opened to be listed.
-    type Folder: Read + Drop;
+    type Folder: Drop;
 
     /// The number of an open file.
     ghost number: { Self.File → ℕ };

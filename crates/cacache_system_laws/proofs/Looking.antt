@@ -23,7 +23,7 @@ use Rattle.cacache_system.specs.declared.call.FileInfo.{FileInfo}
 use Rattle.cacache_system.specs.declared.call.SystemCall.TheVariants as asks
 use Rattle.cacache_system.specs.declared.call.CallResult.{CallResult}
 use Rattle.cacache_system.specs.declared.call.CallResult.TheVariants as says
-use Rattle.cacache_system.specs.CallsOf.{Stage, to_give, over, sizing, unless_folder, opened, after}
+use Rattle.cacache_system.specs.CallsOf.{Stage, to_give, over, opening, sizing, unless_folder, opened, after}
 use Rattle.cacache_system.specs.Seen.{NumberedStep}
 use Rattle.cacache_system.specs.AnswersOf.{answer_of, failed_with, refuses_memory}
 use Rattle.cacache_system_laws.specs.Machine.{Machine, IsRefused, ShowsEnd, ShowsNode, Describes}
@@ -31,7 +31,7 @@ use Rattle.cacache_system_laws.specs.Laws.{answer_on, left_in, outcome, led_to, 
 use Rattle.cacache_system_laws.specs.Opening.{OpenAgrees, SizeAgrees}
 use Rattle.cacache_system_laws.proofs.Refused.{same_outcome, failed, refused_on}
 use Rattle.cacache_system_laws.proofs.Leading.{Claim, over_leads, call_leads}
-use Rattle.cacache_system_laws.proofs.Claims.{way_of, claim_of, cases_of, agrees_of, claim_plain, claim_broken}
+use Rattle.cacache_system_laws.proofs.Claims.{way_of, claim_of, cases_of, agrees_of, taking_leads, claim_plain, claim_broken, claim_memory}
 use Rattle.cacache_system_laws.proofs.Opening.{OpenedOn, Openings, opening_leads, said_leads, of_some}
 use Rattle.cacache_system_laws.proofs.Views.{View, nowhere, a_folder, a_file, view}
 
@@ -118,7 +118,9 @@ open_openings b m path done = record {
 }
 
 pub open_agrees : OpenAgrees
-open_agrees m hint path = agrees_of m hint (steps.Open path) (λ b done. opening_leads b m to_give path (claim_of b m (steps.Open path)) (open_openings b m path done))
+open_agrees m hint path = agrees_of m hint (steps.Open path) (λ b done.
+    taking_leads (way_of b) (opening to_give path) m (claim_of b m (steps.Open path)) (claim_memory b m (steps.Open path) done m refl refl)
+    (opening_leads b m to_give path (claim_of b m (steps.Open path)) (open_openings b m path done)))
 
 -- ---- a file's size is asked for
 
