@@ -17,7 +17,7 @@ use Rattle.cacache_system.specs.Seen.{NumberedFile, NumberedTemp, NumberedStep, 
 use Rattle.cacache_system.specs.AnswersOf.{Hint, no_hint, is_missing, first, answer_of, read_on, failed_with, misses, StepRuns, remove}
 use Rattle.std.specs.Result.{result_map_both}
 use Rattle.cacache_store.specs.declared.store.answer.Answer.{Answer}
-use Rattle.cacache_folder.specs.declared.folder.opened.FolderFile.{FolderFile}
+use Rattle.cacache_folder.specs.declared.folder.opened.SystemFile.{SystemFile}
 use Rattle.cacache_folder.specs.declared.folder.temp.SystemTemp.{SystemTemp}
 use Rattle.cacache_folder.specs.FolderNumbers.{value_or, answered, answered_or}
 use Rattle.cacache_folder.specs.Looks.{LooksFirst}
@@ -143,14 +143,14 @@ value_is : {A : Type 0} (step : NumberedStep) (say : A → CallResult) (give : A
 value_is step say give (Ok value) gives fails = gives value
 value_is step say give (Err error) gives fails = fails (error_kind error)
 
-answer_is : {A Y F D : Type 0} (number : F → ℕ) (step : NumberedStep) (give : A → Answer (FolderFile F) (SystemTemp Y F D)) (r : Result A Error)
+answer_is : {A Y F D : Type 0} (number : F → ℕ) (step : NumberedStep) (give : A → Answer (SystemFile Y F D) (SystemTemp Y F D)) (r : Result A Error)
     → value_or (λ value. answered number (give value)) step r ≡ answered_or number step (result_map_both give (λ e. e) r)
 answer_is number step give (Ok value) = refl
 answer_is number step give (Err error) = refl
 
 -- the answer of a step of one value
-pub arm_as : {A Y F D : Type 0} (number : F → ℕ) (step : NumberedStep) (give : A → Answer (FolderFile F) (SystemTemp Y F D)) (r : Result A Error)
-    (told : Result (Answer (FolderFile F) (SystemTemp Y F D)) Error) (old new : Log)
+pub arm_as : {A Y F D : Type 0} (number : F → ℕ) (step : NumberedStep) (give : A → Answer (SystemFile Y F D) (SystemTemp Y F D)) (r : Result A Error)
+    (told : Result (Answer (SystemFile Y F D) (SystemTemp Y F D)) Error) (old new : Log)
     → StepRuns step (value_or (λ value. answered number (give value)) step r) old new → told ≡ result_map_both give (λ e. e) r
     → StepRuns step (answered_or number step told) old new
 arm_as number step give r told old new run is =
@@ -158,7 +158,7 @@ arm_as number step give r told old new run is =
 
 -- the run of a step of one value
 pub arm_run : {A Y F D : Type 0} (number : F → ℕ) (step : NumberedStep) (s : Stage) (say : A → CallResult)
-    (give : A → Answer (FolderFile F) (SystemTemp Y F D)) (r : Result A Error) (told : Result (Answer (FolderFile F) (SystemTemp Y F D)) Error) (old new : Log)
+    (give : A → Answer (SystemFile Y F D) (SystemTemp Y F D)) (r : Result A Error) (told : Result (Answer (SystemFile Y F D) (SystemTemp Y F D)) Error) (old new : Log)
     → RunLogged s (said say r) old new → s ≡ first no_hint step → ((value : A) → answered number (give value) ≡ answer_of step (say value))
     → ((why : ErrorKind) → failed_with step why ≡ answer_of step (says.Failed why)) → told ≡ result_map_both give (λ e. e) r
     → StepRuns step (answered_or number step told) old new

@@ -5,18 +5,18 @@ use Rattle.cacache_store.specs.declared.store.step.Step.TheVariants as steps
 use Rattle.cacache_store.specs.declared.store.answer.Answer.TheVariants as answers
 use Rattle.cacache_store.specs.Plain.{PlainStep, PlainAnswer}
 use Rattle.cacache_store.specs.Fits.{is_no_memory}
-use Rattle.cacache_folder.specs.declared.folder.opened.FolderFile.{FolderFile}
+use Rattle.cacache_folder.specs.declared.folder.opened.SystemFile.{SystemFile}
 use Rattle.cacache_folder.specs.declared.folder.temp.SystemTemp.{SystemTemp}
 use Rattle.cacache_folder.specs.FolderNumbers.{numbered, goes_by_path}
 use Rattle.cacache_folder.specs.PartialSteps.{HandsBackWhole}
 
 -- what is no step of a file
-pub by_path : {Y F D : Type 0} (number : F → ℕ) (step : Step (FolderFile F) (SystemTemp Y F D))
+pub by_path : {Y F D : Type 0} (number : F → ℕ) (step : Step (SystemFile Y F D) (SystemTemp Y F D))
     → ((a : List ℕ) → step ≡ steps.CreateTemp a → ⊥)
     → ((a : SystemTemp Y F D) (b : List ℕ) → step ≡ steps.Write a b → ⊥)
     → ((a : SystemTemp Y F D) (b : List ℕ) → step ≡ steps.Persist a b → ⊥)
     → ((a : List ℕ) → step ≡ steps.Open a → ⊥)
-    → ((a : FolderFile F) (b : ℕ) → step ≡ steps.Read a b → ⊥)
+    → ((a : SystemFile Y F D) (b : ℕ) → step ≡ steps.Read a b → ⊥)
     → ((a : SystemTemp Y F D) → step ≡ steps.SyncTemp a → ⊥)
     → goes_by_path (numbered number step) ≡ true
 by_path number (steps.MakeDirs a) _ _ _ _ _ _ = refl
@@ -41,7 +41,7 @@ by_path number (steps.SyncFile a) _ _ _ _ _ _ = refl
 by_path number (steps.SyncDir a) _ _ _ _ _ _ = refl
 
 -- what is no other step
-pub by_file : {Y F D : Type 0} (number : F → ℕ) (step : Step (FolderFile F) (SystemTemp Y F D))
+pub by_file : {Y F D : Type 0} (number : F → ℕ) (step : Step (SystemFile Y F D) (SystemTemp Y F D))
     → ((a : List ℕ) → step ≡ steps.MakeDirs a → ⊥)
     → ((a : List ℕ) (b : List ℕ) → step ≡ steps.Append a b → ⊥)
     → ((a : List ℕ) → step ≡ steps.ReadAll a → ⊥)

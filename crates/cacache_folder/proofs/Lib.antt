@@ -11,3 +11,4 @@ pub mod Answering
 pub mod Copying
 pub mod Reading
 pub mod ByPath
+pub mod HandleReads

@@ -2,11 +2,11 @@
 use Rattle.std.specs.Prelude.{None}
 use Rattle.cacache_store.specs.declared.store.plain.PlainFile.{PlainFile}
 use Rattle.cacache_store.specs.declared.store.plain.PlainTemp.{PlainTemp}
-use Rattle.cacache_folder.specs.declared.folder.opened.FolderFile.{FolderFile}
+use Rattle.cacache_folder.specs.declared.folder.opened.SystemFile.{SystemFile}
 use Rattle.cacache_folder.specs.declared.folder.temp.SystemTemp.{SystemTemp}
 
 -- an open file
-abbrev pub seen_file : {F : Type 0} → FolderFile F → PlainFile
+abbrev pub seen_file : {Y F D : Type 0} → SystemFile Y F D → PlainFile
 seen_file f = record { left = f.left; bytes = None }
 
 -- a temporary file

@@ -7,11 +7,11 @@ use Rattle.cacache_store.specs.declared.store.step.Step.TheVariants.{CreateTemp,
 use Rattle.cacache_store.specs.declared.store.answer.Answer.{Answer}
 use Rattle.cacache_system.specs.Seen.{NumberedFile, NumberedTemp, NumberedStep, NumberedAnswer, step_as, answer_as}
 use Rattle.cacache_system.specs.AnswersOf.{failed_with}
-use Rattle.cacache_folder.specs.declared.folder.opened.FolderFile.{FolderFile}
+use Rattle.cacache_folder.specs.declared.folder.opened.SystemFile.{SystemFile}
 use Rattle.cacache_folder.specs.declared.folder.temp.SystemTemp.{SystemTemp}
 
 -- an open file
-abbrev pub numbered_file : {F : Type 0} → (F → ℕ) → FolderFile F → NumberedFile
+abbrev pub numbered_file : {Y F D : Type 0} → (F → ℕ) → SystemFile Y F D → NumberedFile
 numbered_file number f = record { number = number f.file; left = f.left }
 
 -- a temporary file
@@ -19,18 +19,18 @@ abbrev pub numbered_temp : {Y F D : Type 0} → (F → ℕ) → SystemTemp Y F D
 numbered_temp number t = record { number = number t.file; path = t.path }
 
 -- a step
-abbrev pub numbered : {Y F D : Type 0} → (F → ℕ) → Step (FolderFile F) (SystemTemp Y F D)
+abbrev pub numbered : {Y F D : Type 0} → (F → ℕ) → Step (SystemFile Y F D) (SystemTemp Y F D)
     → NumberedStep
 numbered number step = step_as (numbered_file number) (numbered_temp number) step
 
 -- an answer
-abbrev pub answered : {Y F D : Type 0} → (F → ℕ) → Answer (FolderFile F) (SystemTemp Y F D)
+abbrev pub answered : {Y F D : Type 0} → (F → ℕ) → Answer (SystemFile Y F D) (SystemTemp Y F D)
     → NumberedAnswer
 answered number answer = answer_as (numbered_file number) (numbered_temp number) answer
 
 -- an answer, or the failure of this step
 abbrev pub answered_or : {Y F D : Type 0} → (F → ℕ) → NumberedStep
-    → Result (Answer (FolderFile F) (SystemTemp Y F D)) Error → NumberedAnswer
+    → Result (Answer (SystemFile Y F D) (SystemTemp Y F D)) Error → NumberedAnswer
 answered_or number step (Ok answer) = answered number answer
 answered_or number step (Err error) = failed_with step (error_kind error)
 

@@ -5,6 +5,7 @@ pub mod Reasons
 pub mod Interruptions
 pub mod FolderNumbers
 pub mod Goings
+pub mod HandleRuns
 pub mod Looks
 pub mod Listings
 pub mod StepClauses

@@ -9,7 +9,7 @@ use Rattle.cacache_system.specs.declared.call.CallItem.{CallItem}
 use Rattle.cacache_system.specs.declared.call.CallResult.{CallResult}
 use Rattle.cacache_system.specs.Seen.{NumberedStep, NumberedAnswer}
 use Rattle.cacache_system.specs.AnswersOf.{StepRuns, answer_of}
-use Rattle.cacache_folder.specs.declared.folder.opened.FolderFile.{FolderFile}
+use Rattle.cacache_folder.specs.declared.folder.opened.SystemFile.{SystemFile}
 use Rattle.cacache_folder.specs.declared.folder.temp.SystemTemp.{SystemTemp}
 use Rattle.cacache_folder.specs.FolderHandles.{seen_file, seen_temp}
 use Rattle.cacache_folder.specs.FolderNumbers.{numbered, answered, answered_or, value_or, goes_by_path}
@@ -22,34 +22,34 @@ ValueRuns step give result old new = StepRuns step (value_or give step result) o
 
 module _ {Y F D : Type 0} where
   -- an answer fits its step
-  abbrev pub AnswerFits : Step (FolderFile F) (SystemTemp Y F D)
-      → Answer (FolderFile F) (SystemTemp Y F D) → Type 0
+  abbrev pub AnswerFits : Step (SystemFile Y F D) (SystemTemp Y F D)
+      → Answer (SystemFile Y F D) (SystemTemp Y F D) → Type 0
   AnswerFits step answer =
       Fits (plain_step seen_file seen_temp step) (plain_answer seen_file seen_temp answer)
 
   -- a step that may have done a part doesn't come back
-  abbrev pub AnswersWhole : Step (FolderFile F) (SystemTemp Y F D)
-      → Answer (FolderFile F) (SystemTemp Y F D) → Type 0
+  abbrev pub AnswersWhole : Step (SystemFile Y F D) (SystemTemp Y F D)
+      → Answer (SystemFile Y F D) (SystemTemp Y F D) → Type 0
   AnswersWhole step answer =
       HandsBackWhole (plain_step seen_file seen_temp step)
       (plain_answer seen_file seen_temp answer)
 
   -- a step answers what its calls end with
-  abbrev pub AnswersEnd : (F → ℕ) → Step (FolderFile F) (SystemTemp Y F D) → CallResult
-      → Answer (FolderFile F) (SystemTemp Y F D) → Type 0
+  abbrev pub AnswersEnd : (F → ℕ) → Step (SystemFile Y F D) (SystemTemp Y F D) → CallResult
+      → Answer (SystemFile Y F D) (SystemTemp Y F D) → Type 0
   AnswersEnd number step end answer =
       answered number answer ≡ answer_of (numbered number step) end
 
   -- a step is answered at the end of a run of its calls
-  abbrev pub AnswersRun : (F → ℕ) → Step (FolderFile F) (SystemTemp Y F D)
-      → Answer (FolderFile F) (SystemTemp Y F D) → Option (List CallItem)
+  abbrev pub AnswersRun : (F → ℕ) → Step (SystemFile Y F D) (SystemTemp Y F D)
+      → Answer (SystemFile Y F D) (SystemTemp Y F D) → Option (List CallItem)
       → Option (List CallItem) → Type 0
   AnswersRun number step answer old new =
       StepRuns (numbered number step) (answered number answer) old new
 
   -- so is one that takes no file and gives none, or it failed
-  abbrev pub RunsByPath : (F → ℕ) → Step (FolderFile F) (SystemTemp Y F D)
-      → Result (Answer (FolderFile F) (SystemTemp Y F D)) Error → Option (List CallItem)
+  abbrev pub RunsByPath : (F → ℕ) → Step (SystemFile Y F D) (SystemTemp Y F D)
+      → Result (Answer (SystemFile Y F D) (SystemTemp Y F D)) Error → Option (List CallItem)
       → Option (List CallItem) → Type 0
   RunsByPath number step result old new =
       goes_by_path (numbered number step) ≡ true

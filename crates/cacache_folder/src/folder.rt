@@ -40,9 +40,9 @@ use cacache_system::{Host, System};
 use copying::copy;
 use descent::Descent;
 use faults::failed_answer;
-use files::{append, create_temp, exists, open, size};
+use files::{append, create_temp, exists, open_with, size};
 use guess::Guess;
-pub use opened::FolderFile;
+pub use opened::{FolderFile, SystemFile};
 use paths::make_dirs;
 use std::io;
 use std::io::ErrorKind;
@@ -56,10 +56,10 @@ use whole::{read_all, read_piece};
 pub type FolderStore<R> = SystemStore<Host<R>>;
 
 /// A step on the files of a system.
-type StepOf<Y> = Step<FolderFile<<Y as System>::File>, SystemTemp<Y>>;
+type StepOf<Y> = Step<SystemFile<Y>, SystemTemp<Y>>;
 
 /// An answer with files of a system.
-type AnswerOf<Y> = Answer<FolderFile<<Y as System>::File>, SystemTemp<Y>>;
+type AnswerOf<Y> = Answer<SystemFile<Y>, SystemTemp<Y>>;
 
 /// The folders and files of a system, by the system's own rules. As a store it keeps no log. Each `Reflink` fails with
 /// `Unsupported`.
@@ -184,7 +184,7 @@ impl<Y: System + AllocGlobal + Clone + Drop> SystemStore<Y> {
     }
 
     /// Does a `Read` and answers it.
-    fn read_file(&mut self, file: FolderFile<Y::File>, max: usize) -> AnswerOf<Y>
+    fn read_file(&mut self, file: SystemFile<Y>, max: usize) -> AnswerOf<Y>
         ensures fits { AnswerFits {Y = Y} {F = Y.File} {D = Y.Folder} (Step.Read file max) result }
         ensures whole { AnswersWhole {Y = Y} {F = Y.File} {D = Y.Folder} (Step.Read file max)
             result }
@@ -202,7 +202,7 @@ impl<Y: System + AllocGlobal + Clone + Drop> SystemStore<Y> {
 }
 
 impl<Y: System + AllocGlobal + Clone + Drop> Store for SystemStore<Y> {
-    type File = FolderFile<Y::File>;
+    type File = SystemFile<Y>;
 
     type Temp = SystemTemp<Y>;
 
@@ -233,7 +233,7 @@ impl<Y: System + AllocGlobal + Clone + Drop> Store for SystemStore<Y> {
                 moved(done, temp, path, &mut self.reason)
             }
             Step::Open(path) => {
-                let file = open(&mut self.system, path.as_str());
+                let file = open_with(&mut self.system, path.as_str());
                 readable(file, path, &mut self.reason)
             }
             Step::Read(file, max) => self.read_file(file, max),

@@ -6,5 +6,5 @@ mod folder;
 mod names;
 
 pub use clock::SystemClock;
-pub use folder::{FolderFile, FolderStore, FolderTemp, SystemStore, SystemTemp};
+pub use folder::{FolderFile, FolderStore, FolderTemp, SystemFile, SystemStore, SystemTemp};
 pub use names::ProcessNames;

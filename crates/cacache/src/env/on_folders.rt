@@ -8,22 +8,18 @@ use cacache_folder::{FolderFile, FolderStore, FolderTemp, ProcessNames, SystemCl
 use cacache_put::linker::SyncToLinker;
 use cacache_put::writer::SyncWriter;
 use cacache_store::env::Env;
-use std::rt::Files;
-
-/// An open file of the system.
-type File = <HostRuntime as Files>::File;
 
 /// The environment of caches in real folders.
 pub type Folders = Env<FolderStore<HostRuntime>, SystemClock<HostRuntime>, ProcessNames>;
 
 /// An open content of a cache in real folders.
-pub type FolderReader = SyncReader<FolderFile<File>>;
+pub type FolderReader = SyncReader<FolderFile<HostRuntime>>;
 
 /// A content that is being written into a cache in real folders.
 pub type FolderWriter = SyncWriter<FolderTemp<HostRuntime>>;
 
 /// An open file that is to become a content of a cache in real folders by a link.
-pub type FolderLinker = SyncToLinker<FolderFile<File>>;
+pub type FolderLinker = SyncToLinker<FolderFile<HostRuntime>>;
 
 /// The environment of caches in real folders. `base` is for links alone: the absolute path of the folder that a
 /// relative target of a link starts from. A relative path of a cache starts from the working folder of the process.

@@ -1,7 +1,6 @@
 //! Reads and writes that a signal interrupts.
 ghost use Rattle.std.specs.Prelude.{◌≡◌, take, length};
 ghost use Rattle.std.specs.Io.{ReadsAtMost, WritesAtMost};
-ghost use Rattle.std.specs.Io.KnownBytes.{ReadConsumes, WriteAppends};
 ghost use Rattle.std_io.specs.IoError.{error_kind};
 ghost use Rattle.cacache_system.specs.declared.call.SystemCall.TheVariants as asks;
 ghost use Rattle.cacache_system.specs.declared.call.CallResult.TheVariants as says;
@@ -11,7 +10,7 @@ ghost use Rattle.cacache_folder.specs.Interruptions.{Insists};
 
 use cacache_system::System;
 use std::io;
-use std::io::{ErrorKind, Read, Write};
+use std::io::ErrorKind;
 
 /// How often a call is made that a signal interrupts each time.
 const TRIES: u64 = u64::MAX;
@@ -23,35 +22,7 @@ fn is_interrupted(error: &io::Error) -> bool
     matches!(error.kind(), ErrorKind::Interrupted)
 }
 
-/// One read of a file by its handle. If a signal interrupts it before it gives a byte, it is tried again.
-pub(crate) fn read_again<F: Read>(file: &mut F, buf: &mut [u8]) -> io::Result<usize>
-    ensures bound { ReadsAtMost result buf.new }
-    ensures bytes { ReadConsumes (F.remaining file.old) (F.remaining file.new) result buf.new }
-{
-    for _ in 0..TRIES {
-        match file.read(buf) {
-            Err(e) if is_interrupted(&e) => {}
-            read => return read,
-        }
-    }
-    Err(io::Error::from(ErrorKind::Interrupted))
-}
-
-/// One write to a file by its handle. If a signal interrupts it before it takes a byte, it is tried again.
-pub(crate) fn write_again<F: Write>(file: &mut F, buf: &[u8]) -> io::Result<usize>
-    ensures bound { WritesAtMost result buf.now }
-    ensures bytes { WriteAppends (F.contents file.old) (F.contents file.new) result buf.now }
-{
-    for _ in 0..TRIES {
-        match file.write(buf) {
-            Err(e) if is_interrupted(&e) => {}
-            written => return written,
-        }
-    }
-    Err(io::Error::from(ErrorKind::Interrupted))
-}
-
-/// The same read as a call of the system.
+/// A read of a file. If a signal interrupts it before it gives a byte, it is made again.
 pub(crate) fn ask_to_read<Y: System>(
     system: &mut Y,
     file: &mut Y::File,
@@ -71,7 +42,7 @@ pub(crate) fn ask_to_read<Y: System>(
     system.read(file, buf)
 }
 
-/// The same write as a call of the system.
+/// A write to a file. If a signal interrupts it before it takes a byte, it is made again.
 pub(crate) fn ask_to_write<Y: System>(
     system: &mut Y,
     file: &mut Y::File,

@@ -7,7 +7,7 @@ ghost use Rattle.cacache_folder.specs.Reasons.{Explains};
 ghost use Rattle.cacache_folder.specs.StepClauses.{AnswerFits, AnswersWhole, AnswersEnd};
 
 use crate::folder::faults::failed_answer;
-use crate::folder::opened::FolderFile;
+use crate::folder::opened::SystemFile;
 use crate::folder::temp::SystemTemp;
 use cacache_core::text::Text;
 use cacache_store::store::{Answer, Step};
@@ -20,7 +20,7 @@ pub(crate) fn created<Y: System + Drop>(
     created: io::Result<(Y, Y::File)>,
     path: Text,
     reason: &mut Option<ErrorKind>,
-) -> Answer<FolderFile<Y::File>, SystemTemp<Y>>
+) -> Answer<SystemFile<Y>, SystemTemp<Y>>
     ensures fits { AnswerFits {Y = Y} {F = Y.File} {D = Y.Folder} (Step.CreateTemp path) result }
     ensures whole { AnswersWhole {Y = Y} {F = Y.File} {D = Y.Folder} (Step.CreateTemp path) result }
     ensures explains { Explains reason.old reason.new (plain_answer seen_file seen_temp result) }
@@ -38,7 +38,7 @@ pub(crate) fn synced<Y: System + Drop>(
     synced: io::Result<()>,
     temp: SystemTemp<Y>,
     reason: &mut Option<ErrorKind>,
-) -> Answer<FolderFile<Y::File>, SystemTemp<Y>>
+) -> Answer<SystemFile<Y>, SystemTemp<Y>>
     ensures fits { AnswerFits {F = Y.File} (Step.SyncTemp temp) result }
     ensures whole { AnswersWhole {F = Y.File} (Step.SyncTemp temp) result }
     ensures explains { Explains reason.old reason.new (plain_answer seen_file seen_temp result) }
@@ -57,7 +57,7 @@ pub(crate) fn moved<Y: System + Drop>(
     temp: SystemTemp<Y>,
     path: Text,
     reason: &mut Option<ErrorKind>,
-) -> Answer<FolderFile<Y::File>, SystemTemp<Y>>
+) -> Answer<SystemFile<Y>, SystemTemp<Y>>
     ensures fits { AnswerFits {F = Y.File} (Step.Persist temp path) result }
     ensures whole { AnswersWhole {F = Y.File} (Step.Persist temp path) result }
     ensures explains { Explains reason.old reason.new (plain_answer seen_file seen_temp result) }
@@ -75,18 +75,18 @@ pub(crate) fn moved<Y: System + Drop>(
 
 /// The answer to an `Open` of this path.
 pub(crate) fn readable<Y: System + Drop>(
-    opened: io::Result<Y::File>,
+    opened: io::Result<(Y, Y::File)>,
     path: Text,
     reason: &mut Option<ErrorKind>,
-) -> Answer<FolderFile<Y::File>, SystemTemp<Y>>
+) -> Answer<SystemFile<Y>, SystemTemp<Y>>
     ensures fits { AnswerFits {Y = Y} {F = Y.File} {D = Y.Folder} (Step.Open path) result }
     ensures whole { AnswersWhole {Y = Y} {F = Y.File} {D = Y.Folder} (Step.Open path) result }
     ensures explains { Explains reason.old reason.new (plain_answer seen_file seen_temp result) }
     ensures answer { AnswersEnd {Y = Y} {F = Y.File} {D = Y.Folder} Y.number (Step.Open path)
-        (said (λ file. says.Opened (Y.number file)) opened) result }
+        (said (λ made. says.Opened (Y.number made.1)) opened) result }
 {
     match opened {
-        Ok(file) => Answer::File(FolderFile::new(file)),
+        Ok((system, file)) => Answer::File(SystemFile::new(system, file)),
         Err(error) => failed_answer(error, Step::Open(path), reason),
     }
 }

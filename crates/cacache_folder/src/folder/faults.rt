@@ -9,7 +9,7 @@ ghost use Rattle.cacache_system.specs.AnswersOf.{leaves_a_part, failed_with, ref
 ghost use Rattle.cacache_folder.specs.FolderHandles.{seen_file, seen_temp};
 ghost use Rattle.cacache_folder.specs.FolderNumbers.{numbered, answered};
 
-use crate::folder::opened::FolderFile;
+use crate::folder::opened::SystemFile;
 use crate::folder::temp::SystemTemp;
 use cacache_core::errors::Fault;
 use cacache_core::keeping::let_go;
@@ -27,7 +27,7 @@ fn refuses_memory(kind: ErrorKind) -> bool
 
 /// Whether the step may change something and then fail: it makes some of the folders, the empty file, the file or a
 /// part of its line, or a part of a copy; or it syncs, and the system may have lost what it was to sync.
-fn may_do_a_part<Y: System + Drop>(step: &Step<FolderFile<Y::File>, SystemTemp<Y>>) -> bool
+fn may_do_a_part<Y: System + Drop>(step: &Step<SystemFile<Y>, SystemTemp<Y>>) -> bool
     ensures plain { result ≡ does_a_part (plain_step seen_file seen_temp step.now) }
     ensures numbered { result ≡ leaves_a_part (numbered Y.number step.now) }
 {
@@ -47,9 +47,9 @@ fn may_do_a_part<Y: System + Drop>(step: &Step<FolderFile<Y::File>, SystemTemp<Y
 /// only if nothing can have changed.
 pub(crate) fn failed_answer<Y: System + Drop>(
     error: io::Error,
-    step: Step<FolderFile<Y::File>, SystemTemp<Y>>,
+    step: Step<SystemFile<Y>, SystemTemp<Y>>,
     reason: &mut Option<ErrorKind>,
-) -> Answer<FolderFile<Y::File>, SystemTemp<Y>>
+) -> Answer<SystemFile<Y>, SystemTemp<Y>>
     ensures fits { Fits (plain_step seen_file seen_temp step)
         (plain_answer seen_file seen_temp result) }
     ensures whole { HandsBackWhole (plain_step seen_file seen_temp step)

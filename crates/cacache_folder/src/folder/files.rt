@@ -20,7 +20,7 @@ use std::io::ErrorKind;
 /// The mode of a temporary file: its owner alone may read and write it.
 const PRIVATE: u32 = 0o600;
 
-/// A new empty file that only its owner may read and write, with a system that can remove it.
+/// A new empty file that only its owner may read and write, with a system that can write and remove it.
 pub(crate) fn create_temp<Y: System + Clone>(system: &mut Y, path: &str) -> io::Result<(Y, Y::File)>
     ensures { RunLogged (calls.taking_memory (calls.only (asks.CreateNew path.now 384)))
         (said_opened (λ made. Y.number made.1) result) (Y.calls system.old) (Y.calls system.new) }
@@ -63,7 +63,7 @@ pub(crate) fn opened<Y: System>(system: &mut Y, path: &str) -> io::Result<(Y::Fi
 }
 
 /// The file at the path, open for reading. The system would open a folder too, and fail its first read.
-pub(crate) fn open<Y: System>(system: &mut Y, path: &str) -> io::Result<Y::File>
+fn open<Y: System>(system: &mut Y, path: &str) -> io::Result<Y::File>
     ensures { RunLogged (calls.opening calls.to_give path.now)
         (said_opened Y.number result) (Y.calls system.old) (Y.calls system.new) }
 {
@@ -72,6 +72,20 @@ pub(crate) fn open<Y: System>(system: &mut Y, path: &str) -> io::Result<Y::File>
             None => Ok(file),
             Some(why) => Err(io::Error::from(why)),
         },
+        Err(error) => Err(error),
+    }
+}
+
+/// The same file with a system that can read it.
+pub(crate) fn open_with<Y: System + Clone>(system: &mut Y, path: &str) -> io::Result<(Y, Y::File)>
+    ensures { RunLogged (calls.taking_memory (calls.opening calls.to_give path.now))
+        (said_opened (λ made. Y.number made.1) result) (Y.calls system.old) (Y.calls system.new) }
+{
+    let Ok(own) = system.clone() else {
+        return Err(io::Error::from(ErrorKind::OutOfMemory));
+    };
+    match open(system, path) {
+        Ok(file) => Ok((own, file)),
         Err(error) => Err(error),
     }
 }

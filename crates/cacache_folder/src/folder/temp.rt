@@ -1,7 +1,16 @@
 //! Temporary files of real folders.
-ghost use Rattle.std.specs.Prelude.{◌≡◌};
+ghost use Rattle.std.specs.Prelude.{◌≡◌, None, IsOk};
+ghost use Rattle.std.specs.Io.{WritesAtMost};
+ghost use Rattle.std.specs.Io.KnownBytes.{WriteAppends};
+ghost use Rattle.cacache_system.specs.declared.call.SystemCall.TheVariants as asks;
+ghost use Rattle.cacache_system.specs.declared.call.CallResult.{CallResult};
+ghost use Rattle.cacache_system.specs.declared.call.CallResult.TheVariants as says;
+ghost use Rattle.cacache_system.specs.CallLog.{MakesCall, said};
+ghost use Rattle.cacache_system.specs.CallsOf.{RunLogged};
+ghost use Rattle.cacache_folder.specs.FolderNumbers.{numbered_temp};
+ghost use Rattle.cacache_folder.specs.HandleRuns.{writing};
 
-use crate::folder::again::write_again;
+use crate::folder::again::ask_to_write;
 use cacache_core::keeping::let_go;
 use cacache_core::text::Text;
 use cacache_store::store::{TempFile, TempHandle};
@@ -9,7 +18,8 @@ use cacache_system::{Host, System};
 use std::io;
 use std::io::Write;
 
-/// A temporary file of a system. Dropping it closes the file and removes it; where that fails, nobody is told.
+/// A temporary file of a system, with a system of its own, which its writes and its removal ask. Dropping it closes the
+/// file and removes it; where that fails, nobody is told.
 pub struct SystemTemp<Y: System + Drop> {
     pub(crate) system: Y,
     pub(crate) file: Y::File,
@@ -20,7 +30,10 @@ pub struct SystemTemp<Y: System + Drop> {
 pub type FolderTemp<R> = SystemTemp<Host<R>>;
 
 impl<Y: System + Drop> Drop for SystemTemp<Y> {
-    fn drop(self) {
+    fn drop(self)
+        ensures { (after : Y) × (answer : CallResult) × MakesCall (Y.calls self.system)
+            (Y.calls after) (asks.RemoveFile self.path) answer }
+    {
         let SystemTemp { system, file, path } = self;
         let_go(file);
         let mut system = system;
@@ -38,8 +51,12 @@ impl<Y: System + Drop> SystemTemp<Y> {
         } = self;
     }
 
-    /// Closes the file and removes it. The error says why it wasn't removed.
-    pub fn remove(self) -> io::Result<()> {
+    /// Closes the file and removes it by one call, after which the system is let go. The error says why it wasn't
+    /// removed.
+    pub fn remove(self) -> io::Result<()>
+        ensures { (after : Y) × MakesCall (Y.calls self.system) (Y.calls after)
+            (asks.RemoveFile self.path) (said (λ _. says.Done) result) }
+    {
         let SystemTemp { system, file, path } = self;
         let_go(file);
         let mut system = system;
@@ -48,12 +65,20 @@ impl<Y: System + Drop> SystemTemp<Y> {
 }
 
 impl<Y: System + Drop> Write for SystemTemp<Y> {
-    fn write(&mut self, buf: &[u8]) -> io::Result<usize> {
+    fn write(&mut self, buf: &[u8]) -> io::Result<usize>
+        ensures bound { WritesAtMost result buf.now }
+        ensures bytes { WriteAppends None None result buf.now }
+        ensures ran { RunLogged (writing (numbered_temp Y.number self.old) buf.now)
+            (said says.Count result) (Y.calls self.old.system) (Y.calls self.new.system) }
+    {
         self.write_some(buf)
     }
 
-    fn flush(&mut self) -> io::Result<()> {
-        self.file.flush()
+    fn flush(&mut self) -> io::Result<()>
+        ensures same { self.new ≡ self.old }
+        ensures done { IsOk result }
+    {
+        Ok(())
     }
 }
 
@@ -64,7 +89,14 @@ impl<Y: System + Drop> TempHandle for SystemTemp<Y> {
 }
 
 impl<Y: System + Drop> TempFile for SystemTemp<Y> {
-    fn write_some(&mut self, buf: &[u8]) -> io::Result<usize> {
-        write_again(&mut self.file, buf)
+    fn write_some(&mut self, buf: &[u8]) -> io::Result<usize>
+        ensures bound { WritesAtMost result buf.now }
+        ensures path { self.new.path ≡ self.old.path }
+        ensures bytes { WriteAppends None None result buf.now }
+        ensures number { Y.number self.new.file ≡ Y.number self.old.file }
+        ensures ran { RunLogged (writing (numbered_temp Y.number self.old) buf.now)
+            (said says.Count result) (Y.calls self.old.system) (Y.calls self.new.system) }
+    {
+        ask_to_write(&mut self.system, &mut self.file, buf)
     }
 }

@@ -1,5 +1,5 @@
 //! Files that are read whole, and pieces of open files.
-ghost use Rattle.std.specs.Prelude.{◌≡◌, ◌==◌, ◌+◌, ◌≤◌, ◌&&◌, not, false, IfOk, OnErr, length, min};
+ghost use Rattle.std.specs.Prelude.{◌≡◌, ◌+◌, ◌≤◌, false, IfOk, OnErr, length, min};
 ghost use Rattle.std.specs.Arc.{arc_value};
 ghost use Rattle.cacache_system.specs.declared.call.SystemCall.TheVariants as asks;
 ghost use Rattle.cacache_system.specs.declared.call.CallResult.TheVariants as says;
@@ -14,7 +14,7 @@ ghost use Rattle.cacache_folder.specs.Interruptions.{Insists};
 use crate::folder::again::ask_to_read;
 use crate::folder::copying::count_of;
 use crate::folder::files::opened;
-use crate::folder::opened::FolderFile;
+use crate::folder::opened::{SystemFile, gives_no_more};
 use cacache_core::bytes::Bytes;
 use cacache_system::System;
 use std::alloc::{AllocError, Global};
@@ -140,17 +140,10 @@ fn zeros(alloc: Global, size: usize) -> Result<Arc<Vec<u8>, Global>, AllocError>
     Ok(Arc::new(alloc, zeros)?)
 }
 
-/// Whether the file gave all that it may, so that it must not be said to end.
-fn gives_no_more<F>(file: &FolderFile<F>, size: usize) -> bool
-    ensures { result ≡ (file.now.left == 0 && not (size == 0)) }
-{
-    file.left == 0 && size != 0
-}
-
 /// The bytes of one read of an open file, for which there is room.
-fn read_into<Y: System>(
+fn read_into<Y: System + Drop>(
     system: &mut Y,
-    file: &mut FolderFile<Y::File>,
+    file: &mut SystemFile<Y>,
     room: Arc<Vec<u8>, Global>,
 ) -> io::Result<Bytes>
     requires { length (arc_value room).items ≤ file.now.left }
@@ -176,9 +169,9 @@ fn read_into<Y: System>(
 
 /// At most `max` bytes of an open file and at most `PIECE`: none only at its end, or if `max` is 0. Memory is taken
 /// before anything is read.
-pub(crate) fn read_piece<Y: System + AllocGlobal>(
+pub(crate) fn read_piece<Y: System + AllocGlobal + Drop>(
     system: &mut Y,
-    file: &mut FolderFile<Y::File>,
+    file: &mut SystemFile<Y>,
     max: usize,
 ) -> io::Result<Bytes>
     ensures count { IfOk result (λ bytes. length bytes ≤ max) }

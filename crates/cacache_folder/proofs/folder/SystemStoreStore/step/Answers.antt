@@ -38,9 +38,9 @@ returns-in-Persist-clause-ran g c =
 
 pub returns-in-Open-clause-ran : goal.returns-in-Open-clause-ran
 returns-in-Open-clause-ran g c =
-    subst (λ step. StepRuns (numbered g.Y.System.number step) (answered g.Y.System.number c.readable.result) (g.Y.System.calls c.args.self.now.system) (g.Y.System.calls c.open-file.new.system)) (sym c.in-Open.is)
-    (answers_run (steps.Open c.in-Open.path) _ (calls.opening calls.to_give c.as_str-in-Open.result.now) (said (λ file. says.Opened (g.Y.System.number file)) c.open-file.result)
-    (g.Y.System.calls c.args.self.now.system) (g.Y.System.calls c.open-file.new.system) c.open-file.ensures (ap (λ p. calls.opening calls.to_give p) c.as_str-in-Open.ensures.same) c.readable.ensures.answer)
+    subst (λ step. StepRuns (numbered g.Y.System.number step) (answered g.Y.System.number c.readable.result) (g.Y.System.calls c.args.self.now.system) (g.Y.System.calls c.open_with-file.new.system)) (sym c.in-Open.is)
+    (answers_run (steps.Open c.in-Open.path) _ (calls.taking_memory (calls.opening calls.to_give c.as_str-in-Open.result.now)) (said (λ made. says.Opened (g.Y.System.number made.1)) c.open_with-file.result)
+    (g.Y.System.calls c.args.self.now.system) (g.Y.System.calls c.open_with-file.new.system) c.open_with-file.ensures (ap (λ p. calls.taking_memory (calls.opening calls.to_give p)) c.as_str-in-Open.ensures.same) c.readable.ensures.answer)
 
 pub returns-in-Read-clause-ran : goal.returns-in-Read-clause-ran
 returns-in-Read-clause-ran g c =

@@ -1,1 +1,0 @@
--- No answers are needed: no more bytes are asked for than are left.
