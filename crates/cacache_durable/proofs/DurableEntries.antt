@@ -32,11 +32,11 @@ use Rattle.cacache_loss.specs.Loss.{Loss}
 use Rattle.cacache_loss.specs.LossLaws.{HoldsEntries}
 use Rattle.cacache_loss.specs.LostValues.{LeftOf}
 use Rattle.cacache_loss.specs.Moments.{lost_then}
-use Rattle.cacache_loss.specs.Syncs.{SyncsFolders}
+use Rattle.cacache_loss.specs.Syncs.{SyncsFile, SyncsFolders}
 use Rattle.cacache_loss.proofs.Buckets.{entries_survive}
 use Rattle.cacache_loss.proofs.CommitFolders.{four_for_buckets}
 use Rattle.cacache_loss.proofs.LostValues.{entries_are_held}
-use Rattle.cacache_durable.specs.Outlasting.{EntryOutlasts, moment_at}
+use Rattle.cacache_durable.specs.Outlasting.{EntryOutlasts, Outlasts, moment_at}
 use Rattle.cacache_durable.proofs.AtMoves.{QuietPlace, cache_here, cache_text, calm_later, calm_move, here, leads_to_end, own_move, own_record, texts_here}
 use Rattle.cacache_durable.proofs.CommitMoves.{HasDirs}
 use Rattle.cacache_durable.proofs.DoneSyncs.{syncs_file}
@@ -62,56 +62,77 @@ bucket_named key h folder home_is =
     joined_texts_name h.setup.cache (bucket_names_of (sha1 key)) (names_are_proper.buckets (sha1 key) (keys_have_digests key)) (omega arith)
     ∙ ap (λ o. names_below o (bucket_names_of (sha1 key))) home_is
 
-module _ {h : History} {folder path : Names} {before rest : List Record} {caller : ℕ} {more : Moves} (entry : Entry)
-    (q : QuietPlace h folder path before rest caller (whole_append h.setup.cache entry) more)
-    (formed : IsEntry entry) (fits : IsWritable entry) (file : Has (steps.SyncFile (bucket_path h.setup.cache entry.key), answers.Done) more)
-    (dirs : HasDirs (bucket_folders h.setup.cache entry.key) more) (loss : Loss) (left : Tree) (left_of : LeftOf folder (moment_at h h.records) loss left) where
+-- what a bucket holds at a place of a history
+pub bucket_is : (h : History) (folder : Names) → home h.setup ≡ Some folder → (at : List Record) (digest : List ℕ)
+    → entries_of (bytes_of (look (moment_at h at).tree (folder ++ bucket_names_of digest))) ≡ bucket_at h at digest
+bucket_is h folder home_is at digest =
+    bucket_bytes (look (moment_at h at).tree (folder ++ bucket_names_of digest)) ∙ ap (λ t. list_of (bucket_in (look t (folder ++ bucket_names_of digest)))) (tree_at h at)
+    ∙ ap (λ home. list_of (bucket_in (node_below home (now_at h at).tree (bucket_names_of digest)))) (sym home_is)
+
+-- where the line of an entry was taken whole, and then its bucket was synced with its folders, while others remove, link
+-- and export nothing
+pub record WholeEntry (h : History) (folder path : Names) (before rest : List Record) (caller : ℕ) (entry : Entry) : Type 0 where
+  pub more : Moves
+  pub at : QuietPlace h folder path before rest caller (whole_append h.setup.cache entry) more
+  pub formed : IsEntry entry
+  pub fits : IsWritable entry
+  pub file : Has (steps.SyncFile (bucket_path h.setup.cache entry.key), answers.Done) more
+  pub dirs : HasDirs (bucket_folders h.setup.cache entry.key) more
+
+module _ {h : History} {folder path : Names} {before rest : List Record} {caller : ℕ} (entry : Entry) (e : WholeEntry h folder path before rest caller entry) where
   abbrev at : List Record
-  at = here q
+  at = here e.at
 
   abbrev bucket : Names
   bucket = folder ++ bucket_names_of (sha1 entry.key)
 
   -- the bucket's folders are synced
-  way : SyncsFolders (Some folder) [] bucket (steps_of q.place.later)
+  pub bucket_way : SyncsFolders (Some folder) [] bucket (steps_of e.at.place.later)
   unfolding bucket_folders
-  way =
-      (four_for_buckets h.setup.cache folder (sha1 entry.key) (cache_text q dirs.0) (keys_have_digests entry.key)).enough (steps_of q.place.later)
-      (texts_here q (bucket_folders h.setup.cache entry.key) dirs)
+  bucket_way =
+      (four_for_buckets h.setup.cache folder (sha1 entry.key) (cache_text e.at e.dirs.0) (keys_have_digests entry.key)).enough (steps_of e.at.place.later)
+      (texts_here e.at (bucket_folders h.setup.cache entry.key) e.dirs)
 
-  abbrev old : List Entry
-  old = entries_of (bytes_of (look (moment_at h at).tree bucket))
+  -- and so is its file
+  pub bucket_synced : SyncsFile bucket (steps_of e.at.place.later)
+  bucket_synced =
+      syncs_file (bucket_path h.setup.cache entry.key) bucket (steps_of e.at.place.later) (bucket_named entry.key h folder e.at.home_is)
+      (e.at.place.has (steps.SyncFile (bucket_path h.setup.cache entry.key), answers.Done) e.file)
 
-  held : HoldsEntries (old ++ entry ∷ []) (lost_then (Some folder) (moment_at h h.records) loss bucket)
-  held =
-      subst (λ w. HoldsEntries (old ++ entry ∷ []) (lost_then (Some folder) w loss bucket))
-      (sym (leads_to_end q))
-      (entries_survive (Some folder) bucket entry (moment_at h at) (own_move q) (steps_of q.place.later) loss
-      (kind-below folder (bucket_names_of (sha1 entry.key))) (cache_here q) formed fits (calm_move q)
-      (bucket_named entry.key h folder q.home_is, refl, refl) (calm_later q)
-      (syncs_file (bucket_path h.setup.cache entry.key) bucket (steps_of q.place.later) (bucket_named entry.key h folder q.home_is) (q.place.has (steps.SyncFile (bucket_path h.setup.cache entry.key), answers.Done) file))
-      way)
+  module _ (loss : Loss) (left : Tree) (left_of : LeftOf folder (moment_at h h.records) loss left) where
+    abbrev old : List Entry
+    old = entries_of (bytes_of (look (moment_at h at).tree bucket))
 
-  -- what its bucket held at the append
-  old_is : old ≡ bucket_at h at (sha1 entry.key)
-  old_is =
-      bucket_bytes (look (moment_at h at).tree bucket) ∙ ap (λ t. list_of (bucket_in (look t bucket))) (tree_at h at)
-      ∙ ap (λ home. list_of (bucket_in (node_below home (now_at h at).tree (bucket_names_of (sha1 entry.key))))) (sym q.home_is)
+    held : HoldsEntries (old ++ entry ∷ []) (lost_then (Some folder) (moment_at h h.records) loss bucket)
+    held =
+        subst (λ w. HoldsEntries (old ++ entry ∷ []) (lost_then (Some folder) w loss bucket))
+        (sym (leads_to_end e.at))
+        (entries_survive (Some folder) bucket entry (moment_at h at) (own_move e.at) (steps_of e.at.place.later) loss
+        (kind-below folder (bucket_names_of (sha1 entry.key))) (cache_here e.at) e.formed e.fits (calm_move e.at)
+        (bucket_named entry.key h folder e.at.home_is, refl, refl) (calm_later e.at) bucket_synced bucket_way)
 
-  pub entry_outlasts : EntryOutlasts h before rest caller entry.key entry (value_of_tree (Some folder) left)
-  entry_outlasts =
-      let v = entries_are_held folder (sha1 entry.key) (old ++ entry ∷ []) (moment_at h h.records) loss left left_of held in
-      record {
-        between = q.place.between;
-        append = own_record q;
-        later = q.place.later;
-        is = q.place.is;
-        is_append = (refl, refl, refl);
-        outlasts = record {
+    -- what its bucket held at the append
+    old_is : old ≡ bucket_at h at (sha1 entry.key)
+    old_is = bucket_is h folder e.at.home_is at (sha1 entry.key)
+
+    -- so a lookup of the key finds it, or a later one
+    pub bucket_outlasts : Outlasts entry.key (bucket_at h at (sha1 entry.key)) entry (value_of_tree (Some folder) left)
+    bucket_outlasts =
+        let v = entries_are_held folder (sha1 entry.key) (old ++ entry ∷ []) (moment_at h h.records) loss left left_of held in
+        record {
           more = v.0;
           bucket = v.1 ∙ ap Some (append_assoc old (entry ∷ []) v.0) ∙ ap (λ (es : List Entry). Some (es ++ entry ∷ v.0)) old_is;
           finds = λ found answers.
               fold-append (after_entry entry.key) None (bucket_at h at (sha1 entry.key)) (entry ∷ v.0)
               ∙ ap (λ a. fold (after_entry entry.key) (unwrap_or a (latest entry.key (bucket_at h at (sha1 entry.key)))) v.0) answers;
-        };
-      }
+        }
+
+    abbrev pub entry_outlasts : EntryOutlasts h before rest caller entry.key entry (value_of_tree (Some folder) left)
+    entry_outlasts = record {
+      between = e.at.place.between;
+      append = own_record e.at;
+      later = e.at.place.later;
+      is = e.at.place.is;
+      is_append = (refl, refl, refl);
+      outlasts = bucket_outlasts;
+    }

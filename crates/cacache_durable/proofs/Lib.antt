@@ -13,5 +13,8 @@ pub mod NoLinks
 pub mod DoneSyncs
 pub mod AtMoves
 pub mod DurableEntries
+pub mod LineParts
+pub mod GrownBuckets
+pub mod BehindEntries
 pub mod DurableContents
 pub mod Outlasting

@@ -32,14 +32,15 @@ use Rattle.cacache_loss.specs.Moments.{lost_then}
 use Rattle.cacache_loss.proofs.LostValues.{contents_are_held}
 use Rattle.cacache_durable.specs.Ending.{EndsFrom, CallEndsWith}
 use Rattle.cacache_durable.specs.FewCalls.{FewCalls}
-use Rattle.cacache_durable.specs.Outlasting.{DurablePut, EntryOutlasts, HistoriesOutlive, InsertsOutlast, KeyOutlasts, PutsOutlast, moment_at}
+use Rattle.cacache_durable.specs.Outlasting.{DurableInsert, DurablePut, HistoriesOutlive, InsertsHaveBehind, InsertsOutlast, KeyOutlasts, PutsHaveBehind, PutsOutlast, moment_at}
 use Rattle.cacache_durable.specs.QuietMoves.{AreQuiet}
 use Rattle.cacache_durable.proofs.AtMoves.{QuietPlace, here, own_record, quiet_here, split}
+use Rattle.cacache_durable.proofs.BehindEntries.{entry_behind}
 use Rattle.cacache_durable.proofs.CommitMoves.{HasDirs}
 use Rattle.cacache_durable.proofs.PutMoves.{Adds, secures}
 use Rattle.cacache_durable.proofs.CommitPlaces.{Secures, insert_appends, insert_formed, line_is, own, place_in, put_formed, put_secures, written_fits}
 use Rattle.cacache_durable.proofs.DurableContents.{content_named, found_outlasts, put_outlasts}
-use Rattle.cacache_durable.proofs.DurableEntries.{bucket_named, entry_outlasts, whole_append}
+use Rattle.cacache_durable.proofs.DurableEntries.{WholeEntry, bucket_named, entry_outlasts, whole_append}
 use Rattle.cacache_durable.proofs.SyncedTemps.{put_well_at}
 use Rattle.cacache_durable.proofs.Traces.{losses_leave_caches}
 
@@ -60,7 +61,7 @@ module _ (h : History) (legal : IsLegal h) (folder : Names) (home_is : home h.se
 
   -- ---- a put
 
-  module _ (few : FewCalls h) (p : Put) (put : DurablePut h folder p) where
+  module _ (p : Put) (put : DurablePut h folder p) where
     abbrev a : Hash
     a = address_of_put p
 
@@ -97,8 +98,8 @@ module _ (h : History) (legal : IsLegal h) (folder : Names) (home_is : home h.se
     content_place = quiet_place put.before put.rest put.is path put.quiet put.reply (commands.Put p) put.call found.front found.made found.more found.is
 
     -- the content
-    content_left : (loss : Loss) → GoodNode (HasDigest a) (lost_then (Some folder) (moment_at h h.records) loss path)
-    content_left loss =
+    content_left : FewCalls h → (loss : Loss) → GoodNode (HasDigest a) (lost_then (Some folder) (moment_at h h.records) loss path)
+    content_left few loss =
         let q = content_place in
         let puts = put_well_at h legal few (here q) (own_record q ∷ q.place.later) (split q) folder home_is a is_hash (quiet_here q) in
         let dirs = subst (λ folders. HasDirs folders found.more) folders_are after_found.0 in
@@ -110,35 +111,53 @@ module _ (h : History) (legal : IsLegal h) (folder : Names) (home_is : home h.se
               (put.no_link (record { between = q.place.between; sync = own_record q; later = q.place.later; is = q.place.is; is_sync = (refl, synced) }))
         ]
 
-    module _ (loss : Loss) (left : Tree) (left_of : LeftOf folder (moment_at h h.records) loss left) where
-      -- and its entry
-      key_left : (key : Option (List ℕ)) → p.key ≡ key → Adds put.reply commit key found.more → KeyOutlasts h put.before put.rest put.call.caller p key (value_of_tree (Some folder) left)
-      key_left None e adds = tt
-      key_left (Some key) e adds =
-          let formed = put_formed h legal put.before put.rest put.is put.reply p put.durable path put.call text_named key e adds.written in
-          entry_outlasts (insertion_of commit key).entry
-          (quiet_place put.before put.rest put.is path put.quiet put.reply (commands.Put p) put.call (found.front ++ found.made ∷ adds.front) (whole_append h.setup.cache (insertion_of commit key).entry) adds.more
-          (found.is
-          ∙ ap (λ more. found.front ++ found.made ∷ more)
-          (adds.is ∙ ap (λ line. adds.front ++ (steps.Append (bucket_path h.setup.cache key) line, answers.Took (length line)) ∷ adds.more) (line_is (insertion_of commit key) put.durable))
-          ∙ sym (append_assoc found.front (found.made ∷ adds.front) (whole_append h.setup.cache (insertion_of commit key).entry ∷ adds.more))))
-          formed (written_fits (insertion_of commit key) formed adds.written) adds.file adds.dirs loss left left_of
+    -- the entry of its key
+    adds_whole : (key : List ℕ) → p.key ≡ Some key → Adds put.reply commit (Some key) found.more
+        → WholeEntry h folder path put.before put.rest put.call.caller (insertion_of commit key).entry
+    adds_whole key e adds =
+        let formed = put_formed h legal put.before put.rest put.is put.reply p put.durable path put.call text_named key e adds.written in
+        record {
+          more = adds.more;
+          at = quiet_place put.before put.rest put.is path put.quiet put.reply (commands.Put p) put.call (found.front ++ found.made ∷ adds.front) (whole_append h.setup.cache (insertion_of commit key).entry) adds.more
+              (found.is
+              ∙ ap (λ more. found.front ++ found.made ∷ more)
+              (adds.is ∙ ap (λ line. adds.front ++ (steps.Append (bucket_path h.setup.cache key) line, answers.Took (length line)) ∷ adds.more) (line_is (insertion_of commit key) put.durable))
+              ∙ sym (append_assoc found.front (found.made ∷ adds.front) (whole_append h.setup.cache (insertion_of commit key).entry ∷ adds.more)));
+          formed = formed;
+          fits = written_fits (insertion_of commit key) formed adds.written;
+          file = adds.file;
+          dirs = adds.dirs;
+        }
 
-      put_left : HoldsContent a (value_of_tree (Some folder) left) × KeyOutlasts h put.before put.rest put.call.caller p p.key (value_of_tree (Some folder) left)
-      put_left = (contents_are_held folder a (moment_at h h.records) loss left left_of (content_left loss), key_left p.key refl after_found.1)
+    put_whole : (key : List ℕ) → p.key ≡ Some key → WholeEntry h folder path put.before put.rest put.call.caller (insertion_of commit key).entry
+    put_whole key e = adds_whole key e (subst (λ key. Adds put.reply commit key found.more) e after_found.1)
+
+    module _ (loss : Loss) (left : Tree) (left_of : LeftOf folder (moment_at h h.records) loss left) where
+      -- it outlasts the loss
+      key_left : (key : Option (List ℕ)) → p.key ≡ key → KeyOutlasts h put.before put.rest put.call.caller p key (value_of_tree (Some folder) left)
+      key_left None e = tt
+      key_left (Some key) e = entry_outlasts (insertion_of commit key).entry (put_whole key e) loss left left_of
+
+      put_left : FewCalls h → HoldsContent a (value_of_tree (Some folder) left) × KeyOutlasts h put.before put.rest put.call.caller p p.key (value_of_tree (Some folder) left)
+      put_left few = (contents_are_held folder a (moment_at h h.records) loss left left_of (content_left few loss), key_left p.key refl)
 
   -- ---- an insertion
 
   module _ (n : Insert) (before rest : List Record) (is : h.records ≡ before ++ rest) (durable : n.options.durable ≡ true) (quiet : AreQuiet h.setup [] (now_at h before) rest)
-      (i : List Hash) (ends : EndsFrom h before rest (commands.Insert n) (Stored i)) (loss : Loss) (left : Tree) (left_of : LeftOf folder (moment_at h h.records) loss left) where
-    insert_left : EntryOutlasts h before rest ends.caller n.key (insertion h.setup.cache n).entry (value_of_tree (Some folder) left)
-    insert_left =
+      (i : List Hash) (ends : EndsFrom h before rest (commands.Insert n) (Stored i)) where
+    insert_whole : WholeEntry h folder [] before rest ends.caller (insertion h.setup.cache n).entry
+    insert_whole =
         let adds = insert_appends h legal before rest is i n durable (folder ++ bucket_names_of (sha1 n.key)) ends (bucket_named n.key h folder home_is) in
         let formed = insert_formed h legal before rest is i n durable (folder ++ bucket_names_of (sha1 n.key)) ends adds.written in
-        entry_outlasts (insertion h.setup.cache n).entry
-        (quiet_place before rest is [] quiet i (commands.Insert n) ends adds.front (whole_append h.setup.cache (insertion h.setup.cache n).entry) adds.more
-        (adds.is ∙ ap (λ line. adds.front ++ (steps.Append (bucket_path h.setup.cache n.key) line, answers.Took (length line)) ∷ adds.more) (line_is (insertion h.setup.cache n) durable)))
-        formed (written_fits (insertion h.setup.cache n) formed adds.written) adds.file adds.dirs loss left left_of
+        record {
+          more = adds.more;
+          at = quiet_place before rest is [] quiet i (commands.Insert n) ends adds.front (whole_append h.setup.cache (insertion h.setup.cache n).entry) adds.more
+              (adds.is ∙ ap (λ line. adds.front ++ (steps.Append (bucket_path h.setup.cache n.key) line, answers.Took (length line)) ∷ adds.more) (line_is (insertion h.setup.cache n) durable));
+          formed = formed;
+          fits = written_fits (insertion h.setup.cache n) formed adds.written;
+          file = adds.file;
+          dirs = adds.dirs;
+        }
 
 -- ---- the laws
 
@@ -153,17 +172,33 @@ by_reply h before rest command reply other same ends = record {
   ends = subst (λ reply. CallEndsWith ends.caller reply rest) same ends.ends;
 }
 
+-- the entry of a durable insertion
+inserted_whole : (h : History) → IsLegal h → (folder : Names) → home h.setup ≡ Some folder → (n : Insert) (put : DurableInsert h n)
+    → WholeEntry h folder [] put.before put.rest put.call.caller (insertion h.setup.cache n).entry
+inserted_whole h legal folder home_is n put =
+    insert_whole h legal folder home_is n put.before put.rest put.is put.durable put.quiet put.stored.0
+    (by_reply h put.before put.rest (commands.Insert n) put.reply (Stored put.stored.0) put.stored.1 put.call)
+
 puts_outlast : (h : History) → IsLegal h → FewCalls h → PutsOutlast h
-puts_outlast h legal few folder p loss left home_is put left_of = put_left h legal folder home_is few p put loss left left_of
+puts_outlast h legal few folder p loss left home_is put left_of = put_left h legal folder home_is p put loss left left_of few
 
 inserts_outlast : (h : History) → IsLegal h → InsertsOutlast h
 inserts_outlast h legal folder n loss left home_is put left_of =
-    insert_left h legal folder home_is n put.before put.rest put.is put.durable put.quiet put.stored.0
-    (by_reply h put.before put.rest (commands.Insert n) put.reply (Stored put.stored.0) put.stored.1 put.call) loss left left_of
+    entry_outlasts (insertion h.setup.cache n).entry (inserted_whole h legal folder home_is n put) loss left left_of
+
+puts_have_behind : (h : History) → IsLegal h → PutsHaveBehind h
+puts_have_behind h legal folder p key loss left home_is put keyed left_of =
+    entry_behind (insertion_of (put_commit h.setup.cache p) key).entry (put_whole h legal folder home_is p put key keyed) loss left left_of
+
+inserts_have_behind : (h : History) → IsLegal h → InsertsHaveBehind h
+inserts_have_behind h legal folder n loss left home_is put left_of =
+    entry_behind (insertion h.setup.cache n).entry (inserted_whole h legal folder home_is n put) loss left left_of
 
 pub histories_outlive : HistoriesOutlive
 histories_outlive h legal = record {
   caches = losses_leave_caches h legal;
   puts = puts_outlast h legal;
   inserts = inserts_outlast h legal;
+  behind_puts = puts_have_behind h legal;
+  behind_inserts = inserts_have_behind h legal;
 }

@@ -1,4 +1,5 @@
 pub mod QuietMoves
 pub mod FewCalls
 pub mod Ending
+pub mod Behind
 pub mod Outlasting

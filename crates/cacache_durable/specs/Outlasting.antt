@@ -3,7 +3,7 @@ use Rattle.std.specs.Prelude.{◌≡◌, ℕ, List, [], ◌∷◌, ◌++◌, Opt
 use Rattle.sha1.specs.Sha1.{sha1}
 use Rattle.cacache_core.specs.declared.integrity.digest.Hash.{Hash}
 use Rattle.cacache_core.specs.PathNames.{Names}
-use Rattle.cacache_core.specs.Paths.{content_names, joined}
+use Rattle.cacache_core.specs.Paths.{bucket_names, content_names, joined}
 use Rattle.cacache_store.specs.declared.store.step.Step.TheVariants as steps
 use Rattle.cacache_store.specs.declared.store.answer.Answer.TheVariants as answers
 use Rattle.cacache_disk.specs.Tree.{Tree}
@@ -28,6 +28,7 @@ use Rattle.cacache_loss.specs.ChangedNames.{LeavesCache, opening}
 use Rattle.cacache_loss.specs.Loss.{Loss}
 use Rattle.cacache_loss.specs.LostValues.{HoldsContent, LeftOf}
 use Rattle.cacache_loss.specs.Moments.{Moment, after}
+use Rattle.cacache_durable.specs.Behind.{Behind}
 use Rattle.cacache_durable.specs.Ending.{EndsFrom}
 use Rattle.cacache_durable.specs.FewCalls.{FewCalls}
 use Rattle.cacache_durable.specs.QuietMoves.{AreQuiet}
@@ -62,6 +63,14 @@ pub record EntryOutlasts (h : History) (before rest : List Record) (caller : ℕ
   pub is : rest ≡ between ++ append ∷ later
   pub is_append : IsAppendOf caller h.setup.cache key entry append
   pub outlasts : Outlasts key (bucket_at h (before ++ between) (sha1 key)) entry v
+
+-- the entry outlasts a loss, and so much of what the history added is left behind it
+pub record OutlastsWith (h : History) (folder : Names) (before rest : List Record) (caller : ℕ)
+    (key : List ℕ) (entry : Entry) (loss : Loss) (v : Value) : Type 0 where
+  pub entry_is : EntryOutlasts h before rest caller key entry v
+  pub behind :
+      Behind h (folder ++ bucket_names key) key (bucket_at h (before ++ entry_is.between) (sha1 key))
+      entry entry_is.later loss entry_is.outlasts.more
 
 -- with a key a put has an entry, which outlasts the loss too
 abbrev pub KeyOutlasts : History → List Record → List Record → ℕ → Put → Option (List ℕ) → Value
@@ -136,6 +145,23 @@ InsertsOutlast h =
     → EntryOutlasts h put.before put.rest put.call.caller i.key (insertion h.setup.cache i).entry
     (value_of_tree (Some folder) left)
 
+-- the entry of a durable put outlasts a loss with the first of what the history added behind it
+abbrev pub PutsHaveBehind : History → Type 0
+PutsHaveBehind h =
+    (folder : Names) (p : Put) (key : List ℕ) (loss : Loss) (left : Tree)
+    → home h.setup ≡ Some folder → (put : DurablePut h folder p) → p.key ≡ Some key
+    → LeftOf folder (moment_at h h.records) loss left
+    → OutlastsWith h folder put.before put.rest put.call.caller key
+    (insertion_of (put_commit h.setup.cache p) key).entry loss (value_of_tree (Some folder) left)
+
+-- and so does that of a durable insertion
+abbrev pub InsertsHaveBehind : History → Type 0
+InsertsHaveBehind h =
+    (folder : Names) (i : Insert) (loss : Loss) (left : Tree) → home h.setup ≡ Some folder
+    → (put : DurableInsert h i) → LeftOf folder (moment_at h h.records) loss left
+    → OutlastsWith h folder put.before put.rest put.call.caller i.key
+    (insertion h.setup.cache i).entry loss (value_of_tree (Some folder) left)
+
 -- each loss leaves one tree, that of a cache, on which reading steps show what it holds
 abbrev pub LossesLeaveCaches : History → Type 0
 LossesLeaveCaches h =
@@ -149,6 +175,10 @@ pub record Outlives (h : History) : Type 0 where
   pub puts : FewCalls h → PutsOutlast h
   -- and so is the entry of a durable insertion
   pub inserts : InsertsOutlast h
+  -- what is left behind the entry of a durable put
+  pub behind_puts : PutsHaveBehind h
+  -- and behind that of a durable insertion
+  pub behind_inserts : InsertsHaveBehind h
 
 -- so it is of every legal history
 abbrev pub HistoriesOutlive : Type 0

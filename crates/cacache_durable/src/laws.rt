@@ -2,7 +2,8 @@
 ghost use Rattle.cacache_durable.specs.Outlasting.{HistoriesOutlive};
 
 /// What a durable commit of a legal history stored is there after each later loss of power, while
-/// others remove, link and export nothing.
+/// others remove, link and export nothing. Behind its entry stand the first of those that the history
+/// added there, where the loss names no tail of the bucket; and none, where nobody appended there.
 pub fn durable_laws()
     ensures { HistoriesOutlive }
 {}
