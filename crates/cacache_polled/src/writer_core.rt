@@ -240,6 +240,7 @@ impl WriterCore {
         ensures after { self.new.desk ≡ closed self.old.desk }
         ensures busy { busy self.old.desk → (self.new ≡ self.old) × (result ≡ Ok Finish.Busy) }
         ensures free { result ≡ Ok Finish.Busy → busy self.old.desk }
+        ensures algorithm { algorithm_of self.new.hasher ≡ algorithm_of self.old.hasher }
     {
         match self.desk.state {
             State::Busy(_) => return Ok(Finish::Busy),
