@@ -2,6 +2,8 @@
 use Rattle.std.specs.Prelude.{◌≡◌, ◌⊎◌, ℕ, List, Option, Some, None, Result, Ok, Err, ◌++◌, [], ◌∷◌}
 use Rattle.cacache_core.specs.declared.errors.Error.{Error}
 use Rattle.cacache_core.specs.declared.errors.Error.TheVariants.{OutOfMemory}
+use Rattle.cacache_core.specs.declared.integrity.algorithm.Algorithm.{Algorithm}
+use Rattle.cacache_core.specs.Hashers.{algorithm_of}
 use Rattle.cacache_polled.specs.declared.kinds.Work.{Work}
 use Rattle.cacache_polled.specs.declared.kinds.Polled.{Polled}
 use Rattle.cacache_polled.specs.declared.kinds.Polled.TheVariants as polls
@@ -9,7 +11,7 @@ use Rattle.cacache_polled.specs.declared.kinds.Completion.{Completion}
 use Rattle.cacache_polled.specs.Table.{Ask, polled}
 use Rattle.cacache_polled.specs.Events.{Event, asks, ends, HasSeen}
 use Rattle.cacache_async.specs.Waiting.{TellsFault}
-use Rattle.cacache_writers.specs.declared.shared.Kept.{Kept}
+use Rattle.cacache_writers.specs.declared.kept.Kept.{Kept}
 
 -- what a poll answers, by the table's answer
 abbrev pub IsTold : Polled → Result (Option ℕ) Error → Type 0
@@ -34,6 +36,13 @@ module _ {T : Type 0} where
       × (new.core.desk ≡ (polled old.core.desk a).0)
       × (new ≡ record old { core = new.core; work = handed (polled old.core.desk a).1 old.work })
       × ((es : List Event) → HasSeen old.core es → HasSeen new.core (es ++ asks a ∷ [])))
+
+  -- a core of this algorithm that was asked nothing, with this file; no work is out, and nobody waits
+  pub record IsNew (algorithm : Algorithm) (file : T) (k : Kept T) : Type 0 where
+    pub fresh : HasSeen k.core []
+    pub algorithm_is : algorithm_of k.core.hasher ≡ algorithm
+    pub temp_is : k.temp ≡ Some file
+    pub idle : (k.work ≡ None) × (k.waker ≡ None)
 
   -- the core was told of this ending, and nothing waits for a worker
   abbrev pub IsEnded : Kept T → Kept T → Completion → Type 0

@@ -1,14 +1,17 @@
 //! A temporary file whose writes are polled.
-ghost use Rattle.std.specs.Prelude.{◌≡◌, IfErr};
+ghost use Rattle.std.specs.Prelude.{◌≡◌, IfOk, IfErr};
+ghost use Rattle.std.specs.Arc.{arc_value};
 ghost use Rattle.cacache_core.specs.declared.errors.Error.TheVariants.{OutOfMemory};
 ghost use Rattle.futures.specs.Poll.{OnPending};
 ghost use Rattle.futures.specs.Task.{IsArmed, Keeps};
+ghost use Rattle.cacache_writers.specs.Turning.{IsWorkerOf};
 
-use crate::shared::{Kept, Shared};
+use crate::kept::Kept;
+use crate::shared::Shared;
 use crate::worker::Worker;
 use cacache_core::errors::Result;
 use cacache_core::integrity::Algorithm;
-use cacache_polled::{Request as Asked, WriterCore};
+use cacache_polled::Request as Asked;
 use futures::task::{Context, Poll, Source};
 use std::alloc::Global;
 use std::sync::atomic::{AtomicBool, Ordering};
@@ -32,14 +35,9 @@ impl<T: Drop> Drop for PolledFile<T> {
 impl<T: Drop> PolledFile<T> {
     /// A file that nothing was written to yet. `OutOfMemory` is the only error.
     pub fn new(alloc: Global, algorithm: Algorithm, temp: T) -> Result<PolledFile<T>>
-        ensures { IfErr result (λ e. e ≡ OutOfMemory) }
+        ensures err { IfErr result (λ e. e ≡ OutOfMemory) }
     {
-        let kept = Mutex::new(Kept {
-            core: WriterCore::new(algorithm),
-            temp: Some(temp),
-            work: None,
-            waker: None,
-        });
+        let kept = Mutex::new(Kept::new(algorithm, temp));
         let shared = Shared {
             source: Source::new(),
             is_left: AtomicBool::new(false),
@@ -50,7 +48,10 @@ impl<T: Drop> PolledFile<T> {
     }
 
     /// A worker for this file. `OutOfMemory` is the only error.
-    pub fn worker(&self) -> Result<Worker<T>> {
+    pub fn worker(&self) -> Result<Worker<T>>
+        ensures worker { IfOk result (IsWorkerOf (arc_value self.now.shared)) }
+        ensures err { IfErr result (λ e. e ≡ OutOfMemory) }
+    {
         Ok(Worker::new(Arc::try_clone(&self.shared)?))
     }
 

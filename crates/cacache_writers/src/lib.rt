@@ -6,9 +6,11 @@
 //! - `committing`: the commit of a polled writer as a future
 //! - `creating`: futures that open polled writers
 //! - `file`: a temporary file whose writes are polled
+//! - `kept`: what lies under the lock of a polled file
+//! - `laws`: laws of a polled file that one worker alone writes
 //! - `opening`: polled writers are opened
 //! - `removal`: temporary files that are removed without a store
-//! - `shared`: what a polled file and its workers share: the core, the temporary file and the work that is out
+//! - `shared`: what a polled file and its workers share
 //! - `work`: work that is done with a temporary file
 //! - `worker`: the worker of a polled file
 //! - `writer`: contents that are written by polls
@@ -19,6 +21,8 @@ mod commit;
 mod committing;
 mod creating;
 mod file;
+mod kept;
+mod laws;
 mod opening;
 mod removal;
 mod shared;
@@ -34,7 +38,9 @@ pub use creating::{
     WriterCreateFuture, WriterCreateWithAlgoFuture, WriterOpenCall,
 };
 pub use file::PolledFile;
+pub use kept::{Kept, Told};
+pub use laws::file_laws;
 pub use removal::RemovableTemp;
-pub use shared::{Kept, Shared};
+pub use shared::Shared;
 pub use worker::{Turned, Worker};
 pub use writer::Writer;

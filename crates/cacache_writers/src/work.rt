@@ -1,7 +1,9 @@
 //! Work that is done with a temporary file.
+ghost use Rattle.std.specs.Prelude.{◌≡◌, length};
 ghost use Rattle.cacache_polled.specs.declared.kinds.Work.TheVariants.{Write};
-ghost use Rattle.cacache_writers.specs.Working.{Appended, DoesWork, FitsWork};
+ghost use Rattle.cacache_writers.specs.Working.{Appended, Answered, DoesWork, EndsWork, FitsWork, WorksBy};
 
+use crate::kept::Told;
 use crate::removal::RemovableTemp;
 use cacache_core::bytes::Bytes;
 use cacache_core::errors::Fault;
@@ -12,6 +14,7 @@ use cacache_store::store::TempFile;
 fn write_piece<T: TempFile>(file: &mut T, bytes: &Bytes) -> Completion
     ensures fits { FitsWork (Write bytes.now) result }
     ensures does { Appended (T.seen file.old).bytes (T.seen file.new).bytes bytes.now result }
+    ensures answered { Answered T.writes file.old (length bytes.now) file.new result }
 {
     match file.write_some(bytes.as_slice()) {
         Ok(count) => Completion::Wrote(count),
@@ -20,9 +23,9 @@ fn write_piece<T: TempFile>(file: &mut T, bytes: &Bytes) -> Completion
 }
 
 /// Does the work with the file, and says how it ended.
-pub(crate) fn do_work<T: RemovableTemp>(work: Work, temp: T) -> (Option<T>, Completion)
+fn do_work<T: RemovableTemp>(work: Work, temp: T) -> (Option<T>, Completion)
     ensures fits { FitsWork work result.1 }
-    ensures does { DoesWork T.seen work temp result.0 result.1 }
+    ensures does { DoesWork T.seen T.contents T.writes T.removes work temp result.0 result.1 }
 {
     let mut file = temp;
     match work {
@@ -38,5 +41,36 @@ pub(crate) fn do_work<T: RemovableTemp>(work: Work, temp: T) -> (Option<T>, Comp
             Ok(()) => (None, Completion::Removed),
             Err(fault) => (None, Completion::Failed(fault)),
         },
+    }
+}
+
+/// Does the work with the file that went out with it. Without a file it fails with `Closed`.
+fn done<T: RemovableTemp>(work: Work, temp: Option<T>) -> (Option<T>, Completion)
+    ensures ends { EndsWork T.seen T.contents T.writes T.removes work temp result.0 result.1 }
+{
+    match temp {
+        Some(file) => do_work(work, file),
+        None => (None, Completion::Failed(Fault::Closed)),
+    }
+}
+
+/// Takes work out, does it, and tells how it ended. None where no work was out.
+pub(crate) fn work_by<
+    T: RemovableTemp,
+    Take: FnOnce() -> (Option<Work>, Option<T>),
+    End: FnOnce(Option<T>, Completion) -> Told<T>,
+>(take: Take, end: End) -> Option<Told<T>>
+    requires take { Take.IsAlwaysCallable take }
+    requires end { End.IsAlwaysCallable end }
+    ensures works { WorksBy T.seen T.contents T.writes T.removes (Take.post take) (End.post end)
+        result }
+{
+    let (work, temp) = take();
+    match work {
+        Some(work) => {
+            let (temp, completion) = done(work, temp);
+            Some(end(temp, completion))
+        }
+        None => None,
     }
 }

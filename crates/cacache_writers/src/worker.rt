@@ -1,10 +1,13 @@
 //! The worker of a polled file.
+ghost use Rattle.std.specs.Prelude.{◌≡◌};
+ghost use Rattle.cacache_writers.specs.declared.worker.Turned.TheVariants.{Over};
+ghost use Rattle.cacache_writers.specs.Turning.{CountsAsks, TurnsTo};
+
+use crate::kept::Told;
 use crate::removal::RemovableTemp;
 use crate::shared::Shared;
-use crate::work::do_work;
-use cacache_core::errors::Fault;
+use crate::work::work_by;
 use cacache_jobs::{Gate, Pass};
-use cacache_polled::Completion;
 use std::alloc::Global;
 use std::sync::{Arc, Wait};
 use std::thread;
@@ -32,7 +35,10 @@ pub struct Worker<T> {
 }
 
 impl<T: Drop> Worker<T> {
-    pub(crate) fn new(shared: Arc<Shared<T>, Global>) -> Worker<T> {
+    pub(crate) fn new(shared: Arc<Shared<T>, Global>) -> Worker<T>
+        ensures shared { result.shared ≡ shared }
+        ensures asked { result.asked ≡ 0 }
+    {
         Worker { shared, asked: 0 }
     }
 }
@@ -43,24 +49,22 @@ impl<T: RemovableTemp> Worker<T> {
     /// dropped, committed or closed, and after `Quit`.
     ///
     /// `Wait` is for the lock that it shares with the polled file.
-    pub fn turn<R: Wait, G: Gate>(&mut self, rt: &R, gate: &G) -> Turned {
+    pub fn turn<R: Wait, G: Gate>(&mut self, rt: &R, gate: &G) -> Turned
+        ensures shared { self.new.shared ≡ self.old.shared }
+        ensures asked { CountsAsks self.old.asked self.new.asked result }
+    {
         let shared: &Shared<T> = &self.shared;
-        if shared.is_over(rt) {
-            return Turned::Over;
-        }
-        if !shared.has_work(rt) {
-            return Turned::NoWork;
-        }
-        let turn = self.asked;
-        self.asked = turn.saturating_add(1);
-        match gate.pass(turn) {
-            Pass::Go => work_once(rt, shared),
-            Pass::NotYet => Turned::NotYet,
-            Pass::Quit => {
-                shared.give_up(rt);
-                Turned::Over
-            }
-        }
+        turn_by(
+            &mut self.asked,
+            || shared.is_over(rt),
+            || shared.has_work(rt),
+            |turn| gate.pass(turn),
+            || work_by(
+                || shared.take(rt),
+                |temp, completion| shared.end(rt, temp, completion),
+            ),
+            || shared.give_up(rt),
+        )
     }
 
     /// Takes turns until one is over, a millisecond apart where there was nothing to do. The example of
@@ -69,27 +73,66 @@ impl<T: RemovableTemp> Worker<T> {
     /// `Wait` is for the lock and for sleeping, `Clock` for the millisecond. Unless its gate says `Quit`, it doesn't
     /// return before the polled file was dropped, committed or closed.
     pub fn run<R: Wait + Clock, G: Gate>(mut self, rt: &R, gate: &G) {
-        for _ in rt.forever() {
-            match self.turn(rt, gate) {
-                Turned::Did => {}
-                Turned::NoWork | Turned::NotYet => thread::sleep(rt, Duration::from_millis(1)),
-                Turned::Over => return,
-            }
-        }
-        unreachable!()
+        run_by(rt, || self.turn(rt, gate))
     }
 }
 
-/// Takes the work out under the lock, does it, and ends it under the lock.
-fn work_once<R: Wait, T: RemovableTemp>(rt: &R, shared: &Shared<T>) -> Turned {
-    let (work, temp) = shared.take(rt);
-    let Some(work) = work else {
+/// A turn: looks whether it is over and whether work is out, asks for its number, and works or gives up.
+fn turn_by<
+    T: Drop,
+    IsOver: FnOnce() -> bool,
+    HasWork: FnOnce() -> bool,
+    Ask: FnOnce(u64) -> Pass,
+    Work: FnOnce() -> Option<Told<T>>,
+    GiveUp: FnOnce() -> Option<Told<T>>,
+>(
+    asked: &mut u64,
+    is_over: IsOver,
+    has_work: HasWork,
+    ask: Ask,
+    work: Work,
+    give_up: GiveUp,
+) -> Turned
+    requires is_over { IsOver.IsAlwaysCallable is_over }
+    requires has_work { HasWork.IsAlwaysCallable has_work }
+    requires ask { Ask.IsAlwaysCallable ask }
+    requires work { Work.IsAlwaysCallable work }
+    requires give_up { GiveUp.IsAlwaysCallable give_up }
+    ensures turns { TurnsTo (IsOver.post is_over) (HasWork.post has_work) (Ask.post ask)
+        (Work.post work) (GiveUp.post give_up) asked.old asked.new result }
+{
+    if is_over() {
+        return Turned::Over;
+    }
+    if !has_work() {
         return Turned::NoWork;
-    };
-    let (temp, completion) = match temp {
-        Some(file) => do_work(work, file),
-        None => (None, Completion::Failed(Fault::Closed)),
-    };
-    shared.end(rt, temp, completion);
-    Turned::Did
+    }
+    let turn = *asked;
+    *asked = turn.saturating_add(1);
+    match ask(turn) {
+        Pass::Go => match work() {
+            Some(_told) => Turned::Did,
+            None => Turned::NoWork,
+        },
+        Pass::NotYet => Turned::NotYet,
+        Pass::Quit => {
+            let _told = give_up();
+            Turned::Over
+        }
+    }
+}
+
+/// Takes turns until one is over, a millisecond apart where there was nothing to do.
+fn run_by<R: Wait + Clock, Turn: FnMut() -> Turned>(rt: &R, mut turn: Turn)
+    requires turn { Turn.IsAlwaysCallable turn }
+    ensures over { (before after : Turn) × Turn.step before Over after }
+{
+    for _ in rt.forever() {
+        match turn() {
+            Turned::Did => {}
+            Turned::NoWork | Turned::NotYet => thread::sleep(rt, Duration::from_millis(1)),
+            Turned::Over => return,
+        }
+    }
+    unreachable!()
 }

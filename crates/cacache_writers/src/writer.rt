@@ -1,9 +1,12 @@
 //! Contents that are written by polls.
-ghost use Rattle.std.specs.Prelude.{◌≡◌, None, Some};
+ghost use Rattle.std.specs.Prelude.{◌≡◌, None, Some, IfOk, IfErr};
+ghost use Rattle.std.specs.Arc.{arc_value};
 ghost use Rattle.futures.specs.Poll.{OnPending};
 ghost use Rattle.futures.specs.Task.{IsArmed, Keeps};
+ghost use Rattle.cacache_core.specs.declared.errors.Error.TheVariants.{OutOfMemory};
 ghost use Rattle.cacache_put.specs.Options.{nothing_said, saying};
 ghost use Rattle.cacache_async.specs.Waiting.{Waits};
+ghost use Rattle.cacache_writers.specs.Turning.{IsWorkerOf};
 
 use crate::about::About;
 use crate::committing::{AsyncWriterCloseFuture, WriterCommitFuture};
@@ -87,7 +90,10 @@ impl<T: Drop> Writer<T> {
 
     /// A worker for this writer, which the example of `create` runs in a thread of its own. `OutOfMemory` is the only
     /// error.
-    pub fn worker(&self) -> Result<Worker<T>> {
+    pub fn worker(&self) -> Result<Worker<T>>
+        ensures worker { IfOk result (IsWorkerOf (arc_value self.now.file.shared)) }
+        ensures err { IfErr result (λ e. e ≡ OutOfMemory) }
+    {
         self.file.worker()
     }
 

@@ -1,0 +1,106 @@
+//! What lies under the lock of a polled file.
+ghost use Rattle.std.specs.Prelude.{◌≡◌, None};
+ghost use Rattle.cacache_core.specs.Hashers.{algorithm_of};
+ghost use Rattle.cacache_polled.specs.Table.{ask_of};
+ghost use Rattle.cacache_writers.specs.Sharing.{IsPolled, IsEnded, IsNew, taken_out, left_after};
+
+use cacache_async::polling;
+use cacache_core::errors::Result;
+use cacache_core::integrity::Algorithm;
+use cacache_polled::{Completion, Polled, Request, Work, WriterCore};
+use futures::task::Waker;
+use std::alloc::Global;
+use std::snapshot::Snapshot;
+
+/// What lies under the lock.
+#[derive(Drop)]
+pub struct Kept<T> {
+    pub core: WriterCore,
+    /// The file, unless a worker has it out.
+    pub temp: Option<T>,
+    /// Work that was handed out and that no worker has taken.
+    pub work: Option<Work>,
+    /// Wakes the task that waits, as it goes.
+    pub waker: Option<Waker>,
+}
+
+/// Shows that a core was told how its work ended, and with which file: `Kept::end` alone makes one.
+#[derive(Drop)]
+pub struct Told<T> {
+    ending: Completion,
+    temp: Snapshot<Option<T>>,
+}
+
+impl<T: Drop> Told<T> {
+    /// The ending that was told.
+    pub fn ending(&self) -> Completion
+        ensures { result ≡ self.now.ending }
+    {
+        self.ending
+    }
+}
+
+impl<T: Drop> Kept<T> {
+    /// A new core with this file: nothing was asked, and no work is out.
+    pub fn new(algorithm: Algorithm, temp: T) -> Kept<T>
+        ensures new { IsNew algorithm temp result }
+    {
+        Kept {
+            core: WriterCore::new(algorithm),
+            temp: Some(temp),
+            work: None,
+            waker: None,
+        }
+    }
+
+    /// One poll. Ok(None) is pending, and Ok(Some) how many bytes a write took. Work that begins is kept for a worker.
+    ///
+    /// `IoError` has the core's fault. `OutOfMemory` changes nothing, or came to a message.
+    pub fn poll(&mut self, alloc: Global, poll: Request<'_>) -> Result<Option<usize>>
+        ensures polled { IsPolled self.old self.new (ask_of poll.entry) result }
+        ensures algorithm { algorithm_of self.new.core.hasher ≡ algorithm_of self.old.core.hasher }
+    {
+        match self.core.poll(alloc, poll) {
+            Ok(Polled::Wrote(count)) => Ok(Some(count)),
+            Ok(Polled::Done) => Ok(Some(0)),
+            Ok(Polled::Failed(fault)) => Err(polling(alloc, fault)),
+            Ok(Polled::Pending) => Ok(None),
+            Ok(Polled::Start(work)) => {
+                self.work = Some(work);
+                Ok(None)
+            }
+            Err(error) => Err(error),
+        }
+    }
+
+    /// Takes the work, and the file with it.
+    pub fn take(&mut self) -> (Option<Work>, Option<T>)
+        ensures work { result.0 ≡ self.old.work }
+        ensures temp { result.1 ≡ taken_out self.old.work self.old.temp }
+        ensures left { self.new ≡ record self.old
+            { work = None; temp = left_after self.old.work self.old.temp } }
+    {
+        match self.work.take() {
+            Some(work) => (Some(work), self.temp.take()),
+            None => (None, None),
+        }
+    }
+
+    /// Ends the work: gives the file back, and wakes who waits.
+    pub fn end(&mut self, temp: Option<T>, completion: Completion) -> Told<T>
+        ensures ended { IsEnded self.old self.new completion }
+        ensures temp { self.new.temp ≡ temp }
+        ensures told { (result.ending ≡ completion) × (result.temp.value ≡ temp) }
+        ensures algorithm { algorithm_of self.new.core.hasher ≡ algorithm_of self.old.core.hasher }
+    {
+        let seen = Snapshot::of(&temp);
+        self.temp = temp;
+        self.work = None;
+        let _ = self.core.complete(completion);
+        self.waker = None;
+        Told {
+            ending: completion,
+            temp: seen,
+        }
+    }
+}

@@ -1,0 +1,17 @@
+//! Laws of a polled file that one worker alone writes.
+ghost use Rattle.std.specs.Prelude.{◌≡◌, ℕ, List};
+ghost use Rattle.cacache_writers.specs.Alone.{NewIsWhole, PollKeeps, TakeBrings, EndRestores, WholeHolds};
+
+use crate::removal::RemovableTemp;
+
+/// While one worker alone does the work, the file has the bytes that it began with, and then those that the core holds:
+/// at first, through each poll, where the worker takes it, and once it is back, if it isn't removed. A flush has to keep
+/// the bytes that the file is seen with.
+pub fn file_laws<T: RemovableTemp>()
+    ensures new { (start : List ℕ) → NewIsWhole T.seen start }
+    ensures polls { (start : List ℕ) → PollKeeps T.seen start }
+    ensures takes { (start : List ℕ) → TakeBrings T.seen start }
+    ensures ends { (start : List ℕ) → ((file : T) → T.contents file ≡ (T.seen file).bytes)
+        → EndRestores T.seen start T.contents T.writes T.removes }
+    ensures holds { (start : List ℕ) → WholeHolds T.seen start }
+{}
