@@ -1,10 +1,11 @@
 -- The commit of a polled writer: what it answers, and what it does.
-use Rattle.std.specs.Prelude.{◌≡◌, ◌⊎◌, ℕ, List, Option, Some, Result, Ok, Err}
+use Rattle.std.specs.Prelude.{◌≡◌, ◌≢◌, ◌⊎◌, ℕ, List, Option, Some, Result, Ok, Err}
 use Rattle.cacache_core.specs.declared.errors.Error.{Error}
 use Rattle.cacache_core.specs.declared.errors.Error.TheVariants.{OutOfMemory}
 use Rattle.cacache_core.specs.declared.errors.Fault.{Fault}
 use Rattle.cacache_core.specs.declared.errors.Fault.TheVariants as fault
 use Rattle.cacache_core.specs.declared.integrity.digest.Hash.{Hash}
+use Rattle.cacache_core.specs.Integrity.{strongest}
 use Rattle.cacache_store.specs.declared.env.Env.{Env}
 use Rattle.cacache_store.specs.declared.store.log.LogItem.{LogItem}
 use Rattle.cacache_store.specs.declared.store.plain.PlainTemp.{PlainTemp}
@@ -45,14 +46,20 @@ module _ {T S C N : Type 0} (temp : T → PlainTemp) (log : S → Option (List L
       (moment : ℕ) × MomentOf moments a.key a.time old.clock new.clock moment
       × Ran (persist (commit_about a computed count moment) (temp file)) reply (log old.store) (log new.store)
 
+  -- so it is where the integrity is of the algorithm that was said; one of another is closed
+  abbrev pub EndsAsSaid : About → List Hash → ℕ → T → Result (List Hash) Error → Type 0
+  EndsAsSaid a computed count file r =
+      ((strongest computed ≡ Some a.options.algorithm)
+      × EndsHeld a computed count file (reply_of Stored r))
+      ⊎ ((strongest computed ≢ Some a.options.algorithm) × Fails fault.Closed r × (new ≡ old))
+
   -- what is answered by what is found; a file that a worker lost is closed
   abbrev pub GivesFor : Finish → Option T → Option About → Result (List Hash) Error → Type 0
   GivesFor Busy file a r = ⊥
   GivesFor Closed file a r = Fails fault.Closed r × (new ≡ old)
   GivesFor Cancelled file a r = Fails fault.Cancelled r × (new ≡ old)
   GivesFor (Failed f) file a r = Fails f r × (new ≡ old)
-  GivesFor (Held computed count) (Some file) (Some a) r =
-      EndsHeld a computed count file (reply_of Stored r)
+  GivesFor (Held computed count) (Some file) (Some a) r = EndsAsSaid a computed count file r
   GivesFor (Held computed count) file a r = Fails fault.Closed r × (new ≡ old)
 
   -- so it is for what the core finds, or there was no memory and no step
@@ -60,3 +67,12 @@ module _ {T S C N : Type 0} (temp : T → PlainTemp) (log : S → Option (List L
   Gives core bytes file a r =
       ((r ≡ Err OutOfMemory) × (new ≡ old))
       ⊎ ((f : Finish) × CommitFinds core bytes f × GivesFor f file a r)
+
+  -- so it is for something found, whatever it is
+  abbrev pub GivesSome : Option T → Option About → Result (List Hash) Error → Type 0
+  GivesSome file a r =
+      ((r ≡ Err OutOfMemory) × (new ≡ old)) ⊎ ((f : Finish) × GivesFor f file a r)
+
+  -- so it is for something found, with some file: those that lay under the lock
+  abbrev pub GivesLocked : Option About → Result (List Hash) Error → Type 0
+  GivesLocked a r = (file : Option T) × GivesSome file a r

@@ -5,7 +5,7 @@ ghost use Rattle.cacache_table.specs.Runs.{reply_of};
 ghost use Rattle.cacache_polled.specs.Table.{closed};
 ghost use Rattle.cacache_polled.specs.Events.{HasHeld, busy};
 ghost use Rattle.cacache_async.specs.Waiting.{TellsFault};
-ghost use Rattle.cacache_writers.specs.Committing.{EndsHeld, Gives};
+ghost use Rattle.cacache_writers.specs.Committing.{EndsAsSaid, EndsHeld, Gives, GivesSome};
 
 use crate::about::About;
 use cacache_core::errors::{Error, Fault, Result};
@@ -46,6 +46,26 @@ fn commit<S: Store, C: Clock, N>(
     commit_from(env, commit, file).stored()
 }
 
+/// Commits where the integrity is of the algorithm that was said. A core of another is none of this writer's, and fails
+/// as a closed one does: nothing but this look ties what lies under a lock to what was said.
+fn commit_as_said<S: Store, C: Clock, N>(
+    env: &mut Env<S, C, N>,
+    about: About,
+    computed: Integrity,
+    count: u64,
+    file: S::Temp,
+) -> Result<Integrity>
+    ensures ends { EndsAsSaid S.Temp.seen S.log C.given env.old env.new about computed count file
+        result }
+    ensures names { env.new.names ≡ env.old.names }
+    ensures base { env.new.base ≡ env.old.base }
+{
+    if computed.pick_algorithm() != about.options.algorithm {
+        return Err(closing(env.alloc, Fault::Closed));
+    }
+    commit(env, about, computed, count, file)
+}
+
 /// The commit of a polled writer. None while work is out: then nothing changed. Else the core is closed, and the answer
 /// is that of a commit of the held bytes, or the fault that stands before it.
 pub fn commit_held<S: Store, C: Clock, N>(
@@ -60,6 +80,8 @@ pub fn commit_held<S: Store, C: Clock, N>(
     ensures closed { core.new.desk ≡ closed core.old.desk }
     ensures gives { IfSome result (λ r. (bytes : List ℕ) → HasHeld core.old bytes
         → Gives S.Temp.seen S.log C.given env.old env.new core.old bytes temp.old about.old r) }
+    ensures answers { IfSome result
+        (GivesSome S.Temp.seen S.log C.given env.old env.new temp.old about.old) }
     ensures names { env.new.names ≡ env.old.names }
     ensures base { env.new.base ≡ env.old.base }
 {
@@ -69,7 +91,7 @@ pub fn commit_held<S: Store, C: Clock, N>(
         Ok(Finish::Cancelled) => Some(Err(closing(env.alloc, Fault::Cancelled))),
         Ok(Finish::Failed(fault)) => Some(Err(closing(env.alloc, fault))),
         Ok(Finish::Held(computed, count)) => match (temp.take(), about.take()) {
-            (Some(file), Some(about)) => Some(commit(env, about, computed, count, file)),
+            (Some(file), Some(about)) => Some(commit_as_said(env, about, computed, count, file)),
             _ => Some(Err(closing(env.alloc, Fault::Closed))),
         },
         Err(error) => Some(Err(error)),

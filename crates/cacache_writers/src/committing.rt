@@ -1,11 +1,12 @@
 //! The commit of a polled writer as a future.
-ghost use Rattle.std.specs.Prelude.{◌≡◌, ⊤, List, Result, Some, None, IfNone};
+ghost use Rattle.std.specs.Prelude.{◌≡◌, ⊤, List, Result, Some, None, IfNone, IfSome};
 ghost use Rattle.std.specs.Arc.{arc_value};
 ghost use Rattle.futures.specs.Poll.{IfReady, OnPending};
 ghost use Rattle.futures.specs.Task.{Covers, Keeps};
 ghost use Rattle.cacache_core.specs.declared.errors.Error.{Error};
 ghost use Rattle.cacache_core.specs.declared.integrity.digest.Hash.{Hash};
 ghost use Rattle.cacache_async.specs.Waiting.{SaysOver};
+ghost use Rattle.cacache_writers.specs.Committing.{GivesLocked};
 
 use crate::about::About;
 use crate::commit::commit_held;
@@ -73,6 +74,10 @@ impl<'a, R: Wait, S: Store<Temp = T>, C: Clock, N: Names, T: Drop> Future
         ensures pending { OnPending result ((self.new.env.now ≡ self.old.env.now)
             × (self.new.about ≡ self.old.about)) }
         ensures over { IfReady result (λ _. self.new.about ≡ None) }
+        ensures gives { IfSome self.old.about (λ about. IfReady result (GivesLocked T.seen S.log
+            C.given self.old.env.now self.new.env.now (Some about))) }
+        ensures rest { (self.new.env.now.names ≡ self.old.env.now.names)
+            × (self.new.env.now.base ≡ self.old.env.now.base) }
         ensures later { IfNone self.old.about (IfReady result SaysOver
             × (self.new.env.now ≡ self.old.env.now)) }
         ensures env { self.new.env.ghost_name ≡ self.old.env.ghost_name }
