@@ -55,11 +55,11 @@ deeds_through [] ys = refl
 deeds_through (turn ∷ xs) ys = ap (λ l. deeds_of turn.move ++ l) (deeds_through xs ys) ∙ sym (append_assoc (deeds_of turn.move) (deeds xs) (deeds ys))
 
 -- the later of two parts has all deeds, if the earlier one has none
-deeds_later : (xs ys : List Turn) → deeds xs ≡ [] → deeds (xs ++ ys) ≡ deeds ys
+pub deeds_later : (xs ys : List Turn) → deeds xs ≡ [] → deeds (xs ++ ys) ≡ deeds ys
 deeds_later xs ys none = deeds_through xs ys ∙ ap (λ l. l ++ deeds ys) none
 
 -- so it is with faults
-fault_later : (xs ys : Moves) (fault : Fault) → (Faulted xs fault → ⊥) → Faulted (xs ++ ys) fault → Faulted ys fault
+pub fault_later : (xs ys : Moves) (fault : Fault) → (Faulted xs fault → ⊥) → Faulted (xs ++ ys) fault → Faulted ys fault
 fault_later [] ys fault none h = h
 fault_later (m ∷ xs) ys fault none (inl h) = absurd (none (inl h))
 fault_later (m ∷ xs) ys fault none (inr h) = fault_later xs ys fault (λ later. none (inr later)) h

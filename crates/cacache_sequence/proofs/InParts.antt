@@ -76,7 +76,7 @@ moves_more (made t moves ∷ parts) more = ap (λ l. moves ++ l) (moves_more par
 moves_more (took t file ∷ parts) more = ap (λ l. byte_read file ∷ l) (moves_more parts more)
 
 -- with one part more
-moves_then : (parts : List Part) (t : Tree) (moves : Moves) → moves_in (parts ++ made t moves ∷ []) ≡ moves_in parts ++ moves
+pub moves_then : (parts : List Part) (t : Tree) (moves : Moves) → moves_in (parts ++ made t moves ∷ []) ≡ moves_in parts ++ moves
 moves_then parts t moves = moves_more parts (made t moves ∷ []) ∙ ap (λ l. moves_in parts ++ l) (append-nil moves)
 
 parts_more : (s : Setup) (parts more : List Part) → AreParts s parts → AreParts s more → AreParts s (parts ++ more)
@@ -88,7 +88,7 @@ made_more : (xs ys : List Turn) → made_in (xs ++ ys) ≡ made_in xs ++ made_in
 made_more [] ys = refl
 made_more (turn ∷ xs) ys = ap (λ l. (turn.move.step, turn.move.answer) ∷ l) (made_more xs ys)
 
-all_made : (parts : List Part) → made_in (turns_in parts) ≡ moves_in parts
+pub all_made : (parts : List Part) → made_in (turns_in parts) ≡ moves_in parts
 all_made [] = refl
 all_made (made t moves ∷ parts) = made_more (turns_on t moves) (turns_in parts) ∙ ap (λ l. l ++ made_in (turns_in parts)) (turns_made t moves) ∙ ap (λ l. moves ++ l) (all_made parts)
 all_made (took t file ∷ parts) = ap (λ l. byte_read file ∷ l) (all_made parts)
@@ -101,7 +101,7 @@ turns_hold_rest : (s : Setup) (xs ys : List Turn) → TurnsHold s (xs ++ ys) →
 turns_hold_rest s [] ys h = h
 turns_hold_rest s (turn ∷ xs) ys h = turns_hold_rest s xs ys h.1
 
-byte_answered : (t : Tree) (file : PlainFile) → given file 1 file.bytes ≡ (apply t (steps.Read file piece) (Take 1)).0
+pub byte_answered : (t : Tree) (file : PlainFile) → given file 1 file.bytes ≡ (apply t (steps.Read file piece) (Take 1)).0
 unfolding apply
 byte_answered t file = refl
 

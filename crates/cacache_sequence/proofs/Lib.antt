@@ -47,6 +47,7 @@ pub mod Arriving
 pub mod Standing
 pub mod GivenUp
 pub mod Linking
+pub mod OpenLinkers
 pub mod Sharing
 pub mod Exported
 pub mod SureSteps

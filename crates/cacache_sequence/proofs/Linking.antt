@@ -1,5 +1,5 @@
 -- What a link leaves: its bytes are those that the target shows, and its deeds are those of its commit.
-use Rattle.std.proofs.Common.{◌≡◌, ◌⊎◌, inl, inr, ◌<◌, ◌^◌, ℕ, Bool, true, false, cond, List, [], ◌∷◌, ◌++◌, ◌||◌, Option, None, Some, Result, Ok, Err, length, map, refl, sym, ap, subst, ◌∙◌}
+use Rattle.std.proofs.Common.{◌≡◌, ◌⊎◌, inl, inr, ℕ, Bool, true, false, cond, List, [], ◌∷◌, ◌++◌, ◌||◌, Option, None, Some, Result, Ok, Err, length, map, refl, sym, ap, subst, ◌∙◌}
 use Rattle.std.proofs.lemmas.List.Elements.{All-head}
 use Rattle.sha1.specs.Sha1.{sha1}
 use Rattle.cacache_core.specs.declared.errors.Error.TheVariants.{IoError}
@@ -39,21 +39,19 @@ use Rattle.cacache_table.proofs.Verifying.{links_read_whole}
 use Rattle.cacache_value.specs.Acts.{PutLink, change, list_of}
 use Rattle.cacache_value.specs.Kinds.{is_path_of}
 use Rattle.cacache_value.specs.Value.{AtLink, Blob, Value, value_of_tree}
-use Rattle.cacache_history.specs.Commits.{AddsAfter, CommitsAs, Deed, IsCase, IsNotOk, InsertionAdds, LinksTo, PutsContent, ReadsTarget, deeds, does, finds}
+use Rattle.cacache_history.specs.Commits.{AddsAfter, CommitsAs, Deed, IsNotOk, InsertionAdds, LinksTo, PutsContent, ReadsTarget, deeds, does, finds}
 use Rattle.cacache_history.specs.Setup.{Setup, call_site, same_place}
-use Rattle.cacache_history.specs.Turns.{made_in}
 use Rattle.cacache_history.specs.Values.{IsThere}
 use Rattle.cacache_history.proofs.Digests.{digest_hash}
 use Rattle.cacache_history.proofs.OpenedContents.{EachAsks, OnDisks, gives_all, run_asks}
 use Rattle.cacache_history.proofs.Righted.{one_address}
 use Rattle.cacache_history.proofs.ShownTurns.{content_below}
 use Rattle.cacache_sequence.specs.Beside.{IsOther, ShareAddress, own_integrity}
-use Rattle.cacache_sequence.specs.Caches.{Called, HasContent, HasKey, IsCache, lies_under, setup_at}
+use Rattle.cacache_sequence.specs.Caches.{Called, HasContent, IsCache, lies_under, setup_at}
 use Rattle.cacache_sequence.specs.Keeping.{found_under}
 use Rattle.cacache_sequence.specs.ExportEffects.{IsApart}
-use Rattle.cacache_sequence.specs.Links.{FitsLink, HasLinked, KeepsBesideLink, LeavesLink, LinksLast, put_like}
+use Rattle.cacache_sequence.specs.Links.{FitsLink, KeepsBesideLink, LeavesLink, LinksLast, put_like}
 use Rattle.cacache_sequence.specs.Puts.{ExpectsIntegrity, LeadsToPut, MayLeadToPut, stored_as}
-use Rattle.cacache_sequence.specs.ReadAnswers.{entries_on}
 use Rattle.cacache_sequence.specs.Sequence.{Alike, AreAnswered, CallIsAnswered, IsMadeOn, IsSound, SequenceCall, after_deeds, tree_on, turns_on}
 use Rattle.cacache_sequence.specs.Stored.{own_hash}
 use Rattle.cacache_sequence.proofs.Beside.{later_contents, later_lookups}
@@ -61,18 +59,18 @@ use Rattle.cacache_sequence.proofs.KeptKeys.{alike_lookup}
 use Rattle.cacache_sequence.proofs.Logs.{some_same}
 use Rattle.cacache_sequence.proofs.Puts.{led_by}
 use Rattle.cacache_sequence.proofs.InParts.{logs_lead}
-use Rattle.cacache_sequence.proofs.ReadsStay.{opening_keeps, sizing_keeps}
+use Rattle.cacache_sequence.proofs.ReadsStay.{sizing_keeps}
 use Rattle.cacache_sequence.proofs.Removed.{over_run}
 use Rattle.cacache_sequence.proofs.Sequence.{calls_answer_alone, turns_made}
 use Rattle.cacache_sequence.proofs.Stored.{adds_entry, below_is, first_deed, new_blob}
 
 -- ---- the bytes that the target shows
 
-on_disks : (t : Tree) (moves : Moves) → AreAnswered t moves → OnDisks moves
+pub on_disks : (t : Tree) (moves : Moves) → AreAnswered t moves → OnDisks moves
 on_disks t [] h = tt
 on_disks t (m ∷ moves) h = ((t, Plain, h.0), on_disks (apply t m.0 Plain).1 moves h.1)
 
-opened_held : (t : Tree) (path held : List ℕ) (file : PlainFile) → shown t path ≡ Some held → answers.File file ≡ (apply t (steps.Open path) Plain).0 → file.bytes ≡ Some held
+pub opened_held : (t : Tree) (path held : List ℕ) (file : PlainFile) → shown t path ≡ Some held → answers.File file ≡ (apply t (steps.Open path) Plain).0 → file.bytes ≡ Some held
 unfolding apply
 opened_held t path held file = by (file_at t path faults.IsADirectory)
   where
@@ -240,6 +238,23 @@ module _ (cache : List ℕ) (p : Put) (path : List ℕ) (old new : List LogItem)
         | inr found ↦ inr (there found.0 found.1, follows.contents (own_hash p) ∙ found.2)
       ]
 
+-- what a link leaves whose deeds are those of its commit
+module _ (cache : List ℕ) (p : Put) (path : List ℕ) (old new : List LogItem) (ds : List Deed) (r : Reply)
+    (commits : CommitsAs (put_commit cache p) (λ names. PutLink names path) ds (Some r))
+    (follows : Alike (value_of_tree (home_of cache) (tree_of new)) (after_deeds (home_of cache) ds (value_of_tree (home_of cache) (tree_of old))))
+    (expects : ExpectsIntegrity p) (stored : (i : List Hash) → r ≡ replies.Stored i → i ≡ stored_as p)
+    (found : (more : List Deed) → ds ≡ finds (content_path cache (own_integrity p)) ∷ more → IsThere (lies_under cache (own_integrity p) old)) where
+  pub leaves_by : LeavesLink cache p path r old new
+  leaves_by = record {
+    links = λ i is. record {
+      stored = stored i is;
+      entry = link_leads cache p path old new ds (Some r) commits follows expects (λ no. subst (λ x. IsNotOk (Some x)) is no);
+      lies = link_lies cache p path old new ds (Some r) commits follows (λ no. subst (λ x. IsNotOk (Some x)) is no) found;
+    };
+    leads = link_may_lead cache p path old new ds (Some r) commits follows expects;
+    beside = link_keeps cache p path old new ds (Some r) commits follows;
+  }
+
 -- ---- calls
 
 -- a cache whose links may lead to this file
@@ -247,7 +262,7 @@ abbrev pub setup_to : List ℕ → List ℕ → List ℕ → Setup
 setup_to cache base path = record { cache = cache; base = base; outside = (path, []) ∷ []; callers = 0 }
 
 -- the file lies outside
-is_there : (path : List ℕ) (names : Names) (r : Result Names Fault) → r ≡ Ok names → (same_place r r || false) ≡ true
+pub is_there : (path : List ℕ) (names : Names) (r : Result Names Fault) → r ≡ Ok names → (same_place r r || false) ≡ true
 is_there path names (Ok other) is = ap (λ b. b || false) (same_self other)
 is_there path names (Err fault) is = absurd cc
 
@@ -284,26 +299,15 @@ module _ (cache : List ℕ) (l : Link) (base : List ℕ) (number : ℕ) (moves :
 
   leaves_link : LeavesLink cache (put_like l held) (based base l.target) r old new
   leaves_link =
-      let p = put_like l held in
-      let path = based base l.target in
-      let ds = deeds (turns_on (tree_of old) moves) in
-      record {
-        links = λ i is. record {
-          stored = target_stored i is;
-          entry = link_leads cache p path old new ds (Some r) target_commits target_follows expects (λ no. subst (λ x. IsNotOk (Some x)) is no);
-          lies = link_lies cache p path old new ds (Some r) target_commits target_follows (λ no. subst (λ x. IsNotOk (Some x)) is no)
-              (λ more e. answers.found (own_hash (put_like l held)) more (digest_hash l.options.algorithm held) e);
-        };
-        leads = link_may_lead cache p path old new ds (Some r) target_commits target_follows expects;
-        beside = link_keeps cache p path old new ds (Some r) target_commits target_follows;
-      }
+      leaves_by cache (put_like l held) (based base l.target) old new (deeds (turns_on (tree_of old) moves)) r target_commits target_follows expects target_stored
+      (λ more e. answers.found (own_hash (put_like l held)) more (digest_hash l.options.algorithm held) e)
 
 -- a path that names nothing shows nothing
 nowhere : (t : Tree) (path : List ℕ) (fault : Fault) → names_of path ≡ Err fault → file_at t path faults.IsADirectory ≡ Err fault
 unfolding file_at leads place
 nowhere t path fault e = rw e refl
 
-nothing_shown : (t : Tree) (path held : List ℕ) (fault : Fault) → names_of path ≡ Err fault → shown t path ≡ Some held → ⊥
+pub nothing_shown : (t : Tree) (path held : List ℕ) (fault : Fault) → names_of path ≡ Err fault → shown t path ≡ Some held → ⊥
 unfolding apply
 nothing_shown t path held fault e shows =
     let no : None ≡ Some held = sym (ap (λ r. bytes_told (unless r t (λ b. (answers.Bytes b, t))).0) (nowhere t path fault e)) ∙ shows in

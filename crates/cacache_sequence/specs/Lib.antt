@@ -11,6 +11,7 @@ pub mod Beside
 pub mod Inserts
 pub mod Removed
 pub mod OpenWriters
+pub mod OpenLinkers
 pub mod Puts
 pub mod OpenReaders
 pub mod ExportEffects

@@ -15,6 +15,7 @@ ghost use Rattle.cacache_sequence.specs.Exported.{ExportsArrive};
 ghost use Rattle.cacache_sequence.specs.Links.{LinksLast};
 ghost use Rattle.cacache_sequence.specs.InParts.{LogsLead, CallsBegin, PartsGoOn, LeftAreCases, PartsAnswer, ReadsAreParts, WritesAreParts};
 ghost use Rattle.cacache_sequence.specs.OpenWriters.{WritersOpen, CommitsLast, CommitsStore};
+ghost use Rattle.cacache_sequence.specs.OpenLinkers.{LinkersCommit};
 ghost use Rattle.cacache_sequence.specs.Puts.{PutsLeave, PutsMayLead, CommitsLeave, CommitsKeep};
 ghost use Rattle.cacache_sequence.specs.GivenUp.{GivingUpLasts};
 ghost use Rattle.cacache_sequence.specs.OpenReaders.{ReadersOpen, ReadersOpenKey};
@@ -101,7 +102,9 @@ pub fn look_laws()
 
 /// What handles do to a cache in a store in memory, in words of their user. A writer opens and commits later, and in
 /// between any calls may be made that leave a cache: after a commit that stored, the key leads to the bytes that the writer
-/// took, and whatever it answers, all else stays; given up, it leaves all that was known. A reader has the bytes to give that lay in the cache when it opened, whatever becomes of the content since.
+/// took, and whatever it answers, all else stays; given up, it leaves all that was known. After a linker's commit that stored,
+/// the key leads to the integrity of the bytes that its target showed when it was opened, and a link to it lies there, or
+/// what lay there before. A reader has the bytes to give that lay in the cache when it opened, whatever becomes of the content since.
 pub fn handle_laws()
     ensures opens { WritersOpen }
     ensures commits { CommitsLast }
@@ -109,6 +112,7 @@ pub fn handle_laws()
     ensures leaves { CommitsLeave }
     ensures commits_keep { CommitsKeep }
     ensures gives_up { GivingUpLasts }
+    ensures links { LinkersCommit }
     ensures reads { ReadersOpen }
     ensures reads_key { ReadersOpenKey }
 {}

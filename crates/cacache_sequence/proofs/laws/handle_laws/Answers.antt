@@ -3,6 +3,7 @@ use Rattle.cacache_sequence.proofs.Committing.{commits_last, commits_store}
 use Rattle.cacache_sequence.proofs.OpenReaders.{readers_open, readers_open_key}
 use Rattle.cacache_sequence.proofs.Puts.{commits_leave, commits_keep}
 use Rattle.cacache_sequence.proofs.GivenUp.{giving_up_lasts}
+use Rattle.cacache_sequence.proofs.OpenLinkers.{linkers_commit}
 use Rattle.cacache_sequence.proofs.laws.handle_laws.Goals as goal
 
 pub returns-clause-opens : goal.returns-clause-opens
@@ -28,3 +29,6 @@ returns-clause-commits_keep c = commits_keep
 
 pub returns-clause-gives_up : goal.returns-clause-gives_up
 returns-clause-gives_up c = giving_up_lasts
+
+pub returns-clause-links : goal.returns-clause-links
+returns-clause-links c = linkers_commit

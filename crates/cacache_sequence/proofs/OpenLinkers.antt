@@ -1,0 +1,343 @@
+-- What the commit of a linker leaves: it reads the rest of what its target showed, and makes the link.
+use Rattle.std.proofs.Common.{◌≡◌, ◌⊎◌, inl, inr, ◌<◌, ◌^◌, ◌==◌, ℕ, Bool, true, false, cond, List, [], ◌∷◌, ◌++◌, Option, None, Some, Result, Ok, Err, length, refl, sym, ap, subst, ◌∙◌, append-nil, append_assoc}
+use Rattle.std.proofs.lemmas.Bool.{eq-eqb}
+use Rattle.cacache_core.specs.declared.errors.Error.TheVariants.{IntegrityError, SizeMismatch}
+use Rattle.cacache_core.specs.declared.errors.Fault.{Fault}
+use Rattle.cacache_core.specs.declared.errors.Fault.TheVariants as faults
+use Rattle.cacache_core.specs.declared.errors.IntegrityFault.TheVariants.{Check}
+use Rattle.cacache_core.specs.declared.integrity.digest.Hash.{Hash}
+use Rattle.cacache_core.specs.PathNames.{Names, home_of, names_of}
+use Rattle.cacache_store.specs.declared.store.answer.Answer.TheVariants as answers
+use Rattle.cacache_store.specs.declared.store.log.LogItem.{LogItem}
+use Rattle.cacache_store.specs.declared.store.plain.PlainFile.{PlainFile}
+use Rattle.cacache_store.specs.declared.store.step.Step.TheVariants as steps
+use Rattle.cacache_store.specs.Plain.{PlainAnswer}
+use Rattle.cacache_disk.specs.declared.luck.Luck.TheVariants.{Plain, Take}
+use Rattle.cacache_disk.specs.Tree.{Tree}
+use Rattle.cacache_disk.specs.Apply.{apply, opened, unless}
+use Rattle.cacache_disk.specs.LedTo.{file_at}
+use Rattle.cacache_memory.specs.Replay.{bytes_told, shown, tree_of}
+use Rattle.cacache_table.specs.declared.command.Command.TheVariants as commands
+use Rattle.cacache_table.specs.declared.command.Link.{Link}
+use Rattle.cacache_table.specs.declared.reply.Reply.{Reply}
+use Rattle.cacache_table.specs.declared.reply.Reply.TheVariants as replies
+use Rattle.cacache_table.specs.declared.carried.Commit.{Commit}
+use Rattle.cacache_table.specs.declared.target.Target.{Target}
+use Rattle.cacache_table.specs.Common.{ends_with}
+use Rattle.cacache_table.specs.Linking.{based, commit_for, link_target, with_size}
+use Rattle.cacache_table.specs.Promises.{Stores}
+use Rattle.cacache_table.specs.Runs.{Goes, Moves, Runs}
+use Rattle.cacache_table.specs.Sound.{SoundTarget}
+use Rattle.cacache_table.specs.State.{Site, State, confirming, hashing, linking, to_link}
+use Rattle.cacache_table.specs.Storing.{compared, indexed, link, matches, placed, put_commit, sized}
+use Rattle.cacache_table.specs.Table.{after, opening, piece}
+use Rattle.cacache_table.specs.Verifying.{Gives}
+use Rattle.cacache_table.proofs.Verifying.{links_read_whole}
+use Rattle.cacache_value.specs.Acts.{PutLink}
+use Rattle.cacache_value.specs.OpeningTrees.{LieApart}
+use Rattle.cacache_value.specs.Value.{value_of_tree}
+use Rattle.cacache_history.specs.Commits.{CommitsAs, DidNothing, LinksTo, ReadsTarget, deeds}
+use Rattle.cacache_history.specs.History.{turn_of}
+use Rattle.cacache_history.specs.Setup.{Setup, home}
+use Rattle.cacache_history.proofs.Digests.{digest_hash}
+use Rattle.cacache_history.proofs.OpenedContents.{EachAsks, OnDisks, gives_all, run_asks}
+use Rattle.cacache_sequence.specs.Caches.{IsCache, Grows}
+use Rattle.cacache_sequence.specs.ExportEffects.{IsApart}
+use Rattle.cacache_sequence.specs.InParts.{AreParts, Begun, Changes, AnswersInParts, IsOnItsWay, Part, byte_read, made, took, moves_in, turns_in, with_part}
+use Rattle.cacache_sequence.specs.Links.{FitsLink, LeavesLink, put_like}
+use Rattle.cacache_sequence.specs.OpenLinkers.{CommitsRest, LinkersCommit, SuitsSize, TargetOpened}
+use Rattle.cacache_sequence.specs.Puts.{ExpectsIntegrity, stored_as}
+use Rattle.cacache_sequence.specs.Sequence.{Alike, AreAnswered, IsSound, after_deeds, tree_on, turns_on}
+use Rattle.cacache_sequence.specs.Stored.{own_hash}
+use Rattle.cacache_sequence.proofs.Committing.{deeds_later}
+use Rattle.cacache_sequence.proofs.Handed.{reads_are_parts}
+use Rattle.cacache_sequence.proofs.InParts.{all_made, byte_answered, calls_begin, logs_lead, moves_then, parts_answer, parts_go_on, run_goes, runs_through}
+use Rattle.cacache_sequence.proofs.Linking.{is_there, leaves_by, nothing_shown, on_disks, opened_held, setup_to}
+use Rattle.cacache_sequence.proofs.OpenWriters.{gains_grow}
+use Rattle.cacache_sequence.proofs.ReadsStay.{opened_so, sizing_keeps}
+
+-- ---- the bytes that the target showed
+
+-- what is known of moves that open a target of these bytes and read it
+abbrev ReadOf : List ℕ → Moves → Type 0
+ReadOf held (m ∷ (step, answers.File file) ∷ moves) = (file.bytes ≡ Some held) × OnDisks moves × EachAsks moves
+ReadOf held moves = ⊥
+
+-- what is so of the bytes that were read is so of these
+held_of : (path held : List ℕ) (P : List ℕ → Type 0) (moves : Moves) → ReadOf held moves → ReadsTarget path P moves → P held
+held_of path held P moves good read =
+    let w = read.3 in
+    let g : ReadOf held ((steps.Size path, answers.Length read.0) ∷ (steps.Open path, answers.File w.0) ∷ w.2)
+    = subst (ReadOf held) (read.2 ∙ ap (λ (l : Moves). (steps.Size path, answers.Length read.0) ∷ l) w.3) good in
+    subst P (gives_all w.0 w.1 held w.2 g.0 g.1 g.2 w.4) w.5
+
+told_held : (t : Tree) (path held : List ℕ) → shown t path ≡ Some held → answers.Length (length held) ≡ (apply t (steps.Size path) Plain).0
+unfolding apply
+told_held t path held = by (file_at t path faults.IsADirectory)
+  where
+    by : (r : Result (List ℕ) Fault) → bytes_told (unless r t (λ b. (answers.Bytes b, t))).0 ≡ Some held → answers.Length (length held) ≡ (unless r t (λ b. (answers.Length (length b), t))).0
+    by (Ok bytes) shows = let is : bytes ≡ held = cc in ap (λ (b : List ℕ). answers.Length (length b)) (sym is)
+    by (Err fault) shows = absurd cc
+
+disks_join : (xs ys : Moves) → OnDisks xs → OnDisks ys → OnDisks (xs ++ ys)
+disks_join [] ys h k = k
+disks_join (m ∷ xs) ys h k = (h.0, disks_join xs ys h.1 k)
+
+-- the moves of parts have a disk's answers
+parts_on_disks : (s : Setup) (parts : List Part) → AreParts s parts → OnDisks (moves_in parts)
+parts_on_disks s [] h = tt
+parts_on_disks s (made t moves ∷ parts) h = disks_join moves (moves_in parts) (on_disks t moves h.1) (parts_on_disks s parts h.2)
+parts_on_disks s (took t file ∷ parts) h = ((t, Take 1, byte_answered t file), parts_on_disks s parts h.1)
+
+turns_more : (parts more : List Part) → turns_in (parts ++ more) ≡ turns_in parts ++ turns_in more
+turns_more [] more = refl
+turns_more (made t moves ∷ parts) more = ap (λ l. turns_on t moves ++ l) (turns_more parts more) ∙ sym (append_assoc (turns_on t moves) (turns_in parts) (turns_in more))
+turns_more (took t file ∷ parts) more = ap (λ l. turn_of t (Take 1) (byte_read file) ∷ l) (turns_more parts more)
+
+-- ---- a size that a commit expects
+
+chosen : (b : Bool) (x y : State) → b ≡ true → cond b x y ≡ x
+chosen true x y e = refl
+chosen false x y e = absurd cc
+
+-- a link of these bytes goes on the same where no size is expected and where theirs is
+module _ (t : Target ℕ) (none : t.options.size ≡ None) (n : ℕ) (bytes : List ℕ) (is : n ≡ length bytes) where
+  abbrev free : Commit
+  free = commit_for t bytes
+
+  abbrev sure : Commit
+  sure = commit_for (with_size t n) bytes
+
+  indexed_same : (key : Option (List ℕ)) → indexed free key ≡ indexed sure key
+  indexed_same None = refl
+  indexed_same (Some key) = refl
+
+  sized_same : sized free t.options.size ≡ sized sure (Some n)
+  sized_same =
+      ap (sized free) none ∙ indexed_same t.key
+      ∙ sym (chosen (n == length bytes) (indexed sure t.key) (ends_with (SizeMismatch n (length bytes))) (eq-eqb n (length bytes) is))
+
+  compared_same : (expected : Option (List Hash)) → compared free expected ≡ compared sure expected
+  compared_same None = sized_same
+  compared_same (Some expected) = ap (λ (x : State). cond (matches expected free.computed) x (ends_with (IntegrityError (Check expected free.computed)))) sized_same
+
+  placed_same : placed free ≡ placed sure
+  placed_same = compared_same t.options.integrity
+
+  confirmed_same : (fault : Fault) (a : PlainAnswer) → after (confirming free fault) a ≡ after (confirming sure fault) a
+  confirmed_same fault (answers.There true) = placed_same
+  confirmed_same fault (answers.There false) = refl
+  confirmed_same fault a = refl
+
+  confirming_same : (fault : Fault) (moves : Moves) (r : Reply) → Runs (confirming free fault) moves r → Runs (confirming sure fault) moves r
+  confirming_same fault [] r (inl e) = absurd cc
+  confirming_same fault [] r (inr e) = inr e
+  confirming_same fault (m ∷ moves) r run = (run.0, run.1, subst (λ x. Runs x moves r) (confirmed_same fault m.1) run.2)
+
+  linked_on : (path : List ℕ) (a : PlainAnswer) (moves : Moves) (r : Reply) → Runs (after (linking free path) a) moves r → Runs (after (linking sure path) a) moves r
+  linked_on path answers.Done moves r run = subst (λ x. Runs x moves r) placed_same run
+  linked_on path (answers.Failed fault) moves r run = confirming_same fault moves r run
+  linked_on path (answers.NoMemory step) moves r run = run
+  linked_on path a moves r run = confirming_same faults.Device moves r run
+
+  linking_same : (path : List ℕ) (moves : Moves) (r : Reply) → Runs (linking free path) moves r → Runs (linking sure path) moves r
+  linking_same path [] r (inl e) = absurd cc
+  linking_same path [] r (inr e) = inr e
+  linking_same path (m ∷ moves) r run = (run.0, run.1, linked_on path m.1 moves r run.2)
+
+  made_on : (path : List ℕ) (a : PlainAnswer) (moves : Moves) (r : Reply) → Runs (after (link free path) a) moves r → Runs (after (link sure path) a) moves r
+  made_on path answers.Done moves r run = linking_same path moves r run
+  made_on path a moves r run = run
+
+  link_same : (path : List ℕ) (moves : Moves) (r : Reply) → Runs (link free path) moves r → Runs (link sure path) moves r
+  link_same path [] r (inl e) = absurd cc
+  link_same path [] r (inr e) = inr e
+  link_same path (m ∷ moves) r run = (run.0, run.1, made_on path m.1 moves r run.2)
+
+module _ (t : Target ℕ) (none : t.options.size ≡ None) (r : Reply) where
+  -- the run is one for any size, or it reads the file to its end and is one for the size of all bytes
+  abbrev SameRun : PlainFile → List ℕ → Moves → Type 0
+  SameRun file bytes moves =
+      ((n : ℕ) → Runs (hashing (to_link (with_size t n)) file bytes) moves r)
+      ⊎ ((rest : List ℕ) × Gives file rest moves × Runs (hashing (to_link (with_size t (length (bytes ++ rest)))) file bytes) moves r)
+
+  same_run : (file : PlainFile) (bytes : List ℕ) (moves : Moves) → Runs (hashing (to_link t) file bytes) moves r → SameRun file bytes moves
+  same_run file bytes [] (inl e) = absurd cc
+  same_run file bytes [] (inr e) = inl (λ n. inr e)
+  same_run file bytes ((step, answers.Got g []) ∷ moves) run =
+      let is : steps.Read file piece ≡ step = cc in
+      inr
+      ([], subst (λ x. Gives file [] ((x, answers.Got g []) ∷ moves)) is (refl, refl), (run.0, run.1, link_same t none (length (bytes ++ [])) bytes (ap (λ (b : List ℕ). length b) (append-nil bytes)) t.path moves r run.2))
+  same_run file bytes ((step, answers.Got g (b ∷ bs)) ∷ moves) run =
+      let is : steps.Read file piece ≡ step = cc in
+      elim (same_run g (bytes ++ b ∷ bs) moves run.2) [
+        | inl any ↦ inl (λ n. (run.0, run.1, any n))
+        | inr h ↦
+            inr (
+              (b ∷ bs) ++ h.0,
+              subst (λ x. Gives file ((b ∷ bs) ++ h.0) ((x, answers.Got g (b ∷ bs)) ∷ moves)) is (refl, h.0, refl, h.1),
+              (run.0, run.1, subst (λ l. Runs (hashing (to_link (with_size t (length l))) g (bytes ++ b ∷ bs)) moves r) (append_assoc bytes (b ∷ bs) h.0) h.2),
+            )
+      ]
+  same_run file bytes ((step, a) ∷ moves) run = inl (λ n. run)
+
+  sized_run : (bytes rest : List ℕ) (moves : Moves) → OnDisks moves → Runs (hashing (to_link t) (opened rest) bytes) moves r
+      → Runs (hashing (to_link (with_size t (length (bytes ++ rest)))) (opened rest) bytes) moves r
+  sized_run bytes rest moves disks run =
+      elim (same_run (opened rest) bytes moves run) [
+        | inl any ↦ any (length (bytes ++ rest))
+        | inr h ↦
+            let same : h.0 ≡ rest = gives_all (opened rest) h.0 rest moves refl disks (run_asks (hashing (to_link t) (opened rest) bytes) moves r run) h.1 in
+            subst (λ b. Runs (hashing (to_link (with_size t (length (bytes ++ b)))) (opened rest) bytes) moves r) same h.2
+      ]
+
+-- the same where no size is expected, or theirs is
+suited_run : (t : Target ℕ) (bytes rest : List ℕ) (moves : Moves) (r : Reply) → SuitsSize t.options.size (length (bytes ++ rest)) → OnDisks moves → Runs (hashing (to_link t) (opened rest) bytes) moves r
+    → Runs (hashing (to_link (with_size t (length (bytes ++ rest)))) (opened rest) bytes) moves r
+suited_run t bytes rest moves r (inl none) disks run = sized_run t none r bytes rest moves disks run
+suited_run t bytes rest moves r (inr some) disks run =
+    let same : t ≡ with_size t (length (bytes ++ rest)) = ap (λ (size : Option ℕ). record t { options = record t.options { size = size } }) some in
+    subst (λ x. Runs (hashing (to_link x) (opened rest) bytes) moves r) same run
+
+-- ---- a commit, as the last part of a link
+
+module _ (cache base : List ℕ) (l : Link) (bytes rest : List ℕ) (first : PlainFile) (fits : FitsLink cache l) (apart : IsApart cache (based base l.target))
+    (o : TargetOpened cache (based base l.target) (bytes ++ rest) first) (names : Names) (named : names_of (based base l.target) ≡ Ok names) where
+  abbrev site : Site
+  site = record { cache = cache; base = base; number = 0 }
+
+  abbrev path : List ℕ
+  path = based base l.target
+
+  abbrev held : List ℕ
+  held = bytes ++ rest
+
+  -- the target, of the size that it has
+  abbrev target : Target ℕ
+  target = with_size (link_target site l) (length held)
+
+  abbrev s : Setup
+  s = setup_to cache base path
+
+  abbrev started : Begun
+  started = record { command = commands.Link l; number = 0; parts = [] }
+
+  -- its size is asked, and then it is opened
+  abbrev opened_by : Moves
+  opened_by = (steps.Size path, answers.Length (length held)) ∷ (steps.Open path, answers.File (opened held)) ∷ []
+
+  abbrev begun : Begun
+  begun = with_part started (tree_of o.old) opened_by
+
+  lies_apart : LieApart (home s) s.outside
+  lies_apart = (apart, tt)
+
+  open_told : answers.File first ≡ (apply (tree_of o.old) (steps.Open path) Plain).0
+  open_told = (logs_lead o.old o.new ((steps.Open path, answers.File first) ∷ []) o.opens o.logged).0.0
+
+  first_is : first ≡ opened held
+  first_is =
+      let b = opened_so (tree_of o.old) path first open_told in
+      let both : Some b.0 ≡ Some held = sym (ap (λ (f : PlainFile). f.bytes) b.1) ∙ opened_held (tree_of o.old) path held first o.shows open_told in
+      let same : b.0 ≡ held = cc in
+      b.1 ∙ ap opened same
+
+  opening_answered : AreAnswered (tree_of o.old) opened_by
+  opening_answered = (
+    told_held (tree_of o.old) path held o.shows,
+    (
+      subst (λ t. answers.File (opened held) ≡ (apply t (steps.Open path) Plain).0) (sym (sizing_keeps (tree_of o.old) path))
+          (subst (λ f. answers.File f ≡ (apply (tree_of o.old) (steps.Open path) Plain).0) first_is open_told),
+      tt,
+    ),
+  )
+
+  opening_goes : Goes (opening site (commands.Link l)) opened_by (hashing (to_link target) (opened held) [])
+  opening_goes = (refl, tt, (refl, subst (λ (f : PlainFile). f.left < 2 ^ 64) first_is o.small, refl))
+
+  is_opened : IsOnItsWay s begun (hashing (to_link target) (opened held) [])
+  is_opened =
+      let sound_target : SoundTarget site (link_target site l) = record { here = refl; formed = fits } in
+      let way = calls_begin s (commands.Link l) 0 (sound_target, is_there path names (names_of path) named) tt in
+      (parts_go_on s started (opening site (commands.Link l)) (hashing (to_link target) (opened held) []) (tree_of o.old) opened_by lies_apart way o.sound opening_goes opening_answered).0
+
+  -- the bytes that the linker took are parts of their own
+  reads : (parts : List Part) × IsOnItsWay s (record begun { parts = begun.parts ++ parts }) (hashing (to_link target) (opened rest) bytes) × (deeds (turns_in parts) ≡ [])
+  reads = reads_are_parts s begun (to_link target) [] bytes rest (tree_of o.old) is_opened o.sound
+
+  abbrev taken : Begun
+  taken = record begun { parts = begun.parts ++ reads.0 }
+
+  module _ (r : Reply) (old new : List LogItem) (expects : ExpectsIntegrity (put_like l held)) (sound : IsCache cache old) (c : CommitsRest cache base l bytes rest r old new)
+      (run : Runs (hashing (to_link target) (opened rest) bytes) c.ran.0 r) where
+    abbrev moves : Moves
+    moves = c.ran.0
+
+    abbrev call : Begun
+    call = with_part taken (tree_of old) moves
+
+    lead : AreAnswered (tree_of old) moves × (tree_of new ≡ tree_on (tree_of old) moves)
+    lead = logs_lead old new moves c.ran.2 c.logged
+
+    answered : AnswersInParts s call r × Changes s (tree_of old) moves
+    answered =
+        parts_answer s taken (hashing (to_link target) (opened rest) bytes) (tree_of old) moves r lies_apart reads.1 sound
+        (subst (Runs (hashing (to_link target) (opened rest) bytes) moves) (sym c.plain) run) lead.0
+
+    -- the steps of all parts are a run of a link
+    whole : Runs (opening site (commands.Link l)) (moves_in call.parts) r
+    whole =
+        subst (λ ms. Runs (opening site (commands.Link l)) ms r) (sym (moves_then taken.parts (tree_of old) moves))
+        (runs_through (opening site (commands.Link l)) (hashing (to_link target) (opened rest) bytes) (moves_in taken.parts) moves r reads.1.goes run)
+
+    -- and what they read is what the target showed
+    read_so : ReadOf held (moves_in call.parts)
+    read_so =
+        let end = run_goes (hashing (to_link target) (opened rest) bytes) moves r run in
+        let way = (parts_go_on s taken (hashing (to_link target) (opened rest) bytes) end.0 (tree_of old) moves lies_apart reads.1 sound end.1 lead.0).0 in
+        (refl, parts_on_disks s (reads.0 ++ made (tree_of old) moves ∷ []) way.parts.2, (run_asks (opening site (commands.Link l)) (moves_in call.parts) r whole).1.1)
+
+    own_deeds : deeds (turns_in call.parts) ≡ deeds (turns_on (tree_of old) moves)
+    own_deeds =
+        deeds_later (turns_on (tree_of o.old) opened_by) (turns_in (reads.0 ++ made (tree_of old) moves ∷ [])) refl
+        ∙ ap deeds (turns_more reads.0 (made (tree_of old) moves ∷ []))
+        ∙ deeds_later (turns_in reads.0) (turns_on (tree_of old) moves ++ []) reads.2
+        ∙ ap deeds (append-nil (turns_on (tree_of old) moves))
+
+    commits : CommitsAs (put_commit cache (put_like l held)) (λ names. PutLink names path) (deeds (turns_on (tree_of old) moves)) (Some r)
+    commits =
+        elim answered.0.commits [
+          | inl nothing ↦ inl (subst (λ ds. DidNothing ds (Some r)) own_deeds nothing)
+          | inr read ↦
+              subst (λ ds. CommitsAs (put_commit cache (put_like l held)) (λ names. PutLink names path) ds (Some r)) own_deeds
+              (held_of path held (LinksTo (link_target site l) (turns_in call.parts) (Some r)) (moves_in call.parts) read_so
+              (subst (λ ms. ReadsTarget path (LinksTo (link_target site l) (turns_in call.parts) (Some r)) ms) (all_made call.parts) read)).1
+        ]
+
+    follows : Alike (value_of_tree (home_of cache) (tree_of new)) (after_deeds (home_of cache) (deeds (turns_on (tree_of old) moves)) (value_of_tree (home_of cache) (tree_of old)))
+    follows =
+        subst (λ t. Alike (value_of_tree (home_of cache) t) (after_deeds (home_of cache) (deeds (turns_on (tree_of old) moves)) (value_of_tree (home_of cache) (tree_of old)))) (sym lead.1) answered.1.follows
+
+    stored : (i : List Hash) → r ≡ replies.Stored i → i ≡ stored_as (put_like l held)
+    stored i is =
+        let w = links_read_whole site l (moves_in call.parts) (replies.Stored i) (subst (Runs (opening site (commands.Link l)) (moves_in call.parts)) is whole) in
+        (held_of path held (λ b. Stores (commit_for (with_size (link_target site l) w.0) b) (replies.Stored i)) (moves_in call.parts) read_so (w.0, w.1, w.2, w.3)).0
+
+    leaves : IsCache cache new × Grows old new × LeavesLink cache (put_like l held) path r old new
+    leaves = (
+      subst (IsSound (home_of cache)) (sym lead.1) answered.1.sound,
+      gains_grow old new moves c.ran.2,
+      leaves_by cache (put_like l held) path old new (deeds (turns_on (tree_of old) moves)) r commits follows expects stored
+          (λ more e. answered.1.found (own_hash (put_like l held)) more (digest_hash l.options.algorithm held) e),
+    )
+
+pub linkers_commit : LinkersCommit
+linkers_commit cache base l bytes rest first r old new fits apart size expects o sound c = by (names_of (based base l.target)) refl
+  where
+    by : (n : Result Names Fault) → names_of (based base l.target) ≡ n
+        → IsCache cache new × Grows old new × LeavesLink cache (put_like l (bytes ++ rest)) (based base l.target) r old new
+    by (Ok names) e =
+        let t = link_target (record { cache = cache; base = base; number = 0 }) l in
+        let told = on_disks (tree_of old) c.ran.0 (logs_lead old new c.ran.0 c.ran.2 c.logged).0 in
+        leaves cache base l bytes rest first fits apart o names e r old new expects sound c (suited_run t bytes rest c.ran.0 r size told c.ran.1)
+    by (Err fault) e = absurd (nothing_shown (tree_of o.old) (based base l.target) (bytes ++ rest) fault e o.shows)

@@ -1,0 +1,64 @@
+-- What an open linker does on a store in memory, in words of its user. Between its opening and its
+-- commit any calls may be made that leave a cache, and whatever becomes of the target: a linker links
+-- the bytes that the target showed when it was opened.
+use Rattle.std.specs.Prelude.{◌≡◌, ◌⊎◌, ◌<◌, ◌^◌, ◌++◌, ℕ, List, Option, None, Some, length}
+use Rattle.cacache_store.specs.declared.store.answer.Answer.TheVariants as answers
+use Rattle.cacache_store.specs.declared.store.log.LogItem.{LogItem}
+use Rattle.cacache_store.specs.declared.store.plain.PlainFile.{PlainFile}
+use Rattle.cacache_store.specs.declared.store.step.Step.TheVariants as steps
+use Rattle.cacache_disk.specs.Apply.{opened}
+use Rattle.cacache_memory.specs.Replay.{IsLog, shown, tree_of}
+use Rattle.cacache_table.specs.declared.command.Link.{Link}
+use Rattle.cacache_table.specs.declared.reply.Reply.{Reply}
+use Rattle.cacache_table.specs.Linking.{based, link_target}
+use Rattle.cacache_table.specs.Runs.{Ran, plain_reply}
+use Rattle.cacache_table.specs.SingleSteps.{Does}
+use Rattle.cacache_table.specs.State.{hashing, to_link}
+use Rattle.cacache_sequence.specs.Caches.{IsCache, Grows}
+use Rattle.cacache_sequence.specs.ExportEffects.{IsApart}
+use Rattle.cacache_sequence.specs.Links.{FitsLink, LeavesLink, put_like}
+use Rattle.cacache_sequence.specs.Puts.{ExpectsIntegrity}
+
+-- ---- an opening
+
+-- a target that showed these bytes was opened beside this cache
+pub record TargetOpened (cache path held : List ℕ) (file : PlainFile) : Type 0 where
+  pub old : List LogItem
+  pub new : List LogItem
+  pub sound : IsCache cache old
+  pub shows : shown (tree_of old) path ≡ Some held
+  pub opens : Does (steps.Open path) (answers.File file) (Some old) (Some new)
+  pub small : file.left < 2 ^ 64
+  pub logged : IsLog new
+
+-- ---- a commit
+
+-- no size is expected, or the one that so many bytes have
+abbrev pub SuitsSize : Option ℕ → ℕ → Type 0
+SuitsSize size count = (size ≡ None) ⊎ (size ≡ Some count)
+
+-- a linker took the first bytes and has the others to read, and the log gained a run of its commit
+pub record CommitsRest (cache base : List ℕ) (l : Link) (bytes rest : List ℕ) (r : Reply)
+    (old new : List LogItem) : Type 0 where
+  pub ran :
+      Ran
+      (hashing (to_link (link_target (record { cache = cache; base = base; number = 0 }) l))
+      (opened rest) bytes)
+      r (Some old) (Some new)
+  pub plain : plain_reply r ≡ r
+  pub logged : IsLog new
+
+-- ---- what it does
+
+-- the commit of a linker leaves a cache, and so much of all the bytes of its target
+abbrev pub LinkersCommit : Type 0
+LinkersCommit =
+    (cache base : List ℕ) (l : Link) (bytes rest : List ℕ) (first : PlainFile) (r : Reply)
+    (old new : List LogItem)
+    → FitsLink cache l → IsApart cache (based base l.target)
+    → SuitsSize l.options.size (length (bytes ++ rest))
+    → ExpectsIntegrity (put_like l (bytes ++ rest))
+    → TargetOpened cache (based base l.target) (bytes ++ rest) first
+    → IsCache cache old → CommitsRest cache base l bytes rest r old new
+    → IsCache cache new × Grows old new
+    × LeavesLink cache (put_like l (bytes ++ rest)) (based base l.target) r old new
