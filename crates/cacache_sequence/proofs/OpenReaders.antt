@@ -52,7 +52,7 @@ use Rattle.cacache_sequence.proofs.OpenWriters.{gains_none, gains_grow, excused_
 
 -- ---- a tree that stays
 
-leaves : (cache : List ℕ) (old new : List LogItem) → IsCache cache old → tree_of new ≡ tree_of old → Grows old new → LeavesKnownCache cache old new
+pub leaves : (cache : List ℕ) (old new : List LogItem) → IsCache cache old → tree_of new ≡ tree_of old → Grows old new → LeavesKnownCache cache old new
 leaves cache old new sound same grows = (subst (IsSound (home_of cache)) (sym same) sound, same_stays_known cache old new (ap (value_of_tree (home_of cache)) same), grows)
 
 front : (t : Tree) (log more : List LogItem) → IsReplayable t (log ++ more) → IsReplayable t log
@@ -60,14 +60,14 @@ front t [] more h = tt
 front t (item ∷ log) more h = (h.0, front (after t item) log more h.1)
 
 -- the beginning of a log is one
-log_front : (old new more : List LogItem) → new ≡ old ++ more → IsLog new → IsLog old
+pub log_front : (old new more : List LogItem) → new ≡ old ++ more → IsLog new → IsLog old
 unfolding IsLog
 log_front old new more is h = front bare old more (subst (IsReplayable bare) is h)
 
 -- ---- the opening of a content
 
 -- what a log gained by it
-record Opened (path : List ℕ) (r : Result PlainFile Error) (old new : List LogItem) : Type 0 where
+pub record Opened (path : List ℕ) (r : Result PlainFile Error) (old new : List LogItem) : Type 0 where
   pub moves : Moves
   pub gains : Gains (Some old) (Some new) moves
   pub only : (moves ≡ []) ⊎ ((a : PlainAnswer) × (moves ≡ (steps.Open path, a) ∷ []))
@@ -85,7 +85,7 @@ module _ (path : List ℕ) (old new : List LogItem) where
     excused = λ x same. (let one : e ≡ x = cc in subst (λ y. IsExcused y old new) one (excused_step old new ((steps.Open path, answers.Failed fault) ∷ []) g e fault (inl refl) is));
   }
 
-  errs : (e : Error) → FailsAt (steps.Open path) e (Some old) (Some new) → Opened path (Err e) old new
+  pub errs : (e : Error) → FailsAt (steps.Open path) e (Some old) (Some new) → Opened path (Err e) old new
   errs (IoError fault message) h = failed_at (IoError fault message) fault (inr (message, refl)) h
   errs OutOfMemory (inl same) = record {
     moves = [];
@@ -114,7 +114,7 @@ only_keeps : (t : Tree) (path : List ℕ) (moves : Moves) → (moves ≡ []) ⊎
 only_keeps t path moves (inl none) = ap (tree_on t) none
 only_keeps t path moves (inr one) = ap (tree_on t) one.1 ∙ opening_keeps t path
 
-opened_keeps : (path : List ℕ) (r : Result PlainFile Error) (old new : List LogItem) → Opened path r old new → IsLog new → tree_of new ≡ tree_of old
+pub opened_keeps : (path : List ℕ) (r : Result PlainFile Error) (old new : List LogItem) → Opened path r old new → IsLog new → tree_of new ≡ tree_of old
 opened_keeps path r old new o logged = (logs_lead old new o.moves o.gains logged).1 ∙ only_keeps (tree_of old) path o.moves o.only
 
 -- the file that was opened is one of the content's bytes

@@ -1,7 +1,8 @@
 -- What an open linker does on a store in memory, in words of its user. Between its opening and its
 -- commit any calls may be made that leave a cache, and whatever becomes of the target: a linker links
 -- the bytes that the target showed when it was opened.
-use Rattle.std.specs.Prelude.{◌≡◌, ◌⊎◌, ◌<◌, ◌^◌, ◌++◌, ℕ, List, Option, None, Some, length}
+use Rattle.std.specs.Prelude.{◌≡◌, ◌⊎◌, ◌<◌, ◌^◌, ◌++◌, ℕ, List, Option, None, Some, Result, Ok, Err, length}
+use Rattle.cacache_core.specs.declared.errors.Error.{Error}
 use Rattle.cacache_store.specs.declared.store.answer.Answer.TheVariants as answers
 use Rattle.cacache_store.specs.declared.store.log.LogItem.{LogItem}
 use Rattle.cacache_store.specs.declared.store.plain.PlainFile.{PlainFile}
@@ -12,11 +13,12 @@ use Rattle.cacache_table.specs.declared.command.Link.{Link}
 use Rattle.cacache_table.specs.declared.reply.Reply.{Reply}
 use Rattle.cacache_table.specs.Linking.{based, link_target}
 use Rattle.cacache_table.specs.Runs.{Ran, plain_reply}
-use Rattle.cacache_table.specs.SingleSteps.{Does}
+use Rattle.cacache_table.specs.SingleSteps.{Does, FailsAt}
 use Rattle.cacache_table.specs.State.{hashing, to_link}
-use Rattle.cacache_sequence.specs.Caches.{IsCache, Grows}
+use Rattle.cacache_sequence.specs.Caches.{IsCache, IsExcused, Grows}
 use Rattle.cacache_sequence.specs.ExportEffects.{IsApart}
 use Rattle.cacache_sequence.specs.Links.{FitsLink, LeavesLink, put_like}
+use Rattle.cacache_sequence.specs.OpenWriters.{LeavesKnownCache}
 use Rattle.cacache_sequence.specs.Puts.{ExpectsIntegrity}
 
 -- ---- an opening
@@ -30,6 +32,46 @@ pub record TargetOpened (cache path held : List ℕ) (file : PlainFile) : Type 0
   pub opens : Does (steps.Open path) (answers.File file) (Some old) (Some new)
   pub small : file.left < 2 ^ 64
   pub logged : IsLog new
+
+-- the size of the target was asked first, or not; then it was opened, or why not
+module _ (path : List ℕ) where
+  abbrev pub OpensTarget :
+      Result PlainFile Error → Option (List LogItem) → Option (List LogItem) → Type 0
+  OpensTarget (Ok file) old new = Does (steps.Open path) (answers.File file) old new
+  OpensTarget (Err e) old new = FailsAt (steps.Open path) e old new
+
+  -- the target told this size
+  abbrev pub TellsSize : ℕ → Option (List LogItem) → Option (List LogItem) → Type 0
+  TellsSize size old new = Does (steps.Size path) (answers.Length size) old new
+
+  abbrev pub OpensSized :
+      Result (ℕ × PlainFile) Error → Option (List LogItem) → Option (List LogItem) → Type 0
+  OpensSized (Ok (size, file)) old new =
+      (mid : Option (List LogItem)) × TellsSize size old mid × OpensTarget (Ok file) mid new
+  OpensSized (Err e) old new =
+      FailsAt (steps.Size path) e old new
+      ⊎ ((size : ℕ) × (mid : Option (List LogItem)) × TellsSize size old mid
+      × OpensTarget (Err e) mid new)
+
+-- the file has the bytes that the target shows
+abbrev pub HasTarget : List ℕ → List ℕ → PlainFile → List LogItem → Type 0
+HasTarget cache path file log =
+    (held : List ℕ) → shown (tree_of log) path ≡ Some held → file.left < 2 ^ 64
+    → (file ≡ opened held) × TargetOpened cache path held file
+
+-- so does a target that was opened, and why there is none is excused
+abbrev pub GivesTarget :
+    List ℕ → List ℕ → Result PlainFile Error → List LogItem → List LogItem → Type 0
+GivesTarget cache path (Ok file) old new = HasTarget cache path file old
+GivesTarget cache path (Err e) old new = IsExcused e old new
+
+-- and the size that it told is theirs
+abbrev pub GivesSized :
+    List ℕ → List ℕ → Result (ℕ × PlainFile) Error → List LogItem → List LogItem → Type 0
+GivesSized cache path (Ok (size, file)) old new =
+    HasTarget cache path file old
+    × ((held : List ℕ) → shown (tree_of old) path ≡ Some held → size ≡ length held)
+GivesSized cache path (Err e) old new = IsExcused e old new
 
 -- ---- a commit
 
@@ -62,3 +104,17 @@ LinkersCommit =
     → IsCache cache old → CommitsRest cache base l bytes rest r old new
     → IsCache cache new × Grows old new
     × LeavesLink cache (put_like l (bytes ++ rest)) (based base l.target) r old new
+
+-- an opening leaves a cache of which all that was known is so still
+abbrev pub LinkersOpen : Type 0
+LinkersOpen =
+    (cache path : List ℕ) (r : Result PlainFile Error) (old new : List LogItem)
+    → IsCache cache old → OpensTarget path r (Some old) (Some new) → IsLog new
+    → LeavesKnownCache cache old new × GivesTarget cache path r old new
+
+-- so does one that asks the size first
+abbrev pub LinkersOpenSized : Type 0
+LinkersOpenSized =
+    (cache path : List ℕ) (r : Result (ℕ × PlainFile) Error) (old new : List LogItem)
+    → IsCache cache old → OpensSized path r (Some old) (Some new) → IsLog new
+    → LeavesKnownCache cache old new × GivesSized cache path r old new

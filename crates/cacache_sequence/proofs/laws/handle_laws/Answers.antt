@@ -3,7 +3,7 @@ use Rattle.cacache_sequence.proofs.Committing.{commits_last, commits_store}
 use Rattle.cacache_sequence.proofs.OpenReaders.{readers_open, readers_open_key}
 use Rattle.cacache_sequence.proofs.Puts.{commits_leave, commits_keep}
 use Rattle.cacache_sequence.proofs.GivenUp.{giving_up_lasts}
-use Rattle.cacache_sequence.proofs.OpenLinkers.{linkers_commit}
+use Rattle.cacache_sequence.proofs.OpenLinkers.{linkers_commit, linkers_open, linkers_open_sized}
 use Rattle.cacache_sequence.proofs.laws.handle_laws.Goals as goal
 
 pub returns-clause-opens : goal.returns-clause-opens
@@ -32,3 +32,9 @@ returns-clause-gives_up c = giving_up_lasts
 
 pub returns-clause-links : goal.returns-clause-links
 returns-clause-links c = linkers_commit
+
+pub returns-clause-opens_link : goal.returns-clause-opens_link
+returns-clause-opens_link c = linkers_open
+
+pub returns-clause-opens_sized : goal.returns-clause-opens_sized
+returns-clause-opens_sized c = linkers_open_sized
