@@ -21,7 +21,7 @@ use Rattle.cacache_sequence.specs.CallErrors.{FailsOnly, CallsFailOnly}
 use Rattle.cacache_sequence.proofs.Tasks.{Clears, ClearsAt}
 
 -- a commit that expects no integrity and no size, and whose entry can be written
-record Plain (c : Commit) : Type 0 where
+pub record Plain (c : Commit) : Type 0 where
   pub no_integrity : c.options.integrity ≡ None
   pub no_size : c.options.size ≡ None
   pub written : (key : List ℕ) → c.key ≡ Some key → refused_cause (insertion_of c key) ≡ None
@@ -100,7 +100,7 @@ closed = record {
 calm_after : (s : State) (a : PlainAnswer) → Calm s → Calm (after s a)
 calm_after s a h = kept_always Calm IsClearing ClearsAt closed s a h
 
-calm_run : (s : State) (moves : Moves) (r : Reply) → Calm s → Runs s moves r → FailsOnly r
+pub calm_run : (s : State) (moves : Moves) (r : Reply) → Calm s → Runs s moves r → FailsOnly r
 calm_run s [] r h (inl e) = subst Calm e h
 calm_run s [] r h (inr e) = subst FailsOnly (sym e) tt
 calm_run s (m ∷ moves) r h run = calm_run (after s m.1) moves r (calm_after s m.1 h) run.2

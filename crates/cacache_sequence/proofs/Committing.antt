@@ -59,12 +59,12 @@ pub deeds_later : (xs ys : List Turn) → deeds xs ≡ [] → deeds (xs ++ ys) �
 deeds_later xs ys none = deeds_through xs ys ∙ ap (λ l. l ++ deeds ys) none
 
 -- so it is with faults
-pub fault_later : (xs ys : Moves) (fault : Fault) → (Faulted xs fault → ⊥) → Faulted (xs ++ ys) fault → Faulted ys fault
+fault_later : (xs ys : Moves) (fault : Fault) → (Faulted xs fault → ⊥) → Faulted (xs ++ ys) fault → Faulted ys fault
 fault_later [] ys fault none h = h
 fault_later (m ∷ xs) ys fault none (inl h) = absurd (none (inl h))
 fault_later (m ∷ xs) ys fault none (inr h) = fault_later xs ys fault (λ later. none (inr later)) h
 
-cause_later : (own : Fault → Type 0) (xs ys : Moves) (r : Reply) → ((fault : Fault) → Faulted xs fault → ⊥) → HasCause own (xs ++ ys) r → HasCause own ys r
+pub cause_later : (own : Fault → Type 0) (xs ys : Moves) (r : Reply) → ((fault : Fault) → Faulted xs fault → ⊥) → HasCause own (xs ++ ys) r → HasCause own ys r
 cause_later own xs ys (replies.Refused (IoError fault message)) none (inl mine) = inl mine
 cause_later own xs ys (replies.Refused (IoError fault message)) none (inr h) = inr (fault_later xs ys fault (none fault) h)
 cause_later own xs ys other none h = tt

@@ -13,7 +13,7 @@ use Rattle.cacache_store.specs.declared.store.answer.Answer.TheVariants as answe
 use Rattle.cacache_disk.specs.declared.luck.Luck.TheVariants.{Plain}
 use Rattle.cacache_disk.specs.Tree.{Tree}
 use Rattle.cacache_disk.specs.Apply.{apply, given, grown, rest_of, opened}
-use Rattle.cacache_table.specs.Causes.{Faulted}
+use Rattle.cacache_table.specs.Causes.{Faulted, Faults}
 use Rattle.cacache_table.specs.Common.{fails}
 use Rattle.cacache_table.specs.Runs.{Moves, Goes}
 use Rattle.cacache_table.specs.State.{Hashing, hashing}
@@ -22,7 +22,7 @@ use Rattle.cacache_table.specs.Table.{piece, after}
 use Rattle.cacache_table.proofs.Branches.{cond_leads}
 use Rattle.cacache_history.specs.Setup.{Setup, home}
 use Rattle.cacache_sequence.specs.Sequence.{IsSound}
-use Rattle.cacache_sequence.specs.InParts.{Part, took, moves_in, turns_in, AreParts, ReadsAreParts, WritesAreParts}
+use Rattle.cacache_sequence.specs.InParts.{Begun, IsOnItsWay, Part, took, moves_in, turns_in, AreParts, ReadsAreParts, WritesAreParts}
 use Rattle.cacache_sequence.proofs.InParts.{with_parts, with_part_goes}
 use Rattle.cacache_store.specs.Fits.{Fits}
 use Rattle.cacache_store.specs.Plain.{PlainAnswer}
@@ -115,9 +115,22 @@ module _ (h : Hashing) (t : Tree) where
   reads_do [] rest = refl
   reads_do (b ∷ more) rest = reads_do more rest
 
-pub reads_are_parts : ReadsAreParts
-reads_are_parts s call h bytes more rest t way sound = (
+  -- none of them failed
+  reads_faultless : (more rest : List ℕ) (fault : Fault) → Faulted (moves_in (reads_of t more rest)) fault → ⊥
+  reads_faultless [] rest fault h = h
+  reads_faultless (b ∷ more) rest fault (inl h) = subst (λ a. Faults (steps.Read (opened (b ∷ (more ++ rest))) piece) a fault) (byte_given b (more ++ rest)) h
+  reads_faultless (b ∷ more) rest fault (inr h) = reads_faultless more rest fault h
+
+-- bytes that were read are parts, of which none failed
+pub bytes_taken : (s : Setup) (call : Begun) (h : Hashing) (bytes more rest : List ℕ) (t : Tree) → IsOnItsWay s call (hashing h (opened (more ++ rest)) bytes) → IsSound (home s) t
+    → (reads : List Part) × IsOnItsWay s (record call { parts = call.parts ++ reads }) (hashing h (opened rest) (bytes ++ more)) × (deeds (turns_in reads) ≡ [])
+    × ((fault : Fault) → Faulted (moves_in reads) fault → ⊥)
+bytes_taken s call h bytes more rest t way sound = (
   reads_of t more rest,
   with_parts s call (hashing h (opened (more ++ rest)) bytes) (hashing h (opened rest) (bytes ++ more)) (reads_of t more rest) way (reads_sound h t s more rest sound) (reads_go h t bytes more rest),
   reads_do h t more rest,
+  reads_faultless h t more rest,
 )
+
+pub reads_are_parts : ReadsAreParts
+reads_are_parts s call h bytes more rest t way sound = let taken = bytes_taken s call h bytes more rest t way sound in (taken.0, taken.1, taken.2)

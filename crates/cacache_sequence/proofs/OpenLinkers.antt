@@ -1,5 +1,6 @@
 -- What the commit of a linker leaves: it reads the rest of what its target showed, and makes the link.
 use Rattle.std.proofs.Common.{◌≡◌, ◌⊎◌, inl, inr, ◌<◌, ◌^◌, ◌==◌, ℕ, Bool, true, false, cond, List, [], ◌∷◌, ◌++◌, Option, None, Some, Result, Ok, Err, length, map, refl, sym, ap, subst, ◌∙◌, append-nil, append_assoc}
+use Rattle.std.specs.Prelude.{IfSome}
 use Rattle.std.proofs.lemmas.Bool.{eq-eqb}
 use Rattle.cacache_core.specs.declared.errors.Error.{Error}
 use Rattle.cacache_core.specs.declared.errors.Error.TheVariants.{EntryNotFound, IntegrityError, IoError, OutOfMemory, SerdeError, SizeMismatch}
@@ -7,13 +8,14 @@ use Rattle.cacache_core.specs.declared.errors.Fault.{Fault}
 use Rattle.cacache_core.specs.declared.errors.Fault.TheVariants as faults
 use Rattle.cacache_core.specs.declared.errors.IntegrityFault.TheVariants.{Check}
 use Rattle.cacache_core.specs.declared.integrity.digest.Hash.{Hash}
+use Rattle.cacache_core.specs.Integrity.{IsIntegrity}
 use Rattle.cacache_core.specs.PathNames.{Names, home_of, names_of}
 use Rattle.cacache_store.specs.declared.store.answer.Answer.TheVariants as answers
 use Rattle.cacache_store.specs.declared.store.log.LogItem.{LogItem}
 use Rattle.cacache_store.specs.declared.store.log.LogItem.TheVariants.{Made}
 use Rattle.cacache_store.specs.declared.store.plain.PlainFile.{PlainFile}
 use Rattle.cacache_store.specs.declared.store.step.Step.TheVariants as steps
-use Rattle.cacache_store.specs.Plain.{PlainAnswer}
+use Rattle.cacache_store.specs.Plain.{PlainStep, PlainAnswer}
 use Rattle.cacache_disk.specs.declared.luck.Luck.TheVariants.{Plain, Take}
 use Rattle.cacache_disk.specs.Tree.{Tree}
 use Rattle.cacache_disk.specs.Apply.{apply, opened, unless}
@@ -25,15 +27,16 @@ use Rattle.cacache_table.specs.declared.reply.Reply.{Reply}
 use Rattle.cacache_table.specs.declared.reply.Reply.TheVariants as replies
 use Rattle.cacache_table.specs.declared.carried.Commit.{Commit}
 use Rattle.cacache_table.specs.declared.target.Target.{Target}
+use Rattle.cacache_table.specs.Causes.{Faulted, HasCause, own_of}
 use Rattle.cacache_table.specs.Common.{ends_with}
 use Rattle.cacache_table.specs.Linking.{based, commit_for, link_target, with_size}
 use Rattle.cacache_table.specs.Promises.{Stores}
-use Rattle.cacache_table.specs.Runs.{Gains, Goes, Moves, Runs}
+use Rattle.cacache_table.specs.Runs.{Gains, Goes, Moves, Runs, plain_reply}
 use Rattle.cacache_table.specs.SingleSteps.{FailsAt}
 use Rattle.cacache_table.specs.Sound.{SoundTarget}
-use Rattle.cacache_table.specs.State.{Site, State, confirming, hashing, linking, to_link}
+use Rattle.cacache_table.specs.State.{Site, State, confirming, hashing, linking, over, to_link}
 use Rattle.cacache_table.specs.Storing.{compared, indexed, link, matches, placed, put_commit, sized}
-use Rattle.cacache_table.specs.Table.{after, opening, piece}
+use Rattle.cacache_table.specs.Table.{after, opening, piece, wants}
 use Rattle.cacache_table.specs.Verifying.{Gives}
 use Rattle.cacache_table.proofs.Verifying.{links_read_whole}
 use Rattle.cacache_value.specs.Acts.{PutLink}
@@ -44,23 +47,27 @@ use Rattle.cacache_history.specs.History.{turn_of}
 use Rattle.cacache_history.specs.Setup.{Setup, home}
 use Rattle.cacache_history.proofs.Digests.{digest_hash}
 use Rattle.cacache_history.proofs.OpenedContents.{EachAsks, OnDisks, gives_all, run_asks}
-use Rattle.cacache_sequence.specs.Caches.{IsCache, Grows}
+use Rattle.cacache_sequence.specs.CallErrors.{FailsOnly}
+use Rattle.cacache_sequence.specs.Caches.{IsCache, IsExcused, Grows}
 use Rattle.cacache_sequence.specs.ExportEffects.{IsApart}
 use Rattle.cacache_sequence.specs.InParts.{AreParts, Begun, Changes, AnswersInParts, IsOnItsWay, Part, byte_read, made, took, moves_in, turns_in, with_part}
 use Rattle.cacache_sequence.specs.Links.{FitsLink, LeavesLink, put_like}
-use Rattle.cacache_sequence.specs.OpenLinkers.{CommitsRest, GivesSized, GivesTarget, LinkersCommit, LinkersOpen, LinkersOpenSized, OpensSized, OpensTarget, SuitsSize, TargetOpened}
+use Rattle.cacache_sequence.specs.OpenLinkers.{LinkersFail, CommitsRest, GivesSized, GivesTarget, LinkersCommit, LinkersOpen, LinkersOpenSized, OpensSized, OpensTarget, SuitsSize, TargetOpened}
 use Rattle.cacache_sequence.specs.OpenWriters.{LeavesKnownCache}
 use Rattle.cacache_sequence.specs.Puts.{ExpectsIntegrity, stored_as}
 use Rattle.cacache_sequence.specs.Sequence.{Alike, AreAnswered, IsSound, after_deeds, tree_on, turns_on}
 use Rattle.cacache_sequence.specs.Stored.{own_hash}
-use Rattle.cacache_sequence.proofs.Committing.{deeds_later}
-use Rattle.cacache_sequence.proofs.Handed.{reads_are_parts}
+use Rattle.cacache_sequence.proofs.CallErrors.{Plain as PlainCommit, calm_run}
+use Rattle.cacache_sequence.proofs.Committing.{cause_later, deeds_later}
+use Rattle.cacache_sequence.proofs.Handed.{bytes_taken}
 use Rattle.cacache_sequence.proofs.InParts.{all_made, byte_answered, calls_begin, logs_lead, moves_then, parts_answer, parts_go_on, run_goes, runs_through}
+use Rattle.cacache_sequence.proofs.Known.{excused_by}
 use Rattle.cacache_sequence.proofs.Linking.{is_there, leaves_by, nothing_shown, on_disks, opened_held, setup_to}
 use Rattle.cacache_sequence.proofs.GivenUp.{unchanged}
 use Rattle.cacache_sequence.proofs.Logs.{excuses_last, growths_join, some_same}
 use Rattle.cacache_sequence.proofs.OpenReaders.{Opened, errs, leaves as known_left, log_front, opened_keeps}
 use Rattle.cacache_sequence.proofs.OpenWriters.{excused_step, gains_grow}
+use Rattle.cacache_sequence.proofs.Removed.{over_run}
 use Rattle.cacache_sequence.proofs.ReadsStay.{opened_so, sizing_keeps}
 
 -- ---- the bytes that the target showed
@@ -179,8 +186,8 @@ module _ (cache path : List ℕ) (old new : List LogItem) (sound : IsCache cache
       gives : GivesTarget cache path r mid new
       gives = gives_target cache path r mid new (subst (IsSound (home_of cache)) (sym same) sound) h last logged
 
-      size_is : (held : List ℕ) → shown (tree_of old) path ≡ Some held → size ≡ length held
-      size_is held shows =
+      size_held : (held : List ℕ) → shown (tree_of old) path ≡ Some held → size ≡ length held
+      size_held held shows =
           let both : answers.Length size ≡ answers.Length (length held) = told.0.0 ∙ sym (told_held (tree_of old) path held shows) in
           cc
 
@@ -192,7 +199,7 @@ module _ (cache path : List ℕ) (old new : List LogItem) (sound : IsCache cache
   opens_sized (Ok (size, file)) h =
       let opens = subst (λ x. OpensTarget path (Ok file) x (Some new)) h.1 h.2 in (
         known size (Ok file) opens,
-        (λ held shows small. gives size (Ok file) opens held (ap (λ t. shown t path) (same size (Ok file) opens) ∙ shows) small, size_is size (Ok file) opens),
+        (λ held shows small. gives size (Ok file) opens held (ap (λ t. shown t path) (same size (Ok file) opens) ∙ shows) small, size_held size (Ok file) opens),
       )
 
 pub linkers_open_sized : LinkersOpenSized
@@ -204,22 +211,62 @@ chosen : (b : Bool) (x y : State) → b ≡ true → cond b x y ≡ x
 chosen true x y e = refl
 chosen false x y e = absurd cc
 
--- a link of these bytes goes on the same where no size is expected and where theirs is
-module _ (t : Target ℕ) (none : t.options.size ≡ None) (n : ℕ) (bytes : List ℕ) (is : n ≡ length bytes) where
+-- the target, of which this size is expected, or none
+abbrev of_size : Target ℕ → Option ℕ → Target ℕ
+of_size t size = record t { options = record t.options { size = size } }
+
+-- two commits of a link that are the same once the content is there go on the same
+module _ (t : Target ℕ) (a b : Option ℕ) (bytes : List ℕ) (same : placed (commit_for (of_size t a) bytes) ≡ placed (commit_for (of_size t b) bytes)) where
+  abbrev one : Commit
+  one = commit_for (of_size t a) bytes
+
+  abbrev other : Commit
+  other = commit_for (of_size t b) bytes
+
+  confirmed_same : (fault : Fault) (answer : PlainAnswer) → after (confirming one fault) answer ≡ after (confirming other fault) answer
+  confirmed_same fault (answers.There true) = same
+  confirmed_same fault (answers.There false) = refl
+  confirmed_same fault answer = refl
+
+  confirming_same : (fault : Fault) (moves : Moves) (r : Reply) → Runs (confirming one fault) moves r → Runs (confirming other fault) moves r
+  confirming_same fault [] r (inl e) = absurd cc
+  confirming_same fault [] r (inr e) = inr e
+  confirming_same fault (m ∷ moves) r run = (run.0, run.1, subst (λ x. Runs x moves r) (confirmed_same fault m.1) run.2)
+
+  linked_on : (answer : PlainAnswer) (moves : Moves) (r : Reply) → Runs (after (linking one t.path) answer) moves r → Runs (after (linking other t.path) answer) moves r
+  linked_on answers.Done moves r run = subst (λ x. Runs x moves r) same run
+  linked_on (answers.Failed fault) moves r run = confirming_same fault moves r run
+  linked_on (answers.NoMemory step) moves r run = run
+  linked_on answer moves r run = confirming_same faults.Device moves r run
+
+  linking_same : (moves : Moves) (r : Reply) → Runs (linking one t.path) moves r → Runs (linking other t.path) moves r
+  linking_same [] r (inl e) = absurd cc
+  linking_same [] r (inr e) = inr e
+  linking_same (m ∷ moves) r run = (run.0, run.1, linked_on m.1 moves r run.2)
+
+  made_on : (answer : PlainAnswer) (moves : Moves) (r : Reply) → Runs (after (link one t.path) answer) moves r → Runs (after (link other t.path) answer) moves r
+  made_on answers.Done moves r run = linking_same moves r run
+  made_on answer moves r run = run
+
+  link_same : (moves : Moves) (r : Reply) → Runs (link one t.path) moves r → Runs (link other t.path) moves r
+  link_same [] r (inl e) = absurd cc
+  link_same [] r (inr e) = inr e
+  link_same (m ∷ moves) r run = (run.0, run.1, made_on m.1 moves r run.2)
+
+-- where no size is expected, and where that of the bytes is, they are the same
+module _ (t : Target ℕ) (n : ℕ) (bytes : List ℕ) (is : n ≡ length bytes) where
   abbrev free : Commit
-  free = commit_for t bytes
+  free = commit_for (of_size t None) bytes
 
   abbrev sure : Commit
-  sure = commit_for (with_size t n) bytes
+  sure = commit_for (of_size t (Some n)) bytes
 
   indexed_same : (key : Option (List ℕ)) → indexed free key ≡ indexed sure key
   indexed_same None = refl
   indexed_same (Some key) = refl
 
-  sized_same : sized free t.options.size ≡ sized sure (Some n)
-  sized_same =
-      ap (sized free) none ∙ indexed_same t.key
-      ∙ sym (chosen (n == length bytes) (indexed sure t.key) (ends_with (SizeMismatch n (length bytes))) (eq-eqb n (length bytes) is))
+  sized_same : sized free None ≡ sized sure (Some n)
+  sized_same = indexed_same t.key ∙ sym (chosen (n == length bytes) (indexed sure t.key) (ends_with (SizeMismatch n (length bytes))) (eq-eqb n (length bytes) is))
 
   compared_same : (expected : Option (List Hash)) → compared free expected ≡ compared sure expected
   compared_same None = sized_same
@@ -228,80 +275,106 @@ module _ (t : Target ℕ) (none : t.options.size ≡ None) (n : ℕ) (bytes : Li
   placed_same : placed free ≡ placed sure
   placed_same = compared_same t.options.integrity
 
-  confirmed_same : (fault : Fault) (a : PlainAnswer) → after (confirming free fault) a ≡ after (confirming sure fault) a
-  confirmed_same fault (answers.There true) = placed_same
-  confirmed_same fault (answers.There false) = refl
-  confirmed_same fault a = refl
+size_is : (t : Target ℕ) (size : Option ℕ) → t.options.size ≡ size → t ≡ of_size t size
+size_is t size is = ap (of_size t) is
 
-  confirming_same : (fault : Fault) (moves : Moves) (r : Reply) → Runs (confirming free fault) moves r → Runs (confirming sure fault) moves r
-  confirming_same fault [] r (inl e) = absurd cc
-  confirming_same fault [] r (inr e) = inr e
-  confirming_same fault (m ∷ moves) r run = (run.0, run.1, subst (λ x. Runs x moves r) (confirmed_same fault m.1) run.2)
+-- ---- reads to the target's end
 
-  linked_on : (path : List ℕ) (a : PlainAnswer) (moves : Moves) (r : Reply) → Runs (after (linking free path) a) moves r → Runs (after (linking sure path) a) moves r
-  linked_on path answers.Done moves r run = subst (λ x. Runs x moves r) placed_same run
-  linked_on path (answers.Failed fault) moves r run = confirming_same fault moves r run
-  linked_on path (answers.NoMemory step) moves r run = run
-  linked_on path a moves r run = confirming_same faults.Device moves r run
+reads_end : (t : Target ℕ) (file : PlainFile) (rest : List ℕ) (step : PlainStep) (a : PlainAnswer) (moves : Moves) → wants (hashing (to_link t) file []) ≡ Some step
+    → Gives file rest ((steps.Read file piece, a) ∷ moves) → Gives file rest ((step, a) ∷ moves)
+reads_end t file rest step a moves w gives =
+    let is : steps.Read file piece ≡ step = cc in
+    subst (λ x. Gives file rest ((x, a) ∷ moves)) is gives
 
-  linking_same : (path : List ℕ) (moves : Moves) (r : Reply) → Runs (linking free path) moves r → Runs (linking sure path) moves r
-  linking_same path [] r (inl e) = absurd cc
-  linking_same path [] r (inr e) = inr e
-  linking_same path (m ∷ moves) r run = (run.0, run.1, linked_on path m.1 moves r run.2)
-
-  made_on : (path : List ℕ) (a : PlainAnswer) (moves : Moves) (r : Reply) → Runs (after (link free path) a) moves r → Runs (after (link sure path) a) moves r
-  made_on path answers.Done moves r run = linking_same path moves r run
-  made_on path a moves r run = run
-
-  link_same : (path : List ℕ) (moves : Moves) (r : Reply) → Runs (link free path) moves r → Runs (link sure path) moves r
-  link_same path [] r (inl e) = absurd cc
-  link_same path [] r (inr e) = inr e
-  link_same path (m ∷ moves) r run = (run.0, run.1, made_on path m.1 moves r run.2)
-
-module _ (t : Target ℕ) (none : t.options.size ≡ None) (r : Reply) where
+module _ (t : Target ℕ) (r : Reply) where
   -- the run is one for any size, or it reads the file to its end and is one for the size of all bytes
   abbrev SameRun : PlainFile → List ℕ → Moves → Type 0
   SameRun file bytes moves =
-      ((n : ℕ) → Runs (hashing (to_link (with_size t n)) file bytes) moves r)
-      ⊎ ((rest : List ℕ) × Gives file rest moves × Runs (hashing (to_link (with_size t (length (bytes ++ rest)))) file bytes) moves r)
+      ((n : ℕ) → Runs (hashing (to_link (of_size t (Some n))) file bytes) moves r)
+      ⊎ ((rest : List ℕ) × Gives file rest moves × Runs (hashing (to_link (of_size t (Some (length (bytes ++ rest))))) file bytes) moves r)
 
-  same_run : (file : PlainFile) (bytes : List ℕ) (moves : Moves) → Runs (hashing (to_link t) file bytes) moves r → SameRun file bytes moves
+  same_run : (file : PlainFile) (bytes : List ℕ) (moves : Moves) → Runs (hashing (to_link (of_size t None)) file bytes) moves r → SameRun file bytes moves
   same_run file bytes [] (inl e) = absurd cc
   same_run file bytes [] (inr e) = inl (λ n. inr e)
   same_run file bytes ((step, answers.Got g []) ∷ moves) run =
-      let is : steps.Read file piece ≡ step = cc in
-      inr
-      ([], subst (λ x. Gives file [] ((x, answers.Got g []) ∷ moves)) is (refl, refl), (run.0, run.1, link_same t none (length (bytes ++ [])) bytes (ap (λ (b : List ℕ). length b) (append-nil bytes)) t.path moves r run.2))
+      let n = length (bytes ++ []) in
+      let placed_so = placed_same t (length (bytes ++ [])) bytes (ap (λ (b : List ℕ). length b) (append-nil bytes)) in
+      inr ([], reads_end t file [] step (answers.Got g []) moves run.0 (refl, refl), (run.0, run.1, link_same t None (Some n) bytes placed_so moves r run.2))
   same_run file bytes ((step, answers.Got g (b ∷ bs)) ∷ moves) run =
-      let is : steps.Read file piece ≡ step = cc in
       elim (same_run g (bytes ++ b ∷ bs) moves run.2) [
         | inl any ↦ inl (λ n. (run.0, run.1, any n))
         | inr h ↦
             inr (
               (b ∷ bs) ++ h.0,
-              subst (λ x. Gives file ((b ∷ bs) ++ h.0) ((x, answers.Got g (b ∷ bs)) ∷ moves)) is (refl, h.0, refl, h.1),
-              (run.0, run.1, subst (λ l. Runs (hashing (to_link (with_size t (length l))) g (bytes ++ b ∷ bs)) moves r) (append_assoc bytes (b ∷ bs) h.0) h.2),
+              reads_end t file ((b ∷ bs) ++ h.0) step (answers.Got g (b ∷ bs)) moves run.0 (refl, h.0, refl, h.1),
+              (run.0, run.1, subst (λ l. Runs (hashing (to_link (of_size t (Some (length l)))) g (bytes ++ b ∷ bs)) moves r) (append_assoc bytes (b ∷ bs) h.0) h.2),
             )
       ]
   same_run file bytes ((step, a) ∷ moves) run = inl (λ n. run)
 
-  sized_run : (bytes rest : List ℕ) (moves : Moves) → OnDisks moves → Runs (hashing (to_link t) (opened rest) bytes) moves r
-      → Runs (hashing (to_link (with_size t (length (bytes ++ rest)))) (opened rest) bytes) moves r
+  sized_run : (bytes rest : List ℕ) (moves : Moves) → OnDisks moves → Runs (hashing (to_link (of_size t None)) (opened rest) bytes) moves r
+      → Runs (hashing (to_link (of_size t (Some (length (bytes ++ rest))))) (opened rest) bytes) moves r
   sized_run bytes rest moves disks run =
       elim (same_run (opened rest) bytes moves run) [
         | inl any ↦ any (length (bytes ++ rest))
         | inr h ↦
-            let same : h.0 ≡ rest = gives_all (opened rest) h.0 rest moves refl disks (run_asks (hashing (to_link t) (opened rest) bytes) moves r run) h.1 in
-            subst (λ b. Runs (hashing (to_link (with_size t (length (bytes ++ b)))) (opened rest) bytes) moves r) same h.2
+            let same : h.0 ≡ rest = gives_all (opened rest) h.0 rest moves refl disks (run_asks (hashing (to_link (of_size t None)) (opened rest) bytes) moves r run) h.1 in
+            subst (λ b. Runs (hashing (to_link (of_size t (Some (length (bytes ++ b))))) (opened rest) bytes) moves r) same h.2
       ]
+
+  -- the call fails while it reads, or it reads the file to its end and makes the link
+  abbrev EndsAs : PlainFile → List ℕ → Moves → Type 0
+  EndsAs file bytes moves = FailsOnly r ⊎ ((rest : List ℕ) × Gives file rest moves × (more : Moves) × Runs (link (commit_for t (bytes ++ rest)) t.path) more r)
+
+  lost : (q : Error) (moves : Moves) → FailsOnly (replies.Refused q) → Runs (over (replies.Refused q)) moves r → FailsOnly r
+  lost q moves fails run = elim (over_run (replies.Refused q) r moves run).1 [ inl e ↦ subst FailsOnly (sym e) fails | inr e ↦ subst FailsOnly (sym e) tt ]
+
+  ends_as : (file : PlainFile) (bytes : List ℕ) (moves : Moves) → Runs (hashing (to_link t) file bytes) moves r → EndsAs file bytes moves
+  ends_as file bytes [] (inl e) = absurd cc
+  ends_as file bytes [] (inr e) = inl (subst FailsOnly (sym e) tt)
+  ends_as file bytes ((step, answers.Got g []) ∷ moves) run =
+      inr ([], reads_end t file [] step (answers.Got g []) moves run.0 (refl, refl), moves, subst (λ b. Runs (link (commit_for t b) t.path) moves r) (sym (append-nil bytes)) run.2)
+  ends_as file bytes ((step, answers.Got g (b ∷ bs)) ∷ moves) run =
+      elim (ends_as g (bytes ++ b ∷ bs) moves run.2) [
+        | inl fails ↦ inl fails
+        | inr h ↦
+            inr (
+              (b ∷ bs) ++ h.0,
+              reads_end t file ((b ∷ bs) ++ h.0) step (answers.Got g (b ∷ bs)) moves run.0 (refl, h.0, refl, h.1),
+              h.2,
+              subst (λ l. Runs (link (commit_for t l) t.path) h.2 r) (append_assoc bytes (b ∷ bs) h.0) h.3,
+            )
+      ]
+  ends_as file bytes ((step, answers.Failed fault) ∷ moves) run = inl (lost (IoError fault []) moves tt run.2)
+  ends_as file bytes ((step, answers.NoMemory back) ∷ moves) run = inl (lost OutOfMemory moves tt run.2)
+  ends_as file bytes ((step, a) ∷ moves) run = inl (lost (IoError faults.Device []) moves tt run.2)
+
+  -- a link of which nothing else is expected, and whose entry can be written, fails for a step or for memory alone
+  fails_only : (bytes rest : List ℕ) (moves : Moves) → SuitsSize t.options.size (length (bytes ++ rest)) → PlainCommit (commit_for (of_size t None) (bytes ++ rest)) → OnDisks moves
+      → Runs (hashing (to_link t) (opened rest) bytes) moves r → FailsOnly r
+  fails_only bytes rest moves size plain disks run =
+      elim (ends_as (opened rest) bytes moves run) [
+        | inl fails ↦ fails
+        | inr h ↦
+            let same : h.0 ≡ rest = gives_all (opened rest) h.0 rest moves refl disks (run_asks (hashing (to_link t) (opened rest) bytes) moves r run) h.1 in
+            by size h.2 (subst (λ b. Runs (link (commit_for t (bytes ++ b)) t.path) h.2 r) same h.3)
+      ]
+    where
+      by : SuitsSize t.options.size (length (bytes ++ rest)) → (more : Moves) → Runs (link (commit_for t (bytes ++ rest)) t.path) more r → FailsOnly r
+      by (inl none) more linked =
+          calm_run (link (commit_for (of_size t None) (bytes ++ rest)) t.path) more r plain
+          (subst (λ (x : Target ℕ). Runs (link (commit_for x (bytes ++ rest)) x.path) more r) (size_is t None none) linked)
+      by (inr some) more linked =
+          let n = length (bytes ++ rest) in
+          calm_run (link (commit_for (of_size t None) (bytes ++ rest)) t.path) more r plain
+          (link_same t (Some n) None (bytes ++ rest) (sym (placed_same t n (bytes ++ rest) refl)) more r
+          (subst (λ (x : Target ℕ). Runs (link (commit_for x (bytes ++ rest)) x.path) more r) (size_is t (Some n) some) linked))
 
 -- the same where no size is expected, or theirs is
 suited_run : (t : Target ℕ) (bytes rest : List ℕ) (moves : Moves) (r : Reply) → SuitsSize t.options.size (length (bytes ++ rest)) → OnDisks moves → Runs (hashing (to_link t) (opened rest) bytes) moves r
     → Runs (hashing (to_link (with_size t (length (bytes ++ rest)))) (opened rest) bytes) moves r
-suited_run t bytes rest moves r (inl none) disks run = sized_run t none r bytes rest moves disks run
-suited_run t bytes rest moves r (inr some) disks run =
-    let same : t ≡ with_size t (length (bytes ++ rest)) = ap (λ (size : Option ℕ). record t { options = record t.options { size = size } }) some in
-    subst (λ x. Runs (hashing (to_link x) (opened rest) bytes) moves r) same run
+suited_run t bytes rest moves r (inl none) disks run = sized_run t r bytes rest moves disks (subst (λ x. Runs (hashing (to_link x) (opened rest) bytes) moves r) (size_is t None none) run)
+suited_run t bytes rest moves r (inr some) disks run = subst (λ x. Runs (hashing (to_link x) (opened rest) bytes) moves r) (size_is t (Some (length (bytes ++ rest))) some) run
 
 -- ---- a commit, as the last part of a link
 
@@ -363,7 +436,8 @@ module _ (cache base : List ℕ) (l : Link) (bytes rest : List ℕ) (first : Pla
 
   -- the bytes that the linker took are parts of their own
   reads : (parts : List Part) × IsOnItsWay s (record begun { parts = begun.parts ++ parts }) (hashing (to_link target) (opened rest) bytes) × (deeds (turns_in parts) ≡ [])
-  reads = reads_are_parts s begun (to_link target) [] bytes rest (tree_of o.old) is_opened o.sound
+      × ((fault : Fault) → Faulted (moves_in parts) fault → ⊥)
+  reads = bytes_taken s begun (to_link target) [] bytes rest (tree_of o.old) is_opened o.sound
 
   abbrev taken : Begun
   taken = record begun { parts = begun.parts ++ reads.0 }
@@ -431,6 +505,17 @@ module _ (cache base : List ℕ) (l : Link) (bytes rest : List ℕ) (first : Pla
           (λ more e. answered.1.found (own_hash (put_like l held)) more (digest_hash l.options.algorithm held) e),
     )
 
+    taken_faultless : (fault : Fault) → Faulted (moves_in taken.parts) fault → ⊥
+    taken_faultless fault (inl h) = h
+    taken_faultless fault (inr (inl h)) = h
+    taken_faultless fault (inr (inr h)) = reads.3 fault h
+
+    -- an `IoError` has its cause among the steps of the commit
+    cause : HasCause (own_of (commands.Link l)) moves (plain_reply r)
+    cause =
+        cause_later (own_of (commands.Link l)) (moves_in taken.parts) moves (plain_reply r) taken_faultless
+        (subst (λ ms. HasCause (own_of (commands.Link l)) ms (plain_reply r)) (moves_then taken.parts (tree_of old) moves) answered.0.causes)
+
 pub linkers_commit : LinkersCommit
 linkers_commit cache base l bytes rest first r old new fits apart size expects o sound c = by (names_of (based base l.target)) refl
   where
@@ -441,3 +526,17 @@ linkers_commit cache base l bytes rest first r old new fits apart size expects o
         let told = on_disks (tree_of old) c.ran.0 (logs_lead old new c.ran.0 c.ran.2 c.logged).0 in
         leaves cache base l bytes rest first fits apart o names e r old new expects sound c (suited_run t bytes rest c.ran.0 r size told c.ran.1)
     by (Err fault) e = absurd (nothing_shown (tree_of o.old) (based base l.target) (bytes ++ rest) fault e o.shows)
+
+pub linkers_fail : LinkersFail
+linkers_fail cache base l bytes rest first e old new fits apart size none written o sound c = by (names_of (based base l.target)) refl
+  where
+    by : (n : Result Names Fault) → names_of (based base l.target) ≡ n → IsExcused e old new
+    by (Ok names) named =
+        let t = link_target (record { cache = cache; base = base; number = 0 }) l in
+        let told = on_disks (tree_of old) c.ran.0 (logs_lead old new c.ran.0 c.ran.2 c.logged).0 in
+        let run = suited_run t bytes rest c.ran.0 (replies.Refused e) size told c.ran.1 in
+        let expects : ExpectsIntegrity (put_like l (bytes ++ rest)) = subst (λ i. IfSome i IsIntegrity) (sym none) tt in
+        excused_by (own_of (commands.Link l)) old new c.ran.0 (λ fault no. no) (some_same new _ c.ran.2) e
+        (cause cache base l bytes rest first fits apart o names named (replies.Refused e) old new expects sound c run)
+        (fails_only t (replies.Refused e) bytes rest c.ran.0 size (record { no_integrity = none; no_size = refl; written = written }) told c.ran.1)
+    by (Err fault) named = absurd (nothing_shown (tree_of o.old) (based base l.target) (bytes ++ rest) fault named o.shows)

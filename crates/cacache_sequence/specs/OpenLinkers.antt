@@ -11,10 +11,13 @@ use Rattle.cacache_disk.specs.Apply.{opened}
 use Rattle.cacache_memory.specs.Replay.{IsLog, shown, tree_of}
 use Rattle.cacache_table.specs.declared.command.Link.{Link}
 use Rattle.cacache_table.specs.declared.reply.Reply.{Reply}
+use Rattle.cacache_table.specs.declared.reply.Reply.TheVariants.{Refused}
+use Rattle.cacache_table.specs.Inserting.{refused_cause}
 use Rattle.cacache_table.specs.Linking.{based, link_target}
 use Rattle.cacache_table.specs.Runs.{Ran, plain_reply}
 use Rattle.cacache_table.specs.SingleSteps.{Does, FailsAt}
 use Rattle.cacache_table.specs.State.{hashing, to_link}
+use Rattle.cacache_table.specs.Storing.{insertion_of, put_commit}
 use Rattle.cacache_sequence.specs.Caches.{IsCache, IsExcused, Grows}
 use Rattle.cacache_sequence.specs.ExportEffects.{IsApart}
 use Rattle.cacache_sequence.specs.Links.{FitsLink, LeavesLink, put_like}
@@ -118,3 +121,22 @@ LinkersOpenSized =
     (cache path : List ℕ) (r : Result (ℕ × PlainFile) Error) (old new : List LogItem)
     → IsCache cache old → OpensSized path r (Some old) (Some new) → IsLog new
     → LeavesKnownCache cache old new × GivesSized cache path r old new
+
+-- the entry that the commit of these bytes adds can be written
+abbrev pub CanWrite : List ℕ → Link → List ℕ → Type 0
+CanWrite cache l held =
+    (key : List ℕ) → l.key ≡ Some key
+    → refused_cause (insertion_of (put_commit cache (put_like l held)) key) ≡ None
+
+-- a commit of which no integrity is expected, and whose entry can be written, fails for a step of its own
+-- or for memory alone
+abbrev pub LinkersFail : Type 0
+LinkersFail =
+    (cache base : List ℕ) (l : Link) (bytes rest : List ℕ) (first : PlainFile) (e : Error)
+    (old new : List LogItem)
+    → FitsLink cache l → IsApart cache (based base l.target)
+    → SuitsSize l.options.size (length (bytes ++ rest))
+    → l.options.integrity ≡ None → CanWrite cache l (bytes ++ rest)
+    → TargetOpened cache (based base l.target) (bytes ++ rest) first
+    → IsCache cache old → CommitsRest cache base l bytes rest (Refused e) old new
+    → IsExcused e old new

@@ -15,7 +15,7 @@ ghost use Rattle.cacache_sequence.specs.Exported.{ExportsArrive};
 ghost use Rattle.cacache_sequence.specs.Links.{LinksLast};
 ghost use Rattle.cacache_sequence.specs.InParts.{LogsLead, CallsBegin, PartsGoOn, LeftAreCases, PartsAnswer, ReadsAreParts, WritesAreParts};
 ghost use Rattle.cacache_sequence.specs.OpenWriters.{WritersOpen, CommitsLast, CommitsStore};
-ghost use Rattle.cacache_sequence.specs.OpenLinkers.{LinkersOpen, LinkersOpenSized, LinkersCommit};
+ghost use Rattle.cacache_sequence.specs.OpenLinkers.{LinkersOpen, LinkersOpenSized, LinkersCommit, LinkersFail};
 ghost use Rattle.cacache_sequence.specs.Puts.{PutsLeave, PutsMayLead, CommitsLeave, CommitsKeep};
 ghost use Rattle.cacache_sequence.specs.GivenUp.{GivingUpLasts};
 ghost use Rattle.cacache_sequence.specs.OpenReaders.{ReadersOpen, ReadersOpenKey};
@@ -115,6 +115,7 @@ pub fn handle_laws()
     ensures opens_link { LinkersOpen }
     ensures opens_sized { LinkersOpenSized }
     ensures links { LinkersCommit }
+    ensures links_fail { LinkersFail }
     ensures reads { ReadersOpen }
     ensures reads_key { ReadersOpenKey }
 {}

@@ -3,7 +3,7 @@ use Rattle.cacache_sequence.proofs.Committing.{commits_last, commits_store}
 use Rattle.cacache_sequence.proofs.OpenReaders.{readers_open, readers_open_key}
 use Rattle.cacache_sequence.proofs.Puts.{commits_leave, commits_keep}
 use Rattle.cacache_sequence.proofs.GivenUp.{giving_up_lasts}
-use Rattle.cacache_sequence.proofs.OpenLinkers.{linkers_commit, linkers_open, linkers_open_sized}
+use Rattle.cacache_sequence.proofs.OpenLinkers.{linkers_commit, linkers_fail, linkers_open, linkers_open_sized}
 use Rattle.cacache_sequence.proofs.laws.handle_laws.Goals as goal
 
 pub returns-clause-opens : goal.returns-clause-opens
@@ -38,3 +38,6 @@ returns-clause-opens_link c = linkers_open
 
 pub returns-clause-opens_sized : goal.returns-clause-opens_sized
 returns-clause-opens_sized c = linkers_open_sized
+
+pub returns-clause-links_fail : goal.returns-clause-links_fail
+returns-clause-links_fail c = linkers_fail
