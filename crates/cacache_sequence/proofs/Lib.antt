@@ -47,6 +47,8 @@ pub mod Arriving
 pub mod Standing
 pub mod GivenUp
 pub mod Linking
+pub mod TargetBytes
+pub mod ExpectedSizes
 pub mod OpenLinkers
 pub mod Sharing
 pub mod Exported

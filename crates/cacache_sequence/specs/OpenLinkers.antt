@@ -56,24 +56,20 @@ module _ (path : List ℕ) where
       ⊎ ((size : ℕ) × (mid : Option (List LogItem)) × TellsSize size old mid
       × OpensTarget (Err e) mid new)
 
--- the file has the bytes that the target shows
-abbrev pub HasTarget : List ℕ → List ℕ → PlainFile → List LogItem → Type 0
-HasTarget cache path file log =
-    (held : List ℕ) → shown (tree_of log) path ≡ Some held → file.left < 2 ^ 64
-    → (file ≡ opened held) × TargetOpened cache path held file
-
--- so does a target that was opened, and why there is none is excused
+-- a target that was opened showed bytes, which the file has; and why there is none is excused
 abbrev pub GivesTarget :
     List ℕ → List ℕ → Result PlainFile Error → List LogItem → List LogItem → Type 0
-GivesTarget cache path (Ok file) old new = HasTarget cache path file old
+GivesTarget cache path (Ok file) old new =
+    (held : List ℕ) × (shown (tree_of old) path ≡ Some held) × (file ≡ opened held)
+    × (file.left < 2 ^ 64 → TargetOpened cache path held file)
 GivesTarget cache path (Err e) old new = IsExcused e old new
 
 -- and the size that it told is theirs
 abbrev pub GivesSized :
     List ℕ → List ℕ → Result (ℕ × PlainFile) Error → List LogItem → List LogItem → Type 0
 GivesSized cache path (Ok (size, file)) old new =
-    HasTarget cache path file old
-    × ((held : List ℕ) → shown (tree_of old) path ≡ Some held → size ≡ length held)
+    (held : List ℕ) × (shown (tree_of old) path ≡ Some held) × (file ≡ opened held)
+    × (size ≡ length held) × (file.left < 2 ^ 64 → TargetOpened cache path held file)
 GivesSized cache path (Err e) old new = IsExcused e old new
 
 -- ---- a commit
