@@ -9,3 +9,4 @@ pub mod WriterResults
 pub mod JoinedResults
 pub mod ListResults
 pub mod LossResults
+pub mod LinkerResults

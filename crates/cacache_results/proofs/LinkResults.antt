@@ -33,7 +33,7 @@ own_is : (cache : List ℕ) (key : Option (List ℕ)) (target : List ℕ) (momen
 own_is cache None target moment path held i old new h = h.stored
 own_is cache (Some key) target moment path held i old new h = h.stored
 
-lies_so : (cache path : List ℕ) (own i : List Hash) (old new : List LogItem) → i ≡ own
+pub lies_so : (cache path : List ℕ) (own i : List Hash) (old new : List LogItem) → i ≡ own
     → (lies_under cache own new ≡ Some (AtLink path)) ⊎ (IsThere (lies_under cache own old) × (lies_under cache own new ≡ lies_under cache own old)) → LiesLinked cache i path old new
 lies_so cache path own i old new is (inl at) none = ap (λ j. lies_under cache j new) is ∙ at
 lies_so cache path own i old new is (inr h) none = absurd (subst IsThere (sym (ap (λ j. lies_under cache j old) is) ∙ none) h.0)

@@ -1,13 +1,13 @@
 -- What open writers did.
-use Rattle.std.proofs.Common.{◌≡◌, ◌⊎◌, inl, inr, ◌-◌, ◌<◌, ◌^◌, ◌++◌, ℕ, Bool, List, [], Option, None, Some, Result, Ok, Err, length, min, refl, sym, ap, subst, ◌∙◌, arith}
-use Rattle.std.specs.Prelude.{IfOk, IfErr, IfSome, IsUtf8}
+use Rattle.std.proofs.Common.{◌≡◌, inl, inr, ◌<◌, ◌^◌, ◌++◌, ℕ, Bool, List, Option, None, Some, Result, Ok, Err, length, refl, sym, ap, subst, ◌∙◌, arith}
+use Rattle.std.specs.Prelude.{IsUtf8}
 use Rattle.std.specs.Io.KnownBytes.{Appends}
 use Rattle.cacache_core.specs.declared.errors.Error.{Error}
 use Rattle.cacache_core.specs.declared.errors.Error.TheVariants.{EntryNotFound, SizeMismatch, IoError, SerdeError, IntegrityError, OutOfMemory}
 use Rattle.serde_json.specs.Data.{Data, null}
 use Rattle.cacache_core.specs.declared.integrity.algorithm.Algorithm.{Algorithm}
 use Rattle.cacache_core.specs.declared.integrity.digest.Hash.{Hash}
-use Rattle.cacache_core.specs.Integrity.{IsIntegrity, integrity_under}
+use Rattle.cacache_core.specs.Integrity.{integrity_under}
 use Rattle.cacache_core.specs.Texts.{integrity_text}
 use Rattle.cacache_store.specs.declared.env.Env.{Env}
 use Rattle.cacache_store.specs.declared.store.answer.Answer.TheVariants as answers
@@ -24,15 +24,15 @@ use Rattle.cacache_table.specs.Runs.{reply_of}
 use Rattle.cacache_table.specs.SingleSteps.{Does}
 use Rattle.cacache_table.specs.StepPaths.{temp_path}
 use Rattle.cacache_table.proofs.IntegrityUtf8.{integrity_utf8}
-use Rattle.cacache_content.specs.OpenWrites.{IsSameWriter, RemovesTemp, Takes, TriesToRemove, counted_bytes}
+use Rattle.cacache_content.specs.OpenWrites.{RemovesTemp, TriesToRemove, counted_bytes}
 use Rattle.cacache_jobs.specs.Environment.{MomentOf}
 use Rattle.cacache_put.specs.KeyedWriters.{CommitsWriter, OpensAt}
 use Rattle.cacache_put.specs.Options.{Said, options_of}
-use Rattle.cacache_sequence.specs.Beside.{FitsEntry, own_integrity}
-use Rattle.cacache_sequence.specs.Caches.{IsCache, IsExcused}
+use Rattle.cacache_sequence.specs.Beside.{FitsEntry}
+use Rattle.cacache_sequence.specs.Caches.{IsCache}
 use Rattle.cacache_sequence.specs.GivenUp.{GivesUpTemp}
-use Rattle.cacache_sequence.specs.OpenWriters.{CommitsBytes, HasOpened, LeavesKnownCache, OpensWriter}
-use Rattle.cacache_sequence.specs.Puts.{HasCommitted, entry_of_put, stored_as}
+use Rattle.cacache_sequence.specs.OpenWriters.{CommitsBytes}
+use Rattle.cacache_sequence.specs.Puts.{HasCommitted, entry_of_put}
 use Rattle.cacache_sequence.specs.OpenSucceeds.{FileAt}
 use Rattle.cacache_sequence.specs.Succeeds.{put_reply, unless_unwritable}
 use Rattle.cacache_sequence.proofs.Committing.{commits_last}
@@ -42,10 +42,10 @@ use Rattle.cacache_sequence.proofs.SureWriters.{commits_answer, openings_succeed
 use Rattle.cacache_sequence.proofs.GivenUp.{giving_up_lasts}
 use Rattle.cacache_sequence.proofs.OpenWriters.{writers_open}
 use Rattle.cacache_sequence.proofs.Puts.{commits_keep, commits_leave}
-use Rattle.cacache_results.specs.Handles.{CommitsMean, CommitsSucceed, CommittedBytes, FailedWritesMean, GivingUpMeans, IsText, IsWriting, LeadsToEntry, MemWriter, OpenedWriter, OpeningsMean, SaysFit, WritersGoOn, said_integrity}
+use Rattle.cacache_results.specs.Handles.{CommitsMean, CommitsSucceed, FailedWritesMean, GivingUpMeans, IsText, IsWriting, LeadsToEntry, MemWriter, OpenedWriter, OpeningsMean, SaysFit, WritersGoOn, said_integrity}
 use Rattle.cacache_results.specs.Writes.{SaysPlain}
 use Rattle.cacache_results.proofs.SureResults.{for_memory}
-use Rattle.cacache_results.proofs.Told.{excused, plain_result}
+use Rattle.cacache_results.proofs.Told.{plain_result}
 use Rattle.cacache_results.proofs.WriteResults.{early_of, untouched}
 
 -- ---- openings
@@ -119,7 +119,7 @@ writers_go_on cache key s bytes more w v t appends takes on said = record {
 abbrev put_of : Option (List ℕ) → Said → List ℕ → ℕ → Put
 put_of key s bytes moment = record { key = key; «data» = bytes; moment = moment; options = options_of s }
 
-fits : (cache : List ℕ) (key : Option (List ℕ)) (s : Said) (bytes : List ℕ) (moment : ℕ) → SaysFit s → IsText key → length bytes < 2 ^ 64 → FitsEntry cache (put_of key s bytes moment)
+pub fits : (cache : List ℕ) (key : Option (List ℕ)) (s : Said) (bytes : List ℕ) (moment : ℕ) → SaysFit s → IsText key → length bytes < 2 ^ 64 → FitsEntry cache (put_of key s bytes moment)
 fits cache None s bytes moment says text small k is = absurd cc
 fits cache (Some key) s bytes moment says text small k is = λ none. record {
   key = (let same : key ≡ k = cc in subst (λ (x : List ℕ). IsUtf8 x) same text);

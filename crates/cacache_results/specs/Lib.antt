@@ -4,6 +4,7 @@ pub mod Removals
 pub mod Exports
 pub mod Links
 pub mod Handles
+pub mod Linkers
 pub mod Joins
 pub mod Lists
 pub mod Losses

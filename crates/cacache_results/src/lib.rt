@@ -6,6 +6,7 @@
 mod changes;
 mod handles;
 mod joins;
+mod linkers;
 mod listing;
 mod looks;
 mod losses;
@@ -17,6 +18,7 @@ pub use changes::{
 };
 pub use handles::writer_laws;
 pub use joins::joining_laws;
+pub use linkers::linker_laws;
 pub use listing::after_list;
 pub use looks::{after_exists, after_find, after_read, after_read_hash};
 pub use losses::{after_read_left, loss_results};

@@ -1,0 +1,128 @@
+-- What open linkers did, by their results, on a store in memory.
+use Rattle.std.specs.Prelude.{◌≡◌, ◌<◌, ◌^◌, ◌++◌, ℕ, List, [], Option, None, Some, Result, IfOk, IfErr, length}
+use Rattle.std.specs.Io.{ReadsAtMost}
+use Rattle.std.specs.Io.KnownBytes.{ReadConsumes}
+use Rattle.cacache_store.specs.Failures as io
+use Rattle.cacache_core.specs.declared.errors.Error.{Error}
+use Rattle.cacache_core.specs.declared.integrity.digest.Hash.{Hash}
+use Rattle.cacache_store.specs.declared.env.Env.{Env}
+use Rattle.cacache_store.specs.declared.store.log.LogItem.{LogItem}
+use Rattle.cacache_store.specs.declared.store.plain.PlainFile.{PlainFile}
+use Rattle.cacache_store.specs.Handles.{LeftFalls}
+use Rattle.cacache_disk.specs.Apply.{opened}
+use Rattle.cacache_memory.specs.Replay.{shown, tree_of}
+use Rattle.cacache_table.specs.declared.reply.Reply.TheVariants.{Stored}
+use Rattle.cacache_table.specs.Linking.{based, linked_to}
+use Rattle.cacache_table.specs.Promises.{answered}
+use Rattle.cacache_table.specs.Runs.{reply_of}
+use Rattle.cacache_content.specs.Passed.{passed}
+use Rattle.cacache_put.specs.declared.linker.SyncToLinker.{SyncToLinker}
+use Rattle.cacache_put.specs.OpenLinkers.{BeginsLink, CommitsLink, HasHashed, OpensLink, OpensWithSize, asks_file, asks_size, linked_by}
+use Rattle.cacache_put.specs.Options.{Said, options_of}
+use Rattle.cacache_sequence.specs.Caches.{IsCache, IsExcused, Grows}
+use Rattle.cacache_sequence.specs.ExportEffects.{IsApart}
+use Rattle.cacache_sequence.specs.Links.{KeepsBesideLink}
+use Rattle.cacache_sequence.specs.OpenLinkers.{SuitsSize, TargetOpened}
+use Rattle.cacache_sequence.specs.OpenWriters.{LeavesKnownCache}
+use Rattle.cacache_results.specs.Handles.{IsText, LeadsToEntry, SaysFit, said_integrity}
+use Rattle.cacache_results.specs.Links.{LiesLinked}
+use Rattle.cacache_results.specs.Writes.{SaysPlain}
+
+-- a linker of a store in memory
+abbrev pub MemLinker : Type 0
+MemLinker = SyncToLinker PlainFile
+
+-- a linker into this cache, under this key, if any, of which so much was said. Its target showed these
+-- bytes when it was opened, of which it took the first
+pub record IsLinking (cache : List ℕ) (key : Option (List ℕ)) (path : List ℕ) (s : Said)
+    (held bytes : List ℕ) (w : MemLinker) : Type 0 where
+  pub base : List ℕ
+  pub target : List ℕ
+  pub path_is : based base target ≡ path
+  pub time : Option ℕ
+  pub time_is : (k : List ℕ) → key ≡ Some k → time ≡ s.time
+  pub size : Option ℕ
+  pub suits : SuitsSize size (length held)
+  pub small : length held < 2 ^ 64
+  pub linked_is :
+      w.linked ≡ linked_to base cache key target time (record (options_of s) { size = size })
+  pub first : PlainFile
+  pub was_opened : TargetOpened cache path held first
+  pub rest : List ℕ
+  pub all : bytes ++ rest ≡ held
+  pub file_is : w.file ≡ opened rest
+  pub hashed : HasHashed w bytes
+
+-- ---- an opening
+
+-- a linker of what its target showed, that took nothing yet, or the error is excused; all that was known
+-- stays
+pub record OpenedLinker (cache : List ℕ) (key : Option (List ℕ)) (path : List ℕ) (s : Said)
+    (r : Result MemLinker Error) (old new : List LogItem) : Type 0 where
+  pub leaves : LeavesKnownCache cache old new
+  pub linker : IfOk r (λ w. (held : List ℕ) × (shown (tree_of old) path ≡ Some held)
+      × IsLinking cache key path s held [] w)
+  pub fails : IfErr r (λ e. IsExcused e old new)
+
+-- ---- a commit
+
+-- the key leads to an entry of what was said, under the integrity of the target's bytes lies the link,
+-- unless something lay there, and all else stays. If nothing else was said, an error is excused
+pub record LinkedBytes (cache : List ℕ) (key : Option (List ℕ)) (path : List ℕ) (s : Said)
+    (held : List ℕ) (r : Result (List Hash) Error) (old new : List LogItem) : Type 0 where
+  pub sound : IsCache cache new
+  pub grows : Grows old new
+  pub stored : IfOk r (λ i. i ≡ answered (said_integrity s held) s.integrity key)
+  pub leads : IfOk r (λ i. (k : List ℕ) → key ≡ Some k
+      → LeadsToEntry cache k s i (length held) new)
+  pub lies : IfOk r (λ i. LiesLinked cache (said_integrity s held) path old new)
+  pub beside : KeepsBesideLink cache key (said_integrity s held) path old new
+  pub fails : SaysPlain s → s.integrity ≡ None → IfErr r (λ e. IsExcused e old new)
+
+-- ---- laws, of the environment that a call left
+
+-- a linker that was read goes on behind the bytes that it gave
+abbrev pub LinkersGoOn : Type 0
+LinkersGoOn =
+    (cache : List ℕ) (key : Option (List ℕ)) (path : List ℕ) (s : Said) (held bytes : List ℕ)
+    (w v : MemLinker) (r : Result ℕ io.Error) (buf : List ℕ)
+    → IsLinking cache key path s held bytes w → ReadsAtMost r buf
+    → ReadConsumes w.file.bytes v.file.bytes r buf → LeftFalls w.file.left v.file.left r
+    → HasHashed v (bytes ++ passed r buf) → v.linked ≡ w.linked
+    → IsLinking cache key path s held (bytes ++ passed r buf) v
+
+module _ {C N : Type 0} where
+  -- an opening that asks no size, of which none was said, is one
+  abbrev pub LinkOpeningsMean : Env (List LogItem) C N → Type 0
+  LinkOpeningsMean new =
+      (cache : List ℕ) (key : Option (List ℕ)) (target : List ℕ) (s : Said)
+      (r : Result MemLinker Error) (old : Env (List LogItem) C N)
+      → IsCache cache old.store → s.size ≡ None
+      → OpensLink (λ file. file) (λ log. Some log) old new
+      (linked_by old.base cache key target s) r
+      → BeginsLink (λ file. file) (λ log. Some log) old new asks_file
+      (linked_by old.base cache key target s) r
+      → OpenedLinker cache key (based old.base target) s r old.store new.store
+
+  -- so is one that asks the size
+  abbrev pub SizedOpeningsMean : Env (List LogItem) C N → Type 0
+  SizedOpeningsMean new =
+      (cache : List ℕ) (key : Option (List ℕ)) (target : List ℕ) (s : Said)
+      (r : Result MemLinker Error) (old : Env (List LogItem) C N)
+      → IsCache cache old.store
+      → OpensWithSize (λ file. file) (λ log. Some log) old new
+      (linked_by old.base cache key target s) r
+      → BeginsLink (λ file. file) (λ log. Some log) old new asks_size
+      (linked_by old.base cache key target s) r
+      → OpenedLinker cache key (based old.base target) s r old.store new.store
+
+  -- and a commit, of a target apart from the cache
+  abbrev pub LinkCommitsMean : (C → Option (List ℕ)) → Env (List LogItem) C N → Type 0
+  LinkCommitsMean moments new =
+      (cache : List ℕ) (key : Option (List ℕ)) (path : List ℕ) (s : Said) (held bytes : List ℕ)
+      (w : MemLinker) (r : Result (List Hash) Error) (old : Env (List LogItem) C N)
+      → IsCache cache old.store → IsApart cache path
+      → IsLinking cache key path s held bytes w → SaysFit s → IsText key
+      → CommitsLink (λ file. file) (λ log. Some log) moments old new w bytes
+      (reply_of Stored r)
+      → LinkedBytes cache key path s held r old.store new.store
