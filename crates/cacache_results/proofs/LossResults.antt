@@ -38,7 +38,7 @@ use Rattle.cacache_sequence.specs.Caches.{HasContent, HasKey}
 use Rattle.cacache_sequence.specs.Standing.{IsStanding}
 use Rattle.cacache_sequence.proofs.Looks.{tree_stays}
 use Rattle.cacache_sequence.proofs.Standing.{standing_reads}
-use Rattle.cacache_results.specs.Losses.{IsLeft, LeadsToDigest, LeftReadMeans, LossesLeavePuts, LossesLeaveStanding, PutIsLeft, entry_written}
+use Rattle.cacache_results.specs.Losses.{IsLeft, LeadsToDigest, LeftReadMeans, LossesLeaveLast, LossesLeavePuts, LossesLeaveStanding, PutIsLeft, entry_written}
 use Rattle.cacache_results.proofs.ReadResults.{given}
 use Rattle.cacache_results.proofs.Told.{called}
 
@@ -98,6 +98,18 @@ losses_leave_puts h loss folder key p t outlives few left here put keyed none =
       record { before = _; bucket = bucket },
       λ last. leads h.setup.cache key p folder t _ entry.outlasts.more here none both.0 bucket last,
     )
+
+-- where nobody appended behind its entry, the key leads to the put's bytes
+pub losses_leave_last : LossesLeaveLast
+losses_leave_last h loss folder key p t outlives few left here put keyed none last log is =
+    let now = moment_at h h.records in
+    let lost = subst (λ (o : Option Names). Lost o now.tree now.fixed loss t) here left in
+    let both = outlives.puts few folder p loss t here put lost in
+    let with = outlives.behind_puts folder p key loss t here put keyed lost in
+    let entry = with.entry_is in
+    let bucket = ap (λ (o : Option Names). list_of ((value_of_tree o t).buckets (sha1 key))) here ∙ ap list_of entry.outlasts.bucket in
+    let alone : entry.outlasts.more ≡ [] = with.behind.none (last entry.between entry.append entry.later entry.is entry.is_append) in
+    leads h.setup.cache key p folder t _ entry.outlasts.more here none both.0 bucket (subst (NoneAnswers key) (sym alone) tt) log is
 
 -- ---- reads
 

@@ -6,6 +6,7 @@ use Rattle.cacache_core.specs.declared.integrity.digest.Hash.{Hash}
 use Rattle.cacache_core.specs.Digests.{digest}
 use Rattle.cacache_core.specs.Integrity.{integrity_under}
 use Rattle.cacache_core.specs.PathNames.{Names, home_of}
+use Rattle.cacache_core.specs.Paths.{bucket_names}
 use Rattle.cacache_store.specs.declared.env.Env.{Env}
 use Rattle.cacache_store.specs.declared.store.log.LogItem.{LogItem}
 use Rattle.cacache_disk.specs.Tree.{Tree}
@@ -17,10 +18,13 @@ use Rattle.cacache_table.specs.declared.command.Put.{Put}
 use Rattle.cacache_table.specs.Runs.{reply_of}
 use Rattle.cacache_table.specs.Storing.{insertion_of, put_commit}
 use Rattle.cacache_loss.specs.Loss.{Loss, Lost}
+use Rattle.cacache_history.specs.declared.record.Record.{Record}
 use Rattle.cacache_history.specs.History.{History}
 use Rattle.cacache_history.specs.Setup.{home}
+use Rattle.cacache_history.specs.Values.{steps_of}
 use Rattle.cacache_durable.specs.FewCalls.{FewCalls}
-use Rattle.cacache_durable.specs.Outlasting.{DurablePut, Outlives, moment_at}
+use Rattle.cacache_durable.specs.Behind.{NoneAppends}
+use Rattle.cacache_durable.specs.Outlasting.{DurablePut, IsAppendOf, Outlives, moment_at}
 use Rattle.cacache_jobs.specs.Environment.{Calls}
 use Rattle.cacache_reads.specs.Reads.{bytes_read}
 use Rattle.cacache_sequence.specs.Caches.{HasKey}
@@ -38,6 +42,14 @@ IsLeft h loss t =
 -- the entry that a put writes under the key
 abbrev pub entry_written : List ℕ → List ℕ → Put → Entry
 entry_written cache key p = (insertion_of (put_commit cache p) key).entry
+
+-- behind the caller's append of the put's entry in these records nobody appends to the bucket
+abbrev pub IsLast : History → Names → List Record → ℕ → List ℕ → Put → Type 0
+IsLast h folder records caller key p =
+    (between : List Record) (append : Record) (later : List Record)
+    → records ≡ between ++ append ∷ later
+    → IsAppendOf caller h.setup.cache key (entry_written h.setup.cache key p) append
+    → NoneAppends (folder ++ bucket_names key) (steps_of later)
 
 -- the put's entry stands in the bucket of the key, and these behind it
 pub record StandsBefore (cache key : List ℕ) (p : Put) (more : List Entry) (t : Tree)
@@ -82,6 +94,15 @@ LossesLeavePuts =
     → Outlives h → FewCalls h → IsLeft h loss t → home h.setup ≡ Some folder
     → DurablePut h folder p → p.key ≡ Some key → p.options.integrity ≡ None
     → PutIsLeft h.setup.cache key p t
+
+-- and where its entry is the last of its bucket, the key leads to its bytes in each such store
+abbrev pub LossesLeaveLast : Type 0
+LossesLeaveLast =
+    (h : History) (loss : Loss) (folder : Names) (key : List ℕ) (p : Put) (t : Tree)
+    → Outlives h → FewCalls h → IsLeft h loss t → home h.setup ≡ Some folder
+    → (put : DurablePut h folder p) → p.key ≡ Some key → p.options.integrity ≡ None
+    → IsLast h folder put.rest put.call.caller key p
+    → (log : List LogItem) → tree_of log ≡ t → LeadsToDigest h.setup.cache key p log
 
 module _ {C N : Type 0} where
   -- a read by key of a store that stands, of this result, is one

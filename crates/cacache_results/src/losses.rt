@@ -1,5 +1,6 @@
 //! Behind a loss of power: a store in memory that began with what it left.
-ghost use Rattle.cacache_results.specs.Losses.{LeftReadMeans, LossesLeavePuts, LossesLeaveStanding};
+ghost use Rattle.cacache_results.specs.Losses.{LeftReadMeans, LossesLeaveLast, LossesLeavePuts};
+ghost use Rattle.cacache_results.specs.Losses.{LossesLeaveStanding};
 
 use cacache_core::errors::Result;
 use cacache_memory::MemStore;
@@ -7,10 +8,11 @@ use cacache_store::env::{Clock, Env, Names};
 
 /// What a loss of power left of a history: everything stands where it may, and what a durable put stored that answered is
 /// left. Its entry stands in its bucket; where none behind it answers to the key, the key leads to bytes with the digest
-/// of the put's.
+/// of the put's. So it does where nobody appended to the bucket behind the entry.
 pub fn loss_results()
     ensures stands { LossesLeaveStanding }
     ensures puts { LossesLeavePuts }
+    ensures last { LossesLeaveLast }
 {}
 
 /// Behind `read_sync` of a store of which no more is known than that everything stands where it may, as after a loss: the
