@@ -10,3 +10,6 @@ pub mod JoinedResults
 pub mod ListResults
 pub mod LossResults
 pub mod LinkerResults
+pub mod PlainRuns
+pub mod PlainPuts
+pub mod DurableCases

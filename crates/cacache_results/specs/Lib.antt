@@ -9,3 +9,4 @@ pub mod Joins
 pub mod Lists
 pub mod Losses
 pub mod Success
+pub mod DurableCases

@@ -1,4 +1,5 @@
 //! Behind a loss of power: a store in memory that began with what it left.
+ghost use Rattle.cacache_results.specs.DurableCases.{InsertsStandInOne, PutsStandInOne};
 ghost use Rattle.cacache_results.specs.Losses.{LeftReadMeans, LossesLeaveLast, LossesLeavePuts};
 ghost use Rattle.cacache_results.specs.Losses.{LossesLeaveStanding};
 
@@ -13,6 +14,13 @@ pub fn loss_results()
     ensures stands { LossesLeaveStanding }
     ensures puts { LossesLeavePuts }
     ensures last { LossesLeaveLast }
+{}
+
+/// Histories of one durable commit alone: at any cache whose text names a folder one is legal, so that the laws of losses
+/// speak of some.
+pub fn durable_cases()
+    ensures inserts { InsertsStandInOne }
+    ensures puts { PutsStandInOne }
 {}
 
 /// Behind `read_sync` of a store of which no more is known than that everything stands where it may, as after a loss: the
