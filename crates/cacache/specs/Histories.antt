@@ -19,7 +19,9 @@ pub use Rattle.cacache_history.specs.Places.{CallIn, MoveAt, MovesAre, now_befor
 pub use Rattle.cacache_history.specs.Setup.{call_site, home}
 pub use Rattle.cacache_history.specs.Values.{MetDigestsAreSame}
 pub use Rattle.cacache_durable.specs.FewCalls.{FewCalls}
-pub use Rattle.cacache_durable.specs.Outlasting.{DurableInsert, DurablePut, Outlives}
+pub use Rattle.cacache_durable.specs.Behind.{Behind, NoneAppends, StaysSynced}
+pub use Rattle.cacache_durable.specs.Outlasting.{DurableInsert, DurablePut, Outlives, OutlastsWith}
 pub use Rattle.cacache_world.specs.Losses.{LeftBy}
 pub use Rattle.cacache_sequence.specs.Standing.{IsStanding}
-pub use Rattle.cacache_results.specs.Losses.{IsLeft, LeadsToDigest, LeftRead, LeftReadMeans, LossesLeavePuts, LossesLeaveStanding, PutIsLeft, StandsBefore}
+pub use Rattle.cacache_results.specs.DurableCases.{CanBeWritten, InsertsStandInOne, PutsStandInOne, StandsIn}
+pub use Rattle.cacache_results.specs.Losses.{IsLast, IsLeft, LeadsToDigest, LeftRead, LeftReadMeans, LossesLeaveLast, LossesLeavePuts, LossesLeaveStanding, PutIsLeft, StandsBefore}

@@ -2,10 +2,10 @@
 use Rattle.std.proofs.Common.{◌≡◌, inl, inr, ℕ, List, None, Some, Vec, Global, Result, Ok, Err, refl, sym, ap, subst, ◌∙◌}
 use Rattle.cacache.specs.Calls.{Error}
 use Rattle.cacache.specs.Entries.{Entry}
-use Rattle.cacache.specs.Histories.{FewCalls, History, IsStanding, LeadsToDigest, LeftBy, LeftRead, Loss, LossesLeavePuts, LossesLeaveStanding, NoneAnswers, Outlives, Put, Tree, chosen, digest}
+use Rattle.cacache.specs.Histories.{FewCalls, History, IsStanding, LeadsToDigest, LeftBy, LeftRead, Loss, LossesLeaveLast, LossesLeavePuts, LossesLeaveStanding, NoneAnswers, Outlives, Put, Tree, chosen, digest}
 use Rattle.cacache.specs.Laws.{GivesJust, IsExcused, OutOfMemory, tree_of}
 use Rattle.cacache.specs.Stores.{LogItem}
-use Rattle.uses_worlds.specs.Losses.{GivesPut, Survives}
+use Rattle.uses_worlds.specs.Losses.{GivesPut, Survives, SurvivesAlone}
 
 -- where memory is refused before the read
 pub refused : (h : History) (loss : Loss) (key : List ℕ) → Outlives h → FewCalls h → LossesLeavePuts → Survives h loss key (Err OutOfMemory)
@@ -14,6 +14,11 @@ refused h loss key outlives few puts folder p here put keyed none =
     let one = (outlives.caches lost).one in
     let left = puts h lost folder key p one.tree outlives few one.left here put keyed none in
     (one.tree, one.left, left.0, left.1, λ last. inl refl)
+
+pub refused_alone : (h : History) (loss : Loss) (key : List ℕ) → Outlives h → SurvivesAlone h loss key (Err OutOfMemory)
+refused_alone h loss key outlives folder p here put keyed none last =
+    let one = (outlives.caches (chosen loss.undone.items loss.tails.items)).one in
+    (one.tree, one.left, inl refl)
 
 -- the put's bytes are read
 gives : (cache key : List ℕ) (p : Put) (r : Result (Vec ℕ Global) Error) (old new : List LogItem) → LeadsToDigest cache key p old → LeftRead cache key r old new → GivesPut p r (tree_of old)
@@ -26,3 +31,11 @@ survives_here h loss key r old new outlives few puts stands lost read folder p h
     let chosen_loss = chosen loss.undone.items loss.tails.items in
     let left = puts h chosen_loss folder key p (tree_of old) outlives few lost here put keyed none in
     (tree_of old, lost, left.0, left.1, λ last. gives h.setup.cache key p r old new (left.2 last old refl) (read (stands h chosen_loss old outlives lost)))
+
+-- nothing is asked of what is left where nobody appended behind the entry
+pub alone_here : (h : History) (loss : Loss) (key : List ℕ) (r : Result (Vec ℕ Global) Error) (old new : List LogItem) → Outlives h → FewCalls h → LossesLeaveLast → LossesLeaveStanding
+    → LeftBy h loss (tree_of old) → (IsStanding h.setup.cache old → LeftRead h.setup.cache key r old new) → SurvivesAlone h loss key r
+alone_here h loss key r old new outlives few lasts stands lost read folder p here put keyed none last =
+    let chosen_loss = chosen loss.undone.items loss.tails.items in
+    let leads = lasts h chosen_loss folder key p (tree_of old) outlives few lost here put keyed none last old refl in
+    (tree_of old, lost, gives h.setup.cache key p r old new leads (read (stands h chosen_loss old outlives lost)))

@@ -3,7 +3,7 @@ use Rattle.std.specs.Prelude.{◌≡◌, ◌⊎◌, ℕ, List, None, Some, Vec, 
 use Rattle.std.specs.Global.{Global}
 use Rattle.cacache.specs.Calls.{Error}
 use Rattle.cacache.specs.Entries.{Entry}
-use Rattle.cacache.specs.Histories.{DurablePut, History, LeftBy, Loss, Names, NoneAnswers, Put, StandsBefore, Tree, digest, home}
+use Rattle.cacache.specs.Histories.{DurablePut, History, IsLast, LeftBy, Loss, Names, NoneAnswers, Put, StandsBefore, Tree, digest, home}
 use Rattle.cacache.specs.Laws.{IsExcused, OutOfMemory, tree_of}
 use Rattle.cacache.specs.Stores.{LogItem}
 
@@ -27,3 +27,11 @@ Survives h loss key r =
     → p.key ≡ Some key → p.options.integrity ≡ None
     → (left : Tree) × LeftBy h loss left × (more : List Entry)
     × StandsBefore h.setup.cache key p more left × (NoneAnswers key more → GivesPut p r left)
+
+-- it is read without asking what is left, where nobody appended to the key's bucket behind its entry
+abbrev pub SurvivesAlone : History → Loss → List ℕ → Result (Vec ℕ Global) Error → Type 0
+SurvivesAlone h loss key r =
+    (folder : Names) (p : Put) → home h.setup ≡ Some folder → (put : DurablePut h folder p)
+    → p.key ≡ Some key → p.options.integrity ≡ None
+    → IsLast h folder put.rest put.call.caller key p
+    → (left : Tree) × LeftBy h loss left × GivesPut p r left

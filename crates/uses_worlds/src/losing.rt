@@ -2,7 +2,7 @@
 ghost use Rattle.std.specs.Prelude.{◌≡◌, IfOk, IfErr};
 ghost use Rattle.cacache.specs.Histories.{IsStanding, LeftBy, LeftRead};
 ghost use Rattle.cacache.specs.Laws.{OutOfMemory, tree_of};
-ghost use Rattle.uses_worlds.specs.Losses.{Survives};
+ghost use Rattle.uses_worlds.specs.Losses.{Survives, SurvivesAlone};
 
 use cacache::env::{Clock, Env, Names};
 use cacache::laws::{after_read_left, loss_results};
@@ -43,7 +43,8 @@ pub fn survives<C: Clock, N: Names>(
     clock: C,
     names: N,
 ) -> Result<Vec<u8>>
-    ensures { Survives world.now loss.now key.now result }
+    ensures left { Survives world.now loss.now key.now result }
+    ensures alone { SurvivesAlone world.now loss.now key.now result }
 {
     world.stands();
     loss_results();
