@@ -10,7 +10,8 @@ use Rattle.cacache_core.specs.declared.errors.Error.{Error}
 use Rattle.cacache_core.specs.declared.integrity.digest.Hash.{Hash}
 use Rattle.cacache_core.specs.Texts.{integrity_text}
 use Rattle.cacache_entry.specs.Entry.{Entry}
-use Rattle.cacache_entry.specs.FittingEntries.{cause_of}
+use Rattle.cacache_entry.specs.FittingEntries.{AreBytes, IsJson, cause_of}
+use Rattle.cacache_entry.proofs.WellRead.{IsJson-null}
 use Rattle.cacache_store.specs.declared.env.Env.{Env}
 use Rattle.cacache_store.specs.declared.store.answer.Answer.TheVariants as answers
 use Rattle.cacache_store.specs.declared.store.log.LogItem.{LogItem}
@@ -43,7 +44,7 @@ use Rattle.cacache_sequence.proofs.TargetBytes.{linkers_open, linkers_open_sized
 use Rattle.cacache_sequence.proofs.OpenWriters.{gains_join}
 use Rattle.cacache_results.specs.Handles.{IsText, LeadsToEntry, SaysFit, said_integrity}
 use Rattle.cacache_results.specs.Writes.{SaysPlain}
-use Rattle.cacache_results.specs.Linkers.{LinkCommitsMean, LinkOpeningsMean, LinkedBytes, LinkersGoOn, MemLinker, OpenedLinker, SizedOpeningsMean}
+use Rattle.cacache_results.specs.Linkers.{PlainSaysFit, LinkCommitsMean, LinkOpeningsMean, LinkedBytes, LinkersGoOn, MemLinker, OpenedLinker, SizedOpeningsMean}
 use Rattle.cacache_results.proofs.LinkResults.{lies_so}
 use Rattle.cacache_results.proofs.Told.{excused, plain_result}
 use Rattle.cacache_results.proofs.WriteResults.{early_of}
@@ -221,6 +222,9 @@ linkers_go_on cache key path s held bytes w v r buf t most reads falls hashed li
     }
 
 -- ---- commits
+
+pub plain_says_fit : PlainSaysFit
+plain_says_fit s plain = record { json = subst IsJson (sym plain.metadata) IsJson-null; raw = subst AreBytes (sym plain.raw_metadata) tt; formed = plain.formed }
 
 module _ (cache : List ℕ) (key : Option (List ℕ)) (base target : List ℕ) (s : Said) (size : Option ℕ) (moment : ℕ) (held : List ℕ) (old new : List LogItem) where
   -- the link that a commit makes

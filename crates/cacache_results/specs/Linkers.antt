@@ -81,6 +81,10 @@ pub record LinkedBytes (cache : List ℕ) (key : Option (List ℕ)) (path : List
 
 -- ---- laws, of the environment that a call left
 
+-- where nothing was said but an integrity and a time, it fits
+abbrev pub PlainSaysFit : Type 0
+PlainSaysFit = (s : Said) → SaysPlain s → SaysFit s
+
 -- a linker that was read goes on behind the bytes that it gave
 abbrev pub LinkersGoOn : Type 0
 LinkersGoOn =

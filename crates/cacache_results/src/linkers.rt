@@ -1,5 +1,5 @@
 //! Behind calls of open linkers.
-ghost use Rattle.cacache_results.specs.Linkers.{LinkersGoOn, LinkOpeningsMean, SizedOpeningsMean, LinkCommitsMean};
+ghost use Rattle.cacache_results.specs.Linkers.{PlainSaysFit, LinkersGoOn, LinkOpeningsMean, SizedOpeningsMean, LinkCommitsMean};
 
 use cacache_memory::MemStore;
 use cacache_store::env::{Clock, Env, Names};
@@ -8,8 +8,9 @@ use cacache_store::env::{Clock, Env, Names};
 /// that stored leads its key to an entry of what was said, of the integrity of all bytes that the target showed when it
 /// was opened, whatever became of it since; a link to it lies there, unless something lay there before. Whatever it
 /// answers, other keys lead where they led, and all bytes stay but those at that address. An opening leaves all that was
-/// known, and a linker that is dropped does nothing.
+/// known, and a linker that is dropped does nothing. What `open` says of a link fits (`plain`).
 pub fn linker_laws<C: Clock, N: Names>(env: &Env<MemStore, C, N>)
+    ensures plain { PlainSaysFit }
     ensures goes_on { LinkersGoOn }
     ensures opens { LinkOpeningsMean env.now }
     ensures opens_sized { SizedOpeningsMean env.now }
