@@ -31,6 +31,7 @@ pub use Rattle.cacache_results.specs.Writes.{DontClash, KeepsUntouched, SaysPlai
 pub use Rattle.cacache_results.specs.Removals.{KeyRemoved, ContentRemoved, KeyRemovedFully, FailsClearing, Cleared}
 pub use Rattle.cacache_results.specs.Exports.{CopiedOut, SharedOut}
 pub use Rattle.cacache_results.specs.Links.{LiesLinked, LinksBytes, LinkedFile}
+pub use Rattle.cacache_results.specs.Linkers.{MemLinker, IsLinking, OpenedLinker, LinkedBytes}
 pub use Rattle.cacache_table.specs.ListReplies.{In}
 pub use Rattle.cacache_results.specs.Lists.{AreAllEntries, ListedEntries}
 pub use Rattle.cacache_results.specs.Handles.{MemWriter, IsWriting, OpenedWriter, SaysFit, IsEntryFor, LeadsToEntry, LiesOrStayed, CommittedBytes, said_integrity}

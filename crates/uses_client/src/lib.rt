@@ -8,7 +8,7 @@
 //! | `storing` | `store`, `replace`, `install_two`, `retry_install`, `uninstall` |
 //! | `installing` | `install`, by a writer with metadata and a size |
 //! | `auditing` | `list`, `is_whole`, `audit` |
-//! | `outside` | `mirror` a file, `export` a package |
+//! | `outside` | `mirror` a file, `adopt` one by a linker, `export` a package |
 #![tactic(auto)]
 
 mod auditing;
@@ -19,6 +19,6 @@ mod storing;
 
 pub use auditing::{Verdict, audit, is_whole, list};
 pub use installing::install;
-pub use outside::{export, mirror};
+pub use outside::{adopt, export, mirror};
 pub use reading::fetch;
 pub use storing::{install_two, replace, retry_install, store, uninstall};

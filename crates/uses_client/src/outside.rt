@@ -1,11 +1,12 @@
-//! Files outside of the cache: one that is linked into it, and packages that are copied out.
+//! Files outside of the cache: some that are linked into it, and packages that are copied out.
 ghost use Rattle.cacache.specs.Laws.{IsCache, IsApart, LeavesKnownCache, based};
 ghost use Rattle.uses_client.specs.Given.{ArrivesAt, MirrorsFile};
 
-use cacache::Result;
+use cacache::{Result, SyncToLinker};
 use cacache::env::{Clock, Env, Names};
-use cacache::laws::{after_copy, after_link, after_read};
+use cacache::laws::{after_copy, after_link, after_read, linker_laws};
 use cacache::store::MemStore;
+use std::io::Read;
 
 /// Links a file into the cache under a key, and reads it there: while the file shows the same bytes, these are read, if
 /// nothing lay under their integrity.
@@ -23,6 +24,33 @@ pub fn mirror<C: Clock, N: Names>(
 {
     let linked = cacache::link_to_sync(env, cache, key, file);
     after_link(env, cache, key, file, &linked);
+    let _sri = linked?;
+    let read = cacache::read_sync(env, cache, key);
+    after_read(env, cache, key, &read);
+    read
+}
+
+/// Opens a file, reads its first bytes, links it into the cache under a key, and reads it there: the same is read as by
+/// `mirror`.
+pub fn adopt<C: Clock, N: Names>(
+    env: &mut Env<MemStore, C, N>,
+    cache: &str,
+    key: &str,
+    file: &str,
+) -> Result<Vec<u8>>
+    requires cache { IsCache cache.now env.old.store }
+    requires apart { IsApart cache.now (based env.old.base file.now) }
+    ensures sound { IsCache cache.now env.new.store }
+    ensures mirrors { MirrorsFile cache.now (based env.old.base file.now) result
+        env.old.store env.new.store }
+{
+    let opened = SyncToLinker::open(env, cache, key, file);
+    linker_laws(env);
+    let mut linker = opened?;
+    let mut front = [0; 64];
+    let _front = linker.read(&mut front);
+    let linked = linker.commit(env);
+    linker_laws(env);
     let _sri = linked?;
     let read = cacache::read_sync(env, cache, key);
     after_read(env, cache, key, &read);
