@@ -2,10 +2,10 @@
 ghost use Rattle.cacache.specs.Laws.{IsCache, IsApart, LeavesKnownCache, based};
 ghost use Rattle.uses_client.specs.Given.{ArrivesAt, MirrorsFile};
 
-use cacache::{Result, SyncToLinker};
 use cacache::env::{Clock, Env, Names};
 use cacache::laws::{after_copy, after_link, after_read, linker_laws};
 use cacache::store::MemStore;
+use cacache::{Result, SyncToLinker};
 use std::io::Read;
 
 /// Links a file into the cache under a key, and reads it there: while the file shows the same bytes, these are read, if
