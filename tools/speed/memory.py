@@ -16,7 +16,7 @@ import time
 
 # The kind, its small and its large size, and the most that the ratio of their costs should be.
 KINDS = [("memory-put", 1000, 64000, 3), ("memory-list", 1000, 64000, 3), ("memory-append", 1000, 10000, 2), ("memory-write", 1000, 10000, 2),
-         ("memory-pieces", 6, 64, 2), ("paths", 250, 4000, 4), ("world", 7000, 70000, 2)]
+         ("memory-pieces", 6, 64, 2), ("paths", 250, 4000, 16), ("world", 7000, 70000, 2)]
 # How many operations there are, where that isn't the size: pieces of a MiB, and places below a folder whose path has so many bytes.
 OPERATIONS = {"memory-pieces": lambda size: 128 * size, "paths": lambda _: 3000}
 # The most that a move should cost, over its step.
@@ -75,9 +75,9 @@ def main():
             print(f"  over its step: {over[0]:.2f} and {over[1]:.2f}, at most {STEPS}", flush=True)
     with tempfile.TemporaryDirectory() as folder:
         library = counter(folder)
-        for kind, small, large, _ in KINDS:
+        for kind, small, large, most in KINDS:
             few, many = (asked(bench, kind, size, library) for size in (small, large))
-            print(f"{kind:14} {small:5}: {few:9.0f} bytes asked for  {large:5}: {many:9.0f}  ratio {many / few:.2f}", flush=True)
+            print(f"{kind:14} {small:5}: {few:9.0f} bytes asked for  {large:5}: {many:9.0f}  ratio {many / few:.2f}, at most {most}", flush=True)
 
 
 main()
