@@ -2,6 +2,7 @@
 use crate::words::{Debugged, column, printed, text_of, two};
 use cacache_core::errors::{Error, Fault, IntegrityFault, IoErrorExt, SerdeCause, io_error};
 use cacache_core::integrity::Integrity;
+use cacache_core::keeping::let_go;
 use cacache_core::text::Text;
 use rows::Flaw;
 use rows::answers::given;
@@ -105,11 +106,19 @@ pub(crate) fn plain_context(alloc: Global, columns: &str) -> Result<String, Flaw
     }
 }
 
+/// What an error says, with the text that it is about.
+fn quoting(alloc: Global, error: &Error, text: &str) -> Result<String, Flaw> {
+    given(error.quoting(text).to_string(alloc))
+}
+
 /// What is said of a text that is no integrity, with the text.
 pub(crate) fn quoted(alloc: Global, word: &str) -> Result<String, Flaw> {
     let text = text_of(alloc, word)?;
     match Integrity::parse(alloc, text.as_str()) {
-        Ok(_) => Err(Flaw::NotRead),
-        Err(error) => given(format!(in alloc; "{}", error.quoting(text.as_str()))),
+        Ok(sri) => {
+            let_go(sri);
+            Err(Flaw::NotRead)
+        }
+        Err(error) => quoting(alloc, &error, text.as_str()),
     }
 }

@@ -2,36 +2,67 @@
 use crate::integrities::read;
 use crate::words::{Debugged, column, printed, two};
 use cacache_core::integrity::Integrity;
+use cacache_core::keeping::beside;
 use rows::Flaw;
 use rows::answers::given;
 use std::alloc::Global;
 use std::collections::{BTreeMap, HashMap};
 
+/// Two integrities.
+#[derive(Drop)]
+struct Pair {
+    one: Integrity,
+    other: Integrity,
+}
+
 /// The integrities of two texts.
-fn pair(alloc: Global, columns: &str) -> Result<(Integrity, Integrity), Flaw> {
+fn pair_of(alloc: Global, columns: &str) -> Result<Pair, Flaw> {
     let (one, other) = column(columns);
     let one = read(alloc, one)?;
-    Ok((one, read(alloc, other)?))
+    let (other, one) = beside(read(alloc, other), one)?;
+    Ok(Pair { one, other })
 }
 
 /// Whether an integrity is less than another.
 pub(crate) fn less(alloc: Global, columns: &str) -> Result<String, Flaw> {
-    let (one, other) = pair(alloc, columns)?;
-    printed(alloc, one < other)
+    let pair = pair_of(alloc, columns)?;
+    printed(alloc, pair.one < pair.other)
+}
+
+/// A map in order that has an integrity.
+fn map_of(alloc: Global, key: &Integrity) -> Result<BTreeMap<Integrity, u8>, Flaw> {
+    let key = key.clone()?;
+    let mut map = BTreeMap::new(alloc);
+    given(map.insert(key, 1))?;
+    Ok(map)
 }
 
 /// What a map in order finds under an integrity that it has, and under another.
 pub(crate) fn ordered(alloc: Global, columns: &str) -> Result<String, Flaw> {
-    let (one, other) = pair(alloc, columns)?;
-    let mut map = BTreeMap::new(alloc);
-    given(map.insert(one.clone()?, 1u8))?;
-    two(alloc, Debugged(map.get(&one)), Debugged(map.get(&other)))
+    let pair = pair_of(alloc, columns)?;
+    let map = map_of(alloc, &pair.one)?;
+    two(
+        alloc,
+        Debugged(map.get(&pair.one)),
+        Debugged(map.get(&pair.other)),
+    )
+}
+
+/// A map by hashes that has an integrity.
+fn hashes_of(alloc: Global, key: &Integrity) -> Result<HashMap<Integrity, u8>, Flaw> {
+    let key = key.clone()?;
+    let mut map = HashMap::new(alloc);
+    given(map.insert(key, 2))?;
+    Ok(map)
 }
 
 /// The same of a map by hashes.
 pub(crate) fn hashed(alloc: Global, columns: &str) -> Result<String, Flaw> {
-    let (one, other) = pair(alloc, columns)?;
-    let mut map = HashMap::new(alloc);
-    given(map.insert(one.clone()?, 2u8))?;
-    two(alloc, Debugged(map.get(&one)), Debugged(map.get(&other)))
+    let pair = pair_of(alloc, columns)?;
+    let map = hashes_of(alloc, &pair.one)?;
+    two(
+        alloc,
+        Debugged(map.get(&pair.one)),
+        Debugged(map.get(&pair.other)),
+    )
 }

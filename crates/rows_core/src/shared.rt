@@ -3,6 +3,7 @@ ghost use Rattle.std.specs.Prelude.{◌≤◌, IfOk};
 
 use crate::words::{column, three, two};
 use cacache_core::bytes::Bytes;
+use cacache_core::keeping::beside;
 use rows::Flaw;
 use rows::answers::given;
 use rows::words::number_of;
@@ -57,16 +58,28 @@ pub(crate) fn shared(alloc: Global, data: &str) -> Result<String, Flaw> {
     three(alloc, is_equal, end.is_empty(), whole)
 }
 
-/// The first bytes of a copy, so many, with more behind them; and the bytes that were copied.
+/// The bytes with more behind them.
+fn with(bytes: Bytes, more: &str) -> Result<Bytes, Flaw> {
+    let mut bytes = bytes;
+    bytes.extend(more.as_bytes())?;
+    Ok(bytes)
+}
+
+/// The first bytes of a copy, so many, with more behind them.
+fn front_with(alloc: Global, whole: &Bytes, count: &str, more: &str) -> Result<String, Flaw> {
+    let count = at_most(count, whole.len())?;
+    let front = whole.share()?.front(count);
+    text(alloc, with(front, more)?)
+}
+
+/// The same, and the bytes that were copied.
 pub(crate) fn grown(alloc: Global, columns: &str) -> Result<String, Flaw> {
     let (data, columns) = column(columns);
     let (count, more) = column(columns);
     let whole = bytes(alloc, data)?;
-    let count = at_most(count, whole.len())?;
-    let mut front = whole.share()?.front(count);
-    front.extend(more.as_bytes())?;
-    let front = text(alloc, front)?;
-    two(alloc, front, text(alloc, whole)?)
+    let (front, whole) = beside(front_with(alloc, &whole, count, more), whole)?;
+    let (whole, front) = beside(text(alloc, whole), front)?;
+    two(alloc, front, whole)
 }
 
 /// A part of a text, with more behind it, twice.
@@ -74,8 +87,7 @@ pub(crate) fn grown_alone(alloc: Global, columns: &str) -> Result<String, Flaw> 
     let (data, columns) = column(columns);
     let (from, columns) = column(columns);
     let (count, more) = column(columns);
-    let mut part = part(alloc, data, from, count)?;
-    part.extend(more.as_bytes())?;
-    part.extend(more.as_bytes())?;
-    text(alloc, part)
+    let part = part(alloc, data, from, count)?;
+    let part = with(part, more)?;
+    text(alloc, with(part, more)?)
 }
