@@ -1,0 +1,4 @@
+pub mod Noted
+pub mod Stopping
+pub mod Machines
+pub mod Runs

@@ -1,0 +1,12 @@
+//! A system in memory that keeps a log of its calls.
+#![tactic(auto)]
+
+mod log;
+mod memory;
+mod runs;
+mod system;
+mod tree;
+
+pub use memory::MemoryFile;
+pub use runs::make_and_append;
+pub use system::MemorySystem;

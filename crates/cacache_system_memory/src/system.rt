@@ -1,0 +1,188 @@
+//! A system in memory.
+ghost use Rattle.std.specs.Prelude.{◌≡◌, [], Some, IfOk};
+
+use crate::log::{Asked, Log, Said};
+use crate::memory::{Memory, MemoryFile};
+use crate::tree::{
+    hard_link, make_folder, remove_file, remove_folder, rename, shown, shown_link, symlink,
+};
+use cacache_core::errors::Fault;
+use cacache_disk::{Disk, Stop};
+use cacache_system::{FileInfo, System};
+use std::alloc::{Alloc, AllocError, Global};
+use std::io;
+
+/// Why a call is refused that this system doesn't have.
+const UNSUPPORTED: Stop = Stop::Fault(Fault::Unsupported);
+
+/// A system of folders, files and links in memory, which keeps a log of its calls. Contracts see the log and the tree.
+///
+/// It lists no folder, syncs nothing, moves no folder or link, and copies no file: such calls fail with `Unsupported`. A
+/// file is never closed, and no number is used again. What is read and written by an open file is what stands at its names.
+#[derive(Drop)]
+pub struct MemorySystem {
+    memory: Memory,
+    log: Log,
+}
+
+impl MemorySystem {
+    ghost use Rattle.cacache_system_memory.specs.Machines.{calls_of};
+
+    /// A system of which nothing was asked yet, with nothing but the top folder.
+    pub fn new(alloc: Global) -> Result<MemorySystem, AllocError>
+        ensures { IfOk result (λ system. calls_of system ≡ []) }
+    {
+        let memory = Memory {
+            alloc,
+            disk: Disk::new(alloc)?,
+            files: Vec::new(alloc),
+        };
+        Ok(MemorySystem {
+            memory,
+            log: Log::new(),
+        })
+    }
+}
+
+impl Clone for MemorySystem {
+    /// A system of its own, with the same tree and open files, and no calls.
+    fn clone(&self) -> Result<MemorySystem, AllocError> {
+        Ok(MemorySystem {
+            memory: self.memory.clone()?,
+            log: Log::new(),
+        })
+    }
+}
+
+impl Alloc for MemorySystem {
+    type A = Global;
+
+    fn alloc(&self) -> Global {
+        self.memory.alloc
+    }
+}
+
+impl System for MemorySystem {
+    type File = MemoryFile;
+
+    type Folder = MemoryFile;
+
+    ghost use Rattle.cacache_system_memory.specs.Machines.{calls_of};
+
+    ghost number = { λ file. file.number };
+
+    ghost folder_number = { λ folder. folder.number };
+
+    ghost calls = { λ system. Some (calls_of system) };
+
+    fn open_to_read(&mut self, path: &str) -> io::Result<MemoryFile> {
+        let opened = self.memory.open_found(path);
+        self.log.open(Asked::OpenToRead(path), opened)
+    }
+
+    fn create_new(&mut self, path: &str, mode: u32) -> io::Result<MemoryFile> {
+        let opened = self.memory.create(path);
+        self.log.open(Asked::CreateNew(path, mode), opened)
+    }
+
+    fn open_to_append(&mut self, path: &str) -> io::Result<MemoryFile> {
+        let opened = self.memory.open_written(path);
+        self.log.open(Asked::OpenToAppend(path), opened)
+    }
+
+    fn open_folder(&mut self, path: &str) -> io::Result<MemoryFile> {
+        Err(self.log.fail(Asked::OpenFolder(path), UNSUPPORTED))
+    }
+
+    fn read(&mut self, file: &mut MemoryFile, buf: &mut [u8]) -> io::Result<usize> {
+        let call = Asked::Read(file.number, buf.len());
+        match self.memory.read_next(file.number, buf) {
+            Ok(count) => {
+                self.log.add(call, Said::Bytes(&buf[..count]));
+                Ok(count)
+            }
+            Err(stop) => Err(self.log.fail(call, stop)),
+        }
+    }
+
+    fn read_rest(&mut self, file: &mut MemoryFile, bytes: &mut Vec<u8>) -> io::Result<usize> {
+        let call = Asked::ReadRest(file.number);
+        let before = bytes.len();
+        match self.memory.read_all(file.number, bytes) {
+            Ok(count) => {
+                self.log.add(call, Said::Bytes(&bytes[before..]));
+                Ok(count)
+            }
+            Err(stop) => Err(self.log.fail(call, stop)),
+        }
+    }
+
+    fn write(&mut self, file: &mut MemoryFile, buf: &[u8]) -> io::Result<usize> {
+        let call = Asked::Write(file.number, buf);
+        match self.memory.append(file.number, buf) {
+            Ok(count) => {
+                self.log.add(call, Said::Count(count as u64));
+                Ok(count)
+            }
+            Err(stop) => Err(self.log.fail(call, stop)),
+        }
+    }
+
+    fn read_names(&mut self, folder: &mut MemoryFile, buf: &mut [u8]) -> io::Result<usize> {
+        let call = Asked::ReadNames(folder.number, buf.len());
+        Err(self.log.fail(call, UNSUPPORTED))
+    }
+
+    fn sync(&mut self, file: &MemoryFile) -> io::Result<()> {
+        Err(self.log.fail(Asked::Sync(file.number), UNSUPPORTED))
+    }
+
+    fn stat_file(&mut self, file: &MemoryFile) -> io::Result<FileInfo> {
+        let info = self.memory.shown_open(file.number);
+        self.log.tell(Asked::StatFile(file.number), info)
+    }
+
+    fn stat(&mut self, path: &str) -> io::Result<FileInfo> {
+        let info = shown(&self.memory.disk, path);
+        self.log.tell(Asked::Stat(path), info)
+    }
+
+    fn stat_link(&mut self, path: &str) -> io::Result<FileInfo> {
+        let info = shown_link(&self.memory.disk, path);
+        self.log.tell(Asked::StatLink(path), info)
+    }
+
+    fn rename(&mut self, from: &str, to: &str) -> io::Result<()> {
+        let done = rename(&mut self.memory.disk, self.memory.alloc, from, to);
+        self.log.end(Asked::Rename(from, to), done)
+    }
+
+    fn make_folder(&mut self, path: &str) -> io::Result<()> {
+        let done = make_folder(&mut self.memory.disk, self.memory.alloc, path);
+        self.log.end(Asked::MakeFolder(path), done)
+    }
+
+    fn remove_file(&mut self, path: &str) -> io::Result<()> {
+        let done = remove_file(&mut self.memory.disk, self.memory.alloc, path);
+        self.log.end(Asked::RemoveFile(path), done)
+    }
+
+    fn remove_folder(&mut self, path: &str) -> io::Result<()> {
+        let done = remove_folder(&mut self.memory.disk, self.memory.alloc, path);
+        self.log.end(Asked::RemoveFolder(path), done)
+    }
+
+    fn symlink(&mut self, target: &str, path: &str) -> io::Result<()> {
+        let done = symlink(&mut self.memory.disk, self.memory.alloc, target, path);
+        self.log.end(Asked::Symlink(target, path), done)
+    }
+
+    fn hard_link(&mut self, from: &str, to: &str) -> io::Result<()> {
+        let done = hard_link(&mut self.memory.disk, self.memory.alloc, from, to);
+        self.log.end(Asked::HardLink(from, to), done)
+    }
+
+    fn copy_file(&mut self, from: &str, to: &str) -> io::Result<u64> {
+        Err(self.log.fail(Asked::CopyFile(from, to), UNSUPPORTED))
+    }
+}
