@@ -24,6 +24,6 @@ mod Keeping
 mod Covered
 mod Chaining
 mod Logging
-mod Saying
+pub mod Saying
 mod Meetings
 mod Listing

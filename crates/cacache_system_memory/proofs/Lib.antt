@@ -1,2 +1,7 @@
 mod Empty
+mod Places
+mod Steps
+mod Looks
+mod Moves
+mod Goings
 mod Logs

@@ -1,4 +1,5 @@
 pub mod Noted
 pub mod Stopping
+pub mod Changes
 pub mod Machines
 pub mod Runs

@@ -1,5 +1,9 @@
 //! A system in memory.
 ghost use Rattle.std.specs.Prelude.{◌≡◌, [], Some, IfOk};
+ghost use Rattle.cacache_disk.specs.Tree.{bare};
+ghost use Rattle.cacache_system.specs.declared.call.SystemCall.TheVariants as asks;
+ghost use Rattle.cacache_system.specs.declared.call.CallResult.TheVariants as says;
+ghost use Rattle.cacache_system.specs.CallLog.{MakesCall, said};
 
 use crate::log::{Asked, Log, Said};
 use crate::memory::{Memory, MemoryFile};
@@ -26,11 +30,12 @@ pub struct MemorySystem {
 }
 
 impl MemorySystem {
-    ghost use Rattle.cacache_system_memory.specs.Machines.{calls_of};
+    ghost use Rattle.cacache_system_memory.specs.Machines.{calls_of, machine_of};
 
     /// A system of which nothing was asked yet, with nothing but the top folder.
     pub fn new(alloc: Global) -> Result<MemorySystem, AllocError>
-        ensures { IfOk result (λ system. calls_of system ≡ []) }
+        ensures log { IfOk result (λ system. calls_of system ≡ []) }
+        ensures tree { IfOk result (λ system. (machine_of system).tree ≡ bare) }
     {
         let memory = Memory {
             alloc,
@@ -67,7 +72,7 @@ impl System for MemorySystem {
 
     type Folder = MemoryFile;
 
-    ghost use Rattle.cacache_system_memory.specs.Machines.{calls_of};
+    ghost use Rattle.cacache_system_memory.specs.Machines.{calls_of, Goes, GoesUnlessLink};
 
     ghost number = { λ file. file.number };
 
@@ -142,42 +147,80 @@ impl System for MemorySystem {
         self.log.tell(Asked::StatFile(file.number), info)
     }
 
-    fn stat(&mut self, path: &str) -> io::Result<FileInfo> {
+    fn stat(&mut self, path: &str) -> io::Result<FileInfo>
+        ensures logged { MakesCall (Some (calls_of self.old)) (Some (calls_of self.new))
+            (asks.Stat path.now) (said says.Info result) }
+        ensures goes { Goes self.old (asks.Stat path.now) (said says.Info result) self.new }
+    {
         let info = shown(&self.memory.disk, path);
         self.log.tell(Asked::Stat(path), info)
     }
 
-    fn stat_link(&mut self, path: &str) -> io::Result<FileInfo> {
+    fn stat_link(&mut self, path: &str) -> io::Result<FileInfo>
+        ensures logged { MakesCall (Some (calls_of self.old)) (Some (calls_of self.new))
+            (asks.StatLink path.now) (said says.Info result) }
+        ensures goes { Goes self.old (asks.StatLink path.now) (said says.Info result) self.new }
+    {
         let info = shown_link(&self.memory.disk, path);
         self.log.tell(Asked::StatLink(path), info)
     }
 
-    fn rename(&mut self, from: &str, to: &str) -> io::Result<()> {
+    fn rename(&mut self, from: &str, to: &str) -> io::Result<()>
+        ensures logged { MakesCall (Some (calls_of self.old)) (Some (calls_of self.new))
+            (asks.Rename from.now to.now) (said (λ _. says.Done) result) }
+        ensures goes { GoesUnlessLink self.old (asks.Rename from.now to.now)
+            (said (λ _. says.Done) result) self.new }
+    {
         let done = rename(&mut self.memory.disk, self.memory.alloc, from, to);
         self.log.end(Asked::Rename(from, to), done)
     }
 
-    fn make_folder(&mut self, path: &str) -> io::Result<()> {
+    fn make_folder(&mut self, path: &str) -> io::Result<()>
+        ensures logged { MakesCall (Some (calls_of self.old)) (Some (calls_of self.new))
+            (asks.MakeFolder path.now) (said (λ _. says.Done) result) }
+        ensures goes { Goes self.old (asks.MakeFolder path.now) (said (λ _. says.Done) result)
+            self.new }
+    {
         let done = make_folder(&mut self.memory.disk, self.memory.alloc, path);
         self.log.end(Asked::MakeFolder(path), done)
     }
 
-    fn remove_file(&mut self, path: &str) -> io::Result<()> {
+    fn remove_file(&mut self, path: &str) -> io::Result<()>
+        ensures logged { MakesCall (Some (calls_of self.old)) (Some (calls_of self.new))
+            (asks.RemoveFile path.now) (said (λ _. says.Done) result) }
+        ensures goes { Goes self.old (asks.RemoveFile path.now) (said (λ _. says.Done) result)
+            self.new }
+    {
         let done = remove_file(&mut self.memory.disk, self.memory.alloc, path);
         self.log.end(Asked::RemoveFile(path), done)
     }
 
-    fn remove_folder(&mut self, path: &str) -> io::Result<()> {
+    fn remove_folder(&mut self, path: &str) -> io::Result<()>
+        ensures logged { MakesCall (Some (calls_of self.old)) (Some (calls_of self.new))
+            (asks.RemoveFolder path.now) (said (λ _. says.Done) result) }
+        ensures goes { Goes self.old (asks.RemoveFolder path.now) (said (λ _. says.Done) result)
+            self.new }
+    {
         let done = remove_folder(&mut self.memory.disk, self.memory.alloc, path);
         self.log.end(Asked::RemoveFolder(path), done)
     }
 
-    fn symlink(&mut self, target: &str, path: &str) -> io::Result<()> {
+    fn symlink(&mut self, target: &str, path: &str) -> io::Result<()>
+        ensures logged { MakesCall (Some (calls_of self.old)) (Some (calls_of self.new))
+            (asks.Symlink target.now path.now) (said (λ _. says.Done) result) }
+        ensures goes { Goes self.old (asks.Symlink target.now path.now)
+            (said (λ _. says.Done) result) self.new }
+    {
         let done = symlink(&mut self.memory.disk, self.memory.alloc, target, path);
         self.log.end(Asked::Symlink(target, path), done)
     }
 
-    fn hard_link(&mut self, from: &str, to: &str) -> io::Result<()> {
+    fn hard_link(&mut self, from: &str, to: &str) -> io::Result<()>
+        ensures logged { MakesCall (Some (calls_of self.old)) (Some (calls_of self.new))
+            (asks.HardLink from.now to.now) (said (λ _. says.Done) result) }
+        ensures goes { Goes self.old (asks.HardLink from.now to.now) (said (λ _. says.Done) result)
+            self.new }
+    {
         let done = hard_link(&mut self.memory.disk, self.memory.alloc, from, to);
         self.log.end(Asked::HardLink(from, to), done)
     }

@@ -1,4 +1,11 @@
 //! What the calls do to the tree.
+ghost use Rattle.std.specs.Prelude.{◌≡◌, [], None, Ok, IfOk, IfErr, IsOk};
+ghost use Rattle.cacache_store.specs.declared.store.step.Step.TheVariants as steps;
+ghost use Rattle.cacache_disk.specs.declared.node.Node.TheVariants.{Folder, File, Link};
+ghost use Rattle.cacache_disk.specs.Tree.{look, put, cut};
+ghost use Rattle.cacache_disk.specs.LedTo.{way_fault, place, found, standing, free, removable, emptied, linked};
+ghost use Rattle.cacache_disk.specs.Stops.{Stops, Blocks};
+ghost use Rattle.cacache_system_memory.specs.Changes.{Does, Changed, Linked, Movable, Moved, Shown, info_of, link_stop};
 
 use cacache_core::bytes::Bytes;
 use cacache_core::errors::Fault;
@@ -10,7 +17,9 @@ use cacache_system::FileInfo;
 use std::alloc::Global;
 
 /// What is said of a node. None has a number.
-pub(crate) fn info_of(node: &Node) -> FileInfo {
+pub(crate) fn info_of(node: &Node) -> FileInfo
+    ensures { result ≡ info_of node.now }
+{
     let (kind, size) = match node {
         Node::Folder => (Kind::Folder, 0),
         Node::File(contents) => (Kind::File, contents.len() as u64),
@@ -26,7 +35,9 @@ pub(crate) fn info_of(node: &Node) -> FileInfo {
 }
 
 /// Does a step.
-pub(crate) fn do_step(disk: &mut Disk, step: Step<PlainFile, PlainTemp>) -> Result<(), Stop> {
+pub(crate) fn do_step(disk: &mut Disk, step: Step<PlainFile, PlainTemp>) -> Result<(), Stop>
+    ensures { Does disk.old step result disk.new }
+{
     let done = disk.apply(&step, Luck::Plain);
     let_go(step);
     match done? {
@@ -39,7 +50,11 @@ pub(crate) fn do_step(disk: &mut Disk, step: Step<PlainFile, PlainTemp>) -> Resu
 }
 
 /// Whether the folders on the way of some names stand.
-fn way(disk: &Disk, names: &Path) -> Result<(), Stop> {
+#[tactic(auto, using(crate::proofs::Places::way_next, crate::proofs::Places::way_over))]
+fn way(disk: &Disk, names: &Path) -> Result<(), Stop>
+    ensures ok { IfOk result (λ _. way_fault disk.now [] names.now ≡ None) }
+    ensures err { IfErr result (λ stop. Blocks stop (way_fault disk.now [] names.now)) }
+{
     let nodes = disk.nodes();
     for i in 0..names.len().saturating_sub(1) {
         let above = names.front(nodes.alloc(), i + 1)?;
@@ -55,14 +70,21 @@ fn way(disk: &Disk, names: &Path) -> Result<(), Stop> {
 }
 
 /// The names of a path whose folder stands.
-pub(crate) fn place(disk: &Disk, path: &str) -> Result<Path, Stop> {
+#[tactic(auto, using(crate::proofs::Places::place_bad, crate::proofs::Places::place_led, crate::proofs::Places::place_blocked))]
+pub(crate) fn place(disk: &Disk, path: &str) -> Result<Path, Stop>
+    ensures ok { IfOk result (λ names. place disk.now path.now ≡ Ok names) }
+    ensures err { IfErr result (λ stop. Stops stop (place disk.now path.now)) }
+{
     let names = Path::of(disk.nodes().alloc(), path)?;
     way(disk, &names)?;
     Ok(names)
 }
 
 /// What a path leads to.
-pub(crate) fn shown(disk: &Disk, path: &str) -> Result<FileInfo, Stop> {
+#[tactic(auto, using(crate::proofs::Looks::found_there, crate::proofs::Looks::found_missing, crate::proofs::Looks::found_bad))]
+pub(crate) fn shown(disk: &Disk, path: &str) -> Result<FileInfo, Stop>
+    ensures { Shown (found disk.now path.now) disk.now result }
+{
     let (_, node) = disk.leads(path)?;
     match node {
         None => Err(Stop::Fault(Fault::NotFound)),
@@ -71,7 +93,10 @@ pub(crate) fn shown(disk: &Disk, path: &str) -> Result<FileInfo, Stop> {
 }
 
 /// What stands at a path.
-pub(crate) fn shown_link(disk: &Disk, path: &str) -> Result<FileInfo, Stop> {
+#[tactic(auto, using(crate::proofs::Looks::standing_there, crate::proofs::Looks::standing_missing, crate::proofs::Looks::standing_bad))]
+pub(crate) fn shown_link(disk: &Disk, path: &str) -> Result<FileInfo, Stop>
+    ensures { Shown (standing disk.now path.now) disk.now result }
+{
     let names = place(disk, path)?;
     match disk.nodes().node(&names) {
         None => Err(Stop::Fault(Fault::NotFound)),
@@ -80,7 +105,11 @@ pub(crate) fn shown_link(disk: &Disk, path: &str) -> Result<FileInfo, Stop> {
 }
 
 /// Makes a folder.
-pub(crate) fn make_folder(disk: &mut Disk, alloc: Global, path: &str) -> Result<(), Stop> {
+#[tactic(auto, using(crate::proofs::Steps::makes_folder, crate::proofs::Steps::makes_nothing, crate::proofs::Steps::makes_no_second))]
+pub(crate) fn make_folder(disk: &mut Disk, alloc: Global, path: &str) -> Result<(), Stop>
+    ensures { Changed (free disk.old path.now) (λ names. put disk.old names Folder) result disk.old
+        disk.new }
+{
     let names = place(disk, path)?;
     if let Some(_) = disk.nodes().node(&names) {
         return Err(Stop::Fault(Fault::AlreadyExists));
@@ -89,28 +118,37 @@ pub(crate) fn make_folder(disk: &mut Disk, alloc: Global, path: &str) -> Result<
 }
 
 /// Removes a file or a link.
-pub(crate) fn remove_file(disk: &mut Disk, alloc: Global, path: &str) -> Result<(), Stop> {
+#[tactic(auto, using(crate::proofs::Steps::removes_file))]
+pub(crate) fn remove_file(disk: &mut Disk, alloc: Global, path: &str) -> Result<(), Stop>
+    ensures { Changed (removable disk.old path.now) (cut disk.old) result disk.old disk.new }
+{
     do_step(disk, Step::RemoveFile(Text::from_str(alloc, path)?))
 }
 
 /// Removes an empty folder.
-pub(crate) fn remove_folder(disk: &mut Disk, alloc: Global, path: &str) -> Result<(), Stop> {
+#[tactic(auto, using(crate::proofs::Steps::removes_folder))]
+pub(crate) fn remove_folder(disk: &mut Disk, alloc: Global, path: &str) -> Result<(), Stop>
+    ensures { Changed (emptied disk.old path.now) (cut disk.old) result disk.old disk.new }
+{
     do_step(disk, Step::RemoveDir(Text::from_str(alloc, path)?))
 }
 
 /// Makes a symbolic link.
-pub(crate) fn symlink(
-    disk: &mut Disk,
-    alloc: Global,
-    target: &str,
-    path: &str,
-) -> Result<(), Stop> {
+#[tactic(auto, using(crate::proofs::Steps::makes_link))]
+pub(crate) fn symlink(disk: &mut Disk, alloc: Global, target: &str, path: &str) -> Result<(), Stop>
+    ensures { Changed (free disk.old path.now) (λ names. put disk.old names (Link target.now))
+        result disk.old disk.new }
+{
     let target = Text::from_str(alloc, target)?;
     do_step(disk, Step::Symlink(target, Text::from_str(alloc, path)?))
 }
 
 /// Whether a file or a link stands at a path.
-fn linkable(disk: &Disk, path: &str) -> Result<(), Stop> {
+#[tactic(auto, using(crate::proofs::Moves::linked_is, crate::proofs::Moves::linked_bad))]
+fn linkable(disk: &Disk, path: &str) -> Result<(), Stop>
+    ensures ok { IfOk result (λ _. IsOk (linked disk.now path.now)) }
+    ensures err { IfErr result (λ stop. Stops stop (linked disk.now path.now)) }
+{
     let names = place(disk, path)?;
     match disk.nodes().node(&names) {
         None => Err(Stop::Fault(Fault::NotFound)),
@@ -120,7 +158,9 @@ fn linkable(disk: &Disk, path: &str) -> Result<(), Stop> {
 }
 
 /// Why a hard link isn't made, where its source is no file or link.
-fn link_stop(stop: Stop) -> Stop {
+fn link_stop(stop: Stop) -> Stop
+    ensures { result ≡ link_stop stop }
+{
     match stop {
         Stop::Fault(Fault::IsADirectory) => Stop::Fault(Fault::Device),
         other => other,
@@ -128,7 +168,10 @@ fn link_stop(stop: Stop) -> Stop {
 }
 
 /// Gives a file or a link a second name. A folder can't have one.
-pub(crate) fn hard_link(disk: &mut Disk, alloc: Global, from: &str, to: &str) -> Result<(), Stop> {
+#[tactic(auto, using(crate::proofs::Moves::links_nothing, crate::proofs::Moves::unlinked, crate::proofs::Moves::links))]
+pub(crate) fn hard_link(disk: &mut Disk, alloc: Global, from: &str, to: &str) -> Result<(), Stop>
+    ensures { Linked disk.old from.now to.now result disk.new }
+{
     if let Err(stop) = linkable(disk, from) {
         return Err(link_stop(stop));
     }
@@ -137,7 +180,10 @@ pub(crate) fn hard_link(disk: &mut Disk, alloc: Global, from: &str, to: &str) ->
 }
 
 /// The bytes of a file that is to be moved. A folder or a link isn't moved.
-fn movable(disk: &Disk, path: &str) -> Result<Bytes, Stop> {
+#[tactic(auto, using(crate::proofs::Moves::movable_bad, crate::proofs::Moves::movable_file, crate::proofs::Moves::unmovable))]
+fn movable(disk: &Disk, path: &str) -> Result<Bytes, Stop>
+    ensures { Movable disk.now path.now result }
+{
     let names = place(disk, path)?;
     match disk.nodes().node(&names) {
         None => Err(Stop::Fault(Fault::NotFound)),
@@ -147,7 +193,10 @@ fn movable(disk: &Disk, path: &str) -> Result<Bytes, Stop> {
 }
 
 /// Moves a file.
-pub(crate) fn rename(disk: &mut Disk, alloc: Global, from: &str, to: &str) -> Result<(), Stop> {
+#[tactic(auto, using(crate::proofs::Moves::moves_nothing, crate::proofs::Moves::unmoved, crate::proofs::Moves::moves))]
+pub(crate) fn rename(disk: &mut Disk, alloc: Global, from: &str, to: &str) -> Result<(), Stop>
+    ensures { Moved disk.old from.now to.now result disk.new }
+{
     let bytes = movable(disk, from)?;
     let temp = PlainTemp {
         path: Text::from_str(alloc, from)?,
