@@ -4,4 +4,5 @@ mod Steps
 mod Looks
 mod Moves
 mod Goings
+mod Occurring
 mod Logs

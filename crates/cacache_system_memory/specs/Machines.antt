@@ -1,15 +1,16 @@
 -- The machine that a system in memory is, and what its calls say and leave there.
-use Rattle.std.specs.Prelude.{◌≡◌, ◌⊎◌, List, [], None, option_map, slice_get}
+use Rattle.std.specs.Prelude.{◌≡◌, ◌⊎◌, ℕ, List, [], None, option_map, slice_get}
 use Rattle.std_io.specs.declared.io.kind.ErrorKind.{ErrorKind}
 use Rattle.std_io.specs.declared.io.kind.ErrorKind.TheVariants as kind
 use Rattle.cacache_disk.specs.Tree.{Tree}
 use Rattle.cacache_system.specs.declared.call.SystemCall.{SystemCall}
+use Rattle.cacache_system.specs.declared.call.SystemCall.TheVariants as asks
 use Rattle.cacache_system.specs.declared.call.CallResult.{CallResult}
 use Rattle.cacache_system.specs.declared.call.CallResult.TheVariants as says
 use Rattle.cacache_system.specs.declared.call.CallItem.{CallItem}
 use Rattle.cacache_system_laws.specs.Machine as model
 use Rattle.cacache_system_laws.specs.Machine.{Machine}
-use Rattle.cacache_system_laws.specs.Calls.{GoesWell}
+use Rattle.cacache_system_laws.specs.Calls.{GoesWell, OccursSomehow}
 use Rattle.cacache_system_memory.specs.declared.memory.OpenFile.{OpenFile}
 use Rattle.cacache_system_memory.specs.declared.system.MemorySystem.{MemorySystem}
 use Rattle.cacache_system_memory.specs.Noted.{items_of}
@@ -50,3 +51,16 @@ Goes old call said new =
 abbrev pub GoesUnlessLink : MemorySystem → SystemCall → CallResult → MemorySystem → Type 0
 GoesUnlessLink old call said new =
     Goes old call said new ⊎ GivesUp kind.Unsupported (machine_of old) said (machine_of new)
+
+-- a call that goes so happens under some luck
+abbrev pub GoesOccur : Type 0
+GoesOccur =
+    (old new : MemorySystem) (call : SystemCall) (said : CallResult) → Goes old call said new
+    → OccursSomehow (machine_of old) call said (machine_of new)
+
+-- so does a move
+abbrev pub MovesOccur : Type 0
+MovesOccur =
+    (old new : MemorySystem) (from to : List ℕ) (said : CallResult)
+    → GoesUnlessLink old (asks.Rename from to) said new
+    → OccursSomehow (machine_of old) (asks.Rename from to) said (machine_of new)

@@ -22,7 +22,8 @@ const UNSUPPORTED: Stop = Stop::Fault(Fault::Unsupported);
 /// A system of folders, files and links in memory, which keeps a log of its calls. Contracts see the log and the tree.
 ///
 /// It lists no folder, syncs nothing, moves no folder or link, and copies no file: such calls fail with `Unsupported`. A
-/// file is never closed, and no number is used again. What is read and written by an open file is what stands at its names.
+/// file is never closed, and no number is used again. What is read and written by an open file is what stands at its
+/// names, and contracts say nothing of that but the log.
 #[derive(Drop)]
 pub struct MemorySystem {
     memory: Memory,
@@ -50,7 +51,8 @@ impl MemorySystem {
 }
 
 impl Clone for MemorySystem {
-    /// A system of its own, with the same tree and open files, and no calls.
+    /// A system of its own, with the same tree and open files, and no calls. So the handles of a store over it, which
+    /// have such systems, read and remove nothing of the store's.
     fn clone(&self) -> Result<MemorySystem, AllocError> {
         Ok(MemorySystem {
             memory: self.memory.clone()?,
