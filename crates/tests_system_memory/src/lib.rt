@@ -1,0 +1,5 @@
+//! A test of a store over a system in memory.
+#![tactic(auto)]
+
+#[cfg(test)]
+mod reading;
