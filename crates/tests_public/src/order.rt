@@ -6,7 +6,7 @@ use cacache::env::{Clock, Env, Names};
 use cacache::index::{delete, insert};
 use cacache::store::{Answer, MemStore, Step, Store};
 use cacache::{Algorithm, SyncToLinker, SyncWriter, WriteOpts};
-use cacache_core::keeping::let_go;
+use cacache_core::keeping::{beside, let_go};
 use std::alloc::Global;
 use std::cell::Cell;
 use std::test::Fail;
@@ -137,11 +137,19 @@ fn how_often(env: &mut Noted<'_>, steps: &Cell<u64>) -> Result<Vec<(u64, u64, u6
     Ok(counts)
 }
 
-/// The same on a disk in memory with the file `t`.
-fn counts(alloc: Global, steps: &Cell<u64>) -> Result<Vec<(u64, u64, u64)>, Fail> {
+/// A disk in memory with the file `t`.
+fn disk(alloc: Global) -> Result<MemStore, Fail> {
     let mut store = MemStore::new(alloc)?;
-    store.plant("t", b"hello")?;
-    let store = Counting { store, steps };
+    let (_, store) = beside(store.plant("t", b"hello"), store)?;
+    Ok(store)
+}
+
+/// The same on that disk.
+fn counts(alloc: Global, steps: &Cell<u64>) -> Result<Vec<(u64, u64, u64)>, Fail> {
+    let store = Counting {
+        store: disk(alloc)?,
+        steps,
+    };
     let mut env = Env::new(alloc, store, Noting::new(steps), Noting::new(steps), "/")?;
     how_often(&mut env, steps)
 }
@@ -162,9 +170,6 @@ fn calls_ask_before_their_first_step(rt: HostRuntime) -> Result<(), Fail> {
         (7, 5, 0),
         (7, 6, 0),
     ];
-    assert_eq!(rt; counts.len(), wanted.len());
-    for (count, wanted) in counts.iter().zip(wanted.iter()) {
-        assert_eq!(rt; count, wanted);
-    }
+    assert_eq!(rt; counts.as_slice(), wanted.as_slice());
     Ok(())
 }

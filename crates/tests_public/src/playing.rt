@@ -1,6 +1,7 @@
 //! What callers do, as rows, and what comes of it in words.
 use crate::making::{integrity, put};
 use cacache_core::errors::Error;
+use cacache_core::keeping::let_go;
 use cacache_core::text::Text;
 use cacache_disk::Luck;
 use cacache_table::{Command, Found, Reply};
@@ -61,6 +62,20 @@ fn shown(alloc: Global, reply: &Reply) -> Result<String, AllocError> {
     }
 }
 
+/// What came of a move that so many are to follow, in words: none where the call goes on.
+fn ended(
+    alloc: Global,
+    came: &Result<Move, WorldFault>,
+    after: usize,
+) -> Result<Option<String>, AllocError> {
+    Ok(Some(match came {
+        Ok(Move::More) => return Ok(None),
+        Ok(Move::Done(reply)) if after == 0 => shown(alloc, reply)?,
+        Ok(Move::Done(_)) => format!(in alloc; "over {after} moves before")?,
+        Err(fault) => format!(in alloc; "{fault:?}")?,
+    }))
+}
+
 /// What came of the last of so many moves, in words: `more` where the call goes on.
 fn moved(
     alloc: Global,
@@ -70,13 +85,13 @@ fn moved(
     last: Luck,
 ) -> Result<String, AllocError> {
     for count in 0..moves {
-        let left = moves - count;
-        let luck = if left == 1 { last } else { Luck::Plain };
-        match world.move_one(caller, luck) {
-            Ok(Move::More) => {}
-            Ok(Move::Done(reply)) if left == 1 => return shown(alloc, &reply),
-            Ok(Move::Done(_)) => return format!(in alloc; "over {} moves before", left - 1),
-            Err(fault) => return format!(in alloc; "{fault:?}"),
+        let after = moves - count - 1;
+        let luck = if after == 0 { last } else { Luck::Plain };
+        let came = world.move_one(caller, luck);
+        let ended = ended(alloc, &came, after);
+        let_go(came);
+        if let Some(words) = ended? {
+            return Ok(words);
         }
     }
     String::from_str(alloc, "more")
@@ -105,13 +120,26 @@ fn came(alloc: Global, world: &mut World, row: &Row) -> Result<String, AllocErro
     }
 }
 
+/// The row's number and what came of it, if that is something else than it says.
+fn other(
+    alloc: Global,
+    world: &mut World,
+    row: &Row,
+    number: usize,
+) -> Result<Option<String>, AllocError> {
+    let came = came(alloc, world, row)?;
+    if came.as_str() == row.4 {
+        return Ok(None);
+    }
+    Ok(Some(format!(in alloc; "row {number}: {came}")?))
+}
+
 /// Plays rows in a world, up to the first of which something else came: its number, from 1, and
 /// what came; empty where there is none.
 pub(crate) fn played(alloc: Global, world: &mut World, rows: &[Row]) -> Result<String, AllocError> {
     for i in 0..rows.len() {
-        let came = came(alloc, world, &rows[i])?;
-        if came.as_str() != rows[i].4 {
-            return format!(in alloc; "row {}: {came}", i + 1);
+        if let Some(line) = other(alloc, world, &rows[i], i + 1)? {
+            return Ok(line);
         }
     }
     Ok(String::new(alloc))

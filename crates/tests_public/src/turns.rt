@@ -2,6 +2,7 @@
 use crate::making::{HELLO, world_of};
 use crate::playing::{Act, Row, played};
 use cacache_core::errors::Fault;
+use cacache_core::keeping::beside;
 use cacache_disk::Luck;
 use cacache_world::World;
 use std::alloc::{AllocError, Global};
@@ -172,16 +173,21 @@ fn stories_come_out_as_they_are_told(rt: HostRuntime) -> Result<(), Fail> {
 }
 
 /// What comes of an entry in sight, and whether its bucket then holds the torn line and the whole one.
-fn in_sight(alloc: Global) -> Result<(String, bool), AllocError> {
-    let mut world = world_of(alloc, 4)?;
-    let came = played(alloc, &mut world, IN_SIGHT)?;
-    let holds = bucket_holds(&world, TORN_AND_WHOLE)?;
+fn in_sight(alloc: Global, world: &mut World) -> Result<(String, bool), AllocError> {
+    let came = played(alloc, world, IN_SIGHT)?;
+    let (holds, came) = beside(bucket_holds(world, TORN_AND_WHOLE), came)?;
     Ok((came, holds))
+}
+
+/// The same in a world of its own.
+fn in_sight_alone(alloc: Global) -> Result<(String, bool), AllocError> {
+    let mut world = world_of(alloc, 4)?;
+    in_sight(alloc, &mut world)
 }
 
 #[test]
 fn an_entry_is_seen_when_its_line_is_whole(rt: HostRuntime) -> Result<(), Fail> {
-    let (came, holds) = in_sight(rt.alloc())?;
+    let (came, holds) = in_sight_alone(rt.alloc())?;
     assert_eq!(rt; came.as_str(), "");
     assert!(rt; holds);
     Ok(())
@@ -190,7 +196,7 @@ fn an_entry_is_seen_when_its_line_is_whole(rt: HostRuntime) -> Result<(), Fail> 
 /// What comes of a short write, and how many records there are then.
 fn continued(alloc: Global) -> Result<(String, usize), AllocError> {
     let mut world = world_of(alloc, 4)?;
-    let came = played(alloc, &mut world, WRITTEN_IN_TWO)?;
+    let (came, world) = beside(played(alloc, &mut world, WRITTEN_IN_TWO), world)?;
     Ok((came, world.history().len()))
 }
 
