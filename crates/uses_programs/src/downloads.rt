@@ -7,11 +7,11 @@ use cacache::env::{Clock, Env, Memory, Names, memory};
 use cacache::errors::IoErrorExt;
 use cacache::polled::RemovableTemp;
 use cacache::store::Store;
-use cacache::{Result, Writer, read};
+use cacache::{Integrity, Result, Writer, read};
 use futures::Future;
 use futures::executor::block_on;
 use futures::future::join;
-use std::alloc::{AllocGlobal, Global};
+use std::alloc::AllocGlobal;
 use std::random::RandomSource;
 use std::sync::Wait;
 
@@ -23,10 +23,8 @@ const FOX: (&str, &[u8]) = ("fox", b"The quick brown fox jumps over the lazy dog
 
 const VOW: (&str, &[u8]) = ("vow", b"Sphinx of black quartz, judge my vow.\n");
 
-/// What went wrong outside the cache.
-fn outside(alloc: Global) -> Result<String> {
-    Ok(String::from_str(alloc, "Failed to run or to print the downloads")?)
-}
+/// What is said of a failure outside the cache.
+const OUTSIDE: &str = "Failed to run or to print the downloads";
 
 /// What a future answers, once it is ready.
 fn answer<R, F, T>(rt: &R, future: F) -> Result<T>
@@ -35,10 +33,71 @@ where
     F: Future<Output = Result<T>>,
     requires { F.can_poll future }
 {
-    block_on(rt, future).with_context(|| outside(rt.alloc()))?
+    block_on(rt, future).context(rt.alloc(), OUTSIDE)?
 }
 
-/// Commits what was written, reads it back, and prints it with its integrity.
+/// The writers of both bodies.
+#[derive(Drop)]
+struct Writers<T> {
+    fox: Writer<T>,
+    vow: Writer<T>,
+}
+
+/// Opens a writer for each body.
+fn open_both<R, S, C, N, T>(rt: &R, place: &mut Env<S, C, N>) -> Result<Writers<T>>
+where
+    R: Wait + RandomSource + AllocGlobal,
+    S: Store<Temp = T>,
+    C: Clock,
+    N: Names,
+    T: Drop,
+{
+    let fox = answer(rt, Writer::create(place, CACHE, FOX.0))?;
+    let vow = answer(rt, Writer::create(place, CACHE, VOW.0))?;
+    Ok(Writers { fox, vow })
+}
+
+/// Runs two downloads at once.
+fn run_both<R, T>(rt: &R, one: Download<'_, R, T>, other: Download<'_, R, T>) -> Result<()>
+where
+    R: Wait + RandomSource + Print + AllocGlobal,
+    T: RemovableTemp,
+{
+    let (one, other) = block_on(rt, join(one, other)).context(rt.alloc(), OUTSIDE)?;
+    one?;
+    other
+}
+
+/// Writes both bodies as they come.
+fn write_both<R, T>(rt: &R, writers: &mut Writers<T>) -> Result<()>
+where
+    R: Wait + RandomSource + Print + AllocGlobal,
+    T: RemovableTemp,
+{
+    let fox = Download::new(rt, FOX, &mut writers.fox)?;
+    let vow = Download::new(rt, VOW, &mut writers.vow)?;
+    run_both(rt, fox, vow)
+}
+
+/// Reads a body back, and prints it with its integrity.
+fn print_body<R, S, C, N>(
+    rt: &R,
+    place: &mut Env<S, C, N>,
+    key: &str,
+    integrity: &Integrity,
+) -> Result<()>
+where
+    R: Wait + RandomSource + Print + AllocGlobal,
+    S: Store,
+    C: Clock,
+    N: Names,
+{
+    let body = answer(rt, read(place, CACHE, key))?;
+    let text = str::from_utf8(&body).unwrap_or("no text\n");
+    print!(rt; "{key} {integrity}: {text}").context(rt.alloc(), OUTSIDE)
+}
+
+/// Commits what was written, and shows what the cache has then.
 fn store<R, S, C, N, T>(
     rt: &R,
     place: &mut Env<S, C, N>,
@@ -53,9 +112,7 @@ where
     T: Drop,
 {
     let integrity = answer(rt, writer.commit(rt, place))?;
-    let body = answer(rt, read(place, CACHE, key))?;
-    let text = str::from_utf8(&body).unwrap_or("no text\n");
-    print!(rt; "{key} {integrity}: {text}").with_context(|| outside(rt.alloc()))
+    print_body(rt, place, key, &integrity)
 }
 
 /// Downloads both bodies at once.
@@ -67,13 +124,9 @@ where
     N: Names,
     T: RemovableTemp,
 {
-    let mut fox = answer(rt, Writer::create(place, CACHE, FOX.0))?;
-    let mut vow = answer(rt, Writer::create(place, CACHE, VOW.0))?;
-    let one = Download::new(rt, FOX, &mut fox)?;
-    let other = Download::new(rt, VOW, &mut vow)?;
-    let (one, other) = block_on(rt, join(one, other)).with_context(|| outside(rt.alloc()))?;
-    one?;
-    other?;
+    let mut writers = open_both(rt, place)?;
+    write_both(rt, &mut writers)?;
+    let Writers { fox, vow } = writers;
     store(rt, place, FOX.0, fox)?;
     store(rt, place, VOW.0, vow)
 }

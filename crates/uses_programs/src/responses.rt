@@ -23,13 +23,21 @@ const REQUESTS: [(u64, &str); 8] = [
     (80, "/logo"),
 ];
 
-/// Answers the requests, and tells what the cache has then.
-fn answer_all<S: Store, N: Names>(responses: &mut Responses<S, N>) -> Result<()> {
+/// Answers the requests.
+fn get_all<S: Store, N: Names>(responses: &mut Responses<S, N>) -> Result<()> {
     for (second, path) in REQUESTS {
         responses.get(second, path)?;
     }
+    Ok(())
+}
+
+/// Answers the requests in this environment, and tells what the cache has then. What became of them is the answer.
+fn answer_all<S: Store, N: Names>(env: Env<S, SetClock, N>) -> Result<String> {
+    let mut responses = Responses::new(env);
+    get_all(&mut responses)?;
     responses.head("/news")?;
-    responses.count()
+    responses.count()?;
+    Ok(responses.report)
 }
 
 /// Answers the requests from a cache, and prints what became of them.
@@ -39,10 +47,6 @@ pub(crate) fn run(rt: HostRuntime) -> Result<()> {
     let store = MemStore::new(alloc)?;
     let clock = SetClock { second: 0 };
     let names = ProcessNames::new(rt);
-    let mut responses = Responses::new(Env::new(alloc, store, clock, names, "/")?);
-    answer_all(&mut responses)?;
-    print!(rt; "{}", responses.report).with_context(|| Ok(String::from_str(
-        alloc,
-        "Failed to print the report",
-    )?))
+    let report = answer_all(Env::new(alloc, store, clock, names, "/")?)?;
+    print!(rt; "{report}").context(alloc, "Failed to print the report")
 }

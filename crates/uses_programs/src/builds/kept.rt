@@ -2,12 +2,12 @@
 use crate::builds::pieces::{SIZE, read_pieces, write_pieces};
 use crate::builds::reasons::wants_copy;
 use cacache::env::{Clock, Env, Names, Reasons};
-use cacache::errors::IoErrorExt;
 use cacache::{
     Algorithm, Error, Integrity, Metadata, Result, SyncReader, WriteOpts, copy_sync,
     hard_link_sync, link_to_sync, list_sync,
 };
 use std::alloc::Global;
+use std::fmt::Display;
 
 /// The folder of the cache.
 const CACHE: &str = "builds";
@@ -19,8 +19,9 @@ pub(crate) struct Builds<S, C, N> {
     pub(crate) report: String,
 }
 
-/// The line of an entry.
-fn line_of(alloc: Global, entry: Metadata) -> Result<String> {
+/// The line of an entry, as the index lists it.
+fn line_of(alloc: Global, listed: Result<Metadata>) -> Result<String> {
+    let entry = listed?;
     let algorithm = entry.integrity.pick_algorithm();
     Ok(format!(in alloc; "{}: {} bytes, {algorithm}", entry.key, entry.size)?)
 }
@@ -32,13 +33,17 @@ impl<S: Reasons, C: Clock, N: Names> Builds<S, C, N> {
         Builds { env, report }
     }
 
+    /// Adds a line to the report.
+    fn tell(&mut self, line: impl Display + Drop) -> Result<()> {
+        writeln!(self.report, "{line}")?;
+        Ok(())
+    }
+
     /// Writes a build as its pieces come. The commit refuses one that isn't whole.
     fn write(&mut self, name: &str, pieces: u8) -> Result<Integrity> {
-        let alloc = self.env.alloc;
         let opts = WriteOpts::new().algorithm(Algorithm::Sha512).size(SIZE);
         let mut writer = opts.open_sync(&mut self.env, CACHE, name)?;
-        let written = write_pieces(alloc, &mut writer, pieces);
-        match written.with_context(|| Ok(format!(in alloc; "Failed to write {name}")?)) {
+        match write_pieces(self.env.alloc, &mut writer, name, pieces) {
             Ok(()) => writer.commit(&mut self.env),
             Err(error) => {
                 writer.abandon(&mut self.env)?;
@@ -50,64 +55,60 @@ impl<S: Reasons, C: Clock, N: Names> Builds<S, C, N> {
     /// Stores a build of so many pieces.
     pub(crate) fn store(&mut self, name: &str, pieces: u8) -> Result<()> {
         match self.write(name, pieces) {
-            Ok(integrity) => writeln!(self.report, "{name}: stored as {integrity}")?,
-            Err(Error::SizeMismatch(wanted, actual)) => {
-                writeln!(
-                    self.report,
-                    "{name}: not stored, {actual} of {wanted} bytes"
-                )?;
-            }
-            Err(error) => return Err(error),
+            Ok(integrity) => self.tell(format_args!("{name}: stored as {integrity}")),
+            Err(Error::SizeMismatch(wanted, actual)) => self.tell(format_args!(
+                "{name}: not stored, {actual} of {wanted} bytes"
+            )),
+            Err(error) => Err(error),
         }
-        Ok(())
     }
 
     /// Makes a file outside the cache a content, by a link.
     pub(crate) fn link(&mut self, name: &str, target: &str) -> Result<()> {
         let integrity = link_to_sync(&mut self.env, CACHE, name, target)?;
-        writeln!(self.report, "{name}: {target} is linked to as {integrity}")?;
-        Ok(())
+        self.tell(format_args!("{name}: {target} is linked to as {integrity}"))
     }
 
     /// Reads a build in pieces. Once all are read, the check says whether they meet the build's integrity.
     pub(crate) fn verify(&mut self, name: &str) -> Result<()> {
         let alloc = self.env.alloc;
         let mut reader = SyncReader::open(&mut self.env, CACHE, name)?;
-        let size = read_pieces(alloc, &mut reader).with_context(|| Ok(format!(in alloc;
-            "Failed to read {name}"
-        )?))?;
+        let size = read_pieces(alloc, &mut reader, name)?;
         let algorithm = reader.check()?;
-        writeln!(self.report, "{name}: {size} bytes verified by {algorithm}")?;
-        Ok(())
+        self.tell(format_args!("{name}: {size} bytes verified by {algorithm}"))
     }
 
     /// Copies a build to a path outside the cache.
     pub(crate) fn copy(&mut self, name: &str, to: &str) -> Result<()> {
         let size = copy_sync(&mut self.env, CACHE, name, to)?;
-        writeln!(self.report, "{name}: {size} bytes copied to {to}")?;
-        Ok(())
+        self.tell(format_args!("{name}: {size} bytes copied to {to}"))
     }
 
     /// Puts a build at a path outside the cache by a hard link, which takes no room. Where none can be made, the build
     /// is copied; any other error is handed on. Who writes to a linked file writes into the cache.
     pub(crate) fn export(&mut self, name: &str, to: &str) -> Result<()> {
         match hard_link_sync(&mut self.env, CACHE, name, to) {
-            Ok(()) => writeln!(self.report, "{name}: {to} is a hard link to it")?,
-            Err(error) if wants_copy(&error, self.env.store.reason()) => self.copy(name, to)?,
-            Err(error) => return Err(error),
+            Ok(()) => self.tell(format_args!("{name}: {to} is a hard link to it")),
+            Err(error) if wants_copy(&error, self.env.store.reason()) => self.copy(name, to),
+            Err(error) => Err(error),
         }
-        Ok(())
     }
 
-    /// Lists the index. Its entries come in an open order, so their lines are sorted.
-    pub(crate) fn list(&mut self) -> Result<()> {
+    /// The lines of the index's entries, in an open order.
+    fn lines(&mut self) -> Result<Vec<String>> {
         let alloc = self.env.alloc;
+        let entries = list_sync(&mut self.env, CACHE)?;
         let mut lines = Vec::new(alloc);
-        for entry in list_sync(&mut self.env, CACHE)? {
-            lines.push(line_of(alloc, entry?)?)?;
+        for listed in entries {
+            lines.push(line_of(alloc, listed)?)?;
         }
+        Ok(lines)
+    }
+
+    /// Lists the index, its lines sorted.
+    pub(crate) fn list(&mut self) -> Result<()> {
+        let mut lines = self.lines()?;
         lines.sort()?;
-        writeln!(self.report, "{}", lines.join(alloc, "\n")?)?;
-        Ok(())
+        self.tell(lines.join(self.env.alloc, "\n")?)
     }
 }

@@ -42,13 +42,15 @@ impl<'a, R, T: Drop> Download<'a, R, T> {
 }
 
 impl<'a, R: Wait + Print + AllocGlobal, T: RemovableTemp> Download<'a, R, T> {
+    /// The piece that comes next. There is none once all is written.
+    fn piece(&self) -> &'static [u8] {
+        self.rest.get(..PIECE).unwrap_or(self.rest)
+    }
+
     /// So many bytes more are written.
     fn go_on(&mut self, count: usize) -> Result<()> {
         self.rest = self.rest.get(count..).unwrap_or(b"");
-        println!(self.rt; "{}: {count} bytes", self.key).with_context(|| Ok(String::from_str(
-            self.rt.alloc(),
-            "Failed to print",
-        )?))
+        println!(self.rt; "{}: {count} bytes", self.key).context(self.rt.alloc(), "Failed to print")
     }
 }
 
@@ -60,7 +62,7 @@ where
     type Output = Result<()>;
 
     fn poll(&mut self, cx: &mut Context<'_>) -> Poll<Result<()>> {
-        let piece = self.rest.get(..PIECE).unwrap_or(self.rest);
+        let piece = self.piece();
         if piece.is_empty() {
             return Poll::Ready(Ok(()));
         }

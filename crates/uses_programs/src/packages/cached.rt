@@ -6,8 +6,10 @@ use cacache::content::path::content_path;
 use cacache::env::{Clock, Env, Names};
 use cacache::store::{Step, Store};
 use cacache::{
-    Error, Result, exists_sync, read_hash_sync, remove_hash_sync, write_hash_sync_with_algo,
+    Error, Integrity, Result, exists_sync, read_hash_sync, remove_hash_sync,
+    write_hash_sync_with_algo,
 };
+use std::alloc::Global;
 
 /// The folder of the cache.
 const CACHE: &str = "packages";
@@ -21,6 +23,13 @@ enum Outcome {
     Verified,
     /// It was in the cache, and didn't meet its integrity.
     Repaired,
+}
+
+/// The step of the store that appends a byte to the file of a content.
+fn damaging<F, T>(alloc: Global, integrity: &Integrity) -> Result<Step<F, T>> {
+    let path = content_path(alloc, CACHE, integrity)?;
+    let stray = Bytes::new(alloc, Vec::from_slice(alloc, b"?")?)?;
+    Ok(Step::Append(path, stray))
 }
 
 /// Packages in a cache, and a report of what became of them.
@@ -76,12 +85,10 @@ impl<S: Store, C: Clock, N: Names> Packages<S, C, N> {
         Ok(())
     }
 
-    /// Appends a byte to the file of a package, as a fault of the disk might. This is one step of the store.
+    /// Appends a byte to the file of a package, as a fault of the disk might.
     pub(crate) fn damage(&mut self, package: &Package) -> Result<()> {
-        let alloc = self.env.alloc;
-        let path = content_path(alloc, CACHE, &package.integrity)?;
-        let stray = Bytes::new(alloc, Vec::from_slice(alloc, b"?")?)?;
-        drop(self.env.store.step(Step::Append(path, stray)));
+        let step = damaging(self.env.alloc, &package.integrity)?;
+        drop(self.env.store.step(step));
         writeln!(self.report, "{}: a byte more", package.name)?;
         Ok(())
     }

@@ -9,6 +9,7 @@ use cacache::store::Store;
 use cacache::{
     Metadata, Result, Value, WriteOpts, metadata_sync, read_hash_sync, remove_sync, write_hash_sync,
 };
+use std::fmt::Display;
 
 /// The folder of the cache.
 const CACHE: &str = "responses";
@@ -52,6 +53,12 @@ impl<S: Store, N: Names> Responses<S, N> {
         Responses { env, report }
     }
 
+    /// Adds a line to the report.
+    fn tell(&mut self, line: impl Display + Drop) -> Result<()> {
+        writeln!(self.report, "{line}")?;
+        Ok(())
+    }
+
     /// Stores a response. Its entry has the clock's time.
     fn store(&mut self, path: &str, headers: Value, body: &str) -> Result<()> {
         let integrity = write_hash_sync(&mut self.env, CACHE, body.as_bytes())?;
@@ -72,34 +79,43 @@ impl<S: Store, N: Names> Responses<S, N> {
         Ok(body.len())
     }
 
-    /// Answers a request: from the cache if it has a fresh response, and else from the origin.
-    fn answer(&mut self, path: &str) -> Result<Answer> {
-        let Some(entry) = metadata_sync(&mut self.env, CACHE, path)? else {
-            return Ok(Answer::Miss(self.fetch(path)?));
-        };
-        if is_fresh(&entry, self.env.clock.now()) {
-            let body = read_hash_sync(&mut self.env, CACHE, &entry.integrity)?;
-            return Ok(Answer::Hit(body.len()));
-        }
-        // The body stays, since another path may have the same one. `RemoveOpts` can remove it, too.
+    /// Answers a request whose response is stale. Its body stays, since another path may have the same one; `RemoveOpts`
+    /// can remove it, too.
+    fn renew(&mut self, path: &str) -> Result<Answer> {
         remove_sync(&mut self.env, CACHE, path)?;
         Ok(Answer::Stale(self.fetch(path)?))
+    }
+
+    /// Answers a request whose response has this entry: from the cache if it is fresh.
+    fn answer_from(&mut self, path: &str, entry: &Metadata) -> Result<Answer> {
+        if !is_fresh(entry, self.env.clock.now()) {
+            return self.renew(path);
+        }
+        let body = read_hash_sync(&mut self.env, CACHE, &entry.integrity)?;
+        Ok(Answer::Hit(body.len()))
+    }
+
+    /// Answers a request: from the cache if it has a fresh response, and else from the origin.
+    fn answer(&mut self, path: &str) -> Result<Answer> {
+        match metadata_sync(&mut self.env, CACHE, path)? {
+            Some(entry) => self.answer_from(path, &entry),
+            None => Ok(Answer::Miss(self.fetch(path)?)),
+        }
     }
 
     /// Answers a request that comes at this second.
     pub(crate) fn get(&mut self, second: u64, path: &str) -> Result<()> {
         self.env.clock.second = second;
         let answer = self.answer(path)?;
-        writeln!(self.report, "{second}: GET {path}: {answer:?}")?;
-        Ok(())
+        self.tell(format_args!("{second}: GET {path}: {answer:?}"))
     }
 
     /// Tells the headers of a response. Its body isn't read.
     pub(crate) fn head(&mut self, path: &str) -> Result<()> {
-        if let Some(entry) = metadata_sync(&mut self.env, CACHE, path)? {
-            writeln!(self.report, "HEAD {path}: {}", entry.metadata)?;
+        match metadata_sync(&mut self.env, CACHE, path)? {
+            Some(entry) => self.tell(format_args!("HEAD {path}: {}", entry.metadata)),
+            None => Ok(()),
         }
-        Ok(())
     }
 
     /// Tells how many responses the cache has. None gets older by it: the clock isn't asked.

@@ -10,14 +10,35 @@ pub(crate) struct Response {
     pub(crate) body: &'static str,
 }
 
-/// The response to a request for this path.
-pub(crate) fn ask(alloc: Global, path: &str) -> Result<Response> {
+/// What the server has at a path.
+#[derive(Clone, Copy)]
+struct Page {
+    kind: &'static str,
+    control: &'static str,
+    body: &'static str,
+}
+
+/// The page at this path.
+fn page_at(path: &str) -> Page {
     let (kind, control, body) = match path {
         "/news" => ("text/html", "max-age=60", "<h1>News</h1>"),
         "/logo" => ("image/svg+xml", "max-age=3600", "<svg/>"),
         "/icon" => ("image/svg+xml", "max-age=60", "<svg/>"),
         _ => ("text/plain", "no-store", "12:00"),
     };
-    let headers = json!(in alloc; {"content-type": kind, "cache-control": control})?;
-    Ok(Response { headers, body })
+    Page {
+        kind,
+        control,
+        body,
+    }
+}
+
+/// The response to a request for this path.
+pub(crate) fn ask(alloc: Global, path: &str) -> Result<Response> {
+    let page = page_at(path);
+    let headers = json!(in alloc; {"content-type": page.kind, "cache-control": page.control})?;
+    Ok(Response {
+        headers,
+        body: page.body,
+    })
 }

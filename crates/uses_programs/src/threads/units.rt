@@ -37,6 +37,14 @@ pub(crate) const UNITS: [Unit; 4] = [
     },
 ];
 
+/// Adds the interface of the unit of this name to an object. It is read from the cache.
+fn add_interface(env: &mut Folders, name: &str, object: &mut String) -> Result<()> {
+    let interface = read_sync(env, CACHE, name)?;
+    let text = str::from_utf8(&interface).unwrap_or("no text");
+    writeln!(object, "    {name}: {text}")?;
+    Ok(())
+}
+
 impl Unit {
     /// Stores the interface, under the unit's name.
     pub(crate) fn store(&self, env: &mut Folders) -> Result<()> {
@@ -49,14 +57,18 @@ impl Unit {
         Ok(format!(in env.alloc; "{}.o", self.name)?)
     }
 
-    /// Compiles the unit, and stores its object: here the interfaces that it uses, which it reads from the cache.
-    pub(crate) fn compile(&self, env: &mut Folders) -> Result<()> {
+    /// Makes the unit's object: here the interfaces that it uses.
+    fn make(&self, env: &mut Folders) -> Result<String> {
         let mut object = format!(in env.alloc; "{} uses\n", self.name)?;
         for name in self.uses {
-            let interface = read_sync(env, CACHE, name)?;
-            let text = str::from_utf8(&interface).unwrap_or("no text");
-            writeln!(object, "    {name}: {text}")?;
+            add_interface(env, name, &mut object)?;
         }
+        Ok(object)
+    }
+
+    /// Compiles the unit, and stores its object.
+    pub(crate) fn compile(&self, env: &mut Folders) -> Result<()> {
+        let object = self.make(env)?;
         let key = self.object_key(env)?;
         write_sync(env, CACHE, key.as_str(), object.as_bytes())?;
         Ok(())
