@@ -94,20 +94,19 @@ impl<S: Reasons, C: Clock, N: Names> Builds<S, C, N> {
         }
     }
 
-    /// The lines of the index's entries, in an open order.
-    fn lines(&mut self) -> Result<Vec<String>> {
+    /// Adds the lines of the index's entries, which come in an open order.
+    fn add_lines(&mut self, lines: &mut Vec<String>) -> Result<()> {
         let alloc = self.env.alloc;
-        let entries = list_sync(&mut self.env, CACHE)?;
-        let mut lines = Vec::new(alloc);
-        for listed in entries {
+        for listed in list_sync(&mut self.env, CACHE)? {
             lines.push(line_of(alloc, listed)?)?;
         }
-        Ok(lines)
+        Ok(())
     }
 
     /// Lists the index, its lines sorted.
     pub(crate) fn list(&mut self) -> Result<()> {
-        let mut lines = self.lines()?;
+        let mut lines = Vec::new(self.env.alloc);
+        self.add_lines(&mut lines)?;
         lines.sort()?;
         self.tell(lines.join(self.env.alloc, "\n")?)
     }

@@ -39,14 +39,14 @@ impl<'a, R, T: Drop> Download<'a, R, T> {
             worker,
         })
     }
-}
 
-impl<'a, R: Wait + Print + AllocGlobal, T: RemovableTemp> Download<'a, R, T> {
     /// The piece that comes next. There is none once all is written.
     fn piece(&self) -> &'static [u8] {
         self.rest.get(..PIECE).unwrap_or(self.rest)
     }
+}
 
+impl<'a, R: Wait + Print + AllocGlobal, T: RemovableTemp> Download<'a, R, T> {
     /// So many bytes more are written.
     fn go_on(&mut self, count: usize) -> Result<()> {
         self.rest = self.rest.get(count..).unwrap_or(b"");
