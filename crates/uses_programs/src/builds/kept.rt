@@ -94,19 +94,20 @@ impl<S: Reasons, C: Clock, N: Names> Builds<S, C, N> {
         }
     }
 
-    /// Adds the lines of the index's entries, which come in an open order.
-    fn add_lines(&mut self, lines: &mut Vec<String>) -> Result<()> {
+    /// The lines of the index's entries, in an open order.
+    fn lines(&mut self) -> Result<Vec<String>> {
         let alloc = self.env.alloc;
-        for listed in list_sync(&mut self.env, CACHE)? {
+        let entries = list_sync(&mut self.env, CACHE)?;
+        let mut lines = Vec::new(alloc);
+        for listed in entries {
             lines.push(line_of(alloc, listed)?)?;
         }
-        Ok(())
+        Ok(lines)
     }
 
     /// Lists the index, its lines sorted.
     pub(crate) fn list(&mut self) -> Result<()> {
-        let mut lines = Vec::new(self.env.alloc);
-        self.add_lines(&mut lines)?;
+        let mut lines = self.lines()?;
         lines.sort()?;
         self.tell(lines.join(self.env.alloc, "\n")?)
     }
