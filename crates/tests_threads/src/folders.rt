@@ -2,6 +2,7 @@
 use cacache::env::{Env, FolderWriter, Folders, ProcessNames, SystemClock, folders};
 use cacache::store::FolderStore;
 use cacache::{Result, SyncWriter};
+use cacache_core::keeping::{beside, let_go};
 use std::alloc::{AllocError, Global};
 use std::env::temp_dir;
 use std::rt::HostRuntime;
@@ -30,15 +31,23 @@ const MEMORY: &str = "/dev/shm";
 fn fresh_below(rt: HostRuntime, base: &str, name: &str) -> io::Result<String> {
     let number = std::process::id(rt.process());
     let root = format!(in rt.alloc(); "{base}/tests_threads-{name}-{number}")?;
-    fs::create_dir(&rt, root.as_str())?;
+    let (_, root) = beside(fs::create_dir(&rt, root.as_str()), root)?;
     Ok(root)
+}
+
+/// Removes a folder and all below.
+fn remove(rt: HostRuntime, root: String) -> io::Result<()> {
+    fs::remove_dir_all(&rt, root.as_str())
 }
 
 /// The same in memory where the system has such a folder, and else with other temporary files.
 fn fresh_folder(rt: HostRuntime, name: &str) -> io::Result<String> {
     match fresh_below(rt, MEMORY, name) {
         Ok(root) => Ok(root),
-        Err(_) => fresh_below(rt, temp_dir(&rt)?.as_str(), name),
+        Err(error) => {
+            let_go(error);
+            fresh_below(rt, temp_dir(&rt)?.as_str(), name)
+        }
     }
 }
 
@@ -60,7 +69,10 @@ fn is_common(env: &mut Folders, cache: &str) -> bool {
             [b't', b'0'..=b'7', b'k', key @ ..] => key.iter().all(|byte| byte.is_ascii_digit()),
             _ => false,
         },
-        Err(_) => true,
+        Err(error) => {
+            let_go(error);
+            true
+        }
     }
 }
 
@@ -90,7 +102,10 @@ fn works(env: &mut Folders, cache: &str, thread: usize) -> Result<bool> {
 fn works_at(rt: HostRuntime, cache: &str, thread: usize) -> bool {
     match folders(rt, ".") {
         Ok(mut env) => works(&mut env, cache, thread).unwrap_or(false),
-        Err(_) => false,
+        Err(error) => {
+            let_go(error);
+            false
+        }
     }
 }
 
@@ -105,16 +120,26 @@ fn are_there(env: &mut Folders, cache: &str, thread: usize) -> Result<bool> {
     Ok(true)
 }
 
+/// Whether the common key can be read, and has one of the threads' texts.
+fn common_is_there(env: &mut Folders, cache: &str) -> Result<bool> {
+    let bytes = cacache::read_sync(env, cache, COMMON)?;
+    Ok(bytes.len() > 3 && is_common(env, cache))
+}
+
 /// Whether all threads' keys are there, and one of their texts under the common key.
-fn all_are_there(rt: HostRuntime, cache: &str) -> Result<bool> {
-    let mut env = folders(rt, ".")?;
+fn all_are_there(env: &mut Folders, cache: &str) -> Result<bool> {
     for thread in 0..THREADS {
-        if !are_there(&mut env, cache, thread)? {
+        if !are_there(env, cache, thread)? {
             return Ok(false);
         }
     }
-    let bytes = cacache::read_sync(&mut env, cache, COMMON)?;
-    Ok(bytes.len() > 3 && is_common(&mut env, cache))
+    common_is_there(env, cache)
+}
+
+/// The same in an environment of its own.
+fn is_whole(rt: HostRuntime, cache: &str) -> Result<bool> {
+    let mut env = folders(rt, ".")?;
+    all_are_there(&mut env, cache)
 }
 
 /// Whether each thread did its work.
@@ -130,9 +155,9 @@ fn together<R: Threads + Sync>(
 #[test]
 fn eight_threads_share_a_folder(rt: HostRuntime) -> std::result::Result<(), Fail> {
     let cache = fresh_folder(rt, "shared")?;
-    let is_well = together(&rt, rt, cache.as_str())?;
-    let is_whole = all_are_there(rt, cache.as_str()).unwrap_or(false);
-    fs::remove_dir_all(&rt, cache.as_str())?;
+    let (is_well, cache) = beside(together(&rt, rt, cache.as_str()), cache)?;
+    let is_whole = is_whole(rt, cache.as_str()).unwrap_or(false);
+    remove(rt, cache)?;
     assert!(rt; is_well);
     assert!(rt; is_whole);
     Ok(())
@@ -146,12 +171,18 @@ fn writer(rt: HostRuntime, cache: &str) -> Result<FolderWriter> {
     SyncWriter::create(&mut env, cache, "key")
 }
 
-/// How many temporary files lie there while so many writers are open, and once they are dropped.
-fn temps_of(rt: HostRuntime, cache: &str) -> Result<(usize, usize)> {
+/// So many writers.
+fn all_writers(rt: HostRuntime, cache: &str) -> Result<Vec<FolderWriter>> {
     let mut writers = Vec::new(rt.alloc());
     for _ in 0..WRITERS {
         writers.push(writer(rt, cache)?)?;
     }
+    Ok(writers)
+}
+
+/// How many temporary files lie there while so many writers are open, and once they are dropped.
+fn temps_of(rt: HostRuntime, cache: &str) -> Result<(usize, usize)> {
+    let mut writers = all_writers(rt, cache)?;
     let open = count_below(rt, cache);
     writers.clear();
     Ok((open, count_below(rt, cache)))
@@ -164,7 +195,10 @@ fn count_below(rt: HostRuntime, cache: &str) -> usize {
     };
     match fs::read_dir(&rt, path.as_str()) {
         Ok(names) => names.count(),
-        Err(_) => 0,
+        Err(error) => {
+            let_go(error);
+            0
+        }
     }
 }
 
@@ -172,7 +206,7 @@ fn count_below(rt: HostRuntime, cache: &str) -> usize {
 fn like_environments_share_no_number(rt: HostRuntime) -> std::result::Result<(), Fail> {
     let cache = fresh_folder(rt, "like")?;
     let temps = temps_of(rt, cache.as_str());
-    fs::remove_dir_all(&rt, cache.as_str())?;
+    let (_, temps) = beside(remove(rt, cache), temps)?;
     assert_eq!(rt; temps?, (WRITERS, 0));
     Ok(())
 }

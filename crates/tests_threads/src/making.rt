@@ -6,6 +6,7 @@ use cacache::integrity::Algorithm;
 use cacache::jobs::{Command, Options, Put};
 use cacache::text::Text;
 use cacache::world::World;
+use cacache_core::keeping::beside;
 use std::alloc::{AllocError, Global};
 
 /// A world of some callers, without outside files.
@@ -20,9 +21,11 @@ pub(crate) fn world_of(alloc: Global, callers: usize) -> Result<World, AllocErro
 
 /// A put of a text under itself.
 pub(crate) fn put(alloc: Global, text: &str) -> Result<Command, AllocError> {
+    let data = Bytes::new(alloc, Vec::from_slice(alloc, text.as_bytes())?)?;
+    let (key, data) = beside(Text::from_str(alloc, text), data)?;
     Ok(Command::Put(Put {
-        key: Some(Text::from_str(alloc, text)?),
-        data: Bytes::new(alloc, Vec::from_slice(alloc, text.as_bytes())?)?,
+        key: Some(key),
+        data,
         moment: 7,
         options: Options::blank(Algorithm::Sha256),
     }))

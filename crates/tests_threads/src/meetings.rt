@@ -6,6 +6,7 @@ use cacache::jobs::{Command, Reply};
 use cacache::store::Luck;
 use cacache::text::Text;
 use cacache::world::{Blank, Seat, SharedWorld, Went, World};
+use cacache_core::keeping::{beside, let_go};
 use std::alloc::{AllocError, Global};
 use std::marker::Brand;
 use std::sync::ledger::Ledger;
@@ -59,6 +60,20 @@ fn is_read(reply: Option<&Reply>, text: &str) -> bool {
     }
 }
 
+/// Puts the seat's own key and gets it.
+fn put_and_get<L: Ledger, R: Wait>(
+    rt: &R,
+    alloc: Global,
+    world: &SharedWorld<L>,
+    seat: &mut Seat<L>,
+) -> Result<(), AllocError> {
+    let own = text_of(alloc, seat.caller())?;
+    let (put, own) = beside(put(alloc, own.as_str()), own)?;
+    runs(rt, world, seat, put);
+    runs(rt, world, seat, Command::Get(Text::new(own)));
+    Ok(())
+}
+
 /// Puts the seat's own key and gets it, and looks for the key of the next thread until it is there.
 fn meet<L: Ledger, R: Wait + Clock>(
     rt: &R,
@@ -67,9 +82,7 @@ fn meet<L: Ledger, R: Wait + Clock>(
     seat: &mut Seat<L>,
     next: usize,
 ) -> Result<(), AllocError> {
-    let own = text_of(alloc, seat.caller())?;
-    runs(rt, world, seat, put(alloc, own.as_str())?);
-    runs(rt, world, seat, Command::Get(Text::new(own)));
+    put_and_get(rt, alloc, world, seat)?;
     for _ in 0..TRIES {
         let key = Text::new(text_of(alloc, next)?);
         if !runs(rt, world, seat, Command::Find(key)) || is_found(seat.replies().last()) {
@@ -127,6 +140,14 @@ fn well<L: Ledger>(alloc: Global, seats: &[Seat<L>]) -> Result<usize, AllocError
     Ok(count)
 }
 
+/// Whether a world closes.
+fn closes<L: Ledger>(shared: SharedWorld<L>, seats: Vec<Seat<L>>) -> bool {
+    let closed = shared.close(seats);
+    let is_closed = closed.is_ok();
+    let_go(closed);
+    is_closed
+}
+
 /// How many threads met in a world, and whether it closes.
 fn meeting<L: Ledger + Send + Sync, R: Threads + Wait + Clock + Sync>(
     rt: &R,
@@ -139,13 +160,18 @@ fn meeting<L: Ledger + Send + Sync, R: Threads + Wait + Clock + Sync>(
     requires each { blank.parts ≡ world.setup.callers }
     requires some { 0 < blank.parts }
 {
-    let Ok((shared, seats)) = SharedWorld::<L>::new(Blank::new(blank), world) else {
-        return Err(AllocError);
+    let (shared, seats) = match SharedWorld::<L>::new(Blank::new(blank), world) {
+        Ok(both) => both,
+        Err(world) => {
+            let_go(world);
+            return Err(AllocError);
+        }
     };
     let callers = seats.len();
-    let seats = together(rt, alloc, &shared, seats, callers)?;
-    let well = well(alloc, seats.as_slice())?;
-    Ok((well, shared.close(seats).is_ok()))
+    let (seats, shared) = beside(together(rt, alloc, &shared, seats, callers), shared)?;
+    let well = well(alloc, seats.as_slice());
+    let is_closed = closes(shared, seats);
+    Ok((well?, is_closed))
 }
 
 #[test]

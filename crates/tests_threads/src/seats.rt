@@ -6,6 +6,7 @@ use cacache::errors::{Error, Fault};
 use cacache::jobs::{Command, Reply};
 use cacache::store::Luck;
 use cacache::world::{Blank, Seat, SharedWorld, Went, World};
+use cacache_core::keeping::let_go;
 use std::alloc::{AllocError, Global};
 use std::marker::Brand;
 use std::sync::ledger::Ledger;
@@ -38,6 +39,38 @@ fn fails_at_once<L: Ledger, R: Wait>(
     }
 }
 
+/// The same of a put in the first of the seats.
+fn put_fails<L: Ledger, R: Wait>(
+    rt: &R,
+    alloc: Global,
+    shared: &SharedWorld<L>,
+    seats: &mut Vec<Seat<L>>,
+) -> Result<bool, AllocError> {
+    let command = put(alloc, "a")?;
+    Ok(match seats.get_mut(0) {
+        Some(seat) => fails_at_once(rt, shared, seat, command),
+        None => {
+            let_go(command);
+            false
+        }
+    })
+}
+
+/// How many records there are after the close of a world, if it closes.
+fn records_of<L: Ledger>(shared: SharedWorld<L>, seats: Vec<Seat<L>>) -> usize {
+    match shared.close(seats) {
+        Ok(world) => {
+            let records = world.history().len();
+            let_go(world);
+            records
+        }
+        Err(both) => {
+            let_go(both);
+            0
+        }
+    }
+}
+
 /// Whether a put that fails in a world of one caller says so, and how many records there are after the close, if it
 /// closes.
 fn failed_put<L: Ledger, R: Wait>(
@@ -51,18 +84,16 @@ fn failed_put<L: Ledger, R: Wait>(
     requires each { blank.parts ≡ world.setup.callers }
     requires one { blank.parts ≡ 1 }
 {
-    let Ok((shared, mut seats)) = SharedWorld::<L>::new(Blank::new(blank), world) else {
-        return Err(AllocError);
+    let (shared, mut seats) = match SharedWorld::<L>::new(Blank::new(blank), world) {
+        Ok(both) => both,
+        Err(world) => {
+            let_go(world);
+            return Err(AllocError);
+        }
     };
-    let command = put(alloc, "a")?;
-    let fails = match seats.get_mut(0) {
-        Some(seat) => fails_at_once(rt, &shared, seat, command),
-        None => false,
-    };
-    match shared.close(seats) {
-        Ok(world) => Ok((fails, world.history().len())),
-        Err(_) => Ok((fails, 0)),
-    }
+    let fails = put_fails(rt, alloc, &shared, &mut seats);
+    let records = records_of(shared, seats);
+    Ok((fails?, records))
 }
 
 #[test]

@@ -65,12 +65,18 @@ fn is_out_of_range<R: Threads + Wait + Clock + AllocGlobal + Sync>(
     threads: u64,
     keys: u64,
 ) -> bool {
-    matches!(storm(rt, threads, keys, &Open), Err(StormFault::Count))
+    let stormed = storm(rt, threads, keys, &Open);
+    let is_count = matches!(&stormed, Err(StormFault::Count));
+    let_go(stormed);
+    is_count
 }
 
 /// Whether a storm ends since its gate said so.
 fn is_quit<R: Threads + Wait + Clock + AllocGlobal + Sync>(rt: &R) -> bool {
-    matches!(storm(rt, 2, 5, &Shut), Err(StormFault::Quit))
+    let stormed = storm(rt, 2, 5, &Shut);
+    let is_quit = matches!(&stormed, Err(StormFault::Quit));
+    let_go(stormed);
+    is_quit
 }
 
 #[test]

@@ -7,6 +7,7 @@ use cacache::integrity::Algorithm;
 use cacache::jobs::{Gate, Open, Pass};
 use cacache::polled::{PolledFile, RemovableTemp, Worker};
 use cacache::store::{TempFile, TempHandle};
+use cacache_core::keeping::{beside, let_go};
 use futures::Future;
 use futures::executor::block_on;
 use futures::task::{Context, Poll};
@@ -103,7 +104,10 @@ fn wrote<R: Wait + RandomSource + AllocGlobal, T: Drop>(
     };
     Ok(match block_on(rt, writing)? {
         Some(Ok(count)) => count,
-        Some(Err(_)) => 2000,
+        Some(Err(error)) => {
+            let_go(error);
+            2000
+        }
         None => 1000,
     })
 }
@@ -145,7 +149,10 @@ fn counting<'a, R: AllocGlobal>(
 ) -> io::Result<PolledFile<Counted<'a>>> {
     match PolledFile::new(rt.alloc(), Algorithm::Sha256, Counted(taken)) {
         Ok(file) => Ok(file),
-        Err(_) => Err(io::ErrorKind::OutOfMemory.into()),
+        Err(refused) => {
+            let_go(refused);
+            Err(io::ErrorKind::OutOfMemory.into())
+        }
     }
 }
 
@@ -157,6 +164,16 @@ fn worker_of<T: Drop>(file: &PolledFile<T>) -> io::Result<Worker<T>> {
     }
 }
 
+/// A file whose bytes are counted, and its worker.
+fn file_with_worker<'a, R: AllocGlobal>(
+    rt: &R,
+    taken: &'a AtomicU64,
+) -> io::Result<(PolledFile<Counted<'a>>, Worker<Counted<'a>>)> {
+    let file = counting(rt, taken)?;
+    let (worker, file) = beside(worker_of(&file), file)?;
+    Ok((file, worker))
+}
+
 /// Two workers in threads of their own, and the polls in a third.
 fn all_seen<R: Threads + Wait + Clock + RandomSource + AllocGlobal + Sync>(
     rt: &R,
@@ -164,10 +181,10 @@ fn all_seen<R: Threads + Wait + Clock + RandomSource + AllocGlobal + Sync>(
     others: &AtomicU64,
     answered: &AtomicU64,
 ) -> io::Result<Seen> {
-    let mut first = counting(rt, taken)?;
-    let mut second = counting(rt, others)?;
-    let one = worker_of(&first)?;
-    let two = worker_of(&second)?;
+    let first = file_with_worker(rt, taken)?;
+    let (second, first) = beside(file_with_worker(rt, others), first)?;
+    let (mut first, one) = first;
+    let (mut second, two) = second;
     let workers = move || {
         thread::join(
             rt,
@@ -177,8 +194,8 @@ fn all_seen<R: Threads + Wait + Clock + RandomSource + AllocGlobal + Sync>(
     };
     let polling = move || {
         let seen = polls(rt, &mut first, &mut second, taken, answered);
-        let _ = closed(rt, &mut first);
-        let _ = closed(rt, &mut second);
+        let_go(closed(rt, &mut first));
+        let_go(closed(rt, &mut second));
         seen
     };
     thread::join(rt, workers, polling).1
@@ -204,7 +221,10 @@ fn closed<R: Wait + RandomSource + AllocGlobal, T: Drop>(
     rt: &R,
     file: &mut PolledFile<T>,
 ) -> io::Result<bool> {
-    Ok(block_on(rt, Closing { rt, file })?.is_ok())
+    let closed = block_on(rt, Closing { rt, file })?;
+    let is_closed = closed.is_ok();
+    let_go(closed);
+    Ok(is_closed)
 }
 
 #[test]
