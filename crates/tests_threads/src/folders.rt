@@ -56,15 +56,20 @@ fn text_of(alloc: Global, thread: usize, key: usize) -> std::result::Result<Stri
     format!(in alloc; "t{thread}k{key}")
 }
 
+/// A key's content.
+fn read(env: &mut Folders, cache: &str, key: &str) -> Result<Vec<u8>> {
+    cacache::read_sync(env, cache, key)
+}
+
 /// Whether a key's content is this text.
 fn holds(env: &mut Folders, cache: &str, key: &str, text: &str) -> Result<bool> {
-    let bytes = cacache::read_sync(env, cache, key)?;
+    let bytes = read(env, cache, key)?;
     Ok(bytes.as_slice() == text.as_bytes())
 }
 
 /// Whether the common key's content is one of those that threads write there, if it can be read.
 fn is_common(env: &mut Folders, cache: &str) -> bool {
-    match cacache::read_sync(env, cache, COMMON) {
+    match read(env, cache, COMMON) {
         Ok(bytes) => match bytes.as_slice() {
             [b't', b'0'..=b'7', b'k', key @ ..] => key.iter().all(|byte| byte.is_ascii_digit()),
             _ => false,
@@ -122,7 +127,7 @@ fn are_there(env: &mut Folders, cache: &str, thread: usize) -> Result<bool> {
 
 /// Whether the common key can be read, and has one of the threads' texts.
 fn common_is_there(env: &mut Folders, cache: &str) -> Result<bool> {
-    let bytes = cacache::read_sync(env, cache, COMMON)?;
+    let bytes = read(env, cache, COMMON)?;
     Ok(bytes.len() > 3 && is_common(env, cache))
 }
 
