@@ -45,11 +45,11 @@ fn planted<S: Store>(env: &mut On<S>, words: &str) -> Result<String, AllocError>
 fn looked<R: Wait + RandomSource + AllocGlobal, S: Store>(
     rt: &R,
     env: &mut On<S>,
-    act: &str,
+    name: &str,
+    cache: &str,
+    key: &str,
 ) -> Result<String, Flaw> {
     let alloc = env.alloc;
-    let (name, words) = cut(act);
-    let (cache, key) = cut(words);
     match name {
         "find" => Ok(found(alloc, given(block_on(rt, find_async(env, cache, key)))?)?),
         "unpolled" => {
@@ -78,7 +78,7 @@ fn called<R: Wait + RandomSource + AllocGlobal, S: Store>(
         "clear" => Ok(done(alloc, given(block_on(rt, clear(env, cache)))?)?),
         "names" => Ok(names(env, words)?),
         "plant" => Ok(planted(env, words)?),
-        _ => looked(rt, env, act),
+        _ => looked(rt, env, name, cache, what),
     }
 }
 
