@@ -1,5 +1,5 @@
 //! What a system in memory holds: a disk, and the files that are open.
-ghost use Rattle.std.specs.Prelude.{◌≤◌, IfOk, length};
+ghost use Rattle.std.specs.Prelude.{◌≤◌, ◌<◌, ◌+◌, ◌^◌, IfOk, length};
 ghost use Rattle.std.specs.Counts.{IsPrefixLen};
 ghost use Rattle.std.specs.Io.{StartsWith};
 
@@ -25,6 +25,19 @@ pub(crate) struct OpenFile {
     path: Text,
     names: Path,
     read: usize,
+}
+
+/// The bytes of an open file behind those that were read from it.
+fn rest_of<'a>(disk: &'a Disk, file: &OpenFile) -> Result<&'a [u8], Stop>
+    ensures { IfOk result (λ rest. file.now.read + length rest.now < 2 ^ 64) }
+{
+    match disk.nodes().node(&file.names) {
+        Some(Node::File(contents)) => {
+            let all = contents.as_slice();
+            Ok(&all[file.read.min(all.len())..])
+        }
+        _ => Err(Stop::Fault(Fault::IsADirectory)),
+    }
 }
 
 /// A disk, and the files that are open, by their numbers.
@@ -87,17 +100,11 @@ impl Memory {
         let Some(file) = self.files.get_mut(number as usize) else {
             return Err(Stop::Fault(Fault::InvalidInput));
         };
-        match self.disk.nodes().node(&file.names) {
-            Some(Node::File(contents)) => {
-                let all = contents.as_slice();
-                let rest = &all[file.read.min(all.len())..];
-                let count = buf.len().min(rest.len());
-                buf[..count].copy_from_slice(&rest[..count]);
-                file.read += count;
-                Ok(count)
-            }
-            _ => Err(Stop::Fault(Fault::IsADirectory)),
-        }
+        let rest = rest_of(&self.disk, file)?;
+        let count = buf.len().min(rest.len());
+        buf[..count].copy_from_slice(&rest[..count]);
+        file.read += count;
+        Ok(count)
     }
 
     /// Reads all that is left of an open file behind `bytes`.
@@ -107,16 +114,10 @@ impl Memory {
         let Some(file) = self.files.get_mut(number as usize) else {
             return Err(Stop::Fault(Fault::InvalidInput));
         };
-        match self.disk.nodes().node(&file.names) {
-            Some(Node::File(contents)) => {
-                let all = contents.as_slice();
-                let rest = &all[file.read.min(all.len())..];
-                bytes.extend_from_slice(rest)?;
-                file.read += rest.len();
-                Ok(rest.len())
-            }
-            _ => Err(Stop::Fault(Fault::IsADirectory)),
-        }
+        let rest = rest_of(&self.disk, file)?;
+        bytes.extend_from_slice(rest)?;
+        file.read += rest.len();
+        Ok(rest.len())
     }
 
     /// Puts bytes at the end of an open file, if that still stands where it was found.
