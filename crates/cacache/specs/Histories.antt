@@ -13,7 +13,7 @@ pub use Rattle.cacache_loss.specs.Chosen.{chosen}
 pub use Rattle.cacache_history.specs.declared.record.Record.TheVariants.{Began, Moved, Stopped}
 pub use Rattle.cacache_history.specs.Commits.{CommitsAs, IsCase, deeds}
 pub use Rattle.cacache_history.specs.Headline.{Headline}
-pub use Rattle.cacache_history.specs.History.{History, Call, Reaches}
+pub use Rattle.cacache_history.specs.History.{History, Call, IsLegal, Reaches}
 pub use Rattle.cacache_history.specs.Lookups.{FoundOfPuts, IsOneOfPuts, SparesKey, WasWritten, found_of_put, lookup_at}
 pub use Rattle.cacache_history.specs.Places.{CallIn, MoveAt, MovesAre, now_before}
 pub use Rattle.cacache_history.specs.Setup.{call_site, home}

@@ -16,6 +16,7 @@ pub use cacache_results::{
 pub use cacache_sequence::{
     cache_laws, handle_laws, look_laws, parts_laws, sequence_laws, standing_laws, success_laws,
 };
+pub use cacache_shared::seat_laws;
 pub use cacache_table::{
     effect_laws, licence_laws, promise_laws, reply_laws, row_laws, run_laws, sound_laws,
 };

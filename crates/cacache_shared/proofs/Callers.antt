@@ -4,12 +4,10 @@ use Rattle.std.proofs.lemmas.Bool.{eqb-true}
 use Rattle.std.proofs.lemmas.Bool.Decides.{nat_tests}
 use Rattle.std.proofs.lemmas.List.Sums.{sum_by-cons}
 use Rattle.std.specs.Prelude.{if◌then◌else◌, nat_lt, count_by}
-use Rattle.cacache_disk.specs.declared.luck.Luck.{Luck}
-use Rattle.cacache_table.specs.declared.reply.Reply.{Reply}
 use Rattle.cacache_history.specs.declared.record.Record.{Record}
 use Rattle.cacache_history.specs.declared.record.Record.TheVariants.{Began, Moved, Stopped}
 use Rattle.cacache_history.specs.Setup.{Setup}
-use Rattle.cacache_history.specs.History.{History, Call, Made, Now, IsLegal, Legal, now_after, initial, set_call}
+use Rattle.cacache_history.specs.History.{History, Call, Now, IsLegal, Legal, now_after, initial, set_call}
 use Rattle.cacache_shared.specs.Lines.{caller_of, is_record_of, records_of, is_move_of, moves_of}
 use Rattle.cacache_shared.specs.Seats.{Taken, fresh_seat, fresh_seats}
 

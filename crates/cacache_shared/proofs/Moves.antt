@@ -1,5 +1,5 @@
 -- What the events of a world add to its records.
-use Rattle.std.proofs.Common.{◌≡◌, ℕ, ◌+◌, List, ◌∙◌, ap, length, subst, sym}
+use Rattle.std.proofs.Common.{◌≡◌, ℕ, ◌+◌, ◌∙◌, ap, length, subst, sym}
 use Rattle.std.proofs.lemmas.List.{length_push}
 use Rattle.cacache_disk.specs.declared.luck.Luck.{Luck}
 use Rattle.cacache_history.specs.declared.record.Record.{Record}

@@ -6,6 +6,7 @@ mod blank;
 mod closing;
 mod counting;
 mod inside;
+mod laws;
 mod lines;
 mod listing;
 mod outcome;
@@ -16,6 +17,7 @@ mod storming;
 mod turns;
 
 pub use blank::Blank;
+pub use laws::seat_laws;
 pub use outcome::{Storm, StormFault};
 pub use seat::{Seat, Went};
 pub use shared::SharedWorld;

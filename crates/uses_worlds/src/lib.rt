@@ -2,10 +2,13 @@
 //!
 //! - [`survives`] says what is read after a loss of power.
 //! - [`put_then_get`], [`one_of_two`], [`crash_safe`] and [`readers_never_lie`] say what many callers see of one cache, of each world.
+//! - [`close_after_reads`] says what threads that shared a world were answered.
 #![tactic(auto)]
 
 mod losing;
+mod threads;
 mod worlds;
 
 pub use losing::survives;
+pub use threads::close_after_reads;
 pub use worlds::{crash_safe, one_of_two, put_then_get, readers_never_lie};

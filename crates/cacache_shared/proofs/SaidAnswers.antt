@@ -1,0 +1,107 @@
+-- What a command promises of its reply, it promises of what both say: no promise looks at a JSON value.
+use Rattle.std.proofs.Common.{◌≡◌, List, Option, Result}
+use Rattle.cacache_core.specs.declared.errors.Error.{Error}
+use Rattle.cacache_entry.specs.Latest.{Found}
+use Rattle.cacache_table.specs.declared.command.Command.{Command}
+use Rattle.cacache_table.specs.declared.command.Command.TheVariants as commands
+use Rattle.cacache_table.specs.declared.command.Source.TheVariants as sources
+use Rattle.cacache_table.specs.declared.command.How.{How}
+use Rattle.cacache_table.specs.declared.command.How.TheVariants.{Copy, Reflink, HardLink}
+use Rattle.cacache_table.specs.declared.reply.Reply.{Reply}
+use Rattle.cacache_table.specs.declared.reply.Reply.TheVariants.{Stored, Read, LookedUp, Exists, Copied, Listed, Done, Refused}
+use Rattle.cacache_table.specs.State.{Site}
+use Rattle.cacache_table.specs.Promises.{Answers, Exports}
+use Rattle.cacache_table.specs.Runs.{plain_reply}
+use Rattle.cacache_agree.specs.Said.{said_command, said_reply}
+
+-- ---- another found entry, or another listing
+
+no_found : {X : Type 0} (how : How) (f : Option Found) → Exports how (LookedUp f) → X
+no_found Copy f h = absurd h
+no_found Reflink f h = let no : LookedUp f ≡ Done = h in absurd cc
+no_found HardLink f h = let no : LookedUp f ≡ Done = h in absurd cc
+
+found_kept : (site : Site) (c : Command) (f g : Option Found) → Answers site c (LookedUp f) → Answers site c (LookedUp g)
+found_kept site (commands.Put p) f g h = absurd h
+found_kept site (commands.Link l) f g h = absurd h
+found_kept site (commands.Insert i) f g h = let no : LookedUp f ≡ Stored _ = h in absurd cc
+found_kept site (commands.Delete d) f g h = let no : LookedUp f ≡ Done = h in absurd cc
+found_kept site (commands.Find key) f g h = tt
+found_kept site (commands.Get key) f g h = absurd h
+found_kept site (commands.GetHash i) f g h = absurd h
+found_kept site (commands.Exists i) f g h = absurd h
+found_kept site commands.Ls f g h = absurd h
+found_kept site (commands.Export (sources.Key key) e) f g h = no_found e.how f h
+found_kept site (commands.Export (sources.Hash i) e) f g h = no_found e.how f h.0
+found_kept site (commands.RemoveHash i) f g h = let no : LookedUp f ≡ Done = h in absurd cc
+found_kept site (commands.RemoveFully key) f g h = let no : LookedUp f ≡ Done = h in absurd cc
+found_kept site commands.Clear f g h = let no : LookedUp f ≡ Done = h in absurd cc
+
+abbrev Items : Type 0
+Items = List (Result Found Error)
+
+no_items : {X : Type 0} (how : How) (l : Items) → Exports how (Listed l) → X
+no_items Copy l h = absurd h
+no_items Reflink l h = let no : Listed l ≡ Done = h in absurd cc
+no_items HardLink l h = let no : Listed l ≡ Done = h in absurd cc
+
+items_kept : (site : Site) (c : Command) (l m : Items) → Answers site c (Listed l) → Answers site c (Listed m)
+items_kept site (commands.Put p) l m h = absurd h
+items_kept site (commands.Link k) l m h = absurd h
+items_kept site (commands.Insert i) l m h = let no : Listed l ≡ Stored _ = h in absurd cc
+items_kept site (commands.Delete d) l m h = let no : Listed l ≡ Done = h in absurd cc
+items_kept site (commands.Find key) l m h = absurd h
+items_kept site (commands.Get key) l m h = absurd h
+items_kept site (commands.GetHash i) l m h = absurd h
+items_kept site (commands.Exists i) l m h = absurd h
+items_kept site commands.Ls l m h = tt
+items_kept site (commands.Export (sources.Key key) e) l m h = no_items e.how l h
+items_kept site (commands.Export (sources.Hash i) e) l m h = no_items e.how l h.0
+items_kept site (commands.RemoveHash i) l m h = let no : Listed l ≡ Done = h in absurd cc
+items_kept site (commands.RemoveFully key) l m h = let no : Listed l ≡ Done = h in absurd cc
+items_kept site commands.Clear l m h = let no : Listed l ≡ Done = h in absurd cc
+
+-- ---- what both say
+
+reply_said : (site : Site) (c : Command) (r : Reply) → Answers site c (plain_reply r) → Answers site c (plain_reply (said_reply r))
+reply_said site c (Stored i) h = h
+reply_said site c (Read bytes) h = h
+reply_said site c (LookedUp f) h = found_kept site c f _ h
+reply_said site c (Exists there) h = h
+reply_said site c (Copied n) h = h
+reply_said site c (Listed items) h = items_kept site c _ _ h
+reply_said site c Done h = h
+reply_said site c (Refused e) h = h
+
+command_said : (site : Site) (c : Command) (r : Reply) → Answers site c r → Answers site (said_command c) r
+command_said site (commands.Put p) (Stored i) h = (h.0, record { integrity = h.1.integrity; size = h.1.size })
+command_said site (commands.Put p) (Refused e) h = h
+command_said site (commands.Put p) (Read bytes) h = h
+command_said site (commands.Put p) (LookedUp f) h = h
+command_said site (commands.Put p) (Exists there) h = h
+command_said site (commands.Put p) (Copied n) h = h
+command_said site (commands.Put p) (Listed items) h = h
+command_said site (commands.Put p) Done h = h
+command_said site (commands.Link l) (Stored i) h = (h.0, (h.1.0, (h.1.1.0, record { integrity = h.1.1.1.integrity; size = h.1.1.1.size })))
+command_said site (commands.Link l) (Refused e) h = h
+command_said site (commands.Link l) (Read bytes) h = h
+command_said site (commands.Link l) (LookedUp f) h = h
+command_said site (commands.Link l) (Exists there) h = h
+command_said site (commands.Link l) (Copied n) h = h
+command_said site (commands.Link l) (Listed items) h = h
+command_said site (commands.Link l) Done h = h
+command_said site (commands.Insert i) r h = h
+command_said site (commands.Delete d) r h = h
+command_said site (commands.Find key) r h = h
+command_said site (commands.Get key) r h = h
+command_said site (commands.GetHash i) r h = h
+command_said site (commands.Exists i) r h = h
+command_said site commands.Ls r h = h
+command_said site (commands.Export (sources.Key key) e) r h = h
+command_said site (commands.Export (sources.Hash i) e) r h = h
+command_said site (commands.RemoveHash i) r h = h
+command_said site (commands.RemoveFully key) r h = h
+command_said site commands.Clear r h = h
+
+pub said_answers : (site : Site) (c : Command) (r : Reply) → Answers site c (plain_reply r) → Answers site (said_command c) (plain_reply (said_reply r))
+said_answers site c r h = command_said site c (plain_reply (said_reply r)) (reply_said site c r h)
