@@ -109,7 +109,7 @@ ends h caller c luck made reply records call same given more =
 
 -- ---- the records of a legal history
 
-same_command : (t : Tree) (luck : Luck) (made : Option Made) (call : Call) → (call_after t luck made call).command ≡ call.command
+pub same_command : (t : Tree) (luck : Luck) (made : Option Made) (call : Call) → (call_after t luck made call).command ≡ call.command
 same_command t luck None call = refl
 same_command t luck (Some made) call = refl
 

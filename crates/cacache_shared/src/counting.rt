@@ -31,7 +31,7 @@ fn count_moves(lines: &[Record]) -> usize
 }
 
 /// How many moves a world has.
-fn all_moves(world: &World) -> u64
+pub(crate) fn all_moves(world: &World) -> u64
     ensures { result ≡ moves world.now.records }
 {
     count_moves(world.history()) as u64

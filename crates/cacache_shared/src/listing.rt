@@ -1,4 +1,7 @@
 //! How many entries a world lists.
+ghost use Rattle.std.specs.Prelude.{◌≡◌, IfOk, length};
+ghost use Rattle.cacache_shared.specs.Storms.{HasItems, IsListed, ListsEntries};
+
 use crate::outcome::StormFault;
 use cacache_core::keeping::let_go;
 use cacache_disk::Luck;
@@ -6,15 +9,21 @@ use cacache_table::{Command, Items, Reply};
 use cacache_world::{Move, World};
 
 /// How many entries the world lists, asked by its first caller.
-pub(crate) fn live_entries(world: World) -> Result<u64, StormFault> {
+pub(crate) fn live_entries(world: World) -> Result<u64, StormFault>
+    ensures { IfOk result (λ n. ListsEntries world n) }
+{
     let mut world = world;
     let listed = list(&mut world);
+    world.stands();
     let_go(world);
     count_entries(listed?)
 }
 
 /// The reply of a listing that no step of another caller comes between.
-fn list(world: &mut World) -> Result<Reply, StormFault> {
+#[tactic(auto, using(crate::proofs::Storms::listing_begins))]
+fn list(world: &mut World) -> Result<Reply, StormFault>
+    ensures { IfOk result (λ reply. IsListed world.old reply world.new) }
+{
     world.begin(0, Command::Ls)?;
     for _ in 0..u64::MAX {
         match world.move_one(0, Luck::Plain)? {
@@ -26,7 +35,9 @@ fn list(world: &mut World) -> Result<Reply, StormFault> {
 }
 
 /// How many entries a listing has.
-fn count_entries(reply: Reply) -> Result<u64, StormFault> {
+fn count_entries(reply: Reply) -> Result<u64, StormFault>
+    ensures { IfOk result (λ n. HasItems reply n) }
+{
     match reply {
         Reply::Listed(items) => count_of(&items),
         Reply::Refused(error) => Err(StormFault::Failed(error)),
@@ -38,7 +49,9 @@ fn count_entries(reply: Reply) -> Result<u64, StormFault> {
 }
 
 /// How many items there are, if each is an entry.
-fn count_of(items: &Items) -> Result<u64, StormFault> {
+fn count_of(items: &Items) -> Result<u64, StormFault>
+    ensures { IfOk result (λ n. n ≡ length items.now) }
+{
     for item in items.as_slice() {
         if item.is_err() {
             return Err(StormFault::Mismatch);

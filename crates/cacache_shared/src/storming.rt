@@ -1,13 +1,13 @@
 //! Many threads at one world, a seat each.
-ghost use Rattle.std.specs.Prelude.{◌≡◌, ◌<◌, Err};
-ghost use Rattle.cacache_shared.specs.Storms.{IsOutOfRange};
+ghost use Rattle.std.specs.Prelude.{◌≡◌, ◌<◌, Err, IfOk};
+ghost use Rattle.cacache_shared.specs.Storms.{IsCounted, IsOutOfRange};
 ghost use Rattle.cacache_shared.specs.declared.outcome.StormFault.TheVariants.{Count};
 
 use crate::blank::Blank;
+use crate::counting::all_moves;
 use crate::listing::live_entries;
 use crate::outcome::{Storm, StormFault};
 use crate::running::{run_all, seats_of};
-use crate::seat::Seat;
 use crate::shared::SharedWorld;
 use cacache_core::text::Text;
 use cacache_jobs::Gate;
@@ -44,6 +44,7 @@ pub fn storm<R: Threads + Wait + Clock + AllocGlobal + Sync, G: Gate + Sync>(
     gate: &G,
 ) -> Result<Storm, StormFault>
     ensures count { IsOutOfRange threads keys → result ≡ Err Count }
+    ensures counted { IfOk result IsCounted }
 {
     if threads == 0 || threads > MOST_THREADS || keys == 0 || keys > MOST_KEYS {
         return Err(StormFault::Count);
@@ -67,25 +68,18 @@ fn storm_in<L: Ledger + Send + Sync, R: Threads + Wait + Clock + Sync, G: Gate +
     requires parts { blank.parts ≡ L.parts }
     requires each { blank.parts ≡ world.setup.callers }
     requires some { 0 < blank.parts }
+    ensures { IfOk result IsCounted }
 {
     let Ok((shared, seats)) = SharedWorld::<L>::new(Blank::new(blank), world) else {
         return Err(StormFault::World(WorldFault::OutOfMemory));
     };
     let ended = run_all(rt, alloc, &shared, seats, keys, gate)?;
     let seats = seats_of(alloc, ended)?;
-    let moves = count_moves(seats.as_slice());
     let Ok(world) = shared.close(seats) else {
         return Err(StormFault::Mismatch);
     };
+    world.stands();
+    let moves = all_moves(&world);
     let live = live_entries(world)?;
     Ok(Storm { moves, live })
-}
-
-/// How many moves the seats count.
-fn count_moves<L: Ledger>(seats: &[Seat<L>]) -> u64 {
-    let mut moves: u64 = 0;
-    for seat in seats {
-        moves = moves.saturating_add(seat.count());
-    }
-    moves
 }
