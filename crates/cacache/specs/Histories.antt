@@ -6,6 +6,7 @@ pub use Rattle.cacache_disk.specs.Tree.{Tree}
 pub use Rattle.cacache_entry.specs.Latest.{NoneAnswers}
 pub use Rattle.cacache_table.specs.declared.command.Command.{Command}
 pub use Rattle.cacache_table.specs.declared.command.Put.{Put}
+pub use Rattle.cacache_table.specs.Promises.{Answers}
 pub use Rattle.cacache_table.specs.Storing.{put_commit}
 pub use Rattle.cacache_value.specs.Acts.{PutBytes}
 pub use Rattle.cacache_loss.specs.declared.loss.Loss.{Loss}

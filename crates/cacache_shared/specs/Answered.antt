@@ -10,7 +10,7 @@ use Rattle.cacache_history.specs.declared.record.Record.{Record}
 use Rattle.cacache_history.specs.declared.record.Record.TheVariants.{Began, Moved, Stopped}
 use Rattle.cacache_history.specs.Setup.{call_site}
 use Rattle.cacache_history.specs.History.{History, Call, IsLegal, Reaches, now_at}
-use Rattle.cacache_agree.specs.Said.{said_command, said_reply}
+pub use Rattle.cacache_agree.specs.Said.{said_command, said_reply}
 use Rattle.cacache_shared.specs.Seats.{Taken, SeatAgrees}
 
 -- ---- in the records

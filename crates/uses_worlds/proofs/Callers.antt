@@ -1,5 +1,5 @@
 -- What a user says of many callers follows from the laws of places.
-use Rattle.std.proofs.Common.{◌≡◌, ◌⊎◌, inl, inr, ◌<◌, ◌≤◌, ℕ, suc, List, [], ◌∷◌, Option, None, Some, slice_get, refl, sym, ap, subst, ◌∙◌, arith}
+use Rattle.std.proofs.Common.{◌≡◌, ◌⊎◌, inl, inr, ℕ, suc, List, [], ◌∷◌, Option, None, Some, slice_get, sym, ap, subst, ◌∙◌, arith}
 use Rattle.cacache.specs.Entries.{Found}
 use Rattle.cacache.specs.Histories.{Call, FoundOfPuts, Headline, History, IsCase, MetDigestsAreSame, MoveAt, Moved, Put, SparesKey, call_site, found_of_put, now_before}
 use Rattle.cacache.specs.Integrities.{Meets}

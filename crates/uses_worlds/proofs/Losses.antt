@@ -1,9 +1,8 @@
 -- What a user says of a loss of power follows from the laws of what it leaves.
-use Rattle.std.proofs.Common.{◌≡◌, inl, inr, ℕ, List, None, Some, Vec, Global, Result, Ok, Err, refl, sym, ap, subst, ◌∙◌}
+use Rattle.std.proofs.Common.{inl, inr, ℕ, List, Vec, Global, Result, Ok, Err, refl, ap, ◌∙◌}
 use Rattle.cacache.specs.Calls.{Error}
-use Rattle.cacache.specs.Entries.{Entry}
-use Rattle.cacache.specs.Histories.{FewCalls, History, IsStanding, LeadsToDigest, LeftBy, LeftRead, Loss, LossesLeaveLast, LossesLeavePuts, LossesLeaveStanding, NoneAnswers, Outlives, Put, Tree, chosen, digest}
-use Rattle.cacache.specs.Laws.{GivesJust, IsExcused, OutOfMemory, tree_of}
+use Rattle.cacache.specs.Histories.{FewCalls, History, IsStanding, LeadsToDigest, LeftBy, LeftRead, Loss, LossesLeaveLast, LossesLeavePuts, LossesLeaveStanding, Outlives, Put, chosen, digest}
+use Rattle.cacache.specs.Laws.{OutOfMemory, tree_of}
 use Rattle.cacache.specs.Stores.{LogItem}
 use Rattle.uses_worlds.specs.Losses.{GivesPut, Survives, SurvivesAlone}
 

@@ -6,9 +6,9 @@
 #![tactic(auto)]
 
 mod losing;
-mod threads;
+mod sharing;
 mod worlds;
 
 pub use losing::survives;
-pub use threads::close_after_reads;
+pub use sharing::close_after_reads;
 pub use worlds::{crash_safe, one_of_two, put_then_get, readers_never_lie};
