@@ -136,7 +136,12 @@ module _ (h : History) (legal : IsLegal h) (caller : ℕ) where
   is_given before records c luck made reply call is has =
       let last : Call = call_after (now_at h before).tree luck made call in
       let reaches : Reaches h last (Some reply) = record {
-        before = before; later = records; caller = c; luck = luck; made = made; is = is;
+        before = before;
+        later = records;
+        caller = c;
+        luck = luck;
+        made = made;
+        is = is;
         stands = ap (option_map (call_after (now_at h before).tree luck made)) has;
       } in
       let same : last.command ≡ call.command = same_command (now_at h before).tree luck made call in
@@ -150,7 +155,7 @@ module _ (h : History) (legal : IsLegal h) (caller : ℕ) where
           | inl lost ↦ inl (ap said_reply lost)
           | inr run ↦ inr (said_answers (call_site h.setup last.number) call.command reply
               (subst (λ k. Answers (call_site h.setup last.number) k (plain_reply reply)) same
-                  (calls_answer (call_site h.setup last.number) last.command (made_in last.turns) (plain_reply reply) run)))
+              (calls_answer (call_site h.setup last.number) last.command (made_in last.turns) (plain_reply reply) run)))
         ];
       }
 
@@ -163,20 +168,20 @@ module _ (h : History) (legal : IsLegal h) (caller : ℕ) where
       → (own : Option Call) → (now_at h before).calls caller ≡ own → Later before r records → GoOn h caller (r ∷ records) own
   mine before records (Began c command) is same None has later =
       begins h caller c command records (new_call h.setup (now_at h before).begun command) same refl
-          (later (Some (new_call h.setup (now_at h before).begun command)) (set_own caller c _ (now_at h before).calls same))
+      (later (Some (new_call h.setup (now_at h before).begun command)) (set_own caller c _ (now_at h before).calls same))
   mine before records (Began c command) is same (Some call) has later =
       let idle = (legal_after h legal before (Began c command ∷ records) is).0.1 in
       let no : None ≡ Some call = sym idle ∙ ap (now_at h before).calls (eqb-true c caller same) ∙ has in absurd cc
   mine before records (Moved c luck made None) is same (Some call) has later =
       let own : (now_at h before).calls c ≡ Some call = ap (now_at h before).calls (eqb-true c caller same) ∙ has in
       goes_on h caller c luck made records call (call_after (now_at h before).tree luck made call) same
-          (same_command (now_at h before).tree luck made call)
-          (later (Some (call_after (now_at h before).tree luck made call))
-              (set_own caller c _ (now_at h before).calls same ∙ ap (option_map (call_after (now_at h before).tree luck made)) own))
+      (same_command (now_at h before).tree luck made call)
+      (later (Some (call_after (now_at h before).tree luck made call))
+      (set_own caller c _ (now_at h before).calls same ∙ ap (option_map (call_after (now_at h before).tree luck made)) own))
   mine before records (Moved c luck made (Some reply)) is same (Some call) has later =
       let own : (now_at h before).calls c ≡ Some call = ap (now_at h before).calls (eqb-true c caller same) ∙ has in
       ends h caller c luck made reply records call same (is_given before records c luck made reply call is own)
-          (later None (set_own caller c None (now_at h before).calls same))
+      (later None (set_own caller c None (now_at h before).calls same))
   mine before records (Moved c luck made reply) is same None has later =
       let may = (legal_after h legal before (Moved c luck made reply ∷ records) is).0 in
       let no : None ≡ Some may.0 = sym has ∙ ap (now_at h before).calls (sym (eqb-true c caller same)) ∙ may.1 in absurd cc
@@ -192,7 +197,7 @@ module _ (h : History) (legal : IsLegal h) (caller : ℕ) where
   goes before [] is (Some call) has = record { replies = refl; given = (tt, tt) }
   goes before (r ∷ records) is own has =
       by (caller_of r == caller) refl (λ own has. goes (before ++ r ∷ []) records (is ∙ sym (append_assoc before (r ∷ []) records)) own
-          (ap (λ w. w.calls caller) (replay_more h.setup (initial h.setup) before (r ∷ [])) ∙ has))
+      (ap (λ w. w.calls caller) (replay_more h.setup (initial h.setup) before (r ∷ [])) ∙ has))
     where
       by : (b : Bool) → (caller_of r == caller) ≡ b → Later before r records → GoOn h caller (r ∷ records) own
       by true same later = mine before records r is same own has later

@@ -48,7 +48,12 @@ listing_ends h w w' luck reply l m =
       call = call_after (last w).tree luck m.0 l.call;
       is = same_command (last w).tree luck m.0 l.call ∙ l.is;
       reaches = record {
-        before = w.records; later = []; caller = 0; luck = luck; made = m.0; is = refl;
+        before = w.records;
+        later = [];
+        caller = 0;
+        luck = luck;
+        made = m.0;
+        is = refl;
         stands = ap (option_map (call_after (last w).tree luck m.0)) l.has;
       };
     })

@@ -35,7 +35,7 @@ answered_in caller [] = []
 answered_in caller (Began c command ∷ records) =
     if c == caller
     then (said_command command, option_map said_reply (own_reply caller records))
-        ∷ answered_in caller records
+    ∷ answered_in caller records
     else answered_in caller records
 answered_in caller (Moved c luck made reply ∷ records) = answered_in caller records
 answered_in caller (Stopped c ∷ records) = answered_in caller records
