@@ -42,23 +42,24 @@ pub(crate) fn export_from<F: FileHandle, T: TempHandle>(
 ) -> errors::Result<Phase<F, T>>
     ensures { Leads F.seen T.seen result (export_from_of how from to verified) }
 {
-    let source = from.clone()?;
-    let target = to.clone()?;
-    let (stage, step) = match how {
-        How::Copy => (
+    let source: Result<_, _> = from.clone();
+    let (source, (from, to)) = beside(source, (from, to))?;
+    let target: Result<_, _> = to.clone();
+    let (target, (from, to, source)) = beside(target, (from, to, source))?;
+    Ok(match how {
+        How::Copy => Phase::Wanting(
             Stage::Copying(from, to, verified),
             Step::Copy(source, target),
         ),
-        How::Reflink => (
+        How::Reflink => Phase::Wanting(
             Stage::Doing(Then::Finish(Last::Reflink(from, to))),
             Step::Reflink(source, target),
         ),
-        How::HardLink => (
+        How::HardLink => Phase::Wanting(
             Stage::Doing(Then::Finish(Last::HardLink(from, to))),
             Step::HardLink(source, target),
         ),
-    };
-    Ok(Phase::Wanting(stage, step))
+    })
 }
 
 /// After the content was to be copied; the count that was verified is answered, and else the copy's own.

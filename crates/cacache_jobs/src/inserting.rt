@@ -254,9 +254,8 @@ pub(crate) fn begin_insertion<F: FileHandle, T: TempHandle>(
 ) -> errors::Result<Phase<F, T>>
     ensures { Leads F.seen T.seen result (insert_of (insertion_of cache.now insert_)) }
 {
-    let (cache, insert_) = beside(Text::from_str(alloc, cache), insert_)?;
     let text = text_of(alloc, &insert_.options.integrity);
-    let (text, (cache, insert_)) = beside(text, (cache, insert_))?;
+    let (text, insert_) = beside(text, insert_)?;
     let Insert {
         key,
         moment,
@@ -273,8 +272,9 @@ pub(crate) fn begin_insertion<F: FileHandle, T: TempHandle>(
     let size = size.unwrap_or(0);
     let key = key.into_string();
     let entry = entry_of(alloc, key, text, size, moment, metadata, raw_metadata);
-    let (entry, (cache, integrity)) = beside(entry, (cache, integrity))?;
-    let (answered, (cache, entry)) = beside(integrity_to_answer(alloc, integrity), (cache, entry))?;
+    let (entry, integrity) = beside(entry, integrity)?;
+    let (answered, entry) = beside(integrity_to_answer(alloc, integrity), entry)?;
+    let (cache, (entry, answered)) = beside(Text::from_str(alloc, cache), (entry, answered))?;
     insert(alloc, cache, entry, durable, Some(answered))
 }
 
@@ -286,10 +286,10 @@ pub(crate) fn begin_deletion<F: FileHandle, T: TempHandle>(
 ) -> errors::Result<Phase<F, T>>
     ensures { Leads F.seen T.seen result (insert_of (deletion_of cache.now delete)) }
 {
-    let cache = Text::from_str(alloc, cache)?;
     let null = Json::new(Value::Null);
     let Delete { key, moment } = delete;
     let key = key.into_string();
     let entry = entry_of(alloc, key, None, 0, moment, null, None)?;
+    let (cache, entry) = beside(Text::from_str(alloc, cache), entry)?;
     insert(alloc, cache, entry, false, None)
 }

@@ -18,6 +18,7 @@ use crate::stage::{Stage, Then};
 use cacache_core::errors;
 use cacache_core::hasher::Hasher;
 use cacache_core::integrity::Integrity;
+use cacache_core::keeping::beside;
 use cacache_core::paths::Place;
 use cacache_core::text::Text;
 use cacache_store::store::{Answer, FileHandle, Step, TempHandle};
@@ -45,9 +46,9 @@ pub(crate) fn link<F: FileHandle, T: TempHandle>(
 ) -> errors::Result<Phase<F, T>>
     ensures { Leads F.seen T.seen result (link_of commit target) }
 {
+    let (commit, target) = beside(Box::new(alloc, commit), target)?;
     let place = content_place(alloc, commit.cache.as_str(), &commit.computed)?;
     let Place { folder, path } = place;
-    let commit = Box::new(alloc, commit)?;
     Ok(Phase::Wanting(
         Stage::Doing(Then::Symlink(commit, target, path)),
         Step::MakeDirs(folder),
@@ -70,8 +71,8 @@ pub(crate) fn start<F: FileHandle, T: TempHandle>(
         options,
     } = link;
     let target = Target::new(alloc, base, cache, key, target, moment, options)?;
-    let asked = target.path.clone()?;
     let target = Box::new(alloc, target)?;
+    let asked = target.path.clone()?;
     Ok(Phase::Wanting(Stage::Sizing(target), Step::Size(asked)))
 }
 

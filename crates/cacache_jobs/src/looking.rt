@@ -119,6 +119,7 @@ pub(crate) fn after_bucket_read<F: FileHandle, T: TempHandle>(
     match bytes {
         Ok(bytes) => {
             let entry = entry_in(alloc, &lookup, bytes.as_slice());
+            let_go(bytes);
             let (entry, lookup) = beside(entry, lookup)?;
             match entry {
                 Some(entry) => go_on_with_entry(alloc, lookup, entry),
@@ -128,6 +129,7 @@ pub(crate) fn after_bucket_read<F: FileHandle, T: TempHandle>(
         Err(Refusal::Fault(Fault::NotFound)) => go_on_without_entry(alloc, lookup),
         Err(refusal) => {
             let message = messages::looking(alloc, lookup.cache.as_str(), lookup.key.as_str());
+            let_go(lookup);
             Err(refused(refusal, message))
         }
     }

@@ -277,12 +277,19 @@ pub(crate) fn after_arrival<F: FileHandle, T: TempHandle>(
         (go_on done (confirming commit.value) (λ _. secured_of commit.value)) }
 {
     match done {
-        Ok(()) => secure(alloc, commit),
+        Ok(()) => {
+            let_go(target);
+            secure(alloc, commit)
+        }
         Err(Refusal::Fault(fault)) => {
-            let path = content_path(alloc, commit.cache.as_str(), &commit.computed)?;
+            let path = content_path(alloc, commit.cache.as_str(), &commit.computed);
+            let (path, (commit, target)) = beside(path, (commit, target))?;
             Ok(Phase::Wanting(Stage::Confirming(commit, target, fault), Step::Exists(path)))
         }
-        Err(Refusal::Memory) => Err(Error::OutOfMemory),
+        Err(Refusal::Memory) => {
+            let_go((commit, target));
+            Err(Error::OutOfMemory)
+        }
     }
 }
 
@@ -343,9 +350,11 @@ fn index<F: FileHandle, T: TempHandle>(alloc: Global, commit: Commit) -> errors:
         moment,
         metadata,
         raw_metadata,
-    )?;
+    );
+    let (entry, (cache, integrity)) = beside(entry, (cache, integrity))?;
     insert(alloc, cache, entry, durable, Some(integrity))
 }
+
 /// The content is at its place: what was said of it is compared, the integrity first.
 pub(crate) fn compare_and_index<F: FileHandle, T: TempHandle>(
     alloc: Global,
