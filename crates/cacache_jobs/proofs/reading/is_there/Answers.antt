@@ -1,0 +1,1 @@
+-- No answers are needed here.
