@@ -32,7 +32,7 @@ fn message(alloc: Global) -> std::result::Result<Text, AllocError> {
     Text::from_str(alloc, "Error while polling cache contents")
 }
 
-impl<'a, S, C, N, K: Call<S, C, N>> CallFuture<'a, S, C, N, K> {
+impl<'a, S, C, N, K> CallFuture<'a, S, C, N, K> {
     /// The future of the call in this environment.
     pub fn new(env: &'a mut Env<S, C, N>, call: K) -> CallFuture<'a, S, C, N, K>
         ensures { Waits result env.entry call }
