@@ -35,6 +35,7 @@ mod whole;
 use again::ask_to_write;
 use answers::{created, moved, readable, synced};
 use cacache_core::bytes::Bytes;
+use cacache_core::keeping::let_go;
 use cacache_store::store::{Answer, Step, Store};
 use cacache_system::{Host, System};
 use copying::copy;
@@ -238,7 +239,10 @@ impl<Y: System + AllocGlobal + Clone + Drop> Store for SystemStore<Y> {
             }
             Step::Read(file, max) => self.read_file(file, max),
             step => match self.do_by_path(&step) {
-                Ok(answer) => answer,
+                Ok(answer) => {
+                    let_go(step);
+                    answer
+                }
                 Err(error) => failed_answer(error, step, &mut self.reason),
             },
         }
