@@ -3,7 +3,7 @@ use Rattle.std.proofs.Common.{◌≡◌, Some, ◌+◌, ◌-◌, ◌^◌, ◌<�
 use Rattle.std.specs.Prelude.{min}
 use Rattle.std.specs.List.{sum}
 use Rattle.std.proofs.lemmas.List.Sums.{sum_by-append}
-use Rattle.std.proofs.lemmas.List.{drop_more, map-append, take-append-drop, take_more}
+use Rattle.std.proofs.lemmas.List.{drop_more, length-map, map-append, take-append-drop, take_more}
 use Rattle.cacache_core.specs.declared.errors.Error.{Error}
 use Rattle.cacache_core.specs.declared.errors.Error.TheVariants.{OutOfMemory}
 use Rattle.cacache_core.specs.declared.errors.Fault.TheVariants.{NotFound}
@@ -154,3 +154,7 @@ lost_before folder files k bytes file old mid below is so = next_kept folder fil
 pub lost_first : (folder : List ℕ) (files : List Name) (log : Option (List LogItem)) → StopsSized folder files OutOfMemory log log
 lost_first folder [] log = record { removed = []; rest = []; split = refl; between = log; removing = no_gain log; stop = (refl, refl) }
 lost_first folder (n ∷ files) log = record { removed = []; rest = n ∷ files; split = refl; between = log; removing = no_gain log; stop = inl (inl refl) }
+
+-- as many files were removed as there are
+pub counted_all : (count : ℕ) (removed : List (Name × ℕ)) (files : List Name) → count ≡ length files → map (λ r. r.0) removed ≡ files → count ≡ length removed
+counted_all count removed files is each = is ∙ ap (λ (xs : List Name). length xs) (sym each) ∙ length-map removed (λ r. r.0)

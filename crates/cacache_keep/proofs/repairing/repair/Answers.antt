@@ -86,3 +86,43 @@ returns-in_err-dangling-2-clause-stops g c =
     } in
     error_as (λ x. StopsRepairing site x (log c.args.env.now.store) new) c.from_residual-in_err-dangling-2.result e c.from_residual-in_err-dangling-2.ensures.1
     (inr (clean, drops, inr (entries, dangling, listed, asked, lists, asks, stop)))
+
+pub returns-in_err-addresses-clause-stops : goal.returns-in_err-addresses-clause-stops
+returns-in_err-addresses-clause-stops g c =
+    error_as (λ x. StopsRepairing (site_of c.args.cache.now c.args.env.now.base 0) x (g.S.Store.log c.args.env.now.store) (g.S.Store.log c.list.new.env.store)) c.from_residual.result c.in_err-addresses.field-0.0 c.from_residual.ensures.1
+    (inl (inl c.in_err-addresses.ensures.stops))
+
+pub returns-in_err-damaged-clause-stops : goal.returns-in_err-damaged-clause-stops
+returns-in_err-damaged-clause-stops g c =
+    let log = g.S.Store.log in
+    error_as (λ x. StopsRepairing (site_of c.args.cache.now c.args.env.now.base 0) x (log c.args.env.now.store) (log c.read_each.new.store)) c.from_residual-in_err-damaged.result c.in_err-damaged.field-0.0 c.from_residual-in_err-damaged.ensures.1
+    (inl (inr (c.in_ok-addresses.field-0.addresses.items, map string_bytes c.in_ok-addresses.field-0.strange.items, log c.list.new.env.store, c.in_ok-addresses.ensures.lists, inl c.in_err-damaged.ensures.stops)))
+
+pub returns-in_err-entries-clause-stops : goal.returns-in_err-entries-clause-stops
+returns-in_err-entries-clause-stops g c =
+    let cache = c.args.cache.now in
+    let base = c.args.env.now.base in
+    let site = site_of cache base 0 in
+    let log = g.S.Store.log in
+    let read = log c.read_each.new.store in
+    let clean = log c.remove_each.new.env.store in
+    let new = log c.entries.new.env.store in
+    let e = c.in_err-entries.field-0.0 in
+    let damaged = c.in_ok-damaged.field-0.damaged.items in
+    let behind = c.remove_each.ensures.rest.2 ∙ c.list.ensures.base in
+    let removals : MadeCalls (site_of cache c.list.new.env.base 0) (map removal damaged) read clean = search (rules, c.in_ok-remove_each.ensures.removes) in
+    let removing = at_base (λ s. MadeCalls s (map removal damaged) read clean) cache base c.list.new.env.base c.list.ensures.base removals in
+    let stop = at_base (λ s. StopsReading s e clean new) cache base c.remove_each.new.env.base behind c.in_err-entries.ensures.stops in
+    let drops : DropsDamaged site (log c.args.env.now.store) clean = record {
+      addresses = c.in_ok-addresses.field-0.addresses.items;
+      strange = map string_bytes c.in_ok-addresses.field-0.strange.items;
+      found = log c.list.new.env.store;
+      contents = c.in_ok-addresses.ensures.lists;
+      good = _;
+      damaged = damaged;
+      read = read;
+      reading = c.in_ok-damaged.ensures.reads.0;
+      removing = removing;
+    } in
+    error_as (λ x. StopsRepairing site x (log c.args.env.now.store) new) c.from_residual-in_err-entries.result e c.from_residual-in_err-entries.ensures.1
+    (inr (clean, drops, inl stop))

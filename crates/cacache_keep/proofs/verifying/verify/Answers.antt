@@ -74,3 +74,21 @@ returns-clause-verifies g c =
       asking = at_base (λ s. AsksEach s c.in_ok-entries.entries.items dangling listed new) cache base c.entries.new.env.base (c.entries.ensures.rest.2 ∙ c.list.ensures.base) c.in_ok-dangling.ensures.asks;
     } in
     (it, (w.1, w.2))
+
+pub returns-clause-clock : goal.returns-clause-clock
+returns-clause-clock g c = c.dangling_of.ensures.rest.0 ∙ c.entries.ensures.rest.0 ∙ c.list.ensures.clock
+
+pub returns-clause-names : goal.returns-clause-names
+returns-clause-names g c = c.dangling_of.ensures.rest.1 ∙ c.entries.ensures.rest.1 ∙ c.list.ensures.names
+
+pub returns-clause-base : goal.returns-clause-base
+returns-clause-base g c = c.dangling_of.ensures.rest.2 ∙ c.entries.ensures.rest.2 ∙ c.list.ensures.base
+
+pub returns-in_err-dangling-clause-clock : goal.returns-in_err-dangling-clause-clock
+returns-in_err-dangling-clause-clock g c = c.dangling_of.ensures.rest.0 ∙ c.entries.ensures.rest.0 ∙ c.list.ensures.clock
+
+pub returns-in_err-dangling-clause-names : goal.returns-in_err-dangling-clause-names
+returns-in_err-dangling-clause-names g c = c.dangling_of.ensures.rest.1 ∙ c.entries.ensures.rest.1 ∙ c.list.ensures.names
+
+pub returns-in_err-dangling-clause-base : goal.returns-in_err-dangling-clause-base
+returns-in_err-dangling-clause-base g c = c.dangling_of.ensures.rest.2 ∙ c.entries.ensures.rest.2 ∙ c.list.ensures.base

@@ -1,0 +1,26 @@
+use Rattle.std.proofs.Common.{false, List, ℕ, [], ◌∷◌, inl, inr, rules, subst}
+use Rattle.cacache_keep.specs.Buckets.{ListsParts, StopsFinding, StopsParts, index_area_in}
+use Rattle.cacache_keep.proofs.Stopped.{error_as}
+use Rattle.cacache_keep.proofs.buckets.buckets_of.Goals as goal
+
+pub returns-in_err-tops-clause-stops : goal.returns-in_err-tops-clause-stops
+returns-in_err-tops-clause-stops g c =
+    let log = g.S.Store.log in
+    let old = log c.args.store.now in
+    let new = log c.parts_below.new.store in
+    let e = c.in_err-tops.field-0.0 in
+    error_as (λ x. StopsFinding c.args.cache.now x old new) c.from_residual-in_err-tops.result e c.from_residual-in_err-tops.ensures.1
+    (inl (subst (λ (index : List ℕ). StopsParts (index ∷ []) e old new) c.in_ok-join.ensures c.in_err-tops.ensures.stops))
+
+pub returns-in_err-lows-clause-stops : goal.returns-in_err-lows-clause-stops
+returns-in_err-lows-clause-stops g c =
+    let log = g.S.Store.log in
+    let old = log c.args.store.now in
+    let one = log c.parts_below.new.store in
+    let new = log c.parts_below-2.new.store in
+    let tops = c.in_ok-tops.tops.items in
+    let e = c.in_err-lows.field-0.0 in
+    let lists = subst (λ (index : List ℕ). ListsParts false (index ∷ []) tops old one) c.in_ok-join.ensures c.in_ok-tops.ensures.lists in
+    let stop : StopsParts tops e one new = search (rules, c.in_err-lows.ensures.stops) in
+    error_as (λ x. StopsFinding c.args.cache.now x old new) c.from_residual-in_err-lows.result e c.from_residual-in_err-lows.ensures.1
+    (inr (tops, one, lists, inl stop))
