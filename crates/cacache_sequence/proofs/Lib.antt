@@ -67,4 +67,5 @@ pub mod SureClears
 pub mod SureWriters
 pub mod Unused
 pub mod SureStays
+pub mod SureFiles
 pub mod SureExports

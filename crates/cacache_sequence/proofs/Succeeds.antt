@@ -54,7 +54,7 @@ ground cache log home is standing = record {
 pub back : (cache : List ℕ) (home : Names) → names_of cache ≡ Ok home → (P : Option Names → Type 0) → P (Some home) → P (home_of cache)
 back cache home is P p = subst P (sym (home_is cache home is)) p
 
-either : {A B : Type 0} (r : Reply) → (A → B) → OrMemory A r → OrMemory B r
+pub either : {A B : Type 0} (r : Reply) → (A → B) → OrMemory A r → OrMemory B r
 either r f (inl e) = inl e
 either r f (inr a) = inr (f a)
 

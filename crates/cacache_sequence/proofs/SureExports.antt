@@ -1,215 +1,324 @@
 -- An export whose steps all go well.
-use Rattle.std.proofs.Common.{◌≡◌, ◌==◌, ◌<◌, ℕ, zero, suc, Bool, true, false, cond, List, [], ◌∷◌, ◌++◌, Option, None, Some, Ok, length, take, drop, refl, sym, ap, subst, ◌∙◌, arith, append_assoc, append-nil, take-append-drop, length-drop}
-use Rattle.std.proofs.lemmas.Bool.{eq-eqb}
-use Rattle.std.proofs.lemmas.List.{length-take, nil_from_length}
+use Rattle.std.proofs.Common.{◌≡◌, ℕ, Bool, true, false, cond, List, [], ◌∷◌, ◌++◌, Option, None, Some, Result, Ok, Err, length, take, refl, sym, ap, subst, ◌∙◌, arith}
 use Rattle.std.proofs.lemmas.List.Elements.{All-head}
-use Rattle.cacache_core.specs.declared.errors.Error.TheVariants.{IntegrityError}
+use Rattle.sha1.specs.Sha1.{sha1}
+use Rattle.cacache_core.specs.declared.errors.Error.TheVariants.{EntryNotFound, IoError, IntegrityError}
 use Rattle.cacache_core.specs.declared.errors.Fault.{Fault}
 use Rattle.cacache_core.specs.declared.errors.Fault.TheVariants as faults
 use Rattle.cacache_core.specs.declared.errors.IntegrityFault.TheVariants.{Check}
 use Rattle.cacache_core.specs.declared.integrity.digest.Hash.{Hash}
 use Rattle.cacache_core.specs.Integrity.{IsHash, IsIntegrity, Meets, actual, address}
 use Rattle.cacache_core.specs.Meeting.{meets}
-use Rattle.cacache_core.specs.PathNames.{Names, names_of}
+use Rattle.cacache_core.specs.PathNames.{Names, home_of, names_of}
 use Rattle.cacache_core.specs.Paths.{content_names}
 use Rattle.cacache_core.proofs.Meeting.{meets_finds}
 use Rattle.cacache_store.specs.declared.store.answer.Answer.TheVariants as answers
 use Rattle.cacache_store.specs.declared.store.log.LogItem.{LogItem}
-use Rattle.cacache_store.specs.declared.store.plain.PlainFile.{PlainFile}
 use Rattle.cacache_store.specs.declared.store.step.Step.TheVariants as steps
-use Rattle.cacache_store.specs.Plain.{PlainAnswer}
 use Rattle.cacache_disk.specs.declared.luck.Luck.TheVariants.{Plain}
 use Rattle.cacache_disk.specs.declared.node.Node.{Node}
 use Rattle.cacache_disk.specs.declared.node.Node.TheVariants.{Folder, File, Link}
 use Rattle.cacache_disk.specs.Tree.{Tree, look, put}
-use Rattle.cacache_disk.specs.LedTo.{file_at, followed, free, leads, linked, place, writable}
-use Rattle.cacache_disk.specs.Apply.{apply, opened, rest_of}
+use Rattle.cacache_disk.specs.LedTo.{and_then, bytes_there, file_at, free, linked, writable}
+use Rattle.cacache_disk.specs.Apply.{apply, opened, unless}
 use Rattle.cacache_memory.specs.Replay.{tree_of}
-use Rattle.cacache_entry.specs.Latest.{latest}
+use Rattle.cacache_entry.specs.Latest.{Found, latest}
 use Rattle.cacache_table.specs.declared.carried.Aim.TheVariants as aims
 use Rattle.cacache_table.specs.declared.carried.Content.{Content}
 use Rattle.cacache_table.specs.declared.carried.Lookup.{Lookup}
+use Rattle.cacache_table.specs.declared.command.Command.TheVariants as commands
 use Rattle.cacache_table.specs.declared.command.Export.{Export}
 use Rattle.cacache_table.specs.declared.command.How.{How}
 use Rattle.cacache_table.specs.declared.command.How.TheVariants.{Copy, HardLink, Reflink}
 use Rattle.cacache_table.specs.declared.command.Source.TheVariants as sources
 use Rattle.cacache_table.specs.declared.reply.Reply.{Reply}
-use Rattle.cacache_table.specs.declared.reply.Reply.TheVariants.{Copied, Done}
+use Rattle.cacache_table.specs.declared.reply.Reply.TheVariants.{Copied, Done, Refused}
 use Rattle.cacache_table.specs.Common.{ends_with}
 use Rattle.cacache_table.specs.Exporting.{copied_count, export, export_content, export_from, verified}
-use Rattle.cacache_table.specs.Linking.{after_read}
 use Rattle.cacache_table.specs.Looking.{found_for}
-use Rattle.cacache_table.specs.State.{copying, doing, hard_link, hashing, opening_file, over, reflink, to_verify}
+use Rattle.cacache_table.specs.Replies.{OrMemory}
+use Rattle.cacache_table.specs.State.{State, copying, doing, hard_link, opening_file, over, reflink, to_verify}
 use Rattle.cacache_table.specs.StepPaths.{content_path}
-use Rattle.cacache_table.specs.Table.{opening, piece}
-use Rattle.cacache_table.proofs.Branches.{cond_leads}
-use Rattle.cacache_value.specs.Value.{InFile, blob_in, value_of_tree}
+use Rattle.cacache_table.specs.Table.{opening}
+use Rattle.cacache_value.specs.Kinds.{Content as AtContent, is_used}
+use Rattle.cacache_value.specs.Placed.{MayStand}
+use Rattle.cacache_value.specs.Shows.{blob_bytes, link_end}
+use Rattle.cacache_value.specs.Value.{AtLink, Blob, InFile, blob_in, value_of_tree}
+use Rattle.cacache_value.proofs.FoundPaths.{suits}
 use Rattle.cacache_history.specs.ShownTurns.{blob_at}
+use Rattle.cacache_history.proofs.Spelled.{HasIntegrity, latest_has}
 use Rattle.cacache_sequence.specs.Caches.{HasContent}
+use Rattle.cacache_sequence.specs.ExportAnswers.{ExportsAnswer, StaysIfRefused, blob_named, blob_read, exported_reply, led_reply, made_reply, or_told, verified_reply}
 use Rattle.cacache_sequence.specs.Exported.{export_by}
 use Rattle.cacache_sequence.specs.OpenSucceeds.{ExportsSucceed, MayTake, exported}
 use Rattle.cacache_sequence.specs.ReadAnswers.{entries_on}
 use Rattle.cacache_sequence.proofs.Emptied.{home_is}
-use Rattle.cacache_sequence.proofs.Succeeds.{ground}
-use Rattle.cacache_sequence.proofs.SureReads.{looks_so}
-use Rattle.cacache_sequence.proofs.SureRuns.{EndsSo, ends, goes, of_log}
-use Rattle.cacache_sequence.proofs.SureSteps.{Ground, place_at}
+use Rattle.cacache_sequence.proofs.Standing.{caches_stand}
+use Rattle.cacache_sequence.proofs.Succeeds.{back, either, ground}
+use Rattle.cacache_sequence.proofs.SureFiles.{reads_whole}
+use Rattle.cacache_sequence.proofs.SureReads.{as_bytes, looks_so, read_as}
+use Rattle.cacache_sequence.proofs.SureRuns.{EndsSo, both, ends, goes, of_log}
+use Rattle.cacache_sequence.proofs.SureSteps.{Ground, Lies, Reached, arrives, missing, reached}
 use Rattle.cacache_sequence.proofs.SureTemps.{content_lies}
 
--- bytes that lie in a file
-in_file : (here : Option Node) (bytes : List ℕ) → blob_in here ≡ Some (InFile bytes) → here ≡ Some (File bytes)
-in_file None bytes e = absurd cc
-in_file (Some Folder) bytes e = absurd cc
-in_file (Some (File held)) bytes e = let same : held ≡ bytes = cc in ap (λ b. Some (File b)) same
-in_file (Some (Link target)) bytes e = absurd cc
+-- ---- what lies there
 
--- ---- steps at a file that stands
+-- bytes that were read, and are copied then, are the same
+same_node : (here : Option Node) (read copied : List ℕ) → bytes_there faults.IsADirectory here ≡ Ok read → bytes_there faults.InvalidInput here ≡ Ok copied → read ≡ copied
+same_node None read copied a b = absurd cc
+same_node (Some Folder) read copied a b = absurd cc
+same_node (Some (File bytes)) read copied a b = cc
+same_node (Some (Link target)) read copied a b = absurd cc
 
-module _ (t : Tree) (p : List ℕ) (names : Names) (bytes : List ℕ) (led : place t p ≡ Ok names) (there : look t names ≡ Some (File bytes)) where
-  bytes_at : (fault : Fault) → file_at t p fault ≡ Ok bytes
-  unfolding file_at leads followed
-  bytes_at fault = rw (led, there, there) refl
+same_end : (t : Tree) (end : Result Names Fault) (read copied : List ℕ) → and_then end (λ names. bytes_there faults.IsADirectory (look t names)) ≡ Ok read
+    → and_then end (λ names. bytes_there faults.InvalidInput (look t names)) ≡ Ok copied → read ≡ copied
+same_end t (Ok names) read copied a b = same_node (look t names) read copied a b
+same_end t (Err fault) read copied a b = absurd cc
 
-  node_at : linked t p ≡ Ok (File bytes)
+same_read : (t : Tree) (blob : Option Blob) (read copied : List ℕ) → blob_bytes t blob ≡ Ok read → blob_read faults.InvalidInput t blob ≡ Ok copied → read ≡ copied
+same_read t None read copied a b = absurd cc
+same_read t (Some (InFile bytes)) read copied a b = cc
+same_read t (Some (AtLink target)) read copied a b = same_end t (link_end t target) read copied a b
+
+-- the node that a hard link is a name of
+abbrev named : Option Node → Result Node Fault
+named None = Err faults.NotFound
+named (Some node) = Ok node
+
+module _ (home : Names) (t : Tree) (p : List ℕ) (names : Names) where
+  named_as : (here : Option Node) → look t names ≡ here → MayStand (Some home) here AtContent → Reached t p names → linked t p ≡ named here
   unfolding linked
-  node_at = rw (led, there) refl
+  named_as None e s (arrives w) = rw (w, e) refl
+  named_as None e s (missing h w) = rw w refl
+  named_as (Some Folder) e s r = absurd s
+  named_as (Some (File bytes)) e s (arrives w) = rw (w, e) refl
+  named_as (Some (File bytes)) e s (missing h w) = let differ : Some (File bytes) ≡ None = sym e ∙ h in absurd cc
+  named_as (Some (Link target)) e s (arrives w) = rw (w, e) refl
+  named_as (Some (Link target)) e s (missing h w) = let differ : Some (Link target) ≡ None = sym e ∙ h in absurd cc
 
-  opens : apply t (steps.Open p) Plain ≡ (answers.File (opened bytes), t)
-  unfolding apply
-  opens = rw (bytes_at faults.IsADirectory) refl
+  told_so : (here : Option Node) → MayStand (Some home) here AtContent → or_told (named here) (λ node. Done) ≡ or_told (blob_named (blob_in here)) (λ blob. Done)
+  told_so None s = refl
+  told_so (Some Folder) s = absurd s
+  told_so (Some (File bytes)) s = refl
+  told_so (Some (Link target)) s = refl
 
-  copies : (to : List ℕ) (q : Names) → writable t to ≡ Ok q → apply t (steps.Copy p to) Plain ≡ (answers.Took (length bytes), put t q (File (take (length bytes) bytes)))
-  unfolding apply
-  copies to q may = rw (bytes_at faults.InvalidInput, may) refl
+-- ---- an export of a content
 
-  reflinks : (to : List ℕ) (q : Names) → free t to ≡ Ok q → apply t (steps.Reflink p to) Plain ≡ (answers.Done, put t q (File bytes))
-  unfolding apply
-  reflinks to q may = rw (may, bytes_at faults.IsADirectory) refl
+module _ (cache : List ℕ) (home : Names) (is : names_of cache ≡ Ok home) (t : Tree) (g : Ground home t) (e : Export) where
+  -- this reply, and after a refusal the same tree
+  abbrev pub Gives : Reply → Tree → Reply → Type 0
+  Gives wanted new r = (r ≡ wanted) × StaysIfRefused r t new
 
-  hard_links : (to : List ℕ) (q : Names) → free t to ≡ Ok q → apply t (steps.HardLink p to) Plain ≡ (answers.Done, put t q (File bytes))
-  unfolding apply
-  hard_links to q may = rw (may, node_at) refl
+  abbrev Leads : Reply → State → Type 0
+  Leads wanted s = EndsSo (Gives wanted) t s
 
--- ---- a read of a piece
+  module _ (h : Hash) (hs : List Hash) (hash : IsHash h) where
+    -- the content of the integrity
+    abbrev k : Content
+    k = record { cache = cache; integrity = h ∷ hs }
 
-if_so : (x y : PlainAnswer) (b : Bool) → b ≡ true → cond b x y ≡ x
-if_so x y true e = refl
-if_so x y false e = absurd cc
+    abbrev path : List ℕ
+    path = content_path cache (h ∷ hs)
 
--- a file of so many bytes
-file_of : ℕ → List ℕ → PlainFile
-file_of left bytes = record { left = left; bytes = Some bytes }
+    abbrev held : Option Blob
+    held = (value_of_tree (Some home) t).contents h
 
-rest_opened : (rest : List ℕ) (size : ℕ) → rest_of rest size ≡ opened (drop size rest)
-unfolding file_of
-rest_opened rest size = ap (λ n. file_of n (drop size rest)) (omega (arith, length-drop size rest))
+    abbrev names : Names
+    names = home ++ content_names h
 
-reads : (t : Tree) (rest : List ℕ) → apply t (steps.Read (opened rest) piece) Plain ≡ (answers.Got (opened (drop piece rest)) (take piece rest), t)
-unfolding apply
-reads t rest =
-    ap (λ a. (a, t)) (if_so (answers.Got (rest_of rest piece) (take piece rest)) (answers.Failed faults.Closed) (length rest == length rest) (eq-eqb (length rest) (length rest) refl) ∙ ap (λ f. answers.Got f (take piece rest)) (rest_opened rest piece))
+    lies : Lies home path (content_names h) AtContent
+    lies = content_lies cache home is h hs hash
 
--- ---- an export
+    suited : MayStand (Some home) (look t names) AtContent
+    suited = suits (Some home) t names AtContent lies.kind g.placed
 
-module _ (cache : List ℕ) (home : Names) (is : names_of cache ≡ Ok home) (t : Tree) (g : Ground home t) (e : Export) (bytes : List ℕ) (h : Hash) (hs : List Hash) (hash : IsHash h) (met : Meets (h ∷ hs) bytes)
-    (lies : (value_of_tree (Some home) t).contents h ≡ Some (InFile bytes)) where
-  -- the content of the integrity
-  abbrev k : Content
-  k = record { cache = cache; integrity = h ∷ hs }
+    led : Reached t path names
+    led = reached home t path names g lies.named (ap is_used lies.kind) (look t names) refl
 
-  abbrev path : List ℕ
-  path = content_path cache (h ∷ hs)
+    read_at : (folder : Fault) → file_at t path folder ≡ blob_read folder t held
+    read_at folder = read_as home t path names folder (look t names) refl suited led
 
-  there : look t (home ++ content_names h) ≡ Some (File bytes)
-  there = in_file (look t (home ++ content_names h)) bytes lies
+    bytes_at : file_at t path faults.IsADirectory ≡ blob_bytes t held
+    bytes_at = read_at faults.IsADirectory ∙ as_bytes t held
 
-  led : place t path ≡ Ok (home ++ content_names h)
-  led = place_at t path (home ++ content_names h) (File bytes) g.rooted (content_lies cache home is h hs hash).named there
+    -- ---- its last step
 
-  -- the reply of the export
-  abbrev Gives : How → Tree → Reply → Type 0
-  Gives how new r = r ≡ exported how bytes
+    copy_is : (r : Result (List ℕ) Fault) (w : Result Names Fault) → file_at t path faults.InvalidInput ≡ r → writable t e.to ≡ w
+        → apply t (steps.Copy path e.to) Plain ≡ unless r t (λ bytes. unless w t (λ q. (answers.Took (length bytes), put t q (File (take (length bytes) bytes)))))
+    unfolding apply
+    copy_is r w from to =
+        ap (λ x. unless x t (λ bytes. unless (writable t e.to) t (λ q. (answers.Took (length bytes), put t q (File (take (length bytes) bytes)))))) from
+        ∙ ap (λ x. unless r t (λ bytes. unless x t (λ q. (answers.Took (length bytes), put t q (File (take (length bytes) bytes)))))) to
 
-  -- where it may go
-  abbrev Takes : How → Type 0
-  Takes Copy = (names : Names) × (writable t e.to ≡ Ok names)
-  Takes Reflink = (names : Names) × (free t e.to ≡ Ok names)
-  Takes HardLink = (names : Names) × (free t e.to ≡ Ok names)
+    reflink_is : (w : Result Names Fault) (r : Result (List ℕ) Fault) → free t e.to ≡ w → file_at t path faults.IsADirectory ≡ r
+        → apply t (steps.Reflink path e.to) Plain ≡ unless w t (λ q. unless r t (λ bytes. (answers.Done, put t q (File bytes))))
+    unfolding apply
+    reflink_is w r to from =
+        ap (λ x. unless x t (λ q. unless (file_at t path faults.IsADirectory) t (λ bytes. (answers.Done, put t q (File bytes))))) to
+        ∙ ap (λ x. unless w t (λ q. unless x t (λ bytes. (answers.Done, put t q (File bytes))))) from
 
-  from_ends : (how : How) (count : Option ℕ) → copied_count count (length bytes) ≡ length bytes → Takes how → EndsSo (Gives how) t (export_from how path e.to count)
-  from_ends Copy count same may =
-      let made = copies t path (home ++ content_names h) bytes led there e.to may.0 may.1 in
-      goes (Gives Copy) t (put t may.0 (File (take (length bytes) bytes))) (copying path e.to count) (steps.Copy path e.to) (answers.Took (length bytes)) refl made
-      (ends (Gives Copy) (put t may.0 (File (take (length bytes) bytes))) (Copied (copied_count count (length bytes))) (ap Copied same))
-  from_ends Reflink count same may =
-      goes (Gives Reflink) t (put t may.0 (File bytes)) (doing (reflink path e.to) (over Done)) (steps.Reflink path e.to) answers.Done refl (reflinks t path (home ++ content_names h) bytes led there e.to may.0 may.1)
-      (ends (Gives Reflink) (put t may.0 (File bytes)) Done refl)
-  from_ends HardLink count same may =
-      goes (Gives HardLink) t (put t may.0 (File bytes)) (doing (hard_link path e.to) (over Done)) (steps.HardLink path e.to) answers.Done refl (hard_links t path (home ++ content_names h) bytes led there e.to may.0 may.1)
-      (ends (Gives HardLink) (put t may.0 (File bytes)) Done refl)
+    hard_link_is : (w : Result Names Fault) (n : Result Node Fault) → free t e.to ≡ w → linked t path ≡ n
+        → apply t (steps.HardLink path e.to) Plain ≡ unless w t (λ q. unless n t (λ node. (answers.Done, put t q node)))
+    unfolding apply
+    hard_link_is w n to from =
+        ap (λ x. unless x t (λ q. unless (linked t path) t (λ node. (answers.Done, put t q node)))) to
+        ∙ ap (λ x. unless w t (λ q. unless x t (λ node. (answers.Done, put t q node)))) from
 
-  module _ (may : Takes e.how) where
-    verified_ends : EndsSo (Gives e.how) t (verified k e bytes)
-    verified_ends =
-        cond_leads (EndsSo (Gives e.how) t) (meets (h ∷ hs) bytes) (export_content k e (Some (length bytes))) (ends_with (IntegrityError (Check (h ∷ hs) (actual (h ∷ hs) bytes))))
-        (λ yes. from_ends e.how (Some (length bytes)) refl may)
-        (λ not. let differ : true ≡ false = sym ((meets_finds (h ∷ hs) bytes).1 met) ∙ not in absurd cc)
+    -- a refusal
+    refused : (fault : Fault) → EndsSo (Gives (Refused (IoError fault []))) t (over (Refused (IoError fault [])))
+    refused fault = ends (Gives (Refused (IoError fault []))) t (Refused (IoError fault [])) (refl, refl)
 
-    -- what was read so far, and the rest
-    by_piece : (fuel : ℕ) (rest so_far : List ℕ) → length rest < suc fuel → so_far ++ rest ≡ bytes
-        → ((rest so_far : List ℕ) → length rest < fuel → so_far ++ rest ≡ bytes → EndsSo (Gives e.how) t (hashing (to_verify k e) (opened rest) so_far))
-        → (next : List ℕ) → take piece rest ≡ next → EndsSo (Gives e.how) t (after_read (to_verify k e) so_far (opened (drop piece rest), next))
-    by_piece fuel rest so_far low all deeper [] is =
-        let none : length rest ≡ 0 = omega (arith, length-take piece rest, ap (λ (l : List ℕ). length l) is) in
-        let whole : so_far ≡ bytes = sym (append-nil so_far) ∙ ap (λ l. so_far ++ l) (sym (nil_from_length rest none)) ∙ all in
-        subst (λ b. EndsSo (Gives e.how) t (verified k e b)) (sym whole) verified_ends
-    by_piece fuel rest so_far low all deeper (c ∷ cs) is =
-        let some : 0 < length (take piece rest) = subst (λ (l : List ℕ). 0 < length l) (sym is) (omega arith) in
-        deeper (drop piece rest) (so_far ++ c ∷ cs) (omega (arith, low, length-take piece rest, length-drop piece rest, some))
-        (append_assoc so_far (c ∷ cs) (drop piece rest) ∙ ap (λ l. so_far ++ (l ++ drop piece rest)) (sym is) ∙ ap (λ l. so_far ++ l) (take-append-drop piece rest) ∙ all)
+    -- a count that was verified is that of the bytes
+    abbrev Counts : Option ℕ → Type 0
+    Counts count = (bytes : List ℕ) → blob_read faults.InvalidInput t held ≡ Ok bytes → copied_count count (length bytes) ≡ length bytes
 
-    reads_on : (fuel : ℕ) (rest so_far : List ℕ) → length rest < fuel → so_far ++ rest ≡ bytes → EndsSo (Gives e.how) t (hashing (to_verify k e) (opened rest) so_far)
-    reads_on zero rest so_far low all = absurd (omega (arith, low))
-    reads_on (suc fuel) rest so_far low all =
-        goes (Gives e.how) t t (hashing (to_verify k e) (opened rest) so_far) (steps.Read (opened rest) piece) (answers.Got (opened (drop piece rest)) (take piece rest)) refl (reads t rest)
-        (by_piece fuel rest so_far low all (reads_on fuel) (take piece rest) refl)
+    copy_ends : (count : Option ℕ) (r : Result (List ℕ) Fault) (w : Result Names Fault) → blob_read faults.InvalidInput t held ≡ r → writable t e.to ≡ w → Counts count
+        → Leads (or_told r (λ bytes. or_told w (λ q. Copied (length bytes)))) (copying path e.to count)
+    copy_ends count (Err fault) w from to counts =
+        goes (Gives (Refused (IoError fault []))) t t (copying path e.to count) (steps.Copy path e.to) (answers.Failed fault) refl (copy_is (Err fault) w (read_at faults.InvalidInput ∙ from) to) (refused fault)
+    copy_ends count (Ok bytes) (Err fault) from to counts =
+        goes (Gives (Refused (IoError fault []))) t t (copying path e.to count) (steps.Copy path e.to) (answers.Failed fault) refl (copy_is (Ok bytes) (Err fault) (read_at faults.InvalidInput ∙ from) to) (refused fault)
+    copy_ends count (Ok bytes) (Ok q) from to counts =
+        goes (Gives (Copied (length bytes))) t (put t q (File (take (length bytes) bytes))) (copying path e.to count) (steps.Copy path e.to) (answers.Took (length bytes)) refl
+        (copy_is (Ok bytes) (Ok q) (read_at faults.InvalidInput ∙ from) to)
+        (ends (Gives (Copied (length bytes))) (put t q (File (take (length bytes) bytes))) (Copied (copied_count count (length bytes))) (ap Copied (counts bytes from), tt))
 
-    pub export_ends : EndsSo (Gives e.how) t (export k e)
+    reflink_ends : (w : Result Names Fault) (r : Result (List ℕ) Fault) → free t e.to ≡ w → file_at t path faults.IsADirectory ≡ r
+        → Leads (or_told w (λ q. or_told r (λ bytes. Done))) (doing (reflink path e.to) (over Done))
+    reflink_ends (Err fault) r to from =
+        goes (Gives (Refused (IoError fault []))) t t (doing (reflink path e.to) (over Done)) (steps.Reflink path e.to) (answers.Failed fault) refl (reflink_is (Err fault) r to from) (refused fault)
+    reflink_ends (Ok q) (Err fault) to from =
+        goes (Gives (Refused (IoError fault []))) t t (doing (reflink path e.to) (over Done)) (steps.Reflink path e.to) (answers.Failed fault) refl (reflink_is (Ok q) (Err fault) to from) (refused fault)
+    reflink_ends (Ok q) (Ok bytes) to from =
+        goes (Gives Done) t (put t q (File bytes)) (doing (reflink path e.to) (over Done)) (steps.Reflink path e.to) answers.Done refl (reflink_is (Ok q) (Ok bytes) to from)
+        (ends (Gives Done) (put t q (File bytes)) Done (refl, tt))
+
+    hard_link_ends : (w : Result Names Fault) (n : Result Node Fault) → free t e.to ≡ w → linked t path ≡ n
+        → Leads (or_told w (λ q. or_told n (λ node. Done))) (doing (hard_link path e.to) (over Done))
+    hard_link_ends (Err fault) n to from =
+        goes (Gives (Refused (IoError fault []))) t t (doing (hard_link path e.to) (over Done)) (steps.HardLink path e.to) (answers.Failed fault) refl (hard_link_is (Err fault) n to from) (refused fault)
+    hard_link_ends (Ok q) (Err fault) to from =
+        goes (Gives (Refused (IoError fault []))) t t (doing (hard_link path e.to) (over Done)) (steps.HardLink path e.to) (answers.Failed fault) refl (hard_link_is (Ok q) (Err fault) to from) (refused fault)
+    hard_link_ends (Ok q) (Ok node) to from =
+        goes (Gives Done) t (put t q node) (doing (hard_link path e.to) (over Done)) (steps.HardLink path e.to) answers.Done refl (hard_link_is (Ok q) (Ok node) to from)
+        (ends (Gives Done) (put t q node) Done (refl, tt))
+
+    made_ends : (how : How) (count : Option ℕ) → Counts count → Leads (made_reply how e.to t held) (export_from how path e.to count)
+    made_ends Copy count counts = copy_ends count (blob_read faults.InvalidInput t held) (writable t e.to) refl refl counts
+    made_ends Reflink count counts = reflink_ends (free t e.to) (blob_bytes t held) refl bytes_at
+    made_ends HardLink count counts =
+        subst (λ reply. Leads (or_told (free t e.to) (λ q. reply)) (doing (hard_link path e.to) (over Done))) (told_so home t path names (look t names) suited)
+        (hard_link_ends (free t e.to) (named (look t names)) refl (named_as home t path names (look t names) refl suited led))
+
+    -- ---- before it
+
+    verified_ends : (bytes : List ℕ) → blob_bytes t held ≡ Ok bytes → Leads (verified_reply (h ∷ hs) (made_reply e.how e.to t held) bytes) (verified k e bytes)
+    verified_ends bytes whole =
+        let unmet = Refused (IntegrityError (Check (h ∷ hs) (actual (h ∷ hs) bytes))) in
+        both Leads (meets (h ∷ hs) bytes) (made_reply e.how e.to t held) unmet (export_content k e (Some (length bytes))) (ends_with (IntegrityError (Check (h ∷ hs) (actual (h ∷ hs) bytes))))
+        (made_ends e.how (Some (length bytes)) (λ copied from. ap (λ (b : List ℕ). length b) (same_read t held bytes copied whole from)))
+        (ends (Gives unmet) t unmet (refl, refl))
+
+    opens : (r : Result (List ℕ) Fault) → file_at t path faults.IsADirectory ≡ r → apply t (steps.Open path) Plain ≡ unless r t (λ bytes. (answers.File (opened bytes), t))
+    unfolding apply
+    opens r from = ap (λ x. unless x t (λ bytes. (answers.File (opened bytes), t))) from
+
+    checked_ends : (r : Result (List ℕ) Fault) → blob_bytes t held ≡ r → Leads (or_told r (verified_reply (h ∷ hs) (made_reply e.how e.to t held))) (opening_file (to_verify k e))
+    checked_ends (Err fault) from =
+        goes (Gives (Refused (IoError fault []))) t t (opening_file (to_verify k e)) (steps.Open path) (answers.Failed fault) refl (opens (Err fault) (bytes_at ∙ from)) (refused fault)
+    checked_ends (Ok bytes) from =
+        let wanted = verified_reply (h ∷ hs) (made_reply e.how e.to t held) bytes in
+        goes (Gives wanted) t t (opening_file (to_verify k e)) (steps.Open path) (answers.File (opened bytes)) refl (opens (Ok bytes) (bytes_at ∙ from))
+        (reads_whole (Gives wanted) t (to_verify k e) bytes (verified_ends bytes from) bytes [] refl)
+
+    export_ends : Leads (exported_reply (h ∷ hs) e t held) (export k e)
     export_ends =
-        cond_leads (EndsSo (Gives e.how) t) e.checked (opening_file (to_verify k e)) (export_content k e None)
-        (λ checked.
-        goes (Gives e.how) t t (opening_file (to_verify k e)) (steps.Open path) (answers.File (opened bytes)) refl (opens t path (home ++ content_names h) bytes led there) (reads_on (suc (length bytes)) bytes [] (omega arith) refl))
-        (λ plain. from_ends e.how None refl may)
+        both Leads e.checked (or_told (blob_bytes t held) (verified_reply (h ∷ hs) (made_reply e.how e.to t held))) (made_reply e.how e.to t held) (opening_file (to_verify k e)) (export_content k e None)
+        (checked_ends (blob_bytes t held) refl) (made_ends e.how None (λ bytes from. refl))
+
+  -- what lies under an integrity
+  abbrev lies_at : List Hash → Option Blob
+  lies_at i = blob_at (value_of_tree (Some home) t) (address i)
+
+  pub content_ends : (i : List Hash) → IsIntegrity i → Leads (exported_reply i e t (lies_at i)) (export (record { cache = cache; integrity = i }) e)
+  content_ends [] formed = absurd (omega (arith, formed.nonempty))
+  content_ends (h ∷ hs) formed = export_ends h hs (All-head IsHash h hs formed.hashes)
 
 -- ---- by its source
 
+module _ (cache key : List ℕ) (home : Names) (is : names_of cache ≡ Ok home) (old : List LogItem) (g : Ground home (tree_of old)) (e : Export) where
+  abbrev look_up : Lookup
+  look_up = record { cache = cache; key = key; aim = aims.Export e }
+
+  by_found : (found : Option Found) → HasIntegrity found → EndsSo (Gives cache home is (tree_of old) g e (led_reply cache key e old found)) (tree_of old) (found_for look_up (aims.Export e) found)
+  by_found None has = ends (Gives cache home is (tree_of old) g e (Refused (EntryNotFound cache key))) (tree_of old) (Refused (EntryNotFound cache key)) (refl, refl)
+  by_found (Some f) has =
+      back cache home is
+      (λ h. EndsSo (Gives cache home is (tree_of old) g e (exported_reply f.integrity e (tree_of old) (blob_at (value_of_tree h (tree_of old)) (address f.integrity)))) (tree_of old) (export (record { cache = cache; integrity = f.integrity }) e))
+      (content_ends cache home is (tree_of old) g e f.integrity has)
+
+pub exports_answer : ExportsAnswer
+exports_answer cache (sources.Hash i) e r old new folder formed sound c =
+    let home = folder.0 in
+    let g = ground cache old home folder.1 (caches_stand cache old sound) in
+    back cache home folder.1 (λ h. OrMemory ((r ≡ exported_reply i e (tree_of old) (blob_at (value_of_tree h (tree_of old)) (address i))) × StaysIfRefused r (tree_of old) (tree_of new)) r)
+    (of_log (Gives cache home folder.1 (tree_of old) g e (exported_reply i e (tree_of old) (blob_at (value_of_tree (Some home) (tree_of old)) (address i)))) (opening (record { cache = cache; base = c.base; number = c.number }) (commands.Export (sources.Hash i) e)) r old new
+    (content_ends cache home folder.1 (tree_of old) g e i formed) c.ran c.logged)
+exports_answer cache (sources.Key key) e r old new folder formed sound c =
+    let home = folder.0 in
+    let g = ground cache old home folder.1 (caches_stand cache old sound) in
+    let led = latest key (entries_on (Some home) (tree_of old) key) in
+    let has : HasIntegrity (latest key (entries_on (home_of cache) (tree_of old) key)) = latest_has key (entries_on (home_of cache) (tree_of old) key) (sound.formed (sha1 key)) in
+    let led_has : HasIntegrity led = subst (λ h. HasIntegrity (latest key (entries_on h (tree_of old) key))) (home_is cache home folder.1) has in
+    let Q : Tree → Reply → Type 0 = Gives cache home folder.1 (tree_of old) g e (led_reply cache key e old (latest key (entries_on (Some home) (tree_of old) key))) in
+    back cache home folder.1 (λ h. OrMemory ((r ≡ led_reply cache key e old (latest key (entries_on h (tree_of old) key))) × StaysIfRefused r (tree_of old) (tree_of new)) r)
+    (of_log Q (opening (record { cache = cache; base = c.base; number = c.number }) (commands.Export (sources.Key key) e)) r old new
+    (looks_so Q home (tree_of old) g (look_up cache key home folder.1 old g e) folder.1 (by_found cache key home folder.1 old g e led led_has)) c.ran c.logged)
+
+-- ---- of bytes that are there
+
+-- where the path may take it, an export of these bytes is done
+made_so : (how : How) (to bytes : List ℕ) (log : List LogItem) → MayTake how to log → made_reply how to (tree_of log) (Some (InFile bytes)) ≡ exported how bytes
+made_so Copy to bytes log may = ap (λ w. or_told w (λ q. Copied (length bytes))) may.1
+made_so Reflink to bytes log may = ap (λ w. or_told w (λ q. Done)) may.1
+made_so HardLink to bytes log may = ap (λ w. or_told w (λ q. Done)) may.1
+
+exported_so : (checked : Bool) (how : How) (to bytes : List ℕ) (i : List Hash) (log : List LogItem) → Meets i bytes → MayTake how to log
+    → exported_reply i (record { how = how; checked = checked; to = to }) (tree_of log) (Some (InFile bytes)) ≡ exported how bytes
+exported_so true how to bytes i log met may =
+    ap (λ b. cond b (made_reply how to (tree_of log) (Some (InFile bytes))) (Refused (IntegrityError (Check i (actual i bytes))))) ((meets_finds i bytes).1 met) ∙ made_so how to bytes log may
+exported_so false how to bytes i log met may = made_so how to bytes log may
+
 module _ (cache bytes to : List ℕ) (how : How) (checked : Bool) (old : List LogItem) (home : Names) (is : names_of cache ≡ Ok home) (g : Ground home (tree_of old)) (may : MayTake how to old) where
-  abbrev e : Export
-  e = record { how = how; checked = checked; to = to }
+  abbrev to_path : Export
+  to_path = record { how = how; checked = checked; to = to }
 
-  by_how : (how : How) (i : List Hash) → IsIntegrity i → Meets i bytes → blob_at (value_of_tree (Some home) (tree_of old)) (address i) ≡ Some (InFile bytes) → MayTake how to old
-      → EndsSo (λ _ r. r ≡ exported how bytes) (tree_of old) (export (record { cache = cache; integrity = i }) (record { how = how; checked = checked; to = to }))
-  by_how how [] formed met lies may = absurd (omega (arith, formed.nonempty))
-  by_how Copy (h ∷ hs) formed met lies may = export_ends cache home is (tree_of old) g (record { how = Copy; checked = checked; to = to }) bytes h hs (All-head IsHash h hs formed.hashes) met lies may
-  by_how Reflink (h ∷ hs) formed met lies may = export_ends cache home is (tree_of old) g (record { how = Reflink; checked = checked; to = to }) bytes h hs (All-head IsHash h hs formed.hashes) met lies may
-  by_how HardLink (h ∷ hs) formed met lies may = export_ends cache home is (tree_of old) g (record { how = HardLink; checked = checked; to = to }) bytes h hs (All-head IsHash h hs formed.hashes) met lies may
-
-  by_content : (i : List Hash) → HasContent cache i bytes old → EndsSo (λ _ r. r ≡ exported how bytes) (tree_of old) (export (record { cache = cache; integrity = i }) e)
+  -- so it is of what lies under an integrity
+  by_content : (i : List Hash) → HasContent cache i bytes old → EndsSo (Gives cache home is (tree_of old) g to_path (exported how bytes)) (tree_of old) (export (record { cache = cache; integrity = i }) to_path)
   by_content i has =
-      by_how how i has.formed has.meets (subst (λ h. blob_at (value_of_tree h (tree_of old)) (address i) ≡ Some (InFile bytes)) (home_is cache home is) has.content) may
+      let lies : blob_at (value_of_tree (Some home) (tree_of old)) (address i) ≡ Some (InFile bytes) = subst (λ h. blob_at (value_of_tree h (tree_of old)) (address i) ≡ Some (InFile bytes)) (home_is cache home is) has.content in
+      subst (λ wanted. EndsSo (Gives cache home is (tree_of old) g to_path wanted) (tree_of old) (export (record { cache = cache; integrity = i }) to_path))
+      (ap (λ blob. exported_reply i to_path (tree_of old) blob) lies ∙ exported_so checked how to bytes i old has.meets may)
+      (content_ends cache home is (tree_of old) g to_path i has.formed)
 
 pub exports_succeed : ExportsSucceed
 exports_succeed cache bytes to how (sources.Hash i) checked r old new folder standing has may c =
-    of_log (λ _ x. x ≡ exported how bytes) (opening (record { cache = cache; base = c.base; number = c.number }) (export_by how (sources.Hash i) checked to)) r old new
-    (by_content cache bytes to how checked old folder.0 folder.1 (ground cache old folder.0 folder.1 standing) may i has) c.ran c.logged
+    let home = folder.0 in
+    let g = ground cache old home folder.1 standing in
+    let e : Export = record { how = how; checked = checked; to = to } in
+    either r (λ h. h.0)
+    (of_log (Gives cache home folder.1 (tree_of old) g e (exported how bytes)) (opening (record { cache = cache; base = c.base; number = c.number }) (export_by how (sources.Hash i) checked to)) r old new
+    (by_content cache bytes to how checked old home folder.1 g may i has) c.ran c.logged)
 exports_succeed cache bytes to how (sources.Key key) checked r old new folder standing has may c =
     let home = folder.0 in
     let g = ground cache old home folder.1 standing in
     let e : Export = record { how = how; checked = checked; to = to } in
     let l : Lookup = record { cache = cache; key = key; aim = aims.Export e } in
+    let Q : Tree → Reply → Type 0 = Gives cache home folder.1 (tree_of old) g e (exported how bytes) in
     let finds : latest key (entries_on (Some home) (tree_of old) key) ≡ Some has.1.found = subst (λ h. latest key (entries_on h (tree_of old) key) ≡ Some has.1.found) (home_is cache home folder.1) has.1.finds in
-    let next = subst (λ i. EndsSo (λ _ x. x ≡ exported how bytes) (tree_of old) (export (record { cache = cache; integrity = i }) (record { how = how; checked = checked; to = to }))) (sym has.1.integrity)
+    let next = subst (λ i. EndsSo Q (tree_of old) (export (record { cache = cache; integrity = i }) (record { how = how; checked = checked; to = to }))) (sym has.1.integrity)
     (by_content cache bytes to how checked old home folder.1 g may has.0 has.1.content) in
-    of_log (λ _ x. x ≡ exported how bytes) (opening (record { cache = cache; base = c.base; number = c.number }) (export_by how (sources.Key key) checked to)) r old new
-    (looks_so (λ _ x. x ≡ exported how bytes) home (tree_of old) g l folder.1
-    (subst (λ f. EndsSo (λ _ x. x ≡ exported how bytes) (tree_of old) (found_for l (aims.Export e) f)) (sym finds) next)) c.ran c.logged
+    either r (λ h. h.0)
+    (of_log Q (opening (record { cache = cache; base = c.base; number = c.number }) (export_by how (sources.Key key) checked to)) r old new
+    (looks_so Q home (tree_of old) g l folder.1
+    (subst (λ f. EndsSo Q (tree_of old) (found_for l (aims.Export e) f)) (sym finds) next)) c.ran c.logged)

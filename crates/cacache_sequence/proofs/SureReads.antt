@@ -34,6 +34,7 @@ use Rattle.cacache_value.specs.Acts.{list_of}
 use Rattle.cacache_value.specs.Value.{Blob, InFile, AtLink, blob_in, bucket_in, value_of_tree}
 use Rattle.cacache_value.proofs.FoundPaths.{suits}
 use Rattle.cacache_history.specs.ShownTurns.{as_refusal}
+use Rattle.cacache_sequence.specs.ExportAnswers.{blob_read}
 use Rattle.cacache_sequence.specs.ReadAnswers.{entries_on, read_on}
 use Rattle.cacache_sequence.specs.Succeeds.{is_yes}
 use Rattle.cacache_sequence.proofs.SureInserts.{bucket_lies}
@@ -72,16 +73,25 @@ unfolding apply
 told_all t p (Ok bytes) e = rw e refl
 told_all t p (Err fault) e = rw e refl
 
+-- where a folder at a link's end is no file
+pub as_bytes : (t : Tree) (blob : Option Blob) → blob_read faults.IsADirectory t blob ≡ blob_bytes t blob
+as_bytes t None = refl
+as_bytes t (Some (InFile bytes)) = refl
+as_bytes t (Some (AtLink target)) = refl
+
 module _ (home : Names) (t : Tree) (p : List ℕ) (names : Names) where
-  content_bytes : (here : Option Node) → look t names ≡ here → MayStand (Some home) here Content → Reached t p names → file_at t p faults.IsADirectory ≡ blob_bytes t (blob_in here)
+  pub read_as : (folder : Fault) (here : Option Node) → look t names ≡ here → MayStand (Some home) here Content → Reached t p names → file_at t p folder ≡ blob_read folder t (blob_in here)
   unfolding file_at leads followed link_end
-  content_bytes None e s (arrives w) = rw (w, e, e) refl
-  content_bytes None e s (missing h w) = rw w refl
-  content_bytes (Some Folder) e s r = absurd s
-  content_bytes (Some (File bytes)) e s (arrives w) = rw (w, e, e) refl
-  content_bytes (Some (File bytes)) e s (missing h w) = let differ : Some (File bytes) ≡ None = sym e ∙ h in absurd cc
-  content_bytes (Some (Link target)) e s (arrives w) = rw (w, e) refl
-  content_bytes (Some (Link target)) e s (missing h w) = let differ : Some (Link target) ≡ None = sym e ∙ h in absurd cc
+  read_as folder None e s (arrives w) = rw (w, e, e) refl
+  read_as folder None e s (missing h w) = rw w refl
+  read_as folder (Some Folder) e s r = absurd s
+  read_as folder (Some (File bytes)) e s (arrives w) = rw (w, e, e) refl
+  read_as folder (Some (File bytes)) e s (missing h w) = let differ : Some (File bytes) ≡ None = sym e ∙ h in absurd cc
+  read_as folder (Some (Link target)) e s (arrives w) = rw (w, e) refl
+  read_as folder (Some (Link target)) e s (missing h w) = let differ : Some (Link target) ≡ None = sym e ∙ h in absurd cc
+
+  content_bytes : (here : Option Node) → look t names ≡ here → MayStand (Some home) here Content → Reached t p names → file_at t p faults.IsADirectory ≡ blob_bytes t (blob_in here)
+  content_bytes here e s r = read_as faults.IsADirectory here e s r ∙ as_bytes t (blob_in here)
 
   content_there : (here : Option Node) → look t names ≡ here → MayStand (Some home) here Content → Reached t p names → is_there (found t p) ≡ blob_there t (blob_in here)
   unfolding found leads followed link_end

@@ -20,4 +20,5 @@ pub mod GivenUp
 pub mod Links
 pub mod Exported
 pub mod Succeeds
+pub mod ExportAnswers
 pub mod OpenSucceeds

@@ -12,6 +12,7 @@ ghost use Rattle.cacache_sequence.specs.Inserts.{InsertsLast, PlainInsertsFit, K
 ghost use Rattle.cacache_sequence.specs.Removed.{ContentsGo, KeysGo};
 ghost use Rattle.cacache_sequence.specs.Beside.{WritesKeep, PlainWritesFit, RemovalsKeep};
 ghost use Rattle.cacache_sequence.specs.Exported.{ExportsArrive};
+ghost use Rattle.cacache_sequence.specs.ExportAnswers.{ExportsAnswer};
 ghost use Rattle.cacache_sequence.specs.Links.{LinksLast};
 ghost use Rattle.cacache_sequence.specs.InParts.{LogsLead, CallsBegin, PartsGoOn, LeftAreCases, PartsAnswer, ReadsAreParts, WritesAreParts};
 ghost use Rattle.cacache_sequence.specs.OpenWriters.{WritersOpen, CommitsLast, CommitsStore};
@@ -140,7 +141,8 @@ pub fn parts_laws()
 /// What calls answer whose steps all go well, as on a store in memory they do, unless memory is refused: each thing stands
 /// where it may, the cache's path names a folder, and no temporary file has a put's number. A put stores, unless its
 /// options refuse its bytes; a lookup, a read and a question answer what the cache holds; a removal is done where
-/// something lies; a listing reads each bucket, and a clearing is done. So it is of an open writer while its file stands.
+/// something lies; a listing reads each bucket, and a clearing is done. An export tells what is wrong with its source or its
+/// path, if anything is, and then changes nothing. So it is of an open writer while its file stands.
 /// A new store has no temporary file, and a call leaves none that memory wasn't refused to.
 pub fn success_laws()
     ensures puts { PutsAnswer }
@@ -157,6 +159,7 @@ pub fn success_laws()
     ensures opens { OpeningsSucceed }
     ensures commits { CommitsAnswer }
     ensures exports { ExportsSucceed }
+    ensures exports_answer { ExportsAnswer }
     ensures keeps_files { OthersKeepFiles }
     ensures puts_keep_files { PutsKeepFiles }
     ensures others { OthersLeaveNone }

@@ -3,7 +3,7 @@ use Rattle.cacache_sequence.proofs.SureRemovals.{full_removals_answer}
 use Rattle.cacache_sequence.proofs.SureLists.{listings_answer}
 use Rattle.cacache_sequence.proofs.SureClears.{clearings_answer}
 use Rattle.cacache_sequence.proofs.SureWriters.{openings_succeed, commits_answer}
-use Rattle.cacache_sequence.proofs.SureExports.{exports_succeed}
+use Rattle.cacache_sequence.proofs.SureExports.{exports_answer, exports_succeed}
 use Rattle.cacache_sequence.proofs.SureStays.{others_keep_files, puts_keep_files}
 use Rattle.cacache_sequence.proofs.Unused.{others_leave_none, puts_leave_own, puts_leave_tidy, fresh_is_ready, same_is_ready}
 use Rattle.cacache_sequence.proofs.laws.success_laws.Goals as goal
@@ -24,6 +24,7 @@ returns c = record {
   opens = openings_succeed;
   commits = commits_answer;
   exports = exports_succeed;
+  exports_answer = exports_answer;
   keeps_files = others_keep_files;
   puts_keep_files = puts_keep_files;
   others = others_leave_none;
