@@ -57,6 +57,7 @@ pub mod SureSpares
 pub mod SureRuns
 pub mod SureInserts
 pub mod SureTemps
+pub mod SureCommits
 pub mod SurePuts
 pub mod SureReads
 pub mod Succeeds
@@ -69,3 +70,5 @@ pub mod Unused
 pub mod SureStays
 pub mod SureFiles
 pub mod SureExports
+pub mod SureLinks
+pub mod SureReaders

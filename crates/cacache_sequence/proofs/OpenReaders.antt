@@ -100,7 +100,7 @@ module _ (path : List ℕ) (old new : List LogItem) where
   errs (SerdeError cause message) h = absurd h
   errs (IntegrityError fault) h = absurd h
 
-opened_by : (cache : List ℕ) (i : List Hash) (r : Result PlainFile Error) (old new : List LogItem) → OpensContent cache i r (Some old) (Some new) → Opened (content_path cache i) r old new
+pub opened_by : (cache : List ℕ) (i : List Hash) (r : Result PlainFile Error) (old new : List LogItem) → OpensContent cache i r (Some old) (Some new) → Opened (content_path cache i) r old new
 opened_by cache i (Err e) old new h = errs (content_path cache i) old new e h
 opened_by cache i (Ok file) old new h = record {
   moves = (steps.Open (content_path cache i), answers.File file) ∷ [];
@@ -179,7 +179,7 @@ lookup_keeps t cache key (m ∷ moves) r run =
 
 -- ---- errors without their messages
 
-plain_error : (e : Error) → without_message (without_message e) ≡ without_message e
+pub plain_error : (e : Error) → without_message (without_message e) ≡ without_message e
 plain_error (EntryNotFound c k) = refl
 plain_error (SizeMismatch wanted actual) = refl
 plain_error (IoError fault message) = refl
@@ -187,7 +187,7 @@ plain_error (SerdeError cause message) = refl
 plain_error (IntegrityError fault) = refl
 plain_error OutOfMemory = refl
 
-memory_error : (e : Error) → without_message e ≡ OutOfMemory → e ≡ OutOfMemory
+pub memory_error : (e : Error) → without_message e ≡ OutOfMemory → e ≡ OutOfMemory
 memory_error (EntryNotFound c k) h = absurd cc
 memory_error (SizeMismatch wanted actual) h = absurd cc
 memory_error (IoError fault message) h = absurd cc

@@ -40,11 +40,10 @@ use Rattle.cacache_table.specs.Replies.{OrMemory}
 use Rattle.cacache_table.specs.State.{State, copying, doing, hard_link, opening_file, over, reflink, to_verify}
 use Rattle.cacache_table.specs.StepPaths.{content_path}
 use Rattle.cacache_table.specs.Table.{opening}
-use Rattle.cacache_value.specs.Kinds.{Content as AtContent, is_used}
+use Rattle.cacache_value.specs.Kinds.{Content as AtContent}
 use Rattle.cacache_value.specs.Placed.{MayStand}
 use Rattle.cacache_value.specs.Shows.{blob_bytes, link_end}
 use Rattle.cacache_value.specs.Value.{AtLink, Blob, InFile, blob_in, value_of_tree}
-use Rattle.cacache_value.proofs.FoundPaths.{suits}
 use Rattle.cacache_history.specs.ShownTurns.{blob_at}
 use Rattle.cacache_history.proofs.Spelled.{HasIntegrity, latest_has}
 use Rattle.cacache_sequence.specs.Caches.{HasContent}
@@ -55,11 +54,10 @@ use Rattle.cacache_sequence.specs.ReadAnswers.{entries_on}
 use Rattle.cacache_sequence.proofs.Emptied.{home_is}
 use Rattle.cacache_sequence.proofs.Standing.{caches_stand}
 use Rattle.cacache_sequence.proofs.Succeeds.{back, either, ground}
-use Rattle.cacache_sequence.proofs.SureFiles.{reads_whole}
-use Rattle.cacache_sequence.proofs.SureReads.{as_bytes, looks_so, read_as}
+use Rattle.cacache_sequence.proofs.SureFiles.{opens_as, reads_whole}
+use Rattle.cacache_sequence.proofs.SureReads.{bytes_at, held, led_there, looks_so, read_at, suited}
 use Rattle.cacache_sequence.proofs.SureRuns.{EndsSo, both, ends, goes, of_log}
-use Rattle.cacache_sequence.proofs.SureSteps.{Ground, Lies, Reached, arrives, missing, reached}
-use Rattle.cacache_sequence.proofs.SureTemps.{content_lies}
+use Rattle.cacache_sequence.proofs.SureSteps.{Ground, Reached, arrives, missing}
 
 -- ---- what lies there
 
@@ -120,26 +118,15 @@ module _ (cache : List ℕ) (home : Names) (is : names_of cache ≡ Ok home) (t 
     abbrev path : List ℕ
     path = content_path cache (h ∷ hs)
 
-    abbrev held : Option Blob
-    held = (value_of_tree (Some home) t).contents h
+    -- what lies there
+    abbrev blob : Option Blob
+    blob = held home t g cache is h hs hash
 
     abbrev names : Names
     names = home ++ content_names h
 
-    lies : Lies home path (content_names h) AtContent
-    lies = content_lies cache home is h hs hash
-
-    suited : MayStand (Some home) (look t names) AtContent
-    suited = suits (Some home) t names AtContent lies.kind g.placed
-
-    led : Reached t path names
-    led = reached home t path names g lies.named (ap is_used lies.kind) (look t names) refl
-
-    read_at : (folder : Fault) → file_at t path folder ≡ blob_read folder t held
-    read_at folder = read_as home t path names folder (look t names) refl suited led
-
-    bytes_at : file_at t path faults.IsADirectory ≡ blob_bytes t held
-    bytes_at = read_at faults.IsADirectory ∙ as_bytes t held
+    from_at : (folder : Fault) → file_at t path folder ≡ blob_read folder t blob
+    from_at folder = read_at home t g cache is h hs hash folder
 
     -- ---- its last step
 
@@ -170,17 +157,17 @@ module _ (cache : List ℕ) (home : Names) (is : names_of cache ≡ Ok home) (t 
 
     -- a count that was verified is that of the bytes
     abbrev Counts : Option ℕ → Type 0
-    Counts count = (bytes : List ℕ) → blob_read faults.InvalidInput t held ≡ Ok bytes → copied_count count (length bytes) ≡ length bytes
+    Counts count = (bytes : List ℕ) → blob_read faults.InvalidInput t blob ≡ Ok bytes → copied_count count (length bytes) ≡ length bytes
 
-    copy_ends : (count : Option ℕ) (r : Result (List ℕ) Fault) (w : Result Names Fault) → blob_read faults.InvalidInput t held ≡ r → writable t e.to ≡ w → Counts count
+    copy_ends : (count : Option ℕ) (r : Result (List ℕ) Fault) (w : Result Names Fault) → blob_read faults.InvalidInput t blob ≡ r → writable t e.to ≡ w → Counts count
         → Leads (or_told r (λ bytes. or_told w (λ q. Copied (length bytes)))) (copying path e.to count)
     copy_ends count (Err fault) w from to counts =
-        goes (Gives (Refused (IoError fault []))) t t (copying path e.to count) (steps.Copy path e.to) (answers.Failed fault) refl (copy_is (Err fault) w (read_at faults.InvalidInput ∙ from) to) (refused fault)
+        goes (Gives (Refused (IoError fault []))) t t (copying path e.to count) (steps.Copy path e.to) (answers.Failed fault) refl (copy_is (Err fault) w (from_at faults.InvalidInput ∙ from) to) (refused fault)
     copy_ends count (Ok bytes) (Err fault) from to counts =
-        goes (Gives (Refused (IoError fault []))) t t (copying path e.to count) (steps.Copy path e.to) (answers.Failed fault) refl (copy_is (Ok bytes) (Err fault) (read_at faults.InvalidInput ∙ from) to) (refused fault)
+        goes (Gives (Refused (IoError fault []))) t t (copying path e.to count) (steps.Copy path e.to) (answers.Failed fault) refl (copy_is (Ok bytes) (Err fault) (from_at faults.InvalidInput ∙ from) to) (refused fault)
     copy_ends count (Ok bytes) (Ok q) from to counts =
         goes (Gives (Copied (length bytes))) t (put t q (File (take (length bytes) bytes))) (copying path e.to count) (steps.Copy path e.to) (answers.Took (length bytes)) refl
-        (copy_is (Ok bytes) (Ok q) (read_at faults.InvalidInput ∙ from) to)
+        (copy_is (Ok bytes) (Ok q) (from_at faults.InvalidInput ∙ from) to)
         (ends (Gives (Copied (length bytes))) (put t q (File (take (length bytes) bytes))) (Copied (copied_count count (length bytes))) (ap Copied (counts bytes from), tt))
 
     reflink_ends : (w : Result Names Fault) (r : Result (List ℕ) Fault) → free t e.to ≡ w → file_at t path faults.IsADirectory ≡ r
@@ -203,38 +190,34 @@ module _ (cache : List ℕ) (home : Names) (is : names_of cache ≡ Ok home) (t 
         goes (Gives Done) t (put t q node) (doing (hard_link path e.to) (over Done)) (steps.HardLink path e.to) answers.Done refl (hard_link_is (Ok q) (Ok node) to from)
         (ends (Gives Done) (put t q node) Done (refl, tt))
 
-    made_ends : (how : How) (count : Option ℕ) → Counts count → Leads (made_reply how e.to t held) (export_from how path e.to count)
-    made_ends Copy count counts = copy_ends count (blob_read faults.InvalidInput t held) (writable t e.to) refl refl counts
-    made_ends Reflink count counts = reflink_ends (free t e.to) (blob_bytes t held) refl bytes_at
+    made_ends : (how : How) (count : Option ℕ) → Counts count → Leads (made_reply how e.to t blob) (export_from how path e.to count)
+    made_ends Copy count counts = copy_ends count (blob_read faults.InvalidInput t blob) (writable t e.to) refl refl counts
+    made_ends Reflink count counts = reflink_ends (free t e.to) (blob_bytes t blob) refl (bytes_at home t g cache is h hs hash)
     made_ends HardLink count counts =
-        subst (λ reply. Leads (or_told (free t e.to) (λ q. reply)) (doing (hard_link path e.to) (over Done))) (told_so home t path names (look t names) suited)
-        (hard_link_ends (free t e.to) (named (look t names)) refl (named_as home t path names (look t names) refl suited led))
+        subst (λ reply. Leads (or_told (free t e.to) (λ q. reply)) (doing (hard_link path e.to) (over Done))) (told_so home t path names (look t names) (suited home t g cache is h hs hash))
+        (hard_link_ends (free t e.to) (named (look t names)) refl (named_as home t path names (look t names) refl (suited home t g cache is h hs hash) (led_there home t g cache is h hs hash)))
 
     -- ---- before it
 
-    verified_ends : (bytes : List ℕ) → blob_bytes t held ≡ Ok bytes → Leads (verified_reply (h ∷ hs) (made_reply e.how e.to t held) bytes) (verified k e bytes)
+    verified_ends : (bytes : List ℕ) → blob_bytes t blob ≡ Ok bytes → Leads (verified_reply (h ∷ hs) (made_reply e.how e.to t blob) bytes) (verified k e bytes)
     verified_ends bytes whole =
         let unmet = Refused (IntegrityError (Check (h ∷ hs) (actual (h ∷ hs) bytes))) in
-        both Leads (meets (h ∷ hs) bytes) (made_reply e.how e.to t held) unmet (export_content k e (Some (length bytes))) (ends_with (IntegrityError (Check (h ∷ hs) (actual (h ∷ hs) bytes))))
-        (made_ends e.how (Some (length bytes)) (λ copied from. ap (λ (b : List ℕ). length b) (same_read t held bytes copied whole from)))
+        both Leads (meets (h ∷ hs) bytes) (made_reply e.how e.to t blob) unmet (export_content k e (Some (length bytes))) (ends_with (IntegrityError (Check (h ∷ hs) (actual (h ∷ hs) bytes))))
+        (made_ends e.how (Some (length bytes)) (λ copied from. ap (λ (b : List ℕ). length b) (same_read t blob bytes copied whole from)))
         (ends (Gives unmet) t unmet (refl, refl))
 
-    opens : (r : Result (List ℕ) Fault) → file_at t path faults.IsADirectory ≡ r → apply t (steps.Open path) Plain ≡ unless r t (λ bytes. (answers.File (opened bytes), t))
-    unfolding apply
-    opens r from = ap (λ x. unless x t (λ bytes. (answers.File (opened bytes), t))) from
-
-    checked_ends : (r : Result (List ℕ) Fault) → blob_bytes t held ≡ r → Leads (or_told r (verified_reply (h ∷ hs) (made_reply e.how e.to t held))) (opening_file (to_verify k e))
+    checked_ends : (r : Result (List ℕ) Fault) → blob_bytes t blob ≡ r → Leads (or_told r (verified_reply (h ∷ hs) (made_reply e.how e.to t blob))) (opening_file (to_verify k e))
     checked_ends (Err fault) from =
-        goes (Gives (Refused (IoError fault []))) t t (opening_file (to_verify k e)) (steps.Open path) (answers.Failed fault) refl (opens (Err fault) (bytes_at ∙ from)) (refused fault)
+        goes (Gives (Refused (IoError fault []))) t t (opening_file (to_verify k e)) (steps.Open path) (answers.Failed fault) refl (opens_as t path (Err fault) (bytes_at home t g cache is h hs hash ∙ from)) (refused fault)
     checked_ends (Ok bytes) from =
-        let wanted = verified_reply (h ∷ hs) (made_reply e.how e.to t held) bytes in
-        goes (Gives wanted) t t (opening_file (to_verify k e)) (steps.Open path) (answers.File (opened bytes)) refl (opens (Ok bytes) (bytes_at ∙ from))
+        let wanted = verified_reply (h ∷ hs) (made_reply e.how e.to t blob) bytes in
+        goes (Gives wanted) t t (opening_file (to_verify k e)) (steps.Open path) (answers.File (opened bytes)) refl (opens_as t path (Ok bytes) (bytes_at home t g cache is h hs hash ∙ from))
         (reads_whole (Gives wanted) t (to_verify k e) bytes (verified_ends bytes from) bytes [] refl)
 
-    export_ends : Leads (exported_reply (h ∷ hs) e t held) (export k e)
+    export_ends : Leads (exported_reply (h ∷ hs) e t blob) (export k e)
     export_ends =
-        both Leads e.checked (or_told (blob_bytes t held) (verified_reply (h ∷ hs) (made_reply e.how e.to t held))) (made_reply e.how e.to t held) (opening_file (to_verify k e)) (export_content k e None)
-        (checked_ends (blob_bytes t held) refl) (made_ends e.how None (λ bytes from. refl))
+        both Leads e.checked (or_told (blob_bytes t blob) (verified_reply (h ∷ hs) (made_reply e.how e.to t blob))) (made_reply e.how e.to t blob) (opening_file (to_verify k e)) (export_content k e None)
+        (checked_ends (blob_bytes t blob) refl) (made_ends e.how None (λ bytes from. refl))
 
   -- what lies under an integrity
   abbrev lies_at : List Hash → Option Blob

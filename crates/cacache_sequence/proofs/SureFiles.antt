@@ -1,7 +1,8 @@
--- A file that was opened is read to its end, where no read fails.
-use Rattle.std.proofs.Common.{◌≡◌, ◌==◌, ◌<◌, ℕ, zero, suc, Bool, true, false, cond, List, [], ◌∷◌, ◌++◌, Some, length, take, drop, refl, sym, ap, subst, ◌∙◌, arith, append_assoc, append-nil, take-append-drop, length-drop}
+-- A file is opened and read to its end, where no step fails without cause.
+use Rattle.std.proofs.Common.{◌≡◌, ◌==◌, ◌<◌, ℕ, zero, suc, Bool, true, false, cond, List, [], ◌∷◌, ◌++◌, Some, Result, length, take, drop, refl, sym, ap, subst, ◌∙◌, arith, append_assoc, append-nil, take-append-drop, length-drop}
 use Rattle.std.proofs.lemmas.Bool.{eq-eqb}
 use Rattle.std.proofs.lemmas.List.{length-take, nil_from_length}
+use Rattle.cacache_core.specs.declared.errors.Fault.{Fault}
 use Rattle.cacache_core.specs.declared.errors.Fault.TheVariants as faults
 use Rattle.cacache_store.specs.declared.store.answer.Answer.TheVariants as answers
 use Rattle.cacache_store.specs.declared.store.plain.PlainFile.{PlainFile}
@@ -9,12 +10,23 @@ use Rattle.cacache_store.specs.declared.store.step.Step.TheVariants as steps
 use Rattle.cacache_store.specs.Plain.{PlainAnswer}
 use Rattle.cacache_disk.specs.declared.luck.Luck.TheVariants.{Plain}
 use Rattle.cacache_disk.specs.Tree.{Tree}
-use Rattle.cacache_disk.specs.Apply.{apply, opened, rest_of}
+use Rattle.cacache_disk.specs.Apply.{apply, opened, rest_of, unless}
+use Rattle.cacache_disk.specs.LedTo.{file_at}
 use Rattle.cacache_table.specs.declared.reply.Reply.{Reply}
 use Rattle.cacache_table.specs.Linking.{after_read, hashed}
 use Rattle.cacache_table.specs.State.{Hashing, hashing}
 use Rattle.cacache_table.specs.Table.{piece}
 use Rattle.cacache_sequence.proofs.SureRuns.{EndsSo, goes}
+
+-- ---- by its path
+
+pub opens_as : (t : Tree) (p : List ℕ) (r : Result (List ℕ) Fault) → file_at t p faults.IsADirectory ≡ r → apply t (steps.Open p) Plain ≡ unless r t (λ bytes. (answers.File (opened bytes), t))
+unfolding apply
+opens_as t p r e = ap (λ x. unless x t (λ bytes. (answers.File (opened bytes), t))) e
+
+pub sizes_as : (t : Tree) (p : List ℕ) (r : Result (List ℕ) Fault) → file_at t p faults.IsADirectory ≡ r → apply t (steps.Size p) Plain ≡ unless r t (λ bytes. (answers.Length (length bytes), t))
+unfolding apply
+sizes_as t p r e = ap (λ x. unless x t (λ bytes. (answers.Length (length bytes), t))) e
 
 -- ---- a read of a piece
 

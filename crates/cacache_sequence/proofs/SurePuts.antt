@@ -1,12 +1,9 @@
 -- A put whose steps all go well.
-use Rattle.std.proofs.Common.{◌≡◌, ◌==◌, ℕ, true, false, cond, List, [], ◌∷◌, ◌++◌, Option, None, Some, Result, Ok, length, take, drop, refl, sym, ap, subst, ◌∙◌, arith}
+use Rattle.std.proofs.Common.{◌≡◌, ◌==◌, ℕ, true, false, cond, List, [], ◌∷◌, ◌++◌, None, Some, Result, Ok, length, take, drop, refl, sym, ap, subst, ◌∙◌, arith}
 use Rattle.std.proofs.lemmas.Bool.{ne_eqb}
 use Rattle.std.proofs.lemmas.List.{drop_all}
-use Rattle.hex.specs.Hex.{encode_lower}
-use Rattle.cacache_core.specs.declared.errors.Error.TheVariants.{SizeMismatch, IntegrityError}
 use Rattle.cacache_core.specs.declared.errors.Fault.{Fault}
 use Rattle.cacache_core.specs.declared.errors.Fault.TheVariants as faults
-use Rattle.cacache_core.specs.declared.errors.IntegrityFault.TheVariants.{Check}
 use Rattle.cacache_core.specs.declared.integrity.digest.Hash.{Hash}
 use Rattle.cacache_core.specs.Digests.{digest}
 use Rattle.cacache_core.specs.Integrity.{IsHash, hash_of}
@@ -19,71 +16,41 @@ use Rattle.cacache_disk.specs.declared.luck.Luck.TheVariants.{Plain}
 use Rattle.cacache_disk.specs.declared.node.Node.TheVariants.{File}
 use Rattle.cacache_disk.specs.Tree.{Tree, look, put, cut}
 use Rattle.cacache_disk.specs.LedTo.{place}
-use Rattle.cacache_disk.specs.Apply.{apply, make_some}
+use Rattle.cacache_disk.specs.Apply.{apply}
 use Rattle.cacache_disk.proofs.PutNodes.{look-cut}
 use Rattle.cacache_disk.proofs.Roots.{same_self}
-use Rattle.cacache_table.specs.declared.carried.Commit.{Commit}
 use Rattle.cacache_table.specs.declared.command.Command.TheVariants as commands
 use Rattle.cacache_table.specs.declared.command.Put.{Put}
 use Rattle.cacache_table.specs.declared.reply.Reply.{Reply}
-use Rattle.cacache_table.specs.declared.reply.Reply.TheVariants.{Stored, Refused}
-use Rattle.cacache_table.specs.Common.{fails, ends_with}
-use Rattle.cacache_table.specs.Inserting.{insert}
-use Rattle.cacache_table.specs.State.{State, doing, creating, writing, syncing, persisting, make_folder}
+use Rattle.cacache_table.specs.Common.{fails}
+use Rattle.cacache_table.specs.State.{doing, creating, writing, syncing, persisting, make_folder}
 use Rattle.cacache_table.specs.StepPaths.{temp_path, temp_folder, content_path, content_folder, content_folders}
 use Rattle.cacache_table.specs.Table.{opening}
-use Rattle.cacache_table.specs.Storing.{insertion_of, indexed, sized, compared, placed, secured, matches, move_in, persist, write_rest, put_commit}
+use Rattle.cacache_table.specs.Storing.{placed, secured, move_in, persist, write_rest, put_commit}
 use Rattle.cacache_table.proofs.Branches.{cond_leads}
 use Rattle.cacache_value.specs.Kinds.{Content, Temporary, Way, path_kind, IsFor}
 use Rattle.cacache_value.specs.Placed.{Proper}
 use Rattle.cacache_value.proofs.FoundPaths.{suits}
 use Rattle.cacache_history.proofs.Digests.{digest_hash}
-use Rattle.cacache_sequence.specs.Succeeds.{keyed_reply, sized_reply, compared_reply, put_reply}
+use Rattle.cacache_sequence.specs.Succeeds.{put_reply}
 use Rattle.cacache_sequence.proofs.MadeNodes.{Stands}
-use Rattle.cacache_sequence.proofs.SureInserts.{Inserted, inserts_so, one_behind}
-use Rattle.cacache_sequence.proofs.SureRuns.{EndsSo, ends, ends_too, goes, syncs, both}
+use Rattle.cacache_sequence.proofs.SureCommits as commits
+use Rattle.cacache_sequence.proofs.SureCommits.{placed_ends as commit_ends}
+use Rattle.cacache_sequence.proofs.SureRuns.{EndsSo, goes, syncs, both}
 use Rattle.cacache_sequence.proofs.SureSpares.{put_other}
-use Rattle.cacache_sequence.proofs.SureTemps.{temp_lies, temp_folder_lies, content_lies, content_folder_lies, content_synced, own_temporary_at, with_folder, with_file, made_file, file_ground, stands}
-use Rattle.cacache_sequence.proofs.SureSteps.{Ground, Lies, goes_to, is_for, place_in, makes_dirs, dirs_ground, dirs_stand, dirs_keep, persists, look_own}
+use Rattle.cacache_sequence.proofs.SureTemps.{temp_lies, temp_folder_lies, content_synced, own_temporary_at, with_folder, with_file, made_file, file_ground, stands}
+use Rattle.cacache_sequence.proofs.SureSteps.{Ground, Lies, goes_to, is_for, makes_dirs, dirs_keep, persists, look_own}
 
 -- ---- once the content is there
 
 module _ (cache : List ℕ) (home : Names) (is : names_of cache ≡ Ok home) (p : Put) (q : Names) (temporary : path_kind (Some home) q ≡ Temporary) where
-  abbrev c : Commit
-  c = put_commit cache p
-
   -- the reply is this one, and no temporary file stands there
   abbrev pub PutSo : Reply → Tree → Reply → Type 0
   PutSo wanted t r = (r ≡ wanted) × (look t q ≡ None)
 
   module _ (t : Tree) (g : Ground home t) (none : look t q ≡ None) where
-    -- the state leads to this reply
-    abbrev Leads : Reply → State → Type 0
-    Leads wanted s = EndsSo (PutSo wanted) t s
-
-    by_key : (key : Option (List ℕ)) → Leads (keyed_reply (put_commit cache p) key) (indexed (put_commit cache p) key)
-    by_key None = ends (PutSo (Stored c.computed)) t (Stored c.computed) (refl, none)
-    by_key (Some key) =
-        let i = insertion_of (put_commit cache p) key in
-        let wanted = keyed_reply (put_commit cache p) (Some key) in
-        ends_too (Inserted i home is t g wanted) (PutSo wanted) (λ new r h. (h.0, h.1 q temporary none)) t (insert i) (inserts_so i home is t g)
-
-    by_size : (size : Option ℕ) → Leads (sized_reply (put_commit cache p) size) (sized (put_commit cache p) size)
-    by_size None = by_key p.key
-    by_size (Some wanted) =
-        both Leads (wanted == length p.data) (keyed_reply (put_commit cache p) p.key) (Refused (SizeMismatch wanted (length p.data))) (indexed (put_commit cache p) p.key) (ends_with (SizeMismatch wanted (length p.data)))
-        (by_key p.key)
-        (ends (PutSo (Refused (SizeMismatch wanted (length p.data)))) t (Refused (SizeMismatch wanted (length p.data))) (refl, none))
-
-    by_integrity : (expected : Option (List Hash)) → Leads (compared_reply (put_commit cache p) expected) (compared (put_commit cache p) expected)
-    by_integrity None = by_size p.options.size
-    by_integrity (Some expected) =
-        let unmet = Refused (IntegrityError (Check expected c.computed)) in
-        both Leads (matches expected c.computed) (sized_reply (put_commit cache p) p.options.size) unmet (sized (put_commit cache p) p.options.size) (ends_with (IntegrityError (Check expected c.computed)))
-        (by_size p.options.size) (ends (PutSo unmet) t unmet (refl, none))
-
-    pub placed_ends : Leads (put_reply cache p) (placed (put_commit cache p))
-    placed_ends = by_integrity p.options.integrity
+    pub placed_ends : EndsSo (PutSo (put_reply cache p)) t (placed (put_commit cache p))
+    placed_ends = commit_ends (put_commit cache p) home is (λ x. look x q ≡ None) (λ old new spares. spares q temporary) t g none
 
 -- ---- from a full temporary file on
 
@@ -105,20 +72,20 @@ module _ (cache : List ℕ) (home : Names) (is : names_of cache ≡ Ok home) (p 
   Ended = PutSo cache home is p own (own_temporary_at cache home is number)
 
   abbrev front : Names
-  front = folder_names (content_names h)
+  front = commits.front cache home is t g h hash
 
   folder_lies : Lies home (content_folder cache (put_commit cache p).computed) front Way
-  folder_lies = content_folder_lies cache home is h [] hash
+  folder_lies = commits.folder_lies cache home is t g h hash
 
   lies : Lies home (content_path cache (put_commit cache p).computed) (content_names h) Content
-  lies = content_lies cache home is h [] hash
+  lies = commits.lies cache home is t g h hash
 
   -- the tree with the content's folders
   abbrev made : Tree
-  made = make_some t [] (home ++ front) (length (home ++ front))
+  made = commits.made cache home is t g h hash
 
   made_ground : Ground home made
-  made_ground = dirs_ground home t g (content_folder cache (put_commit cache p).computed) front folder_lies
+  made_ground = commits.made_ground cache home is t g h hash
 
   -- the file stands there still
   abbrev still : Stands made file
@@ -132,11 +99,7 @@ module _ (cache : List ℕ) (home : Names) (is : names_of cache ≡ Ok home) (p 
   }
 
   led : place made (content_path cache (put_commit cache p).computed) ≡ Ok (home ++ content_names h)
-  led =
-      let name = drop 4 (encode_lower h.digest) in
-      place_in made (content_path cache (put_commit cache p).computed) (home ++ front) (drop 4 (encode_lower h.digest)) made_ground.rooted
-      (lies.named ∙ ap Ok (one_behind home front name)) (dirs_stand home t g (content_folder cache (put_commit cache p).computed) front folder_lies)
-      ∙ ap Ok (sym (one_behind home front name))
+  led = commits.led cache home is t g h hash
 
   -- the tree with the content
   abbrev stored : Tree

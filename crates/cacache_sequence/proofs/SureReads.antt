@@ -90,10 +90,7 @@ module _ (home : Names) (t : Tree) (p : List ℕ) (names : Names) where
   read_as folder (Some (Link target)) e s (arrives w) = rw (w, e) refl
   read_as folder (Some (Link target)) e s (missing h w) = let differ : Some (Link target) ≡ None = sym e ∙ h in absurd cc
 
-  content_bytes : (here : Option Node) → look t names ≡ here → MayStand (Some home) here Content → Reached t p names → file_at t p faults.IsADirectory ≡ blob_bytes t (blob_in here)
-  content_bytes here e s r = read_as faults.IsADirectory here e s r ∙ as_bytes t (blob_in here)
-
-  content_there : (here : Option Node) → look t names ≡ here → MayStand (Some home) here Content → Reached t p names → is_there (found t p) ≡ blob_there t (blob_in here)
+  pub content_there : (here : Option Node) → look t names ≡ here → MayStand (Some home) here Content → Reached t p names → is_there (found t p) ≡ blob_there t (blob_in here)
   unfolding found leads followed link_end
   content_there None e s (arrives w) = rw (w, e, e) refl
   content_there None e s (missing h w) = rw w refl
@@ -115,17 +112,17 @@ module _ (home : Names) (t : Tree) (p : List ℕ) (names : Names) where
   removed (Some (Link target)) e s (arrives w) = inr (Link target, refl, rw (w, e) refl)
   removed (Some (Link target)) e s (missing h w) = let differ : Some (Link target) ≡ None = sym e ∙ h in absurd cc
 
-asks : (t : Tree) (p : List ℕ) (a : PlainAnswer) → is_there (found t p) ≡ a → apply t (steps.Exists p) Plain ≡ (a, t)
+pub asks : (t : Tree) (p : List ℕ) (a : PlainAnswer) → is_there (found t p) ≡ a → apply t (steps.Exists p) Plain ≡ (a, t)
 unfolding apply
 asks t p a e = ap (λ x. (x, t)) e
 
 -- what answers a question
-abbrev IsAsked : PlainAnswer → Type 0
+abbrev pub IsAsked : PlainAnswer → Type 0
 IsAsked (answers.There there) = Unit {0}
 IsAsked (answers.Failed fault) = Unit {0}
 IsAsked other = ⊥
 
-is_asked : (r : Result Names Fault) → IsAsked (is_there r)
+pub is_asked : (r : Result Names Fault) → IsAsked (is_there r)
 is_asked (Ok names) = tt
 is_asked (Err faults.NotFound) = tt
 is_asked (Err faults.NotADirectory) = tt
@@ -170,9 +167,9 @@ module _ (Q : Tree → Reply → Type 0) (home : Names) (t : Tree) (g : Ground h
 
 -- ---- contents
 
-module _ (Q : Tree → Reply → Type 0) (home : Names) (t : Tree) (g : Ground home t) (cache : List ℕ) (is : names_of cache ≡ Ok home) (h : Hash) (hs : List Hash) (hash : IsHash h) where
-  abbrev names : Names
-  names = home ++ content_names h
+module _ (home : Names) (t : Tree) (g : Ground home t) (cache : List ℕ) (is : names_of cache ≡ Ok home) (h : Hash) (hs : List Hash) (hash : IsHash h) where
+  abbrev pub content_at : Names
+  content_at = home ++ content_names h
 
   -- what lies there
   abbrev pub held : Option Blob
@@ -181,11 +178,22 @@ module _ (Q : Tree → Reply → Type 0) (home : Names) (t : Tree) (g : Ground h
   lies : Lies home (content_path cache (h ∷ hs)) (content_names h) Content
   lies = content_lies cache home is h hs hash
 
-  suited : MayStand (Some home) (look t names) Content
-  suited = suits (Some home) t names Content lies.kind g.placed
+  pub suited : MayStand (Some home) (look t content_at) Content
+  suited = suits (Some home) t content_at Content lies.kind g.placed
 
-  led_there : Reached t (content_path cache (h ∷ hs)) names
-  led_there = reached home t (content_path cache (h ∷ hs)) names g lies.named (ap is_used lies.kind) (look t names) refl
+  pub led_there : Reached t (content_path cache (h ∷ hs)) content_at
+  led_there = reached home t (content_path cache (h ∷ hs)) content_at g lies.named (ap is_used lies.kind) (look t content_at) refl
+
+  -- the bytes that are read there, where a folder is this fault
+  pub read_at : (folder : Fault) → file_at t (content_path cache (h ∷ hs)) folder ≡ blob_read folder t held
+  read_at folder = read_as home t (content_path cache (h ∷ hs)) content_at folder (look t content_at) refl suited led_there
+
+  pub bytes_at : file_at t (content_path cache (h ∷ hs)) faults.IsADirectory ≡ blob_bytes t held
+  bytes_at = read_at faults.IsADirectory ∙ as_bytes t held
+
+module _ (Q : Tree → Reply → Type 0) (home : Names) (t : Tree) (g : Ground home t) (cache : List ℕ) (is : names_of cache ≡ Ok home) (h : Hash) (hs : List Hash) (hash : IsHash h) where
+  abbrev names : Names
+  names = home ++ content_names h
 
   by_bytes : (r : Result (List ℕ) Fault) → blob_bytes t ((value_of_tree (Some home) t).contents h) ≡ r → Q t (content_reply (h ∷ hs) (as_refusal r))
       → apply t (steps.ReadAll (content_path cache (h ∷ hs))) Plain ≡ (told r, t) → EndsSo Q t (reading (record { cache = cache; integrity = h ∷ hs }))
@@ -205,7 +213,7 @@ module _ (Q : Tree → Reply → Type 0) (home : Names) (t : Tree) (g : Ground h
   pub reads_so : Q t (read_on (Some home) t (h ∷ hs)) → EndsSo Q t (reading (record { cache = cache; integrity = h ∷ hs }))
   reads_so q =
       let r = blob_bytes t ((value_of_tree (Some home) t).contents h) in
-      by_bytes r refl q (told_all t (content_path cache (h ∷ hs)) r (content_bytes home t (content_path cache (h ∷ hs)) names (look t names) refl suited led_there))
+      by_bytes r refl q (told_all t (content_path cache (h ∷ hs)) r (bytes_at home t g cache is h hs hash))
 
   by_there : (a : PlainAnswer) → Q t (Exists (is_yes a)) → apply t (steps.Exists (content_path cache (h ∷ hs))) Plain ≡ (a, t) → IsAsked a
       → EndsSo Q t (asking (record { cache = cache; integrity = h ∷ hs }))
@@ -219,19 +227,19 @@ module _ (Q : Tree → Reply → Type 0) (home : Names) (t : Tree) (g : Ground h
   pub asks_so : Q t (Exists (is_yes (blob_there t ((value_of_tree (Some home) t).contents h)))) → EndsSo Q t (asking (record { cache = cache; integrity = h ∷ hs }))
   asks_so q =
       let a = blob_there t ((value_of_tree (Some home) t).contents h) in
-      let same = content_there home t (content_path cache (h ∷ hs)) names (look t names) refl suited led_there in
+      let same = content_there home t (content_path cache (h ∷ hs)) names (look t names) refl (suited home t g cache is h hs hash) (led_there home t g cache is h hs hash) in
       by_there a q (asks t (content_path cache (h ∷ hs)) a same) (subst IsAsked same (is_asked (found t (content_path cache (h ∷ hs)))))
 
   -- a removal is done where something does
-  pub removes_so : (next : State) → ((blob : Blob) → held ≡ Some blob → Ground home (cut t names) → EndsSo Q (cut t names) next) → (held ≡ None → Q t (Refused (IoError faults.NotFound [])))
+  pub removes_so : (next : State) → ((blob : Blob) → held home t g cache is h hs hash ≡ Some blob → Ground home (cut t names) → EndsSo Q (cut t names) next) → (held home t g cache is h hs hash ≡ None → Q t (Refused (IoError faults.NotFound [])))
       → EndsSo Q t (doing (remove (content_path cache (h ∷ hs))) next)
   removes_so next there none =
       let path = content_path cache (h ∷ hs) in
-      elim (removed home t (content_path cache (h ∷ hs)) names (look t names) refl suited led_there) [
+      elim (removed home t (content_path cache (h ∷ hs)) names (look t names) refl (suited home t g cache is h hs hash) (led_there home t g cache is h hs hash)) [
         | inl n ↦
             goes Q t t (doing (remove path) next) (steps.RemoveFile path) (answers.Failed faults.NotFound) refl n.1
             (ends Q t (Refused (IoError faults.NotFound [])) (none (ap blob_in n.0)))
         | inr s ↦
-            let some = is_blob home (look t names) suited s.0 s.1 in
+            let some = is_blob home (look t names) (suited home t g cache is h hs hash) s.0 s.1 in
             goes Q t (cut t names) (doing (remove path) next) (steps.RemoveFile path) answers.Done refl s.2 (there some.0 some.1 (goes_to home t (cut t names) (steps.RemoveFile path) answers.Done g tt s.2))
       ]

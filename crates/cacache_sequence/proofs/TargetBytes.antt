@@ -90,7 +90,7 @@ turns_more (took t file ∷ parts) more = ap (λ l. turn_of t (Take 1) (byte_rea
 
 -- ---- an opening
 
-target_opened : (path : List ℕ) (r : Result PlainFile Error) (old new : List LogItem) → OpensTarget path r (Some old) (Some new) → Opened path r old new
+pub target_opened : (path : List ℕ) (r : Result PlainFile Error) (old new : List LogItem) → OpensTarget path r (Some old) (Some new) → Opened path r old new
 target_opened path (Err e) old new h = errs path old new e h
 target_opened path (Ok file) old new h = record {
   moves = (steps.Open path, answers.File file) ∷ [];

@@ -1,4 +1,5 @@
--- What an export answers whose steps all go well, whatever lies under its source and stands at its path.
+-- What an export answers whose steps all go well, by what lies under its source and what stands at its
+-- path.
 use Rattle.std.specs.Prelude.{◌≡◌, ℕ, List, [], Option, None, Some, Result, Ok, Err, if◌then◌else◌, length}
 use Rattle.cacache_core.specs.declared.errors.Error.TheVariants.{EntryNotFound, IoError, IntegrityError}
 use Rattle.cacache_core.specs.declared.errors.Fault.{Fault}

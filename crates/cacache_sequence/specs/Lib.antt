@@ -22,3 +22,4 @@ pub mod Exported
 pub mod Succeeds
 pub mod ExportAnswers
 pub mod OpenSucceeds
+pub mod LinkAnswers

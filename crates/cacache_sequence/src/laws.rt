@@ -20,6 +20,7 @@ ghost use Rattle.cacache_sequence.specs.OpenLinkers.{LinkersOpen, LinkersOpenSiz
 ghost use Rattle.cacache_sequence.specs.Puts.{PutsLeave, PutsMayLead, CommitsLeave, CommitsKeep};
 ghost use Rattle.cacache_sequence.specs.GivenUp.{GivingUpLasts};
 ghost use Rattle.cacache_sequence.specs.OpenReaders.{ReadersOpen, ReadersOpenKey};
+ghost use Rattle.cacache_sequence.specs.LinkAnswers.{LinksAnswer, LinkersAnswer, LinkerOpeningsAnswer, SizedOpeningsAnswer, ReadersAnswer, KeyReadersAnswer};
 ghost use Rattle.cacache_sequence.specs.OpenSucceeds.{OpeningsSucceed, CommitsAnswer, OthersKeepFiles, PutsKeepFiles, ExportsSucceed};
 ghost use Rattle.cacache_sequence.specs.Succeeds.{PutsAnswer, InsertionsAnswer, DeletionsAnswer, LookupsAnswer, ContentReadsAnswer, KeyReadsAnswer, QuestionsAnswer, RemovalsAnswer, FullRemovalsAnswer, ListingsAnswer, ClearingsAnswer, OthersLeaveNone, PutsLeaveOwn, PutsLeaveTidy, FreshIsReady, SameIsReady};
 
@@ -142,8 +143,9 @@ pub fn parts_laws()
 /// where it may, the cache's path names a folder, and no temporary file has a put's number. A put stores, unless its
 /// options refuse its bytes; a lookup, a read and a question answer what the cache holds; a removal is done where
 /// something lies; a listing reads each bucket, and a clearing is done. An export tells what is wrong with its source or its
-/// path, if anything is, and then changes nothing. So it is of an open writer while its file stands.
-/// A new store has no temporary file, and a call leaves none that memory wasn't refused to.
+/// path, if anything is, and then changes nothing. A link stores as a put does, and the opening of a reader or a linker gives
+/// the bytes that are there, or tells why there are none. So it is of an open writer while its file stands, and of a
+/// linker's commit. A new store has no temporary file, and a call leaves none that memory wasn't refused to.
 pub fn success_laws()
     ensures puts { PutsAnswer }
     ensures inserts { InsertionsAnswer }
@@ -160,6 +162,12 @@ pub fn success_laws()
     ensures commits { CommitsAnswer }
     ensures exports { ExportsSucceed }
     ensures exports_answer { ExportsAnswer }
+    ensures links { LinksAnswer }
+    ensures opens_link { LinkerOpeningsAnswer }
+    ensures opens_sized { SizedOpeningsAnswer }
+    ensures commits_link { LinkersAnswer }
+    ensures opens_reader { ReadersAnswer }
+    ensures opens_key { KeyReadersAnswer }
     ensures keeps_files { OthersKeepFiles }
     ensures puts_keep_files { PutsKeepFiles }
     ensures others { OthersLeaveNone }

@@ -4,6 +4,8 @@ use Rattle.cacache_sequence.proofs.SureLists.{listings_answer}
 use Rattle.cacache_sequence.proofs.SureClears.{clearings_answer}
 use Rattle.cacache_sequence.proofs.SureWriters.{openings_succeed, commits_answer}
 use Rattle.cacache_sequence.proofs.SureExports.{exports_answer, exports_succeed}
+use Rattle.cacache_sequence.proofs.SureLinks.{linkers_answer, links_answer}
+use Rattle.cacache_sequence.proofs.SureReaders.{key_readers_answer, linker_openings_answer, readers_answer, sized_openings_answer}
 use Rattle.cacache_sequence.proofs.SureStays.{others_keep_files, puts_keep_files}
 use Rattle.cacache_sequence.proofs.Unused.{others_leave_none, puts_leave_own, puts_leave_tidy, fresh_is_ready, same_is_ready}
 use Rattle.cacache_sequence.proofs.laws.success_laws.Goals as goal
@@ -25,6 +27,12 @@ returns c = record {
   commits = commits_answer;
   exports = exports_succeed;
   exports_answer = exports_answer;
+  links = links_answer;
+  opens_link = linker_openings_answer;
+  opens_sized = sized_openings_answer;
+  commits_link = linkers_answer;
+  opens_reader = readers_answer;
+  opens_key = key_readers_answer;
   keeps_files = others_keep_files;
   puts_keep_files = puts_keep_files;
   others = others_leave_none;
