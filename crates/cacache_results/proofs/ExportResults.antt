@@ -25,11 +25,13 @@ use Rattle.cacache_sequence.specs.ExportEffects.{IsApart}
 use Rattle.cacache_sequence.specs.OpenWriters.{LeavesKnownCache}
 use Rattle.cacache_sequence.specs.OpenSucceeds.{MayTake, exported}
 use Rattle.cacache_sequence.proofs.Standing.{caches_stand}
-use Rattle.cacache_sequence.proofs.SureExports.{exports_succeed}
+use Rattle.cacache_sequence.specs.Succeeds.{NamesFolder}
+use Rattle.cacache_sequence.proofs.SureExports.{exports_answer, exports_succeed}
 use Rattle.cacache_sequence.proofs.Exported.{exports_arrive}
 use Rattle.cacache_sequence.proofs.ExportEffects.{exports_keep}
 use Rattle.cacache_sequence.proofs.Logs.{calls_grow}
 use Rattle.cacache_results.specs.Exports.{CopyMeans, SharingMeans}
+use Rattle.cacache_results.proofs.ExportErrors.{Answered, copy_missing, fails_so, missing_fails, refuses_so}
 use Rattle.cacache_results.proofs.SureResults.{IsGiven, for_memory}
 use Rattle.cacache_results.proofs.Told.{called, excused}
 
@@ -47,11 +49,16 @@ copied (Err e) bytes to old new h = excused e old new h
 pub copy_means : {C N : Type 0} (cache : List ℕ) (source : Source) (checked : Bool) (to : List ℕ) (r : Result ℕ Error) (new : Env (List LogItem) C N) → IsLog new.store → CopyMeans cache source checked to r new
 copy_means cache source checked to r new logged old apart named sound ran =
     let c = called Copied (λ n. refl) r cache old.base 0 (exporting Copy checked source to) old.store new.store ran.0.0 logged in
+    let answers : NamesFolder cache → Answered cache source Copy checked to (reply_of Copied r) old.store new.store
+    = λ folder. exports_answer cache source (record { how = Copy; checked = checked; to = to }) (reply_of Copied r) old.store new.store folder named sound c in
     record {
       leaves = leaves cache source Copy checked to (reply_of Copied r) old.store new.store apart named sound c;
       arrives = λ bytes has. copied r bytes to old.store new.store (exports_arrive cache bytes to Copy source checked (reply_of Copied r) old.store new.store apart sound has c);
       succeeds = λ bytes folder has may.
           for_memory Copied r (Copied (length bytes)) tt (exports_succeed cache bytes to Copy source checked (reply_of Copied r) old.store new.store folder (caches_stand cache old.store sound) has may c);
+      fails = λ folder. fails_so Copied r cache source Copy checked to old.store new.store (answers folder);
+      refuses = λ folder. refuses_so Copied (λ n. tt) r cache source Copy checked to old.store new.store (answers folder);
+      missing = λ i folder. copy_missing Copied (λ n. tt) r cache source checked to old.store new.store (answers folder) i;
     }
 
 shared : (r : Result (Unit {0}) Error) (bytes to : List ℕ) (old new : List LogItem) → Arrives bytes to (reply_of done r) old new
@@ -87,10 +94,15 @@ pub sharing_means : {C N : Type 0} (cache : List ℕ) (source : Source) (how : H
     → SharingMeans cache source how checked to r new
 sharing_means cache source how checked to r new logged old apart named sound ran =
     let c = called done (λ u. refl) r cache old.base 0 (exporting how checked source to) old.store new.store ran.0.0 logged in
+    let answers : NamesFolder cache → Answered cache source how checked to (reply_of done r) old.store new.store
+    = λ folder. exports_answer cache source (record { how = how; checked = checked; to = to }) (reply_of done r) old.store new.store folder named sound c in
     record {
       leaves = leaves cache source how checked to (reply_of done r) old.store new.store apart named sound c;
       arrives = λ bytes has. shared r bytes to old.store new.store (exports_arrive cache bytes to how source checked (reply_of done r) old.store new.store apart sound has c);
       succeeds = λ bytes folder has may.
           for_memory done r (exported how bytes) (is_given how bytes)
           (exports_succeed cache bytes to how source checked (reply_of done r) old.store new.store folder (caches_stand cache old.store sound) has (may_take how to old.store may) c);
+      fails = λ folder. fails_so done r cache source how checked to old.store new.store (answers folder);
+      refuses = λ folder. refuses_so done (λ u. tt) r cache source how checked to old.store new.store (answers folder);
+      missing = λ i folder. missing_fails done (λ u. tt) r cache source how checked to old.store new.store (answers folder) i;
     }

@@ -3,7 +3,9 @@ pub mod SureResults
 pub mod ReadResults
 pub mod WriteResults
 pub mod RemovalResults
+pub mod ExportErrors
 pub mod ExportResults
+pub mod SureLinkResults
 pub mod LinkResults
 pub mod WriterResults
 pub mod JoinedResults

@@ -20,32 +20,41 @@ use Rattle.cacache_store.specs.declared.store.plain.PlainFile.{PlainFile}
 use Rattle.cacache_store.specs.declared.store.step.Step.TheVariants as steps
 use Rattle.cacache_store.specs.Handles.{LeftFalls}
 use Rattle.cacache_disk.specs.Apply.{opened}
-use Rattle.cacache_memory.specs.Replay.{IsLog}
+use Rattle.cacache_memory.specs.Replay.{IsLog, shown, tree_of}
 use Rattle.cacache_table.specs.declared.command.Link.{Link}
 use Rattle.cacache_table.specs.declared.reply.Reply.TheVariants.{Stored}
 use Rattle.cacache_table.specs.Inserting.{entry_of, given_or, refused_cause}
 use Rattle.cacache_table.specs.Promises.{answered}
 use Rattle.cacache_table.proofs.IntegrityUtf8.{integrity_utf8}
-use Rattle.cacache_table.specs.Linking.{based, link_target, linked_to, target_at}
+use Rattle.cacache_table.specs.Linking.{based, commit_for, link_target, linked_to, target_at}
 use Rattle.cacache_table.specs.Runs.{Gains, Goes, Gone, Moves, Ran, reply_of, without_message}
 use Rattle.cacache_table.specs.State.{hashing, to_link}
 use Rattle.cacache_content.specs.Passed.{passed}
-use Rattle.cacache_put.specs.OpenLinkers.{LinkTarget, OpensLinker, OpensSized, OpensTarget, asks_file, asks_size, stands_at}
+use Rattle.cacache_put.specs.OpenLinkers.{HasHashed, LinkTarget, OpensLinker, OpensSized, OpensTarget, asks_file, asks_size, stands_at}
 use Rattle.cacache_put.specs.Options.{Said, options_of}
 use Rattle.cacache_sequence.specs.Caches.{Grows, IsCache, IsExcused}
 use Rattle.cacache_sequence.specs.ExportEffects.{IsApart}
+use Rattle.cacache_sequence.specs.LinkAnswers.{OpensAs, target_bytes}
 use Rattle.cacache_sequence.specs.Links.{FitsLink, HasLinked, LeavesLink, put_like}
 use Rattle.cacache_sequence.specs.OpenLinkers.{CanWrite, CommitsRest, SuitsSize, TargetOpened}
+use Rattle.cacache_sequence.specs.OpenWriters.{LeavesKnownCache}
 use Rattle.cacache_sequence.specs.Puts.{entry_of_put}
+use Rattle.cacache_sequence.specs.Succeeds.{NamesFolder}
 use Rattle.cacache_sequence.proofs.Forms.{bare_written}
 use Rattle.cacache_sequence.proofs.Logs.{some_same}
 use Rattle.cacache_sequence.proofs.OpenLinkers.{linkers_commit, linkers_fail}
+use Rattle.cacache_sequence.proofs.Standing.{caches_stand}
+use Rattle.cacache_sequence.proofs.SureLinks.{linkers_answer}
+use Rattle.cacache_sequence.proofs.SureReaders.{linker_openings_answer, sized_openings_answer}
 use Rattle.cacache_sequence.proofs.TargetBytes.{linkers_open, linkers_open_sized}
 use Rattle.cacache_sequence.proofs.OpenWriters.{gains_join}
 use Rattle.cacache_results.specs.Handles.{IsText, LeadsToEntry, SaysFit, said_integrity}
 use Rattle.cacache_results.specs.Writes.{SaysPlain}
-use Rattle.cacache_results.specs.Linkers.{PlainSaysFit, LinkCommitsMean, LinkOpeningsMean, LinkedBytes, LinkersGoOn, MemLinker, OpenedLinker, SizedOpeningsMean}
+use Rattle.cacache_results.specs.Linkers.{IsLinking, PlainSaysFit, LinkCommitsMean, LinkOpeningsMean, LinkedBytes, LinkersGoOn, MemLinker, OpenedLinker, SizedOpeningsMean}
+use Rattle.cacache_results.specs.Links.{LeadsOn}
+use Rattle.cacache_results.specs.Success.{FailsForMemory}
 use Rattle.cacache_results.proofs.LinkResults.{lies_so}
+use Rattle.cacache_results.proofs.SureLinkResults.{commit_succeeds, shown_read}
 use Rattle.cacache_results.proofs.Told.{excused, plain_result}
 use Rattle.cacache_results.proofs.WriteResults.{early_of}
 use Rattle.cacache_results.proofs.WriterResults.{fits}
@@ -88,76 +97,78 @@ module _ (cache : List ℕ) (key : Option (List ℕ)) (base target : List ℕ) (
   abbrev linked : LinkTarget
   linked = linked_to base cache key target time (options_of s)
 
+  abbrev target_path : List ℕ
+  target_path = based base target
+
+  -- a linker that was opened, of which this size is expected, or none
+  is_linking : (w : MemLinker) (size : Option ℕ) (held : List ℕ) → shown (tree_of old) target_path ≡ Some held → w.file ≡ opened held → TargetOpened cache target_path held w.file → SuitsSize size (length held)
+      → w.linked ≡ linked_to base cache key target time (record (options_of s) { size = size }) → HasHashed w [] → w.file.left < 2 ^ 64
+      → (held : List ℕ) × (shown (tree_of old) target_path ≡ Some held) × IsLinking cache key target_path s held [] w
+  is_linking w size held shows file was suits linked_is empty small = (
+    held,
+    shows,
+    record {
+      base = base;
+      target = target;
+      path_is = refl;
+      time = time;
+      time_is = timed;
+      size = size;
+      suits = suits;
+      small = subst (λ (f : PlainFile). f.left < 2 ^ 64) file small;
+      linked_is = linked_is;
+      first = w.file;
+      was_opened = was;
+      rest = held;
+      all = refl;
+      file_is = file;
+      hashed = empty;
+    },
+  )
+
+  -- none was, as this says
+  fails_so : (e : Error) → LeavesKnownCache cache old new → IsExcused e old new → OpensAs (target_bytes target_path old) (Err e) → OpenedLinker cache key target_path s (Err e) old new
+  fails_so e left excused told = record {
+    leaves = left;
+    linker = tt;
+    fails = excused;
+    succeeds = λ held shows. subst (λ content. OpensAs content (Err e)) (shown_read (tree_of old) target_path held shows) told;
+    unread = λ fault is. subst (λ content. OpensAs content (Err e)) is told;
+  }
+
+  opens_so : (w : MemLinker) → LeavesKnownCache cache old new → (held : List ℕ) × (shown (tree_of old) target_path ≡ Some held) × IsLinking cache key target_path s held [] w → OpensAs (target_bytes target_path old) (Ok w.file)
+      → OpenedLinker cache key target_path s (Ok w) old new
+  opens_so w left linker told = record {
+    leaves = left;
+    linker = linker;
+    fails = tt;
+    succeeds = λ held shows. tt;
+    unread = λ fault is. subst (λ content. OpensAs content (Ok w.file)) is told;
+  }
+
   opened_plain : (r : Result MemLinker Error) → s.size ≡ None → OpensTarget (λ file. file) linked r (Some old) (Some new) → OpensLinker (λ file. file) time (asks_file linked) r (Some old) (Some new)
-      → OpenedLinker cache key (based base target) s r old new
+      → OpenedLinker cache key target_path s r old new
   opened_plain (Err e) none opens begins =
-      let o = linkers_open cache (based base target) (Err e) old new sound opens logged in
-      record { leaves = o.0; linker = tt; fails = o.1 }
+      let o = linkers_open cache target_path (Err e) old new sound opens logged in
+      fails_so e o.0 o.1 (linker_openings_answer target_path (Err e) old new opens logged)
   opened_plain (Ok w) none opens begins =
-      let o = linkers_open cache (based base target) (Ok w.file) old new sound opens.1 logged in
+      let o = linkers_open cache target_path (Ok w.file) old new sound opens.1 logged in
       let small = small_plain linked w old new opens.1 (begins.2 0) in
       let g = o.1 in
-      record {
-        leaves = o.0;
-        linker = (
-          g.0,
-          g.1,
-          record {
-            base = base;
-            target = target;
-            path_is = refl;
-            time = time;
-            time_is = timed;
-            size = s.size;
-            suits = inl none;
-            small = subst (λ (f : PlainFile). f.left < 2 ^ 64) g.2 small;
-            linked_is = opens.0.linked_is;
-            first = w.file;
-            was_opened = g.3 small;
-            rest = g.0;
-            all = refl;
-            file_is = g.2;
-            hashed = opens.0.empty;
-          },
-        );
-        fails = tt;
-      }
+      opens_so w o.0 (is_linking w s.size g.0 g.1 g.2 (g.3 small) (inl none) opens.0.linked_is opens.0.empty small) (linker_openings_answer target_path (Ok w.file) old new opens.1 logged)
 
   opened_sized : (r : Result MemLinker Error) → OpensSized (λ file. file) linked r (Some old) (Some new) → OpensLinker (λ file. file) time (asks_size linked) r (Some old) (Some new)
-      → OpenedLinker cache key (based base target) s r old new
+      → OpenedLinker cache key target_path s r old new
   opened_sized (Err e) opens begins =
-      let o = linkers_open_sized cache (based base target) (Err e) old new sound opens logged in
-      record { leaves = o.0; linker = tt; fails = o.1 }
+      let o = linkers_open_sized cache target_path (Err e) old new sound opens logged in
+      fails_so e o.0 o.1 (sized_openings_answer target_path (Err e) old new opens logged)
   opened_sized (Ok w) opens begins =
-      let o = linkers_open_sized cache (based base target) (Ok (opens.0, w.file)) old new sound (opens.1, opens.2, opens.3.1) logged in
-      let gained = gains_join old new opens.1 ((steps.Size (based base target), answers.Length opens.0) ∷ []) ((steps.Open (based base target), answers.File w.file) ∷ []) opens.2 opens.3.1 in
+      let o = linkers_open_sized cache target_path (Ok (opens.0, w.file)) old new sound (opens.1, opens.2, opens.3.1) logged in
+      let gained = gains_join old new opens.1 ((steps.Size target_path, answers.Length opens.0) ∷ []) ((steps.Open target_path, answers.File w.file) ∷ []) opens.2 opens.3.1 in
       let small = small_sized linked w old new opens.0 gained (begins.2 0) in
       let g = o.1 in
-      record {
-        leaves = o.0;
-        linker = (
-          g.0,
-          g.1,
-          record {
-            base = base;
-            target = target;
-            path_is = refl;
-            time = time;
-            time_is = timed;
-            size = Some opens.0;
-            suits = inr (ap Some g.3);
-            small = subst (λ (f : PlainFile). f.left < 2 ^ 64) g.2 small;
-            linked_is = opens.3.0.linked_is;
-            first = w.file;
-            was_opened = g.4 small;
-            rest = g.0;
-            all = refl;
-            file_is = g.2;
-            hashed = opens.3.0.empty;
-          },
-        );
-        fails = tt;
-      }
+      opens_so w o.0 (is_linking w (Some opens.0) g.0 g.1 g.2 (g.4 small) (inr (ap Some g.3)) opens.3.0.linked_is opens.3.0.empty small)
+      (sized_openings_answer target_path (Ok (opens.0, w.file)) old new (opens.1, opens.2, opens.3.1) logged)
 
 pub link_openings_mean : {C N : Type 0} (new : Env (List LogItem) C N) → IsLog new.store → LinkOpeningsMean new
 link_openings_mean new logged cache None target s r old sound none opens begins = opened_plain cache None old.base target s (Some 0) (λ k is. absurd cc) old.store new.store sound logged r none opens.0 begins
@@ -239,8 +250,9 @@ module _ (cache : List ℕ) (key : Option (List ℕ)) (base target : List ℕ) (
       (entry_of_put cache (put_like link_of held) k, h.entry k keyed, record { integrity = sym stored; size = refl; metadata = refl; raw_metadata = refl })
 
   linked_bytes : (r : Result (List Hash) Error) → LeavesLink cache (put_like link_of held) (based base target) (reply_of Stored r) old new → IsCache cache new → Grows old new
-      → ((e : Error) → r ≡ Err e → SaysPlain s → s.integrity ≡ None → IsExcused e old new) → LinkedBytes cache key (based base target) s held r old new
-  linked_bytes (Ok i) h sound grows fails =
+      → ((e : Error) → r ≡ Err e → SaysPlain s → s.integrity ≡ None → IsExcused e old new)
+      → (NamesFolder cache → SaysPlain s → s.integrity ≡ None → LeadsOn cache (said_integrity s held) old → FailsForMemory r) → LinkedBytes cache key (based base target) s held r old new
+  linked_bytes (Ok i) h sound grows fails succeeds =
       let l = h.links i refl in
       record {
         sound = sound;
@@ -250,8 +262,10 @@ module _ (cache : List ℕ) (key : Option (List ℕ)) (base target : List ℕ) (
         lies = lies_so cache (based base target) (said_integrity s held) (said_integrity s held) old new refl l.lies;
         beside = h.beside;
         fails = λ plain none. tt;
+        succeeds = succeeds;
       }
-  linked_bytes (Err e) h sound grows fails = record { sound = sound; grows = grows; stored = tt; leads = tt; lies = tt; beside = h.beside; fails = fails e refl }
+  linked_bytes (Err e) h sound grows fails succeeds =
+      record { sound = sound; grows = grows; stored = tt; leads = tt; lies = tt; beside = h.beside; fails = fails e refl; succeeds = succeeds }
 
 fits_link : (cache : List ℕ) (key : Option (List ℕ)) (base target : List ℕ) (s : Said) (size : Option ℕ) (moment : ℕ) → SaysFit s → IsText key → FitsLink cache (link_of cache key base target s size moment [] [] [])
 fits_link cache key base target s size moment says text =
@@ -292,6 +306,11 @@ link_commits_mean moments new logged cache key path s held bytes w r old sound a
     (can_write cache key t.base t.target s t.size h.0 (bytes ++ t.rest) plain none text (subst (λ b. length b < 2 ^ 64) (sym t.all) t.small) (early plain)) shown_so sound
     (subst (λ x. CommitsRest cache t.base l bytes t.rest (reply_of Stored x) old.store new.store) is c)) in
     let left = linkers_commit cache t.base l bytes t.rest t.first (reply_of Stored r) old.store new.store (fits_link cache key t.base t.target s t.size h.0 says text) far suits says.formed shown_so sound c in
+    let succeeds : NamesFolder cache → SaysPlain s → s.integrity ≡ None → LeadsOn cache (said_integrity s (bytes ++ t.rest)) old.store → FailsForMemory r
+    = λ folder plain none leads.
+    commit_succeeds (commit_for (link_target (record { cache = cache; base = t.base; number = 0 }) l) (bytes ++ t.rest)) r old.store
+    (can_write cache key t.base t.target s t.size h.0 (bytes ++ t.rest) plain none text (subst (λ b. length b < 2 ^ 64) (sym t.all) t.small) (early plain)) none suits leads
+    (linkers_answer cache t.base l bytes t.rest (reply_of Stored r) old.store new.store folder (caches_stand cache old.store sound) far c) in
     subst (λ p. LinkedBytes cache key p s held r old.store new.store) t.path_is
     (subst (λ b. LinkedBytes cache key (based t.base t.target) s b r old.store new.store) t.all
-    (linked_bytes cache key t.base t.target s t.size h.0 (bytes ++ t.rest) old.store new.store r left.2 left.0 left.1 fails))
+    (linked_bytes cache key t.base t.target s t.size h.0 (bytes ++ t.rest) old.store new.store r left.2 left.0 left.1 fails succeeds))

@@ -10,7 +10,7 @@ use Rattle.cacache_table.specs.declared.reply.Reply.TheVariants as replies
 use Rattle.cacache_table.specs.Replies.{OrMemory}
 use Rattle.cacache_table.specs.Runs.{reply_of, without_message}
 use Rattle.cacache_sequence.specs.Succeeds.{IsReady, IsTidy, NamesFolder}
-use Rattle.cacache_results.specs.Success.{FailsForMemory}
+use Rattle.cacache_results.specs.Success.{FailsAs, FailsFor, FailsForMemory}
 use Rattle.cacache_results.proofs.Told.{of_memory, of_missing}
 
 -- a reply that refuses nothing
@@ -18,7 +18,7 @@ abbrev pub IsGiven : Reply → Type 0
 IsGiven (replies.Refused e) = ⊥
 IsGiven r = Unit {0}
 
-of_refused : (e : Error) → replies.Refused (without_message e) ≡ replies.Refused OutOfMemory → e ≡ OutOfMemory
+pub of_refused : (e : Error) → replies.Refused (without_message e) ≡ replies.Refused OutOfMemory → e ≡ OutOfMemory
 of_refused e h = let same : without_message e ≡ OutOfMemory = cc in of_memory e same
 
 -- a call that is to answer such a reply, if memory isn't refused, fails for memory
@@ -47,3 +47,16 @@ pub for_missing : {X : Type 0} (answer : X → Reply) (r : Result X Error) (cach
 for_missing answer (Ok x) cache key h = tt
 for_missing answer (Err e) cache key (inl m) = inr (of_refused e m)
 for_missing answer (Err e) cache key (inr is) = let same : without_message e ≡ EntryNotFound cache key = cc in inl (of_missing e cache key same)
+
+-- a call that answers this error, if memory isn't refused, fails for nothing else
+pub fails_for : {X : Type 0} (answer : X → Reply) → ((x : X) → IsGiven (answer x)) → (r : Result X Error) (wanted : Error) → OrMemory (reply_of answer r ≡ replies.Refused wanted) (reply_of answer r) → FailsFor wanted r
+fails_for answer gives (Ok x) wanted (inl m) = absurd (subst IsGiven m (gives x))
+fails_for answer gives (Ok x) wanted (inr is) = absurd (subst IsGiven is (gives x))
+fails_for answer gives (Err e) wanted (inl m) = inl (of_refused e m)
+fails_for answer gives (Err e) wanted (inr is) = inr (cc)
+
+-- an error that is told is one of these
+pub fails_too : {X : Type 0} (wanted : Error) (IsSo : Error → Type 0) → ((e : Error) → without_message e ≡ wanted → IsSo e) → (r : Result X Error) → FailsFor wanted r → FailsAs IsSo r
+fails_too wanted IsSo leads (Ok x) h = h
+fails_too wanted IsSo leads (Err e) (inl m) = inl m
+fails_too wanted IsSo leads (Err e) (inr same) = inr (leads e same)

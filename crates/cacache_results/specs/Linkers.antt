@@ -1,9 +1,11 @@
 -- What open linkers did, by their results, on a store in memory.
-use Rattle.std.specs.Prelude.{◌≡◌, ◌<◌, ◌^◌, ◌++◌, ℕ, List, [], Option, None, Some, Result, IfOk, IfErr, length}
+use Rattle.std.specs.Prelude.{◌≡◌, ◌<◌, ◌^◌, ◌++◌, ℕ, List, [], Option, None, Some, Result, Err, IfOk, IfErr, length}
 use Rattle.std.specs.Io.{ReadsAtMost}
 use Rattle.std.specs.Io.KnownBytes.{ReadConsumes}
 use Rattle.cacache_store.specs.Failures as io
 use Rattle.cacache_core.specs.declared.errors.Error.{Error}
+use Rattle.cacache_core.specs.declared.errors.Error.TheVariants.{IoError}
+use Rattle.cacache_core.specs.declared.errors.Fault.{Fault}
 use Rattle.cacache_core.specs.declared.integrity.digest.Hash.{Hash}
 use Rattle.cacache_store.specs.declared.env.Env.{Env}
 use Rattle.cacache_store.specs.declared.store.log.LogItem.{LogItem}
@@ -21,11 +23,14 @@ use Rattle.cacache_put.specs.OpenLinkers.{BeginsLink, CommitsLink, HasHashed, Op
 use Rattle.cacache_put.specs.Options.{Said, options_of}
 use Rattle.cacache_sequence.specs.Caches.{IsCache, IsExcused, Grows}
 use Rattle.cacache_sequence.specs.ExportEffects.{IsApart}
+use Rattle.cacache_sequence.specs.LinkAnswers.{target_bytes}
 use Rattle.cacache_sequence.specs.Links.{KeepsBesideLink}
 use Rattle.cacache_sequence.specs.OpenLinkers.{SuitsSize, TargetOpened}
 use Rattle.cacache_sequence.specs.OpenWriters.{LeavesKnownCache}
+use Rattle.cacache_sequence.specs.Succeeds.{NamesFolder}
 use Rattle.cacache_results.specs.Handles.{IsText, LeadsToEntry, SaysFit, said_integrity}
-use Rattle.cacache_results.specs.Links.{LiesLinked}
+use Rattle.cacache_results.specs.Links.{LeadsOn, LiesLinked}
+use Rattle.cacache_results.specs.Success.{FailsFor, FailsForMemory}
 use Rattle.cacache_results.specs.Writes.{SaysPlain}
 
 -- a linker of a store in memory
@@ -56,18 +61,21 @@ pub record IsLinking (cache : List ℕ) (key : Option (List ℕ)) (path : List �
 -- ---- an opening
 
 -- a linker of what its target showed, that took nothing yet, or the error is excused; all that was known
--- stays
+-- stays. Where the target shows bytes only memory fails it, and else it tells why there are none
 pub record OpenedLinker (cache : List ℕ) (key : Option (List ℕ)) (path : List ℕ) (s : Said)
     (r : Result MemLinker Error) (old new : List LogItem) : Type 0 where
   pub leaves : LeavesKnownCache cache old new
   pub linker : IfOk r (λ w. (held : List ℕ) × (shown (tree_of old) path ≡ Some held)
       × IsLinking cache key path s held [] w)
   pub fails : IfErr r (λ e. IsExcused e old new)
+  pub succeeds : (held : List ℕ) → shown (tree_of old) path ≡ Some held → FailsForMemory r
+  pub unread : (fault : Fault) → target_bytes path old ≡ Err fault → FailsFor (IoError fault []) r
 
 -- ---- a commit
 
 -- the key leads to an entry of what was said, under the integrity of the target's bytes lies the link,
--- unless something lay there, and all else stays. If nothing else was said, an error is excused
+-- unless something lay there, and all else stays. If nothing else was said, an error is excused; and
+-- where the cache's path names a folder, only memory fails it, unless a link that leads nowhere lay there
 pub record LinkedBytes (cache : List ℕ) (key : Option (List ℕ)) (path : List ℕ) (s : Said)
     (held : List ℕ) (r : Result (List Hash) Error) (old new : List LogItem) : Type 0 where
   pub sound : IsCache cache new
@@ -78,6 +86,8 @@ pub record LinkedBytes (cache : List ℕ) (key : Option (List ℕ)) (path : List
   pub lies : IfOk r (λ i. LiesLinked cache (said_integrity s held) path old new)
   pub beside : KeepsBesideLink cache key (said_integrity s held) path old new
   pub fails : SaysPlain s → s.integrity ≡ None → IfErr r (λ e. IsExcused e old new)
+  pub succeeds : NamesFolder cache → SaysPlain s → s.integrity ≡ None
+      → LeadsOn cache (said_integrity s held) old → FailsForMemory r
 
 -- ---- laws, of the environment that a call left
 

@@ -1,6 +1,8 @@
 -- What links gave their caller and left, by their results, on a store in memory.
-use Rattle.std.specs.Prelude.{◌≡◌, ◌⊎◌, ℕ, List, Option, None, Some, Result, IfOk}
+use Rattle.std.specs.Prelude.{◌≡◌, ◌⊎◌, ◌<◌, ◌^◌, ℕ, true, List, [], Option, None, Some, Result, Err, IfOk, IfSome, length}
 use Rattle.cacache_core.specs.declared.errors.Error.{Error}
+use Rattle.cacache_core.specs.declared.errors.Error.TheVariants.{IoError}
+use Rattle.cacache_core.specs.declared.errors.Fault.{Fault}
 use Rattle.cacache_core.specs.declared.integrity.algorithm.Algorithm.TheVariants.{Sha256}
 use Rattle.cacache_core.specs.declared.integrity.digest.Hash.{Hash}
 use Rattle.cacache_core.specs.Integrity.{integrity_under}
@@ -11,18 +13,28 @@ use Rattle.cacache_table.specs.declared.command.Command.TheVariants as commands
 use Rattle.cacache_table.specs.declared.reply.Reply.TheVariants.{Stored}
 use Rattle.cacache_table.specs.Linking.{based}
 use Rattle.cacache_table.specs.Runs.{reply_of}
-use Rattle.cacache_value.specs.Value.{AtLink}
+use Rattle.cacache_value.specs.Shows.{blob_there}
+use Rattle.cacache_value.specs.Value.{AtLink, Blob}
 use Rattle.cacache_jobs.specs.Environment.{Calls, RunsTimed}
 use Rattle.cacache_put.specs.LinkCalls.{link_to}
 use Rattle.cacache_sequence.specs.Caches.{IsCache, Grows, lies_under}
 use Rattle.cacache_sequence.specs.ExportEffects.{IsApart}
 use Rattle.cacache_sequence.specs.Inserts.{leads_to}
+use Rattle.cacache_sequence.specs.LinkAnswers.{target_bytes}
 use Rattle.cacache_sequence.specs.Links.{KeepsBesideLink}
+use Rattle.cacache_sequence.specs.Succeeds.{NamesFolder, is_yes}
+use Rattle.cacache_results.specs.Success.{FailsFor, FailsForMemory}
 
 -- under this integrity lies a link to the path, unless something lay there before
 abbrev pub LiesLinked : List ℕ → List Hash → List ℕ → List LogItem → List LogItem → Type 0
 LiesLinked cache i path old new =
     lies_under cache i old ≡ None → lies_under cache i new ≡ Some (AtLink path)
+
+-- what lies under the integrity, if anything, leads to something: it is no link that leads nowhere
+abbrev pub LeadsOn : List ℕ → List Hash → List LogItem → Type 0
+LeadsOn cache i log =
+    IfSome (lies_under cache i log)
+    (λ (blob : Blob). is_yes (blob_there (tree_of log) (Some blob)) ≡ true)
 
 -- a link under a key, or without one, to a file that shows these bytes
 pub record LinksBytes (cache : List ℕ) (key : Option (List ℕ)) (path held : List ℕ)
@@ -32,13 +44,19 @@ pub record LinksBytes (cache : List ℕ) (key : Option (List ℕ)) (path held : 
   pub lies : IfOk r (λ i. LiesLinked cache i path old new)
   pub beside : KeepsBesideLink cache key (integrity_under Sha256 held) path old new
 
--- a link: a cache is left, and so much of the bytes that the target shows
+-- a link: a cache is left, and so much of the bytes that the target shows. Where the cache's path
+-- names a folder, only memory fails it, unless a link that leads nowhere lies there; and of a target
+-- that shows none the error says why
 pub record LinkedFile (cache : List ℕ) (key : Option (List ℕ)) (path : List ℕ)
     (r : Result (List Hash) Error) (old new : List LogItem) : Type 0 where
   pub sound : IsCache cache new
   pub grows : Grows old new
   pub of : (held : List ℕ) → shown (tree_of old) path ≡ Some held
       → LinksBytes cache key path held r old new
+  pub succeeds : (held : List ℕ) → NamesFolder cache → shown (tree_of old) path ≡ Some held
+      → length held < 2 ^ 64 → LeadsOn cache (integrity_under Sha256 held) old → FailsForMemory r
+  pub unread : (fault : Fault) → NamesFolder cache → target_bytes path old ≡ Err fault
+      → FailsFor (IoError fault []) r
 
 -- ---- laws, of the environment that a call left
 
