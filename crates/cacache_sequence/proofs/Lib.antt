@@ -45,6 +45,7 @@ pub mod Copying
 pub mod WrittenFiles
 pub mod Arriving
 pub mod Standing
+pub mod StandingPuts
 pub mod GivenUp
 pub mod Linking
 pub mod TargetBytes

@@ -1,5 +1,6 @@
 -- Stores in memory of which less is known than of a cache: a loss of power may have damaged contents and buckets.
-use Rattle.std.specs.Prelude.{ℕ, List}
+use Rattle.std.specs.Prelude.{◌≡◌, ℕ, List}
+use Rattle.cacache_core.specs.declared.errors.Error.{Error}
 use Rattle.cacache_core.specs.declared.integrity.digest.Hash.{Hash}
 use Rattle.cacache_core.specs.PathNames.{home_of}
 use Rattle.cacache_store.specs.declared.store.log.LogItem.{LogItem}
@@ -7,11 +8,16 @@ use Rattle.cacache_disk.specs.Rooted.{Rooted}
 use Rattle.cacache_memory.specs.Replay.{tree_of}
 use Rattle.cacache_table.specs.declared.command.Command.{Command}
 use Rattle.cacache_table.specs.declared.command.Command.TheVariants as commands
+use Rattle.cacache_table.specs.declared.command.Put.{Put}
 use Rattle.cacache_table.specs.declared.reply.Reply.{Reply}
+use Rattle.cacache_table.specs.declared.reply.Reply.TheVariants.{Refused, Stored}
 use Rattle.cacache_value.specs.Placed.{Placed}
-use Rattle.cacache_sequence.specs.Caches.{IsCache, HasKey, Called, GivesBytes}
+use Rattle.cacache_sequence.specs.Beside.{FitsEntry, KeepsBeside, own_integrity}
+use Rattle.cacache_sequence.specs.CallErrors.{IsPlainPut}
+use Rattle.cacache_sequence.specs.Caches.{IsCache, HasKey, IsExcused, Called, GivesBytes}
 use Rattle.cacache_sequence.specs.Keeping.{found_under}
 use Rattle.cacache_sequence.specs.Looks.{OnlyLooks, GivesFound}
+use Rattle.cacache_sequence.specs.Puts.{ExpectsIntegrity, HasPut, MayLeadToPut}
 
 -- everything stands where it may: of the bytes of contents and buckets nothing is known
 pub record IsStanding (cache : List ℕ) (log : List LogItem) : Type 0 where
@@ -43,3 +49,21 @@ StandingReads =
     → IsStanding cache old → HasKey cache key i bytes old
     → Called cache (commands.Get key) r old new
     → GivesBytes (HasKey cache key i bytes new) bytes r old new
+
+-- Everything stands where it may still. Where a put stored, its key leads to its entry and its bytes
+-- lie under their integrity; other keys lead where they led, and contents stay, but at the address of
+-- its bytes
+pub record PutStands (cache : List ℕ) (p : Put) (r : Reply) (old new : List LogItem) : Type 0 where
+  pub standing : IsStanding cache new
+  pub stored : (i : List Hash) → r ≡ Stored i → HasPut cache p i new
+  pub may_lead : MayLeadToPut cache p old new
+  pub keeps : KeepsBeside cache p.key (own_integrity p) p.data old new
+  pub fails : (key : List ℕ) (e : Error) → IsPlainPut cache key p → r ≡ Refused e
+      → IsExcused e old new
+
+-- so it is behind each put, with any options
+abbrev pub StandingWrites : Type 0
+StandingWrites =
+    (cache : List ℕ) (p : Put) (r : Reply) (old new : List LogItem)
+    → FitsEntry cache p → ExpectsIntegrity p → IsStanding cache old
+    → Called cache (commands.Put p) r old new → PutStands cache p r old new
