@@ -55,7 +55,7 @@ any_later false b e = e
 at_some : (o : Option Hash) (h : Hash) → o ≡ Some h → is_address o h ≡ true
 at_some o h e = ap (λ x. is_address x h) e ∙ (same_hash-Decides h h).1 refl
 
-live_so : (entries : List Found) (f : Found) (h : Hash) → Member f entries → address f.integrity ≡ Some h → is_live entries h ≡ true
+pub live_so : (entries : List Found) (f : Found) (h : Hash) → Member f entries → address f.integrity ≡ Some h → is_live entries h ≡ true
 live_so [] f h m e = absurd m
 live_so (g ∷ entries) f h (inl same) e = any_first (is_address (address g.integrity) h) (is_live entries h) (ap (λ (x : Found). is_address (address x.integrity) h) (sym same) ∙ at_some (address f.integrity) h e)
 live_so (g ∷ entries) f h (inr m) e = any_later (is_address (address g.integrity) h) (is_live entries h) (live_so entries f h m e)

@@ -52,7 +52,7 @@ use Rattle.cacache_keep_laws.proofs.Members.{Member}
 -- ---- a step
 
 module _ (folder : Option Names) where
-  step_housed : (t : Tree) (step : PlainStep) → Proper folder step → ToKeys folder step → AppendsOwn folder step → Housed folder t → Housed folder (apply t step Plain).1
+  pub step_housed : (t : Tree) (step : PlainStep) → Proper folder step → ToKeys folder step → AppendsOwn folder step → Housed folder t → Housed folder (apply t step Plain).1
   step_housed t step proper to own h = record {
     placed = steps_keep_placed folder t step Plain h.placed proper;
     keyed = step_keyed folder t h.placed h.keyed step Plain proper to;

@@ -29,6 +29,7 @@ pub mod HiddenKeys
 pub mod StillThere
 pub mod Led
 pub mod Housed
+pub mod SoundRemovals
 pub mod CompactLines
 pub mod CompactTwice
 mod Shapes

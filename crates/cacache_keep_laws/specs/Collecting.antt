@@ -25,6 +25,7 @@ use Rattle.cacache_table.specs.Table.{opening}
 use Rattle.cacache_table.specs.Runs.{Moves, Runs}
 use Rattle.cacache_value.specs.Kinds.{Elsewhere, IsFor}
 use Rattle.cacache_sequence.specs.Caches.{IsCache}
+use Rattle.cacache_sequence.specs.Sequence.{IsSound}
 use Rattle.cacache_keep_laws.specs.Contents.{HoldsJust, bucket_in, content_in}
 use Rattle.cacache_keep_laws.specs.Answers.{AnsweredBy, AnswersOn}
 use Rattle.cacache_keep_laws.specs.Index.{IndexLists, is_failure}
@@ -66,6 +67,12 @@ RemovalsLeave =
     (cache : List ℕ) (home : Names) (dropped : List Hash) (t new : Tree)
     → home_of cache ≡ Some home → ((h : Hash) → Contains dropped h → IsHash h)
     → Removes cache dropped t new → IsCollected home dropped t new
+
+-- and calls may be made on the cache that they leave
+abbrev pub RemovalsLeaveSound : Type 0
+RemovalsLeaveSound =
+    (cache : List ℕ) (dropped : List Hash) (t new : Tree)
+    → Removes cache dropped t new → IsSound (home_of cache) t → IsSound (home_of cache) new
 
 -- where no live content is removed, each read by key makes the steps with the answers that it would
 -- have made before, and so has the reply that it would have had

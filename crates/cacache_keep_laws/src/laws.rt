@@ -1,6 +1,6 @@
 //! Laws, on functions that do nothing.
 ghost use Rattle.cacache_keep_laws.specs.Answers.{AnswersAgree, LooksAnswer, TreesAreRooted};
-ghost use Rattle.cacache_keep_laws.specs.Collecting.{CachesLinkOut, CollectionsKeepLookups, CollectionsKeepReads, RemovalsLeave};
+ghost use Rattle.cacache_keep_laws.specs.Collecting.{CachesLinkOut, CollectionsKeepLookups, CollectionsKeepReads, RemovalsLeave, RemovalsLeaveSound};
 ghost use Rattle.cacache_keep_laws.specs.Compacted.{CompactionsAnswer, CompactionsKeep, HousesAreFit};
 ghost use Rattle.cacache_keep_laws.specs.Compacting.{CompactTextsAnswer, CompactTextsSettle};
 ghost use Rattle.cacache_keep_laws.specs.Contents.{ContentsShown, HoldingsAgree, ListingsHold};
@@ -46,12 +46,13 @@ pub fn verify_laws()
     ensures good { ReadsTellGood }
 {}
 
-/// Removals leave the other contents and all buckets; and where links lead out of the cache, neither a
-/// lookup nor a read by key of a content that is left sees them.
+/// Removals leave the other contents and all buckets, and a cache on which calls may be made; and where links lead
+/// out of the cache, neither a lookup nor a read by key of a content that is left sees them.
 pub fn collect_laws()
     ensures links { CachesLinkOut }
     ensures run { RemovalsRun }
     ensures leaves { RemovalsLeave }
+    ensures sound { RemovalsLeaveSound }
     ensures reads { CollectionsKeepReads }
     ensures lookups { CollectionsKeepLookups }
 {}
