@@ -69,7 +69,7 @@ module _ (site : Site) (home : Names) (kept : ℕ) (dropped : List (List Hash)) 
   abbrev entries : List Found
   entries = c.1.entries
 
-  abbrev unused : List Hash
+  abbrev pub unused : List Hash
   unused = filter (λ h. not (is_live entries h)) hashes
 
   dropped_are : dropped ≡ map (λ h. h ∷ []) unused
@@ -82,12 +82,12 @@ module _ (site : Site) (home : Names) (kept : ℕ) (dropped : List (List Hash)) 
       omega (arith, c.1.counts, all, gone, length-filter_both (is_live entries) (λ h. not (is_live entries h)) (λ h. refl) hashes)
 
   -- what its steps come to
-  record Done : Type 0 where
-    holds : HoldsJust site.cache home t hashes c.1.strange
-    index : IndexLists site t entries
-    removes : Removes site.cache unused t (tree_of new)
+  pub record Done : Type 0 where
+    pub holds : HoldsJust site.cache home t hashes c.1.strange
+    pub index : IndexLists site t entries
+    pub removes : Removes site.cache unused t (tree_of new)
 
-  steps_done : Done
+  pub steps_done : Done
   steps_done =
       let removing = removals_gain site unused c.0 (Some new) (subst (λ d. MadeCalls site (map removal d) c.0 (Some new)) dropped_are c.2) in
       let chosen = choice site home kept dropped old new c.0 is logged c.1 (removals site.cache unused) removing in
@@ -97,7 +97,7 @@ module _ (site : Site) (home : Names) (kept : ℕ) (dropped : List (List Hash)) 
         removes = subst (Removes site.cache unused t) (sym chosen.leads) (removed_by site.cache unused t chosen.answered);
       }
 
-  leaves_live : LeavesLive site home t (tree_of new) kept dropped
+  pub leaves_live : LeavesLive site home t (tree_of new) kept dropped
   leaves_live =
       let d = steps_done in
       record {

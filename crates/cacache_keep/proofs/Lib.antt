@@ -7,6 +7,7 @@ mod Judged
 mod Verdicts
 mod Chosen
 mod Leaving
+mod Behind
 mod Gives
 mod InTurn
 mod Sweeps

@@ -1,6 +1,7 @@
 pub mod Calls
 pub mod Keeping
 pub mod Kept
+pub mod Behind
 pub mod Houses
 pub mod Reading
 pub mod Sweeping

@@ -1,5 +1,6 @@
 //! What `list`, `verify`, `collect`, `plan`, `sweep`, `repair` and `compact` come to on a store in memory.
 ghost use Rattle.cacache_memory.specs.Replay.{IsLog};
+ghost use Rattle.cacache_keep.specs.Behind.{CollectionsKeepKeys, LaterKeysStay};
 ghost use Rattle.cacache_keep.specs.Houses.{RepairsHouse, SweepsHouse, SweepsKeepGood};
 ghost use Rattle.cacache_keep.specs.Kept.{CachesAreSwept, CollectionsLackIdle, CollectionsLeave, CollectionsSettle, CompactionsAreUnseen, CompactionsLeave, CompactionsStop, LaterReadsStay, ListsHold, LooksStay, PlansForetell, PlansLeave, RepairsKeepGood, RepairsMend, RepairsVerify, VerdictsJudge};
 
@@ -24,6 +25,11 @@ use cacache_memory::MemStore;
 /// `cacache_keep_laws::collect_laws`. Step by step this goes by `lacks` and by
 /// `cacache_keep_laws::idle_laws`.
 ///
+/// In a cache that only calls wrote to, a collection leaves such a cache, in which each key leads to the entry that it led
+/// to, and to the same bytes. So it is of a key behind collections, up to its next insertion, while contents are exported,
+/// other keys are written, inserted and removed, and writers of other keys are opened, committed and given up: under its
+/// integrity lie its bytes, or one of the texts that were written in between, if it meets the integrity too.
+///
 /// What the log gained is said by the clauses of `list` (`lists`, `by_hash`), `verify` (`verifies`),
 /// `collect` (`collects`), `plan` (`plans`), `sweep` (`sweeps`), `repair` (`repairs`) and `compact`
 /// (`compacts`, `stops`). Of the store that it is handed it says that its log is a disk's, which
@@ -37,6 +43,8 @@ pub fn keep_laws(store: &MemStore)
     ensures settles { CollectionsSettle }
     ensures looks { LooksStay }
     ensures later { LaterReadsStay }
+    ensures keys { CollectionsKeepKeys }
+    ensures later_keys { LaterKeysStay }
     ensures plans_leave { PlansLeave }
     ensures plans { PlansForetell }
     ensures sweeps { CachesAreSwept }

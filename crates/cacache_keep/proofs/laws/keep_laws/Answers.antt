@@ -1,3 +1,4 @@
+use Rattle.cacache_keep.proofs.Behind.{collections_keep_keys, later_keys_stay}
 use Rattle.cacache_keep.proofs.Chosen.{plans_foretell, plans_leave}
 use Rattle.cacache_keep.proofs.WholeCompactions.{compactions_are_unseen, compactions_leave, compactions_stop}
 use Rattle.cacache_keep.proofs.Houses.{repairs_house, sweeps_house, sweeps_keep_good}
@@ -30,6 +31,12 @@ returns-clause-looks c = looks_stay
 
 pub returns-clause-later : goal.returns-clause-later
 returns-clause-later c = later_reads_stay
+
+pub returns-clause-keys : goal.returns-clause-keys
+returns-clause-keys c = collections_keep_keys
+
+pub returns-clause-later_keys : goal.returns-clause-later_keys
+returns-clause-later_keys c = later_keys_stay
 
 pub returns-clause-plans_leave : goal.returns-clause-plans_leave
 returns-clause-plans_leave c = plans_leave
