@@ -14,7 +14,7 @@ use crate::{exporting, linking, messages};
 use cacache_core::errors::{self, Error};
 use cacache_core::hasher::Hasher;
 use cacache_core::integrity::IntegrityChecker;
-use cacache_core::keeping::beside;
+use cacache_core::keeping::{beside, let_go};
 use cacache_core::text::Text;
 use cacache_store::store::{Answer, FileHandle, Step, TempHandle};
 use cacache_table::answers::Got;
@@ -52,10 +52,8 @@ pub(crate) fn verify<F: FileHandle, T: TempHandle>(
     ensures { from ≡ content_path_of content.cache content.integrity
         → Leads F.seen T.seen result (opening_file (to_verify content export)) }
 {
-    let Content {
-        cache: _cache,
-        integrity,
-    } = content;
+    let Content { cache, integrity } = content;
+    let_go(cache);
     let path: Result<_, _> = from.clone();
     let hashing = Hashing::Verify(IntegrityChecker::new(integrity), from, export);
     let (path, hashing) = beside(path, hashing)?;

@@ -86,11 +86,8 @@ fn go_on_without_entry<F: FileHandle, T: TempHandle>(
         let_go(lookup);
         return removing::remove_bucket(bucket?);
     }
-    let Lookup {
-        cache,
-        key,
-        aim: _aim,
-    } = lookup;
+    let Lookup { cache, key, aim } = lookup;
+    let_go(aim);
     Err(Error::EntryNotFound(cache, key))
 }
 

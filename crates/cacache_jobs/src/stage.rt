@@ -80,9 +80,15 @@ impl<T: TempHandle> Then<T> {
             Then::Persist(commit, file, path) => Ok(storing::move_in(commit, file, path)),
             Then::Sync(syncing) => syncing.next(alloc),
             Then::Append(insertion, line, path) => Ok(inserting::append(insertion, line, path)),
-            Then::RemoveBucket(_content, bucket) => removing::remove_bucket(bucket),
+            Then::RemoveBucket(content, bucket) => {
+                let_go(content);
+                removing::remove_bucket(bucket)
+            }
             Then::Symlink(commit, target, path) => linking::symlink(commit, target, path),
-            Then::Finish(_last) => Ok(Phase::Over(Reply::Done)),
+            Then::Finish(last) => {
+                let_go(last);
+                Ok(Phase::Over(Reply::Done))
+            }
         }
     }
 
@@ -180,7 +186,10 @@ impl<T: TempHandle> Stage<T> {
             }
             Stage::Looking(lookup) => looking::after_bucket_read(alloc, lookup, bytes_of(answer)),
             Stage::Reading(content) => reading::after_read(alloc, content, bytes_of(answer)),
-            Stage::Asking(_content) => reading::after_question(there_of(answer)),
+            Stage::Asking(content) => {
+                let_go(content);
+                reading::after_question(there_of(answer))
+            }
             Stage::Sizing(target) => linking::after_size(alloc, target, answer),
             Stage::Opening(hashing) => hashing::after_open(alloc, hashing, answer),
             Stage::Hashing(hashing, size) => hashing::after_read(
