@@ -3,6 +3,8 @@
 pub use Rattle.serde_json.specs.Data.{Data}
 pub use Rattle.serde_json.specs.View.{view}
 pub use Rattle.cacache_core.specs.declared.errors.Error.TheVariants.{EntryNotFound, SizeMismatch, IoError, SerdeError, IntegrityError, OutOfMemory}
+pub use Rattle.cacache_core.specs.declared.errors.Fault.{Fault}
+pub use Rattle.cacache_core.specs.declared.errors.Fault.TheVariants.{NotFound}
 pub use Rattle.cacache_core.specs.declared.errors.IntegrityFault.{IntegrityFault}
 pub use Rattle.cacache_core.specs.Integrity.{IsIntegrity}
 pub use Rattle.cacache_memory.specs.Replay.{IsLog, shown, tree_of}
@@ -25,12 +27,13 @@ pub use Rattle.cacache_sequence.specs.OpenWriters.{LeavesKnownCache, NothingElse
 pub use Rattle.cacache_sequence.specs.Succeeds.{NamesFolder, IsReady, IsTidy, IsUnused}
 pub use Rattle.cacache_sequence.specs.Succeeds.{ListsAll, Clears}
 pub use Rattle.cacache_sequence.specs.OpenSucceeds.{FileAt, MayTake}
-pub use Rattle.cacache_results.specs.Success.{FailsForMemory}
+pub use Rattle.cacache_results.specs.Success.{FailsForMemory, FailsAs, FailsFor}
 pub use Rattle.cacache_results.specs.Reads.{GivesJust, GivesNoEntry, LiesWhole, KeyLiesWhole, LinksToFile, KeyRead, ContentRead, EntryFound, AskedContent}
 pub use Rattle.cacache_results.specs.Writes.{DontClash, KeepsUntouched, SaysPlain, KeyWritten, ContentWritten, KeyInserted}
 pub use Rattle.cacache_results.specs.Removals.{KeyRemoved, ContentRemoved, KeyRemovedFully, FailsClearing, Cleared}
-pub use Rattle.cacache_results.specs.Exports.{CopiedOut, SharedOut}
-pub use Rattle.cacache_results.specs.Links.{LiesLinked, LinksBytes, LinkedFile}
+pub use Rattle.cacache_results.specs.Exports.{NamesHeld, LiesUnread, TellsSource, TellsPath, FailsExport, RefusesSource, CopiedOut, SharedOut}
+pub use Rattle.cacache_sequence.specs.LinkAnswers.{OpensAs, target_bytes}
+pub use Rattle.cacache_results.specs.Links.{LeadsOn, LiesLinked, LinksBytes, LinkedFile}
 pub use Rattle.cacache_results.specs.Linkers.{MemLinker, IsLinking, OpenedLinker, LinkedBytes}
 pub use Rattle.cacache_table.specs.ListReplies.{In}
 pub use Rattle.cacache_results.specs.Lists.{AreAllEntries, ListedEntries}
