@@ -1,11 +1,10 @@
--- Histories of one durable commit alone, on a disk that holds nothing.
-use Rattle.std.proofs.Common.{◌≡◌, inl, ℕ, true, List, [], ◌∷◌, ◌++◌, None, Some, Ok, option_map, codes, refl, sym, ap, subst, ◌∙◌, arith}
+-- Histories of one durable commit, on a disk that holds nothing.
+use Rattle.std.proofs.Common.{◌≡◌, ℕ, true, List, [], ◌∷◌, ◌++◌, None, Some, Ok, append-nil, codes, refl, sym, ap, subst, ◌∙◌, arith}
 use Rattle.cacache_core.specs.PathNames.{Names, names_of}
-use Rattle.cacache_core.specs.Paths.{content_names}
+use Rattle.cacache_core.specs.Paths.{bucket_names, content_names}
 use Rattle.cacache_core.specs.declared.integrity.digest.Hash.{Hash}
 use Rattle.cacache_store.specs.Plain.{PlainStep}
 use Rattle.cacache_store.specs.declared.store.step.Step.TheVariants as steps
-use Rattle.cacache_disk.specs.declared.luck.Luck.TheVariants.{Plain}
 use Rattle.cacache_disk.specs.Tree.{bare}
 use Rattle.cacache_disk.proofs.Roots.{bare_below}
 use Rattle.cacache_entry.proofs.EntryCauses.{no_cause_is_fit}
@@ -13,7 +12,7 @@ use Rattle.cacache_table.specs.Inserting.{insert, insertion, refused_cause, unle
 use Rattle.cacache_table.specs.Runs.{Moves}
 use Rattle.cacache_table.specs.State.{State, creating, doing, Insertion, make_folder}
 use Rattle.cacache_table.specs.StepPaths.{bucket_folder, temp_folder}
-use Rattle.cacache_table.specs.Storing.{put_commit}
+use Rattle.cacache_table.specs.Storing.{insertion_of, put_commit}
 use Rattle.cacache_table.specs.Sound.{MayBegin}
 use Rattle.cacache_table.specs.Table.{opening, wants}
 use Rattle.cacache_table.specs.declared.command.Command.{Command}
@@ -28,48 +27,22 @@ use Rattle.cacache_value.specs.Value.{AtLink, Value}
 use Rattle.cacache_value.proofs.OpeningTrees.{files_open}
 use Rattle.cacache_history.specs.AddedEntries.{address_of_put}
 use Rattle.cacache_history.specs.declared.record.Record.{Record}
-use Rattle.cacache_history.specs.declared.record.Record.TheVariants.{Began, Moved}
-use Rattle.cacache_history.specs.History.{Call, History, IsLegal, Legal, Made, NamesIntegrity, Now, call_after, new_call, now_after, now_at}
+use Rattle.cacache_history.specs.declared.record.Record.TheVariants.{Began}
+use Rattle.cacache_history.specs.History.{Call, History, IsLegal, Made, NamesIntegrity, Now, initial, new_call, replayed}
 use Rattle.cacache_history.specs.Setup.{Setup, call_site, home, is_outside, may_export}
 use Rattle.cacache_history.specs.Values.{value_at}
 use Rattle.cacache_sequence.specs.Sequence.{AreAnswered}
 use Rattle.cacache_sequence.proofs.Emptied.{home_is}
 use Rattle.cacache_sequence.proofs.SureSteps.{Ground}
 use Rattle.cacache_durable.specs.Ending.{CallEndsWith, EndsFrom}
-use Rattle.cacache_durable.specs.Outlasting.{IsNoLink}
+use Rattle.cacache_durable.specs.Outlasting.{DurablePut, IsNoLink}
 use Rattle.cacache_durable.specs.QuietMoves.{AreQuiet, IsQuietMove, PutsDurably}
-use Rattle.cacache_results.specs.DurableCases.{CanBeWritten, InsertsStandInOne, PutsStandInOne}
+use Rattle.cacache_results.specs.DurableCases.{CanBeWritten, GoElsewhere, InsertsStandInOne, IsLastPut, PutsStandInOne, PutsStandLast, StandsIn, StoresDurably}
+use Rattle.cacache_results.specs.Losses.{entry_written}
+use Rattle.cacache_results.proofs.LastPuts.{none_last}
+use Rattle.cacache_results.proofs.PlainRecords.{quiet_more, records_end, records_legal, records_of, records_quiet}
 use Rattle.cacache_results.proofs.PlainRuns.{Plays, Reaches, inserts_play}
 use Rattle.cacache_results.proofs.PlainPuts.{put_plays}
-
--- ---- as records of one caller
-
--- a first move and those behind it, the last with this reply
-abbrev records_of : Made → Moves → Reply → List Record
-records_of m [] reply = Moved 0 Plain (Some m) (Some reply) ∷ []
-records_of m (n ∷ more) reply = Moved 0 Plain (Some m) None ∷ records_of n more reply
-
-module _ (s : Setup) (i : List Hash) where
-  records_legal : (w : Now) (call : Call) (m : Made) (more : Moves) → w.calls 0 ≡ Some call → Reaches call.state (m ∷ more) (Stored i) → AreAnswered w.tree (m ∷ more)
-      → Legal s w (records_of m more (Stored i))
-  records_legal w call m [] is run answered = ((call, is, (run.0, answered.0, run.1, inl run.2)), tt)
-  records_legal w call m (n ∷ more) is run answered = (
-    (call, is, (run.0, answered.0, run.1, (n.0, run.2.0))),
-    records_legal (now_after s w (Moved 0 Plain (Some m) None)) (call_after w.tree Plain (Some m) call) n more (ap (option_map (call_after w.tree Plain (Some m))) is) run.2 answered.1,
-  )
-
-  records_end : (m : Made) (more : Moves) → CallEndsWith 0 (Stored i) (records_of m more (Stored i))
-  records_end m [] = refl
-  records_end m (n ∷ more) = records_end n more
-
-  -- quiet moves of a command
-  module _ (command : Command) (path : Names) (quiet : (call : Call) (m : Made) → call.command ≡ command → IsQuietMove path (Some call) (Some m)) where
-    records_quiet : (w : Now) (call : Call) (m : Made) (more : Moves) → w.calls 0 ≡ Some call → call.command ≡ command → AreQuiet s path w (records_of m more (Stored i))
-    records_quiet w call m [] is e = (subst (λ o. IsQuietMove path o (Some m)) (sym is) (quiet call m e), tt)
-    records_quiet w call m (next ∷ more) is e = (
-      subst (λ o. IsQuietMove path o (Some m)) (sym is) (quiet call m e),
-      records_quiet (now_after s w (Moved 0 Plain (Some m) None)) (call_after w.tree Plain (Some m) call) next more (ap (option_map (call_after w.tree Plain (Some m))) is) e,
-    )
 
 -- the moves of a call that makes one
 record Moving (s : State) (r : Reply) : Type 0 where
@@ -91,35 +64,42 @@ opens cache = files_open (home (setup_of cache)) [] bare tt refl
 ground : (cache : List ℕ) (folder : Names) → names_of cache ≡ Ok folder → Ground folder bare
 ground cache folder is = record { placed = subst (λ h. Placed h bare) (home_is cache folder is) (opens cache).placed; rooted = (opens cache).rooted }
 
-module _ (cache : List ℕ) (i : List Hash) (command : Command) (m : Moving (opening (call_site (setup_of cache) 0) command) (Stored i))
-    (may : MayBegin (call_site (setup_of cache) 0) (may_export (setup_of cache)) (is_outside (setup_of cache)) command) (named : NamesIntegrity command) where
+-- a command that may begin there
+abbrev MayStart : List ℕ → Command → Type 0
+MayStart cache command = MayBegin (call_site (setup_of cache) 0) (may_export (setup_of cache)) (is_outside (setup_of cache)) command
+
+module _ (cache : List ℕ) (i : List Hash) (command : Command) (m : Moving (opening (call_site (setup_of cache) 0) command) (Stored i)) where
   abbrev rest : List Record
   rest = records_of m.first m.more (Stored i)
 
-  abbrev alone : History
-  alone = record { setup = setup_of cache; records = Began 0 command ∷ rest }
+  -- the call begins, and these records follow
+  abbrev begins_with : List Record → History
+  begins_with records = record { setup = setup_of cache; records = Began 0 command ∷ records }
 
   abbrev begun : Now
-  begun = now_at alone (Began 0 command ∷ [])
+  begun = replayed (setup_of cache) (initial (setup_of cache)) (Began 0 command ∷ [])
 
   abbrev call : Call
   call = new_call (setup_of cache) 0 command
 
-  alone_legal : IsLegal alone
-  alone_legal = record {
+  alone_legal : MayStart cache command → NamesIntegrity command → IsLegal (begins_with rest)
+  alone_legal may named = record {
     apart = tt;
     opens = refl;
     legal = ((omega arith, refl, may, named), records_legal (setup_of cache) i begun call m.first m.more refl m.run m.answered);
   }
 
-  alone_ends : EndsFrom alone (Began 0 command ∷ []) rest command (Stored i)
-  alone_ends = record { caller = 0; call = call; is = refl; command_is = refl; nothing = refl; ends = records_end (setup_of cache) i m.first m.more }
+  ends_in : (records : List Record) → CallEndsWith 0 (Stored i) records → EndsFrom (begins_with records) (Began 0 command ∷ []) records command (Stored i)
+  ends_in records ends = record { caller = 0; call = call; is = refl; command_is = refl; nothing = refl; ends = ends }
+
+  alone_ends : EndsFrom (begins_with rest) (Began 0 command ∷ []) rest command (Stored i)
+  alone_ends = ends_in rest (subst (CallEndsWith 0 (Stored i)) (append-nil rest) (records_end (setup_of cache) i m.first m.more []))
 
   alone_quiet : (path : Names) → ((call : Call) (m : Made) → call.command ≡ command → IsQuietMove path (Some call) (Some m)) → AreQuiet (setup_of cache) path begun rest
   alone_quiet path quiet = records_quiet (setup_of cache) i command path quiet begun call m.first m.more refl refl
 
-  no_links : (address : Hash) → IsNoLink address (value_at alone (Began 0 command ∷ []))
-  no_links address target e = let none : None ≡ Some (AtLink target) = sym (ap (λ (v : Value). v.contents address) (opens cache).nothing) ∙ e in absurd cc
+no_links : (cache : List ℕ) (command : Command) (records : List Record) (address : Hash) → IsNoLink address (value_at (record { setup = setup_of cache; records = records }) (Began 0 command ∷ []))
+no_links cache command records address target e = let none : None ≡ Some (AtLink target) = sym (ap (λ (v : Value). v.contents address) (opens cache).nothing) ∙ e in absurd cc
 
 -- ---- the laws
 
@@ -140,40 +120,91 @@ wants_some j can = ap (λ o. wants (unless_refused j o)) ((no_cause_is_fit j.ent
 pub inserts_stand : InsertsStandInOne
 inserts_stand cache folder n is durable can =
     let j = insertion cache n in
-    let m = moving (insert (insertion cache n)) j.reply _ (wants_some j can) (inserts_play folder j is durable bare (ground cache folder is) can) in
-    let may : MayBegin (call_site (setup_of cache) 0) (may_export (setup_of cache)) (is_outside (setup_of cache)) (commands.Insert n) = λ written. can.0 in (
-      alone cache _ (commands.Insert n) m may tt,
+    let m = moving (insert (insertion cache n)) j.reply _ (wants_some j can) (inserts_play folder j is durable bare (ground cache folder is) can) in (
+      begins_with cache _ (commands.Insert n) m (rest cache _ (commands.Insert n) m),
       refl,
-      alone_legal cache _ (commands.Insert n) m may tt,
+      alone_legal cache _ (commands.Insert n) m (λ written. can.0) tt,
       record {
         before = Began 0 (commands.Insert n) ∷ [];
-        rest = rest cache _ (commands.Insert n) m may tt;
+        rest = rest cache _ (commands.Insert n) m;
         is = refl;
         durable = durable;
         reply = j.reply;
-        call = alone_ends cache _ (commands.Insert n) m may tt;
+        call = alone_ends cache _ (commands.Insert n) m;
         stored = (_, refl);
-        quiet = alone_quiet cache _ (commands.Insert n) m may tt [] (insert_quiet n);
+        quiet = alone_quiet cache _ (commands.Insert n) m [] (insert_quiet n);
       },
     )
 
-pub puts_stand : PutsStandInOne
-puts_stand cache folder p is durable no_integrity no_size writable =
-    let g = ground cache folder is in
-    let plays = put_plays cache folder is p durable no_integrity no_size writable bare g (bare_below folder _ _) in
-    let m = moving (doing (make_folder (temp_folder cache)) (creating 0 (put_commit cache p) p.data)) (Stored (put_commit cache p).computed) (steps.MakeDirs (temp_folder cache)) refl plays in
-    let may : MayBegin (call_site (setup_of cache) 0) (may_export (setup_of cache)) (is_outside (setup_of cache)) (commands.Put p) = λ key keyed written. (writable key keyed).0 in (
-      alone cache _ (commands.Put p) m may tt,
-      refl,
-      alone_legal cache _ (commands.Put p) m may tt,
+-- a durable put that expects nothing
+module _ (cache : List ℕ) (folder : Names) (p : Put) (is : names_of cache ≡ Ok folder) (durable : p.options.durable ≡ true) (no_integrity : p.options.integrity ≡ None) (no_size : p.options.size ≡ None)
+    (writable : (key : List ℕ) → p.key ≡ Some key → CanBeWritten (insertion_of (put_commit cache p) key).entry) where
+  abbrev own : List Hash
+  own = (put_commit cache p).computed
+
+  abbrev path : Names
+  path = folder ++ content_names (address_of_put p)
+
+  put_moves : Moving (opening (call_site (setup_of cache) 0) (commands.Put p)) (Stored own)
+  put_moves =
+      let plays = put_plays cache folder is p durable no_integrity no_size writable bare (ground cache folder is) (bare_below folder _ _) in
+      moving (doing (make_folder (temp_folder cache)) (creating 0 (put_commit cache p) p.data)) (Stored own) (steps.MakeDirs (temp_folder cache)) refl plays
+
+  abbrev put_rest : List Record
+  put_rest = rest cache own (commands.Put p) put_moves
+
+  put_alone_quiet : AreQuiet (setup_of cache) path (begun cache own (commands.Put p) put_moves) put_rest
+  put_alone_quiet = alone_quiet cache own (commands.Put p) put_moves path (put_quiet path p durable)
+
+  -- it stands where its records are among these
+  abbrev put_in : (records : List Record) → EndsFrom (begins_with cache own (commands.Put p) put_moves records) (Began 0 (commands.Put p) ∷ []) records (commands.Put p) (Stored own)
+      → AreQuiet (setup_of cache) path (begun cache own (commands.Put p) put_moves) records → DurablePut (begins_with cache own (commands.Put p) put_moves records) folder p
+  put_in records ends quiet = record {
+    before = Began 0 (commands.Put p) ∷ [];
+    rest = records;
+    is = refl;
+    durable = durable;
+    reply = own;
+    call = ends;
+    quiet = quiet;
+    no_link = λ found. no_links cache (commands.Put p) (Began 0 (commands.Put p) ∷ records) (address_of_put p);
+  }
+
+  put_legal : IsLegal (begins_with cache own (commands.Put p) put_moves put_rest)
+  put_legal = alone_legal cache own (commands.Put p) put_moves (λ key keyed written. (writable key keyed).0) tt
+
+  put_stands : StandsIn cache (λ h. DurablePut h folder p)
+  put_stands = (begins_with cache own (commands.Put p) put_moves put_rest, refl, put_legal, put_in put_rest (alone_ends cache own (commands.Put p) put_moves) put_alone_quiet)
+
+  -- and it is the last of its bucket, whatever goes elsewhere behind it
+  put_last : (key : List ℕ) → StoresDurably cache key p → (more : List Record) → GoElsewhere (begins_with cache own (commands.Put p) put_moves put_rest) folder key p more
+      → IsLastPut (begins_with cache own (commands.Put p) put_moves (put_rest ++ more)) folder key p
+  put_last key stores more elsewhere =
+      let ends = ends_in cache own (commands.Put p) put_moves (put_rest ++ more) (records_end (setup_of cache) own put_moves.first put_moves.more more) in
+      let quiet = quiet_more (setup_of cache) path (begun cache own (commands.Put p) put_moves) put_rest more put_alone_quiet elsewhere.quiet in
       record {
-        before = Began 0 (commands.Put p) ∷ [];
-        rest = rest cache _ (commands.Put p) m may tt;
-        is = refl;
-        durable = durable;
-        reply = (put_commit cache p).computed;
-        call = alone_ends cache _ (commands.Put p) m may tt;
-        quiet = alone_quiet cache _ (commands.Put p) m may tt (folder ++ content_names (address_of_put p)) (put_quiet (folder ++ content_names (address_of_put p)) p durable);
-        no_link = λ found. no_links cache _ (commands.Put p) m may tt (address_of_put p);
-      },
+        here = home_is cache folder is;
+        stores = stores;
+        put = put_in (put_rest ++ more) ends quiet;
+        last = none_last (folder ++ bucket_names key) more elsewhere.none (opening (call_site (setup_of cache) 0) (commands.Put p)) put_moves.first put_moves.more (Stored own) (Stored own) _ cache key (entry_written cache key p) tt put_moves.run;
+      }
+
+pub puts_stand : PutsStandInOne
+puts_stand cache folder p is durable no_integrity no_size writable = put_stands cache folder p is durable no_integrity no_size writable
+
+-- what holds of the put's key holds of each that it has
+of_key : (P : List ℕ → Type 0) (p : Put) (key other : List ℕ) → p.key ≡ Some key → p.key ≡ Some other → P key → P other
+of_key P p key other is also h =
+    let both : Some key ≡ Some other = sym is ∙ also in
+    let same : key ≡ other = cc in
+    subst P same h
+
+pub puts_stand_last : PutsStandLast
+puts_stand_last cache folder key p is stores =
+    let writable : (other : List ℕ) → p.key ≡ Some other → CanBeWritten (insertion_of (put_commit cache p) other).entry
+    = λ other also. of_key (λ (k : List ℕ). CanBeWritten (insertion_of (put_commit cache p) k).entry) p key other stores.keyed also stores.written in (
+      begins_with cache _ (commands.Put p) (put_moves cache folder p is stores.durable stores.no_integrity stores.no_size writable) (put_rest cache folder p is stores.durable stores.no_integrity stores.no_size writable),
+      refl,
+      put_legal cache folder p is stores.durable stores.no_integrity stores.no_size writable,
+      put_last cache folder p is stores.durable stores.no_integrity stores.no_size writable key stores,
     )

@@ -11,7 +11,10 @@ pub mod WriterResults
 pub mod JoinedResults
 pub mod ListResults
 pub mod LossResults
+pub mod LeftWrites
 pub mod LinkerResults
 pub mod PlainRuns
 pub mod PlainPuts
+pub mod PlainRecords
+pub mod LastPuts
 pub mod DurableCases

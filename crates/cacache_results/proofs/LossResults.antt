@@ -36,8 +36,9 @@ use Rattle.cacache_durable.specs.Outlasting.{DurablePut, EntryOutlasts, KeyOutla
 use Rattle.cacache_reads.specs.Reads.{bytes_read}
 use Rattle.cacache_sequence.specs.Caches.{HasContent, HasKey}
 use Rattle.cacache_sequence.specs.Standing.{IsStanding}
-use Rattle.cacache_sequence.proofs.Looks.{tree_stays}
-use Rattle.cacache_sequence.proofs.Standing.{standing_reads}
+use Rattle.cacache_sequence.proofs.Looked.{same_stays_known}
+use Rattle.cacache_sequence.proofs.Looks.{looks_keep, tree_stays}
+use Rattle.cacache_sequence.proofs.Standing.{looks_leave_standing, standing_reads}
 use Rattle.cacache_results.specs.Losses.{IsLeft, LeadsToDigest, LeftReadMeans, LossesLeaveLast, LossesLeavePuts, LossesLeaveStanding, PutIsLeft, entry_written}
 use Rattle.cacache_results.proofs.ReadResults.{given}
 use Rattle.cacache_results.proofs.Told.{called}
@@ -118,5 +119,7 @@ left_read_means cache key r new logged old standing ran =
     let c = called bytes_read (λ b. refl) r cache old.base 0 (commands.Get key) old.store new.store ran.0.0 logged in
     record {
       same = tree_stays cache (commands.Get key) (reply_of bytes_read r) old.store new.store tt c;
+      standing = looks_leave_standing cache (commands.Get key) (reply_of bytes_read r) old.store new.store tt c standing;
+      known = same_stays_known cache old.store new.store (looks_keep cache (commands.Get key) (reply_of bytes_read r) old.store new.store tt c);
       gives = λ i bytes has. given r (HasKey cache key i bytes new.store) bytes old.store new.store (standing_reads cache key bytes i (reply_of bytes_read r) old.store new.store standing has c);
     }

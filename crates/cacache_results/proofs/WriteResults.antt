@@ -71,7 +71,7 @@ wrote_so : (r : Result (List Hash) Error) (cache key bytes : List ℕ) (own : Li
 wrote_so (Ok i) cache key bytes own old new is h = ((is, h), tt)
 wrote_so (Err e) cache key bytes own old new is h = (tt, excused e old new h)
 
-leads_so : (cache key : List ℕ) (a : Algorithm) (bytes : List ℕ) (moment : ℕ) (old new : List LogItem) → MayLeadToPut cache (plain_put a key bytes moment) old new
+pub leads_so : (cache key : List ℕ) (a : Algorithm) (bytes : List ℕ) (moment : ℕ) (old new : List LogItem) → MayLeadToPut cache (plain_put a key bytes moment) old new
     → (found_under cache key new ≡ found_under cache key old) ⊎ (leads_to cache key new ≡ Some (integrity_under a bytes))
 leads_so cache key a bytes moment old new may =
     elim (may key refl) [

@@ -1,14 +1,22 @@
--- Histories of one durable commit alone: the laws of losses speak of some history.
-use Rattle.std.specs.Prelude.{◌≡◌, ℕ, List, Ok, None, Some, true}
+-- Histories of one durable commit: the laws of losses speak of some history.
+use Rattle.std.specs.Prelude.{◌≡◌, ◌++◌, ℕ, List, Ok, None, Some, true}
 use Rattle.cacache_core.specs.PathNames.{Names, names_of}
+use Rattle.cacache_core.specs.Paths.{bucket_names, content_names}
 use Rattle.cacache_entry.specs.Entry.{Entry}
 use Rattle.cacache_entry.specs.FittingEntries.{IsEntry, IsWritable}
 use Rattle.cacache_table.specs.declared.command.Insert.{Insert}
 use Rattle.cacache_table.specs.declared.command.Put.{Put}
 use Rattle.cacache_table.specs.Inserting.{insertion}
 use Rattle.cacache_table.specs.Storing.{insertion_of, put_commit}
-use Rattle.cacache_history.specs.History.{History, IsLegal}
+use Rattle.cacache_history.specs.AddedEntries.{address_of_put}
+use Rattle.cacache_history.specs.declared.record.Record.{Record}
+use Rattle.cacache_history.specs.History.{History, IsLegal, now_at}
+use Rattle.cacache_history.specs.Setup.{home}
+use Rattle.cacache_history.specs.Values.{steps_of}
+use Rattle.cacache_durable.specs.Behind.{NoneAppends}
 use Rattle.cacache_durable.specs.Outlasting.{DurableInsert, DurablePut}
+use Rattle.cacache_durable.specs.QuietMoves.{AreQuiet}
+use Rattle.cacache_results.specs.Losses.{IsLast}
 
 -- an entry that can be written
 abbrev pub CanBeWritten : Entry → Type 0
@@ -33,3 +41,40 @@ PutsStandInOne =
     → ((key : List ℕ) → p.key ≡ Some key
     → CanBeWritten (insertion_of (put_commit cache p) key).entry)
     → StandsIn cache (λ h. DurablePut h folder p)
+
+-- ---- an entry that is the last of its bucket
+
+-- the put is durable, has this key and expects nothing, and its entry can be written
+pub record StoresDurably (cache key : List ℕ) (p : Put) : Type 0 where
+  pub durable : p.options.durable ≡ true
+  pub no_integrity : p.options.integrity ≡ None
+  pub no_size : p.options.size ≡ None
+  pub keyed : p.key ≡ Some key
+  pub written : CanBeWritten (insertion_of (put_commit cache p) key).entry
+
+-- such a put answered in the history, and its entry is the last of its bucket
+pub record IsLastPut (h : History) (folder : Names) (key : List ℕ) (p : Put) : Type 0 where
+  pub here : home h.setup ≡ Some folder
+  pub stores : StoresDurably h.setup.cache key p
+  pub put : DurablePut h folder p
+  pub last : IsLast h folder put.rest put.call.caller key p
+
+-- the history, and these records behind it
+abbrev pub followed_by : History → List Record → History
+followed_by h more = record { setup = h.setup; records = h.records ++ more }
+
+-- these records behind a history go elsewhere: they append nothing to the key's bucket, remove, link
+-- and export nothing, and put the put's content durably if they put it
+pub record GoElsewhere (h : History) (folder : Names) (key : List ℕ) (p : Put) (more : List Record)
+    : Type 0 where
+  pub quiet :
+      AreQuiet h.setup (folder ++ content_names (address_of_put p)) (now_at h h.records) more
+  pub none : NoneAppends (folder ++ bucket_names key) (steps_of more)
+
+-- each such put stands so in one, whatever goes elsewhere behind it
+abbrev pub PutsStandLast : Type 0
+PutsStandLast =
+    (cache : List ℕ) (folder : Names) (key : List ℕ) (p : Put) → names_of cache ≡ Ok folder
+    → StoresDurably cache key p
+    → StandsIn cache (λ h. (more : List Record) → GoElsewhere h folder key p more
+    → IsLastPut (followed_by h more) folder key p)

@@ -1,7 +1,8 @@
--- What a store in memory holds that began with what a loss of power left, and what a read of it gives.
-use Rattle.std.specs.Prelude.{◌≡◌, ℕ, List, ◌∷◌, ◌++◌, None, Some, Vec, Result}
+-- What a store in memory holds that began with what a loss of power left, and what is read and written there.
+use Rattle.std.specs.Prelude.{◌≡◌, ◌⊎◌, ℕ, List, ◌∷◌, ◌++◌, Option, None, Some, Vec, Result, IfErr, IfOk}
 use Rattle.std.specs.Global.{Global}
 use Rattle.cacache_core.specs.declared.errors.Error.{Error}
+use Rattle.cacache_core.specs.declared.integrity.algorithm.Algorithm.{Algorithm}
 use Rattle.cacache_core.specs.declared.integrity.digest.Hash.{Hash}
 use Rattle.cacache_core.specs.Digests.{digest}
 use Rattle.cacache_core.specs.Integrity.{integrity_under}
@@ -15,6 +16,7 @@ use Rattle.cacache_entry.specs.Entry.{Entry}
 use Rattle.cacache_entry.specs.Latest.{NoneAnswers}
 use Rattle.cacache_table.specs.declared.command.Command.TheVariants as commands
 use Rattle.cacache_table.specs.declared.command.Put.{Put}
+use Rattle.cacache_table.specs.declared.reply.Reply.TheVariants.{Stored}
 use Rattle.cacache_table.specs.Runs.{reply_of}
 use Rattle.cacache_table.specs.Storing.{insertion_of, put_commit}
 use Rattle.cacache_loss.specs.Loss.{Loss, Lost}
@@ -25,9 +27,13 @@ use Rattle.cacache_history.specs.Values.{steps_of}
 use Rattle.cacache_durable.specs.FewCalls.{FewCalls}
 use Rattle.cacache_durable.specs.Behind.{NoneAppends}
 use Rattle.cacache_durable.specs.Outlasting.{DurablePut, IsAppendOf, Outlives, moment_at}
-use Rattle.cacache_jobs.specs.Environment.{Calls}
+use Rattle.cacache_jobs.specs.Environment.{Calls, RunsPut}
+use Rattle.cacache_put.specs.Puts.{keyed_put}
 use Rattle.cacache_reads.specs.Reads.{bytes_read}
-use Rattle.cacache_sequence.specs.Caches.{HasKey}
+use Rattle.cacache_sequence.specs.Beside.{KeepsBeside}
+use Rattle.cacache_sequence.specs.Caches.{HasKey, IsExcused}
+use Rattle.cacache_sequence.specs.Inserts.{leads_to}
+use Rattle.cacache_sequence.specs.Keeping.{found_under, StaysKnown}
 use Rattle.cacache_sequence.specs.ReadAnswers.{entries_on}
 use Rattle.cacache_sequence.specs.Standing.{IsStanding}
 use Rattle.cacache_results.specs.Reads.{GivesJust}
@@ -76,8 +82,23 @@ PutIsLeft cache key p t =
 pub record LeftRead (cache key : List ℕ) (r : Result (Vec ℕ Global) Error) (old new : List LogItem)
     : Type 0 where
   pub same : tree_of new ≡ tree_of old
+  pub standing : IsStanding cache new
+  pub known : StaysKnown cache old new
   pub gives : (i : List Hash) (bytes : List ℕ) → HasKey cache key i bytes old
       → GivesJust bytes r old new
+
+-- ---- writes
+
+-- a write under a key: it leads to the bytes, or the error is excused. Everything stands where it
+-- may still; other keys lead where they led, and contents stay, but at the address of the bytes
+pub record LeftWritten (a : Algorithm) (cache key bytes : List ℕ) (r : Result (List Hash) Error)
+    (old new : List LogItem) : Type 0 where
+  pub standing : IsStanding cache new
+  pub stored : IfOk r (λ i. (i ≡ integrity_under a bytes) × HasKey cache key i bytes new)
+  pub leads : (found_under cache key new ≡ found_under cache key old)
+      ⊎ (leads_to cache key new ≡ Some (integrity_under a bytes))
+  pub keeps : KeepsBeside cache (Some key) (integrity_under a bytes) bytes old new
+  pub fails : IfErr r (λ e. IsExcused e old new)
 
 -- ---- laws
 
@@ -112,3 +133,14 @@ module _ {C N : Type 0} where
       (old : Env (List LogItem) C N) → IsStanding cache old.store
       → Calls (λ log. Some log) old new cache (commands.Get key) (reply_of bytes_read r)
       → LeftRead cache key r old.store new.store
+
+module _ {C N : Type 0} (moments : C → Option (List ℕ)) (numbers : N → Option (List ℕ)) where
+  -- a write under a key of a store that stands, of this result, is one
+  abbrev pub LeftWriteMeans :
+      Algorithm → List ℕ → List ℕ → List ℕ → Result (List Hash) Error
+      → Env (List LogItem) C N → Type 0
+  LeftWriteMeans a cache key bytes r new =
+      (old : Env (List LogItem) C N) → IsStanding cache old.store
+      → RunsPut (λ log. Some log) moments numbers old new cache (keyed_put a key bytes)
+      (reply_of Stored r)
+      → LeftWritten a cache key bytes r old.store new.store

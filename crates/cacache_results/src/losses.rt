@@ -1,9 +1,10 @@
 //! Behind a loss of power: a store in memory that began with what it left.
-ghost use Rattle.cacache_results.specs.DurableCases.{InsertsStandInOne, PutsStandInOne};
-ghost use Rattle.cacache_results.specs.Losses.{LeftReadMeans, LossesLeaveLast, LossesLeavePuts};
+ghost use Rattle.cacache_results.specs.DurableCases.{InsertsStandInOne, PutsStandInOne, PutsStandLast};
+ghost use Rattle.cacache_results.specs.Losses.{LeftReadMeans, LeftWriteMeans, LossesLeaveLast, LossesLeavePuts};
 ghost use Rattle.cacache_results.specs.Losses.{LossesLeaveStanding};
 
 use cacache_core::errors::Result;
+use cacache_core::integrity::{Algorithm, Integrity};
 use cacache_memory::MemStore;
 use cacache_store::env::{Clock, Env, Names};
 
@@ -17,10 +18,11 @@ pub fn loss_results()
 {}
 
 /// Histories of one durable commit alone: at any cache whose text names a folder one is legal, so that the laws of losses
-/// speak of some.
+/// speak of some. In that of a put with a key its entry is the last of its bucket, whatever goes elsewhere behind it.
 pub fn durable_cases()
     ensures inserts { InsertsStandInOne }
     ensures puts { PutsStandInOne }
+    ensures last { PutsStandLast }
 {}
 
 /// Behind `read_sync` of a store of which no more is known than that everything stands where it may, as after a loss: the
@@ -33,5 +35,21 @@ pub fn after_read_left<C: Clock, N: Names>(
 )
     ensures { LeftReadMeans cache.now key.now read.now env.now }
 {
+    let _log = env.store.log();
+}
+
+/// Behind `write_sync` of such a store: the key leads to the bytes, or the error is excused. Other keys lead where they led,
+/// and contents stay, but at the address of the bytes, where these lie then.
+pub fn after_write_left<C: Clock, N: Names>(
+    env: &Env<MemStore, C, N>,
+    algo: Algorithm,
+    cache: &str,
+    key: &str,
+    data: &[u8],
+    written: &Result<Integrity>,
+)
+    ensures { LeftWriteMeans C.given N.given algo cache.now key.now «data».now written.now env.now }
+{
+    let _count = data.len();
     let _log = env.store.log();
 }
