@@ -1,7 +1,8 @@
 -- What the values that calls give tell of a cache in memory.
-use Rattle.std.specs.Prelude.{◌≡◌, ℕ, List, [], Some, IfOk, Result, Vec, map, string_bytes}
+use Rattle.std.specs.Prelude.{◌≡◌, ◌⊎◌, ℕ, List, [], Some, IfOk, Result, Vec, map, string_bytes}
 use Rattle.cacache_core.specs.declared.errors.Error.{Error}
 use Rattle.cacache_core.specs.declared.integrity.digest.Hash.{Hash}
+use Rattle.cacache_core.specs.Integrity.{Meets}
 use Rattle.cacache_core.specs.PathNames.{Names, home_of}
 use Rattle.cacache_store.specs.declared.store.log.LogItem.{LogItem}
 use Rattle.cacache_memory.specs.Replay.{tree_of}
@@ -12,6 +13,8 @@ use Rattle.cacache_table.specs.declared.reply.Reply.TheVariants as replies
 use Rattle.cacache_table.specs.State.{Site}
 use Rattle.cacache_value.specs.Placed.{Placed}
 use Rattle.cacache_jobs.specs.Sites.{site_of}
+use Rattle.cacache_sequence.specs.Caches.{HasKey, IsCache}
+use Rattle.cacache_sequence.specs.ExportEffects.{IsApart}
 use Rattle.cacache_keep_laws.specs.Answers.{AnswersOn}
 use Rattle.cacache_keep_laws.specs.Collecting.{LeavesLive, LinksLeadOut}
 use Rattle.cacache_keep_laws.specs.Contents.{content_in}
@@ -64,6 +67,16 @@ ReadsAsRemoved cache base gone key result old =
     → LinksLeadOut home (tree_of old)
     → Removed cache (commands.RemoveFully gone) old other
     → IfOk result (λ bytes. MayRead (site_of cache base 0) key other bytes.items)
+
+-- In a cache that only calls wrote to a read gives the bytes that the key led to on the older log, where
+-- since then a content was exported apart from the cache and these bytes were written under another key.
+-- Or it gives what was written, if that meets the integrity too
+abbrev pub ReadsBeside : {A : Type 0} → List ℕ → List ℕ → List ℕ → List ℕ → List ℕ
+    → Result (Vec ℕ A) Error → List LogItem → Type 0
+ReadsBeside cache key to other added result old =
+    (home : Names) (bytes : List ℕ) (i : List Hash) → home_of cache ≡ Some home
+    → IsCache cache old → HasKey cache key i bytes old → IsApart cache to → (key ≡ other → ⊥)
+    → IfOk result (λ v. Meets i v.items × ((v.items ≡ bytes) ⊎ (v.items ≡ added)))
 
 -- ---- compactions
 

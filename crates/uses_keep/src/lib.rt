@@ -1,5 +1,5 @@
 //! Functions of a caller's own that verify a cache in memory, sweep, repair, collect and compact it. Their contracts
-//! are proved from clauses alone: those of the calls, of `keep_laws` and of `answer_laws`.
+//! are proved from clauses alone: those of the calls, of `keep_laws`, of `answer_laws` and of `cache_laws`.
 #![tactic(auto)]
 
 ghost use Rattle.std.specs.Prelude.{◌≡◌, [], Some, IfOk, map};
@@ -9,7 +9,7 @@ ghost use Rattle.cacache_jobs.specs.Sites.{site_of};
 ghost use Rattle.cacache_keep_laws.specs.Collecting.{LinksLeadOut};
 ghost use Rattle.cacache_keep_laws.specs.Housed.{Housed};
 ghost use Rattle.cacache_keep_laws.specs.Temporary.{LeavesUntemporary};
-ghost use Rattle.uses_keep.specs.Told.{IsMended, JudgesAs, LeavesAs, MendsPlaced, ReadsHoused, ReadsStill, ReadsAsRemoved, ReadsTended};
+ghost use Rattle.uses_keep.specs.Told.{IsMended, JudgesAs, LeavesAs, MendsPlaced, ReadsBeside, ReadsHoused, ReadsStill, ReadsAsRemoved, ReadsTended};
 
 use cacache_core::errors::Result;
 use cacache_core::keeping::let_go;
@@ -19,8 +19,10 @@ use cacache_keep::{
 };
 use cacache_keep_laws::answer_laws;
 use cacache_memory::MemStore;
-use cacache_reads::read_sync;
+use cacache_put::put::write_sync;
 use cacache_reads::rm::RemoveOpts;
+use cacache_reads::{copy_sync, read_sync};
+use cacache_sequence::cache_laws;
 use cacache_store::env::{Clock, Env, Names};
 
 /// Verifies a cache in memory: the good contents are those whose bytes meet their address, and all
@@ -82,6 +84,30 @@ pub fn read_after_removal<C: Clock, N: Names>(
     let bytes = read_sync(env, cache, key)?;
     keep_laws(&env.store);
     answer_laws();
+    Ok(bytes)
+}
+
+/// Collects a cache in memory, copies a key's content out of it, writes another key, and reads the first one. It reads the
+/// bytes that this one led to; or those that were written, if they meet its integrity too.
+pub fn read_beside<C: Clock, N: Names>(
+    env: &mut Env<MemStore, C, N>,
+    cache: &str,
+    key: &str,
+    to: &str,
+    other: &str,
+    data: &[u8],
+) -> Result<Vec<u8>>
+    ensures { ReadsBeside cache.now key.now to.now other.now «data».now result env.old.store }
+{
+    let _size = data.len();
+    let_go(collect(env, cache)?);
+    keep_laws(&env.store);
+    copy_sync(env, cache, key, to)?;
+    keep_laws(&env.store);
+    let_go(write_sync(env, cache, other, data)?);
+    keep_laws(&env.store);
+    let bytes = read_sync(env, cache, key)?;
+    cache_laws(&env.store);
     Ok(bytes)
 }
 
