@@ -1,7 +1,7 @@
 -- The words of histories, for the crates above: what many callers did in a world, what a lookup found at each place, and
 -- what a loss of power left.
 pub use Rattle.cacache_core.specs.Digests.{digest}
-pub use Rattle.cacache_core.specs.PathNames.{Names}
+pub use Rattle.cacache_core.specs.PathNames.{Names, names_of}
 pub use Rattle.cacache_disk.specs.Tree.{Tree}
 pub use Rattle.cacache_entry.specs.Latest.{NoneAnswers}
 pub use Rattle.cacache_table.specs.declared.command.Command.{Command}
@@ -11,6 +11,7 @@ pub use Rattle.cacache_table.specs.Storing.{put_commit}
 pub use Rattle.cacache_value.specs.Acts.{PutBytes}
 pub use Rattle.cacache_loss.specs.declared.loss.Loss.{Loss}
 pub use Rattle.cacache_loss.specs.Chosen.{chosen}
+pub use Rattle.cacache_history.specs.declared.record.Record.{Record}
 pub use Rattle.cacache_history.specs.declared.record.Record.TheVariants.{Began, Moved, Stopped}
 pub use Rattle.cacache_history.specs.Commits.{CommitsAs, IsCase, deeds}
 pub use Rattle.cacache_history.specs.Headline.{Headline}
@@ -21,8 +22,8 @@ pub use Rattle.cacache_history.specs.Setup.{call_site, home}
 pub use Rattle.cacache_history.specs.Values.{MetDigestsAreSame}
 pub use Rattle.cacache_durable.specs.FewCalls.{FewCalls}
 pub use Rattle.cacache_durable.specs.Behind.{Behind, NoneAppends, StaysSynced}
-pub use Rattle.cacache_durable.specs.Outlasting.{DurableInsert, DurablePut, Outlives, OutlastsWith}
+pub use Rattle.cacache_durable.specs.Outlasting.{DurableInsert, DurablePut, HistoriesOutlive, Outlives, OutlastsWith}
 pub use Rattle.cacache_world.specs.Losses.{LeftBy}
 pub use Rattle.cacache_sequence.specs.Standing.{IsStanding}
-pub use Rattle.cacache_results.specs.DurableCases.{CanBeWritten, InsertsStandInOne, PutsStandInOne, StandsIn}
-pub use Rattle.cacache_results.specs.Losses.{IsLast, IsLeft, LeadsToDigest, LeftRead, LeftReadMeans, LossesLeaveLast, LossesLeavePuts, LossesLeaveStanding, PutIsLeft, StandsBefore}
+pub use Rattle.cacache_results.specs.DurableCases.{CanBeWritten, GoElsewhere, InsertsStandInOne, IsLastPut, PutsStandInOne, PutsStandLast, StandsIn, StoresDurably, followed_by}
+pub use Rattle.cacache_results.specs.Losses.{IsLast, IsLeft, LeadsToDigest, LeftRead, LeftReadMeans, LeftWriteMeans, LeftWritten, LossesLeaveLast, LossesLeavePuts, LossesLeaveStanding, PutIsLeft, StandsBefore}
