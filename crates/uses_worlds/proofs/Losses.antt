@@ -1,10 +1,11 @@
 -- What a user says of a loss of power follows from the laws of what it leaves.
-use Rattle.std.proofs.Common.{inl, inr, ℕ, List, Vec, Global, Result, Ok, Err, refl, ap, ◌∙◌}
+use Rattle.std.proofs.Common.{◌≡◌, inl, inr, ℕ, List, None, Some, Vec, Global, Result, Ok, Err, refl, sym, ap, subst, ◌∙◌}
 use Rattle.cacache.specs.Calls.{Error}
-use Rattle.cacache.specs.Histories.{FewCalls, History, IsStanding, LeadsToDigest, LeftBy, LeftRead, Loss, LossesLeaveLast, LossesLeavePuts, LossesLeaveStanding, Outlives, Put, chosen, digest}
-use Rattle.cacache.specs.Laws.{OutOfMemory, tree_of}
+use Rattle.cacache.specs.Entries.{Entry}
+use Rattle.cacache.specs.Histories.{FewCalls, HistoriesOutlive, History, IsStanding, LeadsToDigest, LeftBy, LeftRead, Loss, LossesLeaveLast, LossesLeavePuts, LossesLeaveStanding, NoneAnswers, Outlives, Put, PutsStandLast, Tree, chosen, digest}
+use Rattle.cacache.specs.Laws.{GivesJust, IsExcused, OutOfMemory, tree_of}
 use Rattle.cacache.specs.Stores.{LogItem}
-use Rattle.uses_worlds.specs.Losses.{GivesPut, Survives, SurvivesAlone}
+use Rattle.uses_worlds.specs.Losses.{GivesPut, SomeSurvive, Survives, SurvivesAlone}
 
 -- where memory is refused before the read
 pub refused : (h : History) (loss : Loss) (key : List ℕ) → Outlives h → FewCalls h → LossesLeavePuts → Survives h loss key (Err OutOfMemory)
@@ -38,3 +39,16 @@ alone_here h loss key r old new outlives few lasts stands lost read folder p her
     let chosen_loss = chosen loss.undone.items loss.tails.items in
     let leads = lasts h chosen_loss folder key p (tree_of old) outlives few lost here put keyed none last old refl in
     (tree_of old, lost, gives h.setup.cache key p r old new leads (read (stands h chosen_loss old outlives lost)))
+
+-- ---- histories of which this speaks
+
+pub some_survive : PutsStandLast → HistoriesOutlive → LossesLeaveLast → SomeSurvive
+some_survive stand outlive lasts cache folder key p is stores =
+    let s = stand cache folder key p is stores in (
+      s.0,
+      s.1,
+      s.2,
+      λ more elsewhere legal few loss log lost.
+          let l = s.3 more elsewhere in
+          lasts _ (chosen loss.undone.items loss.tails.items) folder key p (tree_of log) (outlive _ legal) few lost l.here l.put l.stores.keyed l.stores.no_integrity l.last log refl,
+    )

@@ -3,7 +3,7 @@ use Rattle.std.specs.Prelude.{◌≡◌, ◌⊎◌, ℕ, List, None, Some, Vec, 
 use Rattle.std.specs.Global.{Global}
 use Rattle.cacache.specs.Calls.{Error}
 use Rattle.cacache.specs.Entries.{Entry}
-use Rattle.cacache.specs.Histories.{DurablePut, History, IsLast, LeftBy, Loss, Names, NoneAnswers, Put, StandsBefore, Tree, digest, home}
+use Rattle.cacache.specs.Histories.{DurablePut, FewCalls, GoElsewhere, History, IsLast, IsLegal, LeadsToDigest, LeftBy, Loss, Names, NoneAnswers, Put, Record, StandsBefore, StandsIn, StoresDurably, Tree, digest, followed_by, home, names_of}
 use Rattle.cacache.specs.Laws.{IsExcused, OutOfMemory, tree_of}
 use Rattle.cacache.specs.Stores.{LogItem}
 
@@ -35,3 +35,19 @@ SurvivesAlone h loss key r =
     → p.key ≡ Some key → p.options.integrity ≡ None
     → IsLast h folder put.rest put.call.caller key p
     → (left : Tree) × LeftBy h loss left × GivesPut p r left
+
+-- ---- histories of which this speaks
+
+-- each loss of a legal history leaves the key leading to bytes with the digest of the put's
+abbrev pub LosesNothing : History → List ℕ → Put → Type 0
+LosesNothing h key p =
+    IsLegal h → FewCalls h → (loss : Loss) (log : List LogItem) → LeftBy h loss (tree_of log)
+    → LeadsToDigest h.setup.cache key p log
+
+-- so does some history of each durable put that expects nothing, whatever goes elsewhere behind it
+abbrev pub SomeSurvive : Type 0
+SomeSurvive =
+    (cache : List ℕ) (folder : Names) (key : List ℕ) (p : Put) → names_of cache ≡ Ok folder
+    → StoresDurably cache key p
+    → StandsIn cache (λ h. (more : List Record) → GoElsewhere h folder key p more
+    → LosesNothing (followed_by h more) key p)

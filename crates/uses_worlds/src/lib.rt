@@ -1,6 +1,6 @@
 //! What a caller of worlds can prove of many callers at one cache, with the clauses of a world and of a few laws alone.
 //!
-//! - [`survives`] says what is read after a loss of power.
+//! - [`survives`] says what is read after a loss of power, and [`some_survive`] that there are histories of which it speaks.
 //! - [`put_then_get`], [`one_of_two`], [`crash_safe`] and [`readers_never_lie`] say what many callers see of one cache, of each world.
 //! - [`close_after_reads`] says what threads that shared a world were answered.
 #![tactic(auto)]
@@ -9,6 +9,6 @@ mod losing;
 mod sharing;
 mod worlds;
 
-pub use losing::survives;
+pub use losing::{some_survive, survives};
 pub use sharing::close_after_reads;
 pub use worlds::{crash_safe, one_of_two, put_then_get, readers_never_lie};

@@ -2,10 +2,10 @@
 ghost use Rattle.std.specs.Prelude.{◌≡◌, IfOk, IfErr};
 ghost use Rattle.cacache.specs.Histories.{IsStanding, LeftBy, LeftRead};
 ghost use Rattle.cacache.specs.Laws.{OutOfMemory, tree_of};
-ghost use Rattle.uses_worlds.specs.Losses.{Survives, SurvivesAlone};
+ghost use Rattle.uses_worlds.specs.Losses.{SomeSurvive, Survives, SurvivesAlone};
 
 use cacache::env::{Clock, Env, Names};
-use cacache::laws::{after_read_left, loss_results};
+use cacache::laws::{after_read_left, durable_cases, durable_laws, loss_results};
 use cacache::store::MemStore;
 use cacache::world::{Loss, World};
 use cacache::{Error, Result, read_sync};
@@ -55,4 +55,14 @@ pub fn survives<C: Clock, N: Names>(
         return Err(Error::OutOfMemory);
     };
     read_left(&mut env, world.cache(), key)
+}
+
+/// What `survives` asks, that nobody appended behind the put's entry, is so in some history: at each cache whose text names
+/// a folder one durable put may stand alone, and whatever goes elsewhere behind it, each loss leaves its bytes.
+pub fn some_survive()
+    ensures { SomeSurvive }
+{
+    durable_cases();
+    durable_laws();
+    loss_results();
 }
