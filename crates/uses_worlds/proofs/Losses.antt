@@ -2,10 +2,12 @@
 use Rattle.std.proofs.Common.{◌≡◌, inl, inr, ℕ, List, None, Some, Vec, Global, Result, Ok, Err, refl, sym, ap, subst, ◌∙◌}
 use Rattle.cacache.specs.Calls.{Error}
 use Rattle.cacache.specs.Entries.{Entry}
-use Rattle.cacache.specs.Histories.{FewCalls, HistoriesOutlive, History, IsStanding, LeadsToDigest, LeftBy, LeftRead, Loss, LossesLeaveLast, LossesLeavePuts, LossesLeaveStanding, NoneAnswers, Outlives, Put, PutsStandLast, Tree, chosen, digest}
-use Rattle.cacache.specs.Laws.{GivesJust, IsExcused, OutOfMemory, tree_of}
+use Rattle.cacache.specs.Histories.{FewCalls, HistoriesOutlive, History, IsStanding, LeadsToDigest, LeftBy, LeftRead, LeftWritten, Loss, LossesLeaveLast, LossesLeavePuts, LossesLeaveStanding, MetDigestsAreSame, NoneAnswers, Outlives, Put, PutsStandLast, Tree, chosen, digest}
+use Rattle.cacache.specs.Laws.{GivesJust, HasKey, IsExcused, KeepsBeside, OutOfMemory, StaysKnown, tree_of}
 use Rattle.cacache.specs.Stores.{LogItem}
-use Rattle.uses_worlds.specs.Losses.{GivesPut, SomeSurvive, Survives, SurvivesAlone}
+use Rattle.cacache.specs.Integrities.{Hash, Sha256}
+use Rattle.uses_worlds.specs.Losses.{GivesPut, GoesOn, SomeSurvive, Survives, SurvivesAlone}
+use Rattle.uses_worlds.specs.declared.losing.Reads.{Reads}
 
 -- where memory is refused before the read
 pub refused : (h : History) (loss : Loss) (key : List ℕ) → Outlives h → FewCalls h → LossesLeavePuts → Survives h loss key (Err OutOfMemory)
@@ -39,6 +41,36 @@ alone_here h loss key r old new outlives few lasts stands lost read folder p her
     let chosen_loss = chosen loss.undone.items loss.tails.items in
     let leads = lasts h chosen_loss folder key p (tree_of old) outlives few lost here put keyed none last old refl in
     (tree_of old, lost, gives h.setup.cache key p r old new leads (read (stands h chosen_loss old outlives lost)))
+
+-- ---- writes after a loss
+
+-- a key leads to bytes with the digest of a put's, also where others were written at their address
+leads_beside : (cache written key added : List ℕ) (own : List Hash) (p : Put) (old new : List LogItem) → MetDigestsAreSame → (key ≡ written → ⊥) → KeepsBeside cache (Some written) own added old new
+    → LeadsToDigest cache key p old → LeadsToDigest cache key p new
+leads_beside cache written key added own p old new met differ keeps led =
+    elim (keeps.key key led.bytes _ differ led.held) [
+      | inl stays ↦ record { bytes = led.bytes; same = led.same; held = stays }
+      | inr at ↦ record { bytes = added; same = met p.options.algorithm p.data added at.1.content.meets; held = at.1 }
+    ]
+
+leads_known : (cache key : List ℕ) (p : Put) (old new : List LogItem) → StaysKnown cache old new → LeadsToDigest cache key p old → LeadsToDigest cache key p new
+leads_known cache key p old new known led = record { bytes = led.bytes; same = led.same; held = known.key key led.bytes _ led.held }
+
+pub goes_on_here : (h : History) (loss : Loss) (written added key : List ℕ) (i : List Hash) (reads : Reads) (old late read new : List LogItem) → Outlives h → FewCalls h → LossesLeaveLast → LossesLeaveStanding → MetDigestsAreSame
+    → LeftBy h loss (tree_of old) → (IsStanding h.setup.cache old → LeftWritten Sha256 h.setup.cache written added (Ok i) old late)
+    → (IsStanding h.setup.cache late → LeftRead h.setup.cache written (Ok reads.since) late read) → (IsStanding h.setup.cache read → LeftRead h.setup.cache key (Ok reads.before) read new)
+    → GoesOn h loss written added key (Ok reads)
+goes_on_here h loss written added key i reads old late read new outlives few lasts stands met lost write first second =
+    let chosen_loss = chosen loss.undone.items loss.tails.items in
+    let wrote = write (stands h chosen_loss old outlives lost) in
+    let one = first wrote.standing in
+    let two = second one.standing in (
+      one.gives i added wrote.stored.1,
+      λ folder p here put keyed none last differ.
+          let led = lasts h chosen_loss folder key p (tree_of old) outlives few lost here put keyed none last old refl in
+          let still = leads_known h.setup.cache key p late read one.known (leads_beside h.setup.cache written key added _ p old late met differ wrote.keeps led) in
+          ap (digest p.options.algorithm) (two.gives _ still.bytes still.held) ∙ still.same,
+    )
 
 -- ---- histories of which this speaks
 

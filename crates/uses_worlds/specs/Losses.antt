@@ -1,11 +1,12 @@
 -- What a user says of a loss of power.
-use Rattle.std.specs.Prelude.{◌≡◌, ◌⊎◌, ℕ, List, None, Some, Vec, Result, MatchResult}
+use Rattle.std.specs.Prelude.{◌≡◌, ◌⊎◌, ℕ, List, None, Some, Ok, Vec, Result, IfOk, MatchResult}
 use Rattle.std.specs.Global.{Global}
 use Rattle.cacache.specs.Calls.{Error}
 use Rattle.cacache.specs.Entries.{Entry}
 use Rattle.cacache.specs.Histories.{DurablePut, FewCalls, GoElsewhere, History, IsLast, IsLegal, LeadsToDigest, LeftBy, Loss, Names, NoneAnswers, Put, Record, StandsBefore, StandsIn, StoresDurably, Tree, digest, followed_by, home, names_of}
 use Rattle.cacache.specs.Laws.{IsExcused, OutOfMemory, tree_of}
 use Rattle.cacache.specs.Stores.{LogItem}
+use Rattle.uses_worlds.specs.declared.losing.Reads.{Reads}
 
 -- memory was refused, or a step failed on a store with this tree that excuses the error
 abbrev pub FailsOn : Tree → Error → Type 0
@@ -35,6 +36,18 @@ SurvivesAlone h loss key r =
     → p.key ≡ Some key → p.options.integrity ≡ None
     → IsLast h folder put.rest put.call.caller key p
     → (left : Tree) × LeftBy h loss left × GivesPut p r left
+
+-- ---- writes after a loss
+
+-- what was written is read; and so is what a durable put stored before under another key, where
+-- nobody appended to that key's bucket behind its entry: bytes with the digest of the put's
+abbrev pub GoesOn : History → Loss → List ℕ → List ℕ → List ℕ → Result Reads Error → Type 0
+GoesOn h loss written added key r =
+    IfOk r (λ reads. (reads.since.items ≡ added)
+    × ((folder : Names) (p : Put) → home h.setup ≡ Some folder → (put : DurablePut h folder p)
+    → p.key ≡ Some key → p.options.integrity ≡ None
+    → IsLast h folder put.rest put.call.caller key p → (key ≡ written → ⊥)
+    → digest p.options.algorithm reads.before.items ≡ digest p.options.algorithm p.data))
 
 -- ---- histories of which this speaks
 

@@ -1,6 +1,7 @@
 //! What a caller of worlds can prove of many callers at one cache, with the clauses of a world and of a few laws alone.
 //!
-//! - [`survives`] says what is read after a loss of power, and [`some_survive`] that there are histories of which it speaks.
+//! - [`survives`] says what is read after a loss of power, and [`goes_on`] what is written and read then; [`some_survive`]
+//!   says that there are histories of which they speak.
 //! - [`put_then_get`], [`one_of_two`], [`crash_safe`] and [`readers_never_lie`] say what many callers see of one cache, of each world.
 //! - [`close_after_reads`] says what threads that shared a world were answered.
 #![tactic(auto)]
@@ -9,6 +10,6 @@ mod losing;
 mod sharing;
 mod worlds;
 
-pub use losing::{some_survive, survives};
+pub use losing::{Reads, goes_on, some_survive, survives};
 pub use sharing::close_after_reads;
 pub use worlds::{crash_safe, one_of_two, put_then_get, readers_never_lie};

@@ -1,14 +1,17 @@
 //! What is read after a loss of power, in words of a user.
 ghost use Rattle.std.specs.Prelude.{◌≡◌, IfOk, IfErr};
-ghost use Rattle.cacache.specs.Histories.{IsStanding, LeftBy, LeftRead};
+ghost use Rattle.cacache.specs.Histories.{IsStanding, LeftBy, LeftRead, LeftWritten};
+ghost use Rattle.cacache.specs.Integrities.{Sha256};
 ghost use Rattle.cacache.specs.Laws.{OutOfMemory, tree_of};
-ghost use Rattle.uses_worlds.specs.Losses.{SomeSurvive, Survives, SurvivesAlone};
+ghost use Rattle.uses_worlds.specs.Losses.{GoesOn, SomeSurvive, Survives, SurvivesAlone};
 
 use cacache::env::{Clock, Env, Names};
-use cacache::laws::{after_read_left, durable_cases, durable_laws, loss_results};
+use cacache::laws::{
+    after_read_left, after_write_left, digest_laws, durable_cases, durable_laws, loss_results,
+};
 use cacache::store::MemStore;
 use cacache::world::{Loss, World};
-use cacache::{Error, Result, read_sync};
+use cacache::{Algorithm, Error, Integrity, Result, read_sync, write_sync};
 
 /// A store that begins with what is left of a world's disk where the power goes now.
 fn left_store(world: &World, loss: &Loss) -> Result<MemStore>
@@ -55,6 +58,54 @@ pub fn survives<C: Clock, N: Names>(
         return Err(Error::OutOfMemory);
     };
     read_left(&mut env, world.cache(), key)
+}
+
+/// Writes a key of such a store.
+fn write_left<C: Clock, N: Names>(
+    env: &mut Env<MemStore, C, N>,
+    cache: &str,
+    key: &str,
+    data: &[u8],
+) -> Result<Integrity>
+    ensures { IsStanding cache.now env.old.store
+        → LeftWritten Sha256 cache.now key.now «data».now result env.old.store env.new.store }
+{
+    let written = write_sync(env, cache, key, data);
+    after_write_left(env, Algorithm::Sha256, cache, key, data, &written);
+    written
+}
+
+/// What was read after a loss of power: a key that was written since then, and one from before.
+#[derive(Drop)]
+pub struct Reads {
+    pub since: Vec<u8>,
+    pub before: Vec<u8>,
+}
+
+/// The power goes in a world. In what is left of its disk a key is written and read, and then a key that was put before.
+pub fn goes_on<C: Clock, N: Names>(
+    world: &World,
+    loss: &Loss,
+    written: &str,
+    data: &[u8],
+    key: &str,
+    clock: C,
+    names: N,
+) -> Result<Reads>
+    ensures { GoesOn world.now loss.now written.now «data».now key.now result }
+{
+    world.stands();
+    loss_results();
+    digest_laws();
+    let cache = world.cache();
+    let store = left_store(world, loss)?;
+    let Ok(mut env) = Env::new(world.allocator(), store, clock, names, "/") else {
+        return Err(Error::OutOfMemory);
+    };
+    write_left(&mut env, cache, written, data)?;
+    let since = read_left(&mut env, cache, written)?;
+    let before = read_left(&mut env, cache, key)?;
+    Ok(Reads { since, before })
 }
 
 /// What `survives` asks, that nobody appended behind the put's entry, is so in some history: at each cache whose text names
