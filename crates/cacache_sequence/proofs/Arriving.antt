@@ -1,5 +1,5 @@
 -- The bytes of a content stand where a copy of it went.
-use Rattle.std.proofs.Common.{◌≡◌, ◌⊎◌, inl, inr, ℕ, Bool, true, false, cond, List, [], ◌∷◌, ◌++◌, Option, None, Some, Result, Ok, Err, length, refl, sym, ap, subst, ◌∙◌, arith}
+use Rattle.std.proofs.Common.{◌≡◌, ◌⊎◌, inl, inr, ℕ, Bool, true, false, List, [], ◌∷◌, Option, None, Some, Result, Ok, Err, length, refl, sym, ap, subst, ◌∙◌, arith}
 use Rattle.std.proofs.lemmas.List.Elements.{All-head}
 use Rattle.sha1.specs.Sha1.{sha1}
 use Rattle.cacache_core.specs.declared.errors.Error.{Error}
@@ -8,7 +8,7 @@ use Rattle.cacache_core.specs.declared.errors.Fault.{Fault}
 use Rattle.cacache_core.specs.declared.errors.Fault.TheVariants as faults
 use Rattle.cacache_core.specs.declared.errors.IntegrityFault.TheVariants.{Check}
 use Rattle.cacache_core.specs.declared.integrity.digest.Hash.{Hash}
-use Rattle.cacache_core.specs.Integrity.{IsHash, IsIntegrity, actual}
+use Rattle.cacache_core.specs.Integrity.{IsHash, actual}
 use Rattle.cacache_core.specs.Meeting.{meets}
 use Rattle.cacache_core.specs.PathNames.{Names, home_of}
 use Rattle.cacache_store.specs.declared.store.answer.Answer.TheVariants as answers
@@ -30,7 +30,6 @@ use Rattle.cacache_table.specs.declared.command.Source.{Source}
 use Rattle.cacache_table.specs.declared.command.Source.TheVariants as sources
 use Rattle.cacache_table.specs.declared.answers.Refusal.{Refusal}
 use Rattle.cacache_table.specs.declared.command.Command.{Command}
-use Rattle.cacache_table.specs.declared.reply.Reply.{Reply}
 use Rattle.cacache_table.specs.declared.reply.Reply.TheVariants as replies
 use Rattle.cacache_table.specs.Answers.{file_in, got_in}
 use Rattle.cacache_table.specs.Common.{ends_with, fails}
@@ -39,7 +38,7 @@ use Rattle.cacache_table.specs.Linking.{after_read, hashed, hashed_path}
 use Rattle.cacache_table.specs.Looking.{found_for, found_in}
 use Rattle.cacache_table.specs.Replies.{lookup}
 use Rattle.cacache_table.specs.Runs.{Moves, Runs, plain_reply}
-use Rattle.cacache_table.specs.State.{Hashing, State, copying, hashing, looking, opening_file, over, to_verify}
+use Rattle.cacache_table.specs.State.{Hashing, State, copying, hashing, opening_file, over, to_verify}
 use Rattle.cacache_table.specs.declared.carried.Content.{Content}
 use Rattle.cacache_table.specs.declared.carried.Aim.TheVariants as aims
 use Rattle.cacache_table.specs.StepPaths.{bucket_path, content_path}

@@ -1,9 +1,8 @@
 -- Each export of bytes that are there leaves them at its path, or fails for a step of its own.
-use Rattle.std.proofs.Common.{◌≡◌, ◌⊎◌, inl, inr, ◌==◌, ◌<◌, ℕ, zero, suc, Bool, true, false, cond, List, [], ◌∷◌, ◌++◌, Option, None, Some, Result, Ok, Err, length, take, drop, take-append-drop, refl, sym, ap, subst, ◌∙◌, append-nil, append_assoc, arith}
+use Rattle.std.proofs.Common.{◌≡◌, ◌⊎◌, inl, inr, ◌==◌, ◌<◌, ℕ, zero, suc, Bool, true, false, cond, List, [], ◌∷◌, ◌++◌, Option, None, Some, Result, Ok, length, take, drop, take-append-drop, refl, sym, ap, subst, ◌∙◌, append-nil, append_assoc, arith}
 use Rattle.std.proofs.lemmas.List.Elements.{All-head}
 use Rattle.sha1.specs.Sha1.{sha1}
-use Rattle.cacache_core.specs.declared.errors.Error.{Error}
-use Rattle.cacache_core.specs.declared.errors.Error.TheVariants.{EntryNotFound, IntegrityError, IoError, OutOfMemory}
+use Rattle.cacache_core.specs.declared.errors.Error.TheVariants.{IntegrityError, IoError, OutOfMemory}
 use Rattle.cacache_core.specs.declared.errors.Fault.{Fault}
 use Rattle.cacache_core.specs.declared.errors.Fault.TheVariants as faults
 use Rattle.cacache_core.specs.declared.errors.IntegrityFault.TheVariants.{Check}
@@ -16,7 +15,7 @@ use Rattle.cacache_store.specs.declared.store.answer.Answer.TheVariants as answe
 use Rattle.cacache_store.specs.declared.store.log.LogItem.{LogItem}
 use Rattle.cacache_store.specs.declared.store.plain.PlainFile.{PlainFile}
 use Rattle.cacache_store.specs.declared.store.step.Step.TheVariants as steps
-use Rattle.cacache_store.specs.Plain.{PlainStep, PlainAnswer}
+use Rattle.cacache_store.specs.Plain.{PlainAnswer}
 use Rattle.cacache_disk.specs.declared.luck.Luck.TheVariants.{Plain}
 use Rattle.cacache_disk.specs.declared.node.Node.TheVariants.{File}
 use Rattle.cacache_disk.specs.Apply.{apply, given, rest_of, unless}
@@ -26,7 +25,6 @@ use Rattle.cacache_memory.specs.Replay.{shown, tree_of}
 use Rattle.cacache_entry.specs.Latest.{Found, latest}
 use Rattle.cacache_table.specs.declared.carried.Aim.TheVariants as aims
 use Rattle.cacache_table.specs.declared.carried.Content.{Content}
-use Rattle.cacache_table.specs.declared.command.Command.TheVariants as commands
 use Rattle.cacache_table.specs.declared.command.Export.{Export}
 use Rattle.cacache_table.specs.declared.command.How.{How}
 use Rattle.cacache_table.specs.declared.command.How.TheVariants.{Copy, Reflink, HardLink}
@@ -36,10 +34,10 @@ use Rattle.cacache_table.specs.declared.reply.Reply.{Reply}
 use Rattle.cacache_table.specs.declared.reply.Reply.TheVariants as replies
 use Rattle.cacache_table.specs.Common.{ends_with, errand_step}
 use Rattle.cacache_table.specs.Exporting.{copied_count, export, export_content, export_from, verified}
-use Rattle.cacache_table.specs.Linking.{after_read, hashed, hashed_path}
+use Rattle.cacache_table.specs.Linking.{after_read, hashed_path}
 use Rattle.cacache_table.specs.Looking.{found_for, found_in}
 use Rattle.cacache_table.specs.Runs.{Moves, Runs}
-use Rattle.cacache_table.specs.State.{Errand, Hashing, State, copying, doing, hard_link, hashing, looking, opening_file, over, reflink, to_verify}
+use Rattle.cacache_table.specs.State.{Errand, State, copying, doing, hard_link, hashing, opening_file, over, reflink, to_verify}
 use Rattle.cacache_table.specs.StepPaths.{bucket_path, content_path}
 use Rattle.cacache_table.specs.Table.{after, opening, piece}
 use Rattle.cacache_table.proofs.Branches.{cond_leads}

@@ -1,19 +1,18 @@
 -- The removal of a temporary file leaves what the cache holds.
-use Rattle.std.proofs.Common.{◌≡◌, inl, inr, ℕ, Bool, true, false, cond, List, [], ◌∷◌, ◌++◌, Option, None, Some, Result, Ok, Err, map, refl, sym, ap, subst, ◌∙◌, append-nil}
+use Rattle.std.proofs.Common.{◌≡◌, inl, inr, ℕ, Bool, true, false, cond, List, [], ◌∷◌, ◌++◌, Option, None, Result, Ok, Err, refl, sym, ap, subst, ◌∙◌, append-nil}
 use Rattle.std.specs.Prelude.{IfOk}
 use Rattle.cacache_core.specs.declared.errors.Fault.{Fault}
 use Rattle.cacache_core.specs.Paths.{content_names, bucket_names_of}
 use Rattle.cacache_core.specs.PathNames.{Names, home_of, names_of}
 use Rattle.cacache_store.specs.declared.store.answer.Answer.TheVariants as answers
 use Rattle.cacache_store.specs.declared.store.log.LogItem.{LogItem}
-use Rattle.cacache_store.specs.declared.store.log.LogItem.TheVariants.{Made}
 use Rattle.cacache_store.specs.declared.store.step.Step.TheVariants as steps
 use Rattle.cacache_store.specs.Plain.{PlainAnswer}
 use Rattle.cacache_disk.specs.declared.luck.Luck.TheVariants.{Plain}
 use Rattle.cacache_disk.specs.Tree.{Tree}
 use Rattle.cacache_disk.specs.Apply.{apply}
 use Rattle.cacache_disk.proofs.KeptFolders.{steps_keep_rooted}
-use Rattle.cacache_memory.specs.Replay.{IsLog, tree_of}
+use Rattle.cacache_memory.specs.Replay.{tree_of}
 use Rattle.cacache_table.specs.declared.command.Command.TheVariants as commands
 use Rattle.cacache_table.specs.Runs.{Moves}
 use Rattle.cacache_table.specs.StepPaths.{temp_path}
@@ -30,7 +29,6 @@ use Rattle.cacache_history.proofs.Owned.{step_own}
 use Rattle.cacache_history.proofs.Righted.{stays_right}
 use Rattle.cacache_sequence.specs.Caches.{IsCache, setup_at}
 use Rattle.cacache_sequence.specs.GivenUp.{GivingUpLasts, drop_temp}
-use Rattle.cacache_sequence.specs.Looks.{HoldsSame}
 use Rattle.cacache_sequence.specs.OpenWriters.{LeavesKnownCache}
 use Rattle.cacache_sequence.specs.Sequence.{Alike, IsSound, after_deeds, plain_moves, turns_on}
 use Rattle.cacache_sequence.proofs.InParts.{logs_lead}

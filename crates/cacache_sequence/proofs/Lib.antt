@@ -73,3 +73,4 @@ pub mod SureFiles
 pub mod SureExports
 pub mod SureLinks
 pub mod SureReaders
+pub mod RefusedSizes

@@ -8,7 +8,6 @@ use Rattle.cacache_core.specs.PathNames.{home_of}
 use Rattle.cacache_core.proofs.Meeting.{own_is_met}
 use Rattle.cacache_core.proofs.Printed.{printed}
 use Rattle.cacache_store.specs.declared.store.log.LogItem.{LogItem}
-use Rattle.cacache_disk.specs.Tree.{Tree}
 use Rattle.cacache_memory.specs.Replay.{tree_of}
 use Rattle.cacache_entry.specs.Latest.{answer_of, answer_read, found_of, latest}
 use Rattle.cacache_table.specs.declared.command.Command.TheVariants as commands
@@ -29,11 +28,11 @@ use Rattle.cacache_sequence.specs.Caches.{HasContent, lies_under, setup_at}
 use Rattle.cacache_sequence.specs.Keeping.{found_under}
 use Rattle.cacache_sequence.specs.Puts.{ExpectsIntegrity, LeadsToPut, MayLeadToPut, PutsLeave, PutsMayLead, CommitsLeave, CommitsKeep, entry_of_put}
 use Rattle.cacache_sequence.specs.ReadAnswers.{entries_on}
-use Rattle.cacache_sequence.specs.Sequence.{Alike, after_deeds, tree_on, turns_on}
+use Rattle.cacache_sequence.specs.Sequence.{Alike, after_deeds, turns_on}
 use Rattle.cacache_sequence.specs.Stored.{own_hash}
 use Rattle.cacache_sequence.proofs.Beside.{later_contents, put_keeps, case_of, follows_of}
 use Rattle.cacache_sequence.proofs.Committing.{Ended, ended}
-use Rattle.cacache_sequence.proofs.Known.{Known, known}
+use Rattle.cacache_sequence.proofs.Known.{known}
 use Rattle.cacache_sequence.proofs.Looking.{finds_last}
 use Rattle.cacache_sequence.proofs.Stored.{adds_entry, first_deed, keeps_entries, puts_blob}
 use Rattle.cacache_sequence.proofs.WritesLast.{own_integrity as own_formed}

@@ -1,6 +1,5 @@
 -- What the removal of a content, and of a key with its content, leaves in a cache.
-use Rattle.std.proofs.Common.{◌≡◌, ◌⊎◌, inl, inr, ℕ, Bool, true, false, cond, List, [], ◌∷◌, ◌++◌, Option, None, Some, option_map, Result, Ok, Err, refl, sym, ap, subst, ◌∙◌, arith}
-use Rattle.std.specs.Prelude.{IfSome}
+use Rattle.std.proofs.Common.{◌≡◌, ◌⊎◌, inl, inr, ℕ, Bool, true, false, cond, List, [], ◌∷◌, ◌++◌, Option, None, Some, Result, Ok, Err, refl, sym, ap, subst, ◌∙◌, arith}
 use Rattle.std.proofs.lemmas.List.{append_cancel_left}
 use Rattle.std.proofs.lemmas.List.Elements.{All-head}
 use Rattle.sha1.specs.Sha1.{sha1}
@@ -9,7 +8,7 @@ use Rattle.cacache_core.specs.declared.errors.Error.TheVariants.{IoError, OutOfM
 use Rattle.cacache_core.specs.declared.errors.Fault.{Fault}
 use Rattle.cacache_core.specs.declared.errors.Fault.TheVariants as faults
 use Rattle.cacache_core.specs.declared.integrity.digest.Hash.{Hash}
-use Rattle.cacache_core.specs.Integrity.{IsHash, IsIntegrity, address}
+use Rattle.cacache_core.specs.Integrity.{IsHash, IsIntegrity}
 use Rattle.cacache_core.specs.PathNames.{Names, names_of, names_below, home_of}
 use Rattle.cacache_core.specs.Paths.{joined, content_names, bucket_names_of}
 use Rattle.cacache_core.proofs.PathLemmas.{keys_have_digests}
@@ -25,42 +24,30 @@ use Rattle.cacache_disk.proofs.Maps.{same_path-true}
 use Rattle.cacache_disk.proofs.Roots.{same_self}
 use Rattle.cacache_memory.specs.Replay.{tree_of}
 use Rattle.cacache_entry.specs.Entry.{Entry}
-use Rattle.cacache_entry.specs.Bucket.{entries_of}
-use Rattle.cacache_entry.specs.Latest.{Found, latest}
+use Rattle.cacache_entry.specs.Latest.{latest}
 use Rattle.cacache_table.specs.declared.command.Command.{Command}
 use Rattle.cacache_table.specs.declared.command.Command.TheVariants as commands
 use Rattle.cacache_table.specs.declared.reply.Reply.{Reply}
 use Rattle.cacache_table.specs.declared.reply.Reply.TheVariants as replies
 use Rattle.cacache_table.specs.Causes.{own_of}
-use Rattle.cacache_table.specs.Looking.{found_in}
-use Rattle.cacache_table.specs.Removing.{remove_bucket, remove_found}
 use Rattle.cacache_table.specs.Runs.{Moves, Runs}
 use Rattle.cacache_table.specs.State.{State, doing, over, remove}
-use Rattle.cacache_table.specs.StepPaths.{bucket_path, content_path}
-use Rattle.cacache_table.specs.Table.{opening}
-use Rattle.cacache_value.specs.Acts.{Drop, act_at, act_if_done, act_of, change, list_of}
+use Rattle.cacache_table.specs.StepPaths.{content_path}
+use Rattle.cacache_value.specs.Acts.{Drop, act_at, act_if_done, act_of, list_of}
 use Rattle.cacache_value.specs.Kinds.{is_path_of}
 use Rattle.cacache_value.specs.Value.{Value, Blob, value_of_tree}
-use Rattle.cacache_history.specs.Commits.{Deed, does, deeds, deeds_of_act, finds_in}
-use Rattle.cacache_history.specs.History.{Turn, turn_of}
-use Rattle.cacache_history.specs.Setup.{Setup, call_site}
-use Rattle.cacache_history.specs.ShownTurns.{bucket_read}
-use Rattle.cacache_history.proofs.Holding.{TurnHolds}
+use Rattle.cacache_history.specs.Commits.{Deed, deeds, deeds_of_act, finds_in}
 use Rattle.cacache_history.proofs.Righted.{one_address}
-use Rattle.cacache_history.proofs.ShownTurns.{bucket_at_turn, bucket_below, content_below}
-use Rattle.cacache_history.proofs.Spelled.{latest_has}
+use Rattle.cacache_history.proofs.ShownTurns.{content_below}
 use Rattle.cacache_sequence.specs.Beside.{ShareAddress}
 use Rattle.cacache_sequence.specs.CallErrors.{FailsOnly}
-use Rattle.cacache_sequence.specs.Caches.{IsCache, HasContent, HasKey, IsExcused, RemovesKey, lies_under, setup_at}
-use Rattle.cacache_sequence.specs.Inserts.{leads_to}
+use Rattle.cacache_sequence.specs.Caches.{HasContent, IsExcused, lies_under, setup_at}
 use Rattle.cacache_sequence.specs.Keeping.{found_under}
-use Rattle.cacache_sequence.specs.ReadAnswers.{entries_on}
-use Rattle.cacache_sequence.specs.Removed.{KeepsApart, RemovesContent, ContentsGo, LeadsThere, KeepsApartFrom, KeysGo}
-use Rattle.cacache_sequence.specs.Sequence.{AreAnswered, IsSound, after_deeds, turns_on}
+use Rattle.cacache_sequence.specs.Removed.{KeepsApart, RemovesContent, ContentsGo}
+use Rattle.cacache_sequence.specs.Sequence.{after_deeds, turns_on}
 use Rattle.cacache_sequence.proofs.Beside.{follows_of}
 use Rattle.cacache_sequence.proofs.KeptKeys.{alike_lookup}
 use Rattle.cacache_sequence.proofs.Known.{Known, known, excuse}
-use Rattle.cacache_sequence.proofs.ReadsStay.{reading_keeps}
 
 -- ---- runs of removals
 

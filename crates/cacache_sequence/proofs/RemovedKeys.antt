@@ -1,9 +1,8 @@
 -- What the removal of a key with its content leaves in a cache.
-use Rattle.std.proofs.Common.{◌≡◌, ◌⊎◌, inl, inr, ℕ, List, [], ◌∷◌, ◌++◌, Option, None, Some, option_map, Ok, refl, sym, ap, subst, ◌∙◌, arith}
+use Rattle.std.proofs.Common.{◌≡◌, ◌⊎◌, inl, inr, ℕ, List, [], ◌∷◌, ◌++◌, Option, None, Some, option_map, refl, sym, ap, subst, ◌∙◌, arith}
 use Rattle.std.specs.Prelude.{IfSome}
 use Rattle.std.proofs.lemmas.List.Elements.{All-head}
 use Rattle.sha1.specs.Sha1.{sha1}
-use Rattle.cacache_core.specs.declared.errors.Error.{Error}
 use Rattle.cacache_core.specs.declared.errors.Error.TheVariants.{IoError, OutOfMemory}
 use Rattle.cacache_core.specs.declared.errors.Fault.TheVariants as faults
 use Rattle.cacache_core.specs.declared.integrity.digest.Hash.{Hash}
@@ -39,8 +38,7 @@ use Rattle.cacache_history.specs.ShownTurns.{bucket_read}
 use Rattle.cacache_history.proofs.Holding.{TurnHolds}
 use Rattle.cacache_history.proofs.ShownTurns.{bucket_at_turn, bucket_below, content_below}
 use Rattle.cacache_history.proofs.Spelled.{latest_has}
-use Rattle.cacache_sequence.specs.Caches.{IsCache, HasContent, LacksKey, RemovesKey, lies_under, setup_at}
-use Rattle.cacache_sequence.specs.Inserts.{leads_to}
+use Rattle.cacache_sequence.specs.Caches.{IsCache, LacksKey, RemovesKey, lies_under, setup_at}
 use Rattle.cacache_sequence.specs.Keeping.{found_under}
 use Rattle.cacache_sequence.specs.ReadAnswers.{entries_on}
 use Rattle.cacache_sequence.specs.Removed.{LeadsThere, KeepsApartFrom, KeysGo}
@@ -48,7 +46,7 @@ use Rattle.cacache_sequence.specs.Sequence.{AreAnswered, after_deeds, turns_on}
 use Rattle.cacache_sequence.proofs.Beside.{follows_of}
 use Rattle.cacache_sequence.proofs.Known.{Known, known}
 use Rattle.cacache_sequence.proofs.ReadsStay.{reading_keeps}
-use Rattle.cacache_sequence.proofs.Removed.{IsRefused, Removal, LastRemoval, Ends, Says, removed_at, refused_run, removal, last_removal, then_deeds, cut_contents, uncut_buckets, cut_buckets, uncut_contents, bucket_gone, nowhere, says}
+use Rattle.cacache_sequence.proofs.Removed.{IsRefused, LastRemoval, Ends, Says, removed_at, refused_run, removal, last_removal, then_deeds, cut_contents, uncut_buckets, cut_buckets, uncut_contents, bucket_gone, nowhere, says}
 
 -- ---- values
 

@@ -42,7 +42,7 @@ rest_opened : (rest : List ℕ) (size : ℕ) → rest_of rest size ≡ opened (d
 unfolding file_of
 rest_opened rest size = ap (λ n. file_of n (drop size rest)) (omega (arith, length-drop size rest))
 
-reads : (t : Tree) (rest : List ℕ) → apply t (steps.Read (opened rest) piece) Plain ≡ (answers.Got (opened (drop piece rest)) (take piece rest), t)
+pub reads : (t : Tree) (rest : List ℕ) → apply t (steps.Read (opened rest) piece) Plain ≡ (answers.Got (opened (drop piece rest)) (take piece rest), t)
 unfolding apply
 reads t rest =
     ap (λ a. (a, t)) (if_so (answers.Got (rest_of rest piece) (take piece rest)) (answers.Failed faults.Closed) (length rest == length rest) (eq-eqb (length rest) (length rest) refl) ∙ ap (λ f. answers.Got f (take piece rest)) (rest_opened rest piece))

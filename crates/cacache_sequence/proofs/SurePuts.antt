@@ -36,7 +36,7 @@ use Rattle.cacache_sequence.specs.Succeeds.{put_reply}
 use Rattle.cacache_sequence.proofs.MadeNodes.{Stands}
 use Rattle.cacache_sequence.proofs.SureCommits as commits
 use Rattle.cacache_sequence.proofs.SureCommits.{placed_ends as commit_ends}
-use Rattle.cacache_sequence.proofs.SureRuns.{EndsSo, goes, syncs, both}
+use Rattle.cacache_sequence.proofs.SureRuns.{EndsSo, goes, syncs}
 use Rattle.cacache_sequence.proofs.SureSpares.{put_other}
 use Rattle.cacache_sequence.proofs.SureTemps.{temp_lies, temp_folder_lies, content_synced, own_temporary_at, with_folder, with_file, made_file, file_ground, stands}
 use Rattle.cacache_sequence.proofs.SureSteps.{Ground, Lies, goes_to, is_for, makes_dirs, dirs_keep, persists, look_own}

@@ -18,9 +18,10 @@ use Rattle.cacache_table.specs.Runs.{Ran, plain_reply}
 use Rattle.cacache_table.specs.SingleSteps.{Does, FailsAt}
 use Rattle.cacache_table.specs.State.{hashing, to_link}
 use Rattle.cacache_table.specs.Storing.{insertion_of, put_commit}
+use Rattle.cacache_sequence.specs.Beside.{own_integrity}
 use Rattle.cacache_sequence.specs.Caches.{IsCache, IsExcused, Grows}
 use Rattle.cacache_sequence.specs.ExportEffects.{IsApart}
-use Rattle.cacache_sequence.specs.Links.{FitsLink, LeavesLink, put_like}
+use Rattle.cacache_sequence.specs.Links.{FitsLink, KeepsBesideLink, LeavesLink, put_like}
 use Rattle.cacache_sequence.specs.OpenWriters.{LeavesKnownCache}
 use Rattle.cacache_sequence.specs.Puts.{ExpectsIntegrity}
 
@@ -136,3 +137,23 @@ LinkersFail =
     → TargetOpened cache (based base l.target) (bytes ++ rest) first
     → IsCache cache old → CommitsRest cache base l bytes rest (Refused e) old new
     → IsExcused e old new
+
+-- no reply but a refusal
+abbrev pub IsRefused : Reply → Type 0
+IsRefused (Refused e) = Unit {0}
+IsRefused r = ⊥
+
+-- a commit of which another size is expected than that of the target's bytes is refused: all keys lead
+-- where they led, and each content stays, but at the address of these bytes the link may lie instead
+abbrev pub LinkersRefuse : Type 0
+LinkersRefuse =
+    (cache base : List ℕ) (l : Link) (bytes rest : List ℕ) (first : PlainFile) (n : ℕ) (r : Reply)
+    (old new : List LogItem)
+    → IsApart cache (based base l.target) → l.options.size ≡ Some n
+    → (n ≡ length (bytes ++ rest) → ⊥)
+    → TargetOpened cache (based base l.target) (bytes ++ rest) first
+    → IsCache cache old → CommitsRest cache base l bytes rest r old new
+    → IsCache cache new × Grows old new
+    × KeepsBesideLink cache None (own_integrity (put_like l (bytes ++ rest)))
+    (based base l.target) old new
+    × IsRefused r

@@ -16,7 +16,7 @@ ghost use Rattle.cacache_sequence.specs.ExportAnswers.{ExportsAnswer};
 ghost use Rattle.cacache_sequence.specs.Links.{LinksLast};
 ghost use Rattle.cacache_sequence.specs.InParts.{LogsLead, CallsBegin, PartsGoOn, LeftAreCases, PartsAnswer, ReadsAreParts, WritesAreParts};
 ghost use Rattle.cacache_sequence.specs.OpenWriters.{WritersOpen, CommitsLast, CommitsStore};
-ghost use Rattle.cacache_sequence.specs.OpenLinkers.{LinkersOpen, LinkersOpenSized, LinkersCommit, LinkersFail};
+ghost use Rattle.cacache_sequence.specs.OpenLinkers.{LinkersOpen, LinkersOpenSized, LinkersCommit, LinkersFail, LinkersRefuse};
 ghost use Rattle.cacache_sequence.specs.Puts.{PutsLeave, PutsMayLead, CommitsLeave, CommitsKeep};
 ghost use Rattle.cacache_sequence.specs.GivenUp.{GivingUpLasts};
 ghost use Rattle.cacache_sequence.specs.OpenReaders.{ReadersOpen, ReadersOpenKey};
@@ -106,7 +106,8 @@ pub fn look_laws()
 /// between any calls may be made that leave a cache: after a commit that stored, the key leads to the bytes that the writer
 /// took, and whatever it answers, all else stays; given up, it leaves all that was known. After a linker's commit that stored,
 /// the key leads to the integrity of the bytes that its target showed when it was opened, and a link to it lies there, or
-/// what lay there before. A reader has the bytes to give that lay in the cache when it opened, whatever becomes of the content since.
+/// what lay there before; where another size was said, it is refused. A reader has the bytes to give that lay in the cache
+/// when it opened, whatever becomes of the content since.
 pub fn handle_laws()
     ensures opens { WritersOpen }
     ensures commits { CommitsLast }
@@ -118,6 +119,7 @@ pub fn handle_laws()
     ensures opens_sized { LinkersOpenSized }
     ensures links { LinkersCommit }
     ensures links_fail { LinkersFail }
+    ensures links_refuse { LinkersRefuse }
     ensures reads { ReadersOpen }
     ensures reads_key { ReadersOpenKey }
 {}

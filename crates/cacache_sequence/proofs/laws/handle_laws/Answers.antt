@@ -4,6 +4,7 @@ use Rattle.cacache_sequence.proofs.OpenReaders.{readers_open, readers_open_key}
 use Rattle.cacache_sequence.proofs.Puts.{commits_leave, commits_keep}
 use Rattle.cacache_sequence.proofs.GivenUp.{giving_up_lasts}
 use Rattle.cacache_sequence.proofs.OpenLinkers.{linkers_commit, linkers_fail}
+use Rattle.cacache_sequence.proofs.RefusedSizes.{linkers_refuse}
 use Rattle.cacache_sequence.proofs.TargetBytes.{linkers_open, linkers_open_sized}
 use Rattle.cacache_sequence.proofs.laws.handle_laws.Goals as goal
 
@@ -42,3 +43,6 @@ returns-clause-opens_sized c = linkers_open_sized
 
 pub returns-clause-links_fail : goal.returns-clause-links_fail
 returns-clause-links_fail c = linkers_fail
+
+pub returns-clause-links_refuse : goal.returns-clause-links_refuse
+returns-clause-links_refuse c = linkers_refuse
