@@ -37,9 +37,20 @@ pub(crate) const UNITS: [Unit; 4] = [
     },
 ];
 
+/// Reads what the cache has under a key.
+fn get(env: &mut Folders, key: &str) -> Result<Vec<u8>> {
+    read_sync(env, CACHE, key)
+}
+
+/// Stores bytes in the cache.
+fn put(env: &mut Folders, key: &str, bytes: &[u8]) -> Result<()> {
+    write_sync(env, CACHE, key, bytes)?;
+    Ok(())
+}
+
 /// Adds the interface of the unit of this name to an object. It is read from the cache.
 fn add_interface(env: &mut Folders, name: &str, object: &mut String) -> Result<()> {
-    let interface = read_sync(env, CACHE, name)?;
+    let interface = get(env, name)?;
     let text = str::from_utf8(&interface).unwrap_or("no text");
     writeln!(object, "    {name}: {text}")?;
     Ok(())
@@ -48,8 +59,7 @@ fn add_interface(env: &mut Folders, name: &str, object: &mut String) -> Result<(
 impl Unit {
     /// Stores the interface, under the unit's name.
     pub(crate) fn store(&self, env: &mut Folders) -> Result<()> {
-        write_sync(env, CACHE, self.name, self.interface.as_bytes())?;
-        Ok(())
+        put(env, self.name, self.interface.as_bytes())
     }
 
     /// The key of the unit's object.
@@ -70,13 +80,12 @@ impl Unit {
     pub(crate) fn compile(&self, env: &mut Folders) -> Result<()> {
         let object = self.make(env)?;
         let key = self.object_key(env)?;
-        write_sync(env, CACHE, key.as_str(), object.as_bytes())?;
-        Ok(())
+        put(env, key.as_str(), object.as_bytes())
     }
 
     /// Reads the object, as the thread that compiled the unit stored it.
     pub(crate) fn object(&self, env: &mut Folders) -> Result<Vec<u8>> {
         let key = self.object_key(env)?;
-        read_sync(env, CACHE, key.as_str())
+        get(env, key.as_str())
     }
 }
