@@ -1,7 +1,8 @@
--- The word that was parsed did what it does.
-use Rattle.std.proofs.Common.{◌≡◌, ap, codes, subst}
+-- The word that was parsed did what it does, and no other was asked for.
+use Rattle.std.proofs.Common.{◌≡◌, ap, codes, refl, subst}
 use Rattle.std.specs.Prelude.{option_map}
 use Rattle.cacache_program.specs.Words.{asked_of}
+use Rattle.cacache_program.specs.KeepWords.{IsWrong}
 use Rattle.cacache_program.specs.WordVerify.{Verifies}
 use Rattle.cacache_program.specs.WordCollect.{CollectsUnused}
 use Rattle.cacache_program.specs.WordCompact.{Compacts}
@@ -9,7 +10,7 @@ use Rattle.cacache_program.specs.WordPlan.{Plans}
 use Rattle.cacache_program.specs.WordRepair.{Repairs}
 use Rattle.cacache_program.specs.WordSweep.{Sweeps}
 use Rattle.cacache_program.specs.WordList.{ListsVerdict}
-use Rattle.cacache_program.proofs.Asking.{keyed_by, unkeyed_holds}
+use Rattle.cacache_program.proofs.Asking.{asked_as, keyed_by, not_keyed, not_unkeyed, other_unkeyed, unkeyed_holds}
 use Rattle.cacache_program.proofs.keep.program.run.Goals as goal
 
 pub returns-in-verify-default-None-clause-verifies : goal.returns-in-verify-default-None-clause-verifies
@@ -41,3 +42,207 @@ returns-in-verify-text-Some-clause-lists g c =
 pub returns-in-compact-default-None-clause-compacts : goal.returns-in-compact-default-None-clause-compacts
 returns-in-compact-default-None-clause-compacts g c =
     unkeyed_holds (asked_of c.args.words.now) _ (codes "compact") (λ cache. Compacts g.S.Store.log cache c.args.env.now c.compact_and_print.new.env (g.W.Write.contents c.args.output.now) (g.W.Write.contents c.compact_and_print.new.output) c.compact_and_print.result) c.parse_words.ensures c.compact_and_print.ensures.does
+
+-- ---- of `verify`
+
+pub returns-in-verify-default-None-clause-collects : goal.returns-in-verify-default-None-clause-collects
+returns-in-verify-default-None-clause-collects g c =
+    other_unkeyed (codes "collect") _ c.parse_words.ensures c.in-verify-default-None.is-verify-0 refl
+
+pub returns-in-verify-default-None-clause-plans : goal.returns-in-verify-default-None-clause-plans
+returns-in-verify-default-None-clause-plans g c =
+    other_unkeyed (codes "plan") _ c.parse_words.ensures c.in-verify-default-None.is-verify-0 refl
+
+pub returns-in-verify-default-None-clause-sweeps : goal.returns-in-verify-default-None-clause-sweeps
+returns-in-verify-default-None-clause-sweeps g c =
+    other_unkeyed (codes "sweep") _ c.parse_words.ensures c.in-verify-default-None.is-verify-0 refl
+
+pub returns-in-verify-default-None-clause-repairs : goal.returns-in-verify-default-None-clause-repairs
+returns-in-verify-default-None-clause-repairs g c =
+    other_unkeyed (codes "repair") _ c.parse_words.ensures c.in-verify-default-None.is-verify-0 refl
+
+pub returns-in-verify-default-None-clause-compacts : goal.returns-in-verify-default-None-clause-compacts
+returns-in-verify-default-None-clause-compacts g c =
+    other_unkeyed (codes "compact") _ c.parse_words.ensures c.in-verify-default-None.is-verify-0 refl
+
+pub returns-in-verify-default-None-clause-lists : goal.returns-in-verify-default-None-clause-lists
+returns-in-verify-default-None-clause-lists g c =
+    not_keyed _ c.parse_words.ensures (ap (option_map (λ k. k.now)) c.in-verify-default-None.is-2)
+
+pub returns-in-verify-default-None-clause-wrong : goal.returns-in-verify-default-None-clause-wrong
+returns-in-verify-default-None-clause-wrong g c =
+    λ wrong. absurd ((subst IsWrong (asked_as c.parse_words.ensures c.in-verify-default-None.is-verify-0 (ap (option_map (λ k. k.now)) c.in-verify-default-None.is-2)) wrong).0 refl)
+
+-- ---- of `collect`
+
+pub returns-in-collect-default-None-clause-verifies : goal.returns-in-collect-default-None-clause-verifies
+returns-in-collect-default-None-clause-verifies g c =
+    other_unkeyed (codes "verify") _ c.parse_words.ensures c.in-collect-default-None.is-collect-0 refl
+
+pub returns-in-collect-default-None-clause-plans : goal.returns-in-collect-default-None-clause-plans
+returns-in-collect-default-None-clause-plans g c =
+    other_unkeyed (codes "plan") _ c.parse_words.ensures c.in-collect-default-None.is-collect-0 refl
+
+pub returns-in-collect-default-None-clause-sweeps : goal.returns-in-collect-default-None-clause-sweeps
+returns-in-collect-default-None-clause-sweeps g c =
+    other_unkeyed (codes "sweep") _ c.parse_words.ensures c.in-collect-default-None.is-collect-0 refl
+
+pub returns-in-collect-default-None-clause-repairs : goal.returns-in-collect-default-None-clause-repairs
+returns-in-collect-default-None-clause-repairs g c =
+    other_unkeyed (codes "repair") _ c.parse_words.ensures c.in-collect-default-None.is-collect-0 refl
+
+pub returns-in-collect-default-None-clause-compacts : goal.returns-in-collect-default-None-clause-compacts
+returns-in-collect-default-None-clause-compacts g c =
+    other_unkeyed (codes "compact") _ c.parse_words.ensures c.in-collect-default-None.is-collect-0 refl
+
+pub returns-in-collect-default-None-clause-lists : goal.returns-in-collect-default-None-clause-lists
+returns-in-collect-default-None-clause-lists g c =
+    not_keyed _ c.parse_words.ensures (ap (option_map (λ k. k.now)) c.in-collect-default-None.is-2)
+
+pub returns-in-collect-default-None-clause-wrong : goal.returns-in-collect-default-None-clause-wrong
+returns-in-collect-default-None-clause-wrong g c =
+    λ wrong. absurd ((subst IsWrong (asked_as c.parse_words.ensures c.in-collect-default-None.is-collect-0 (ap (option_map (λ k. k.now)) c.in-collect-default-None.is-2)) wrong).1 refl)
+
+-- ---- of `plan`
+
+pub returns-in-plan-default-None-clause-verifies : goal.returns-in-plan-default-None-clause-verifies
+returns-in-plan-default-None-clause-verifies g c =
+    other_unkeyed (codes "verify") _ c.parse_words.ensures c.in-plan-default-None.is-plan-0 refl
+
+pub returns-in-plan-default-None-clause-collects : goal.returns-in-plan-default-None-clause-collects
+returns-in-plan-default-None-clause-collects g c =
+    other_unkeyed (codes "collect") _ c.parse_words.ensures c.in-plan-default-None.is-plan-0 refl
+
+pub returns-in-plan-default-None-clause-sweeps : goal.returns-in-plan-default-None-clause-sweeps
+returns-in-plan-default-None-clause-sweeps g c =
+    other_unkeyed (codes "sweep") _ c.parse_words.ensures c.in-plan-default-None.is-plan-0 refl
+
+pub returns-in-plan-default-None-clause-repairs : goal.returns-in-plan-default-None-clause-repairs
+returns-in-plan-default-None-clause-repairs g c =
+    other_unkeyed (codes "repair") _ c.parse_words.ensures c.in-plan-default-None.is-plan-0 refl
+
+pub returns-in-plan-default-None-clause-compacts : goal.returns-in-plan-default-None-clause-compacts
+returns-in-plan-default-None-clause-compacts g c =
+    other_unkeyed (codes "compact") _ c.parse_words.ensures c.in-plan-default-None.is-plan-0 refl
+
+pub returns-in-plan-default-None-clause-lists : goal.returns-in-plan-default-None-clause-lists
+returns-in-plan-default-None-clause-lists g c =
+    not_keyed _ c.parse_words.ensures (ap (option_map (λ k. k.now)) c.in-plan-default-None.is-2)
+
+pub returns-in-plan-default-None-clause-wrong : goal.returns-in-plan-default-None-clause-wrong
+returns-in-plan-default-None-clause-wrong g c =
+    λ wrong. absurd ((subst IsWrong (asked_as c.parse_words.ensures c.in-plan-default-None.is-plan-0 (ap (option_map (λ k. k.now)) c.in-plan-default-None.is-2)) wrong).2 refl)
+
+-- ---- of `sweep`
+
+pub returns-in-sweep-default-None-clause-verifies : goal.returns-in-sweep-default-None-clause-verifies
+returns-in-sweep-default-None-clause-verifies g c =
+    other_unkeyed (codes "verify") _ c.parse_words.ensures c.in-sweep-default-None.is-sweep-0 refl
+
+pub returns-in-sweep-default-None-clause-collects : goal.returns-in-sweep-default-None-clause-collects
+returns-in-sweep-default-None-clause-collects g c =
+    other_unkeyed (codes "collect") _ c.parse_words.ensures c.in-sweep-default-None.is-sweep-0 refl
+
+pub returns-in-sweep-default-None-clause-plans : goal.returns-in-sweep-default-None-clause-plans
+returns-in-sweep-default-None-clause-plans g c =
+    other_unkeyed (codes "plan") _ c.parse_words.ensures c.in-sweep-default-None.is-sweep-0 refl
+
+pub returns-in-sweep-default-None-clause-repairs : goal.returns-in-sweep-default-None-clause-repairs
+returns-in-sweep-default-None-clause-repairs g c =
+    other_unkeyed (codes "repair") _ c.parse_words.ensures c.in-sweep-default-None.is-sweep-0 refl
+
+pub returns-in-sweep-default-None-clause-compacts : goal.returns-in-sweep-default-None-clause-compacts
+returns-in-sweep-default-None-clause-compacts g c =
+    other_unkeyed (codes "compact") _ c.parse_words.ensures c.in-sweep-default-None.is-sweep-0 refl
+
+pub returns-in-sweep-default-None-clause-lists : goal.returns-in-sweep-default-None-clause-lists
+returns-in-sweep-default-None-clause-lists g c =
+    not_keyed _ c.parse_words.ensures (ap (option_map (λ k. k.now)) c.in-sweep-default-None.is-2)
+
+pub returns-in-sweep-default-None-clause-wrong : goal.returns-in-sweep-default-None-clause-wrong
+returns-in-sweep-default-None-clause-wrong g c =
+    λ wrong. absurd ((subst IsWrong (asked_as c.parse_words.ensures c.in-sweep-default-None.is-sweep-0 (ap (option_map (λ k. k.now)) c.in-sweep-default-None.is-2)) wrong).3 refl)
+
+-- ---- of `repair`
+
+pub returns-in-repair-default-None-clause-verifies : goal.returns-in-repair-default-None-clause-verifies
+returns-in-repair-default-None-clause-verifies g c =
+    other_unkeyed (codes "verify") _ c.parse_words.ensures c.in-repair-default-None.is-repair-0 refl
+
+pub returns-in-repair-default-None-clause-collects : goal.returns-in-repair-default-None-clause-collects
+returns-in-repair-default-None-clause-collects g c =
+    other_unkeyed (codes "collect") _ c.parse_words.ensures c.in-repair-default-None.is-repair-0 refl
+
+pub returns-in-repair-default-None-clause-plans : goal.returns-in-repair-default-None-clause-plans
+returns-in-repair-default-None-clause-plans g c =
+    other_unkeyed (codes "plan") _ c.parse_words.ensures c.in-repair-default-None.is-repair-0 refl
+
+pub returns-in-repair-default-None-clause-sweeps : goal.returns-in-repair-default-None-clause-sweeps
+returns-in-repair-default-None-clause-sweeps g c =
+    other_unkeyed (codes "sweep") _ c.parse_words.ensures c.in-repair-default-None.is-repair-0 refl
+
+pub returns-in-repair-default-None-clause-compacts : goal.returns-in-repair-default-None-clause-compacts
+returns-in-repair-default-None-clause-compacts g c =
+    other_unkeyed (codes "compact") _ c.parse_words.ensures c.in-repair-default-None.is-repair-0 refl
+
+pub returns-in-repair-default-None-clause-lists : goal.returns-in-repair-default-None-clause-lists
+returns-in-repair-default-None-clause-lists g c =
+    not_keyed _ c.parse_words.ensures (ap (option_map (λ k. k.now)) c.in-repair-default-None.is-2)
+
+pub returns-in-repair-default-None-clause-wrong : goal.returns-in-repair-default-None-clause-wrong
+returns-in-repair-default-None-clause-wrong g c =
+    λ wrong. absurd ((subst IsWrong (asked_as c.parse_words.ensures c.in-repair-default-None.is-repair-0 (ap (option_map (λ k. k.now)) c.in-repair-default-None.is-2)) wrong).4 refl)
+
+-- ---- of `compact`
+
+pub returns-in-compact-default-None-clause-verifies : goal.returns-in-compact-default-None-clause-verifies
+returns-in-compact-default-None-clause-verifies g c =
+    other_unkeyed (codes "verify") _ c.parse_words.ensures c.in-compact-default-None.is-compact-0 refl
+
+pub returns-in-compact-default-None-clause-collects : goal.returns-in-compact-default-None-clause-collects
+returns-in-compact-default-None-clause-collects g c =
+    other_unkeyed (codes "collect") _ c.parse_words.ensures c.in-compact-default-None.is-compact-0 refl
+
+pub returns-in-compact-default-None-clause-plans : goal.returns-in-compact-default-None-clause-plans
+returns-in-compact-default-None-clause-plans g c =
+    other_unkeyed (codes "plan") _ c.parse_words.ensures c.in-compact-default-None.is-compact-0 refl
+
+pub returns-in-compact-default-None-clause-sweeps : goal.returns-in-compact-default-None-clause-sweeps
+returns-in-compact-default-None-clause-sweeps g c =
+    other_unkeyed (codes "sweep") _ c.parse_words.ensures c.in-compact-default-None.is-compact-0 refl
+
+pub returns-in-compact-default-None-clause-repairs : goal.returns-in-compact-default-None-clause-repairs
+returns-in-compact-default-None-clause-repairs g c =
+    other_unkeyed (codes "repair") _ c.parse_words.ensures c.in-compact-default-None.is-compact-0 refl
+
+pub returns-in-compact-default-None-clause-lists : goal.returns-in-compact-default-None-clause-lists
+returns-in-compact-default-None-clause-lists g c =
+    not_keyed _ c.parse_words.ensures (ap (option_map (λ k. k.now)) c.in-compact-default-None.is-2)
+
+pub returns-in-compact-default-None-clause-wrong : goal.returns-in-compact-default-None-clause-wrong
+returns-in-compact-default-None-clause-wrong g c =
+    λ wrong. absurd ((subst IsWrong (asked_as c.parse_words.ensures c.in-compact-default-None.is-compact-0 (ap (option_map (λ k. k.now)) c.in-compact-default-None.is-2)) wrong).5 refl)
+
+pub returns-in-verify-text-Some-clause-verifies : goal.returns-in-verify-text-Some-clause-verifies
+returns-in-verify-text-Some-clause-verifies g c =
+    not_unkeyed _ c.parse_words.ensures (ap (option_map (λ k. k.now)) c.in-verify-text-Some.is-2)
+
+pub returns-in-verify-text-Some-clause-collects : goal.returns-in-verify-text-Some-clause-collects
+returns-in-verify-text-Some-clause-collects g c =
+    not_unkeyed _ c.parse_words.ensures (ap (option_map (λ k. k.now)) c.in-verify-text-Some.is-2)
+
+pub returns-in-verify-text-Some-clause-plans : goal.returns-in-verify-text-Some-clause-plans
+returns-in-verify-text-Some-clause-plans g c =
+    not_unkeyed _ c.parse_words.ensures (ap (option_map (λ k. k.now)) c.in-verify-text-Some.is-2)
+
+pub returns-in-verify-text-Some-clause-sweeps : goal.returns-in-verify-text-Some-clause-sweeps
+returns-in-verify-text-Some-clause-sweeps g c =
+    not_unkeyed _ c.parse_words.ensures (ap (option_map (λ k. k.now)) c.in-verify-text-Some.is-2)
+
+pub returns-in-verify-text-Some-clause-repairs : goal.returns-in-verify-text-Some-clause-repairs
+returns-in-verify-text-Some-clause-repairs g c =
+    not_unkeyed _ c.parse_words.ensures (ap (option_map (λ k. k.now)) c.in-verify-text-Some.is-2)
+
+pub returns-in-verify-text-Some-clause-compacts : goal.returns-in-verify-text-Some-clause-compacts
+returns-in-verify-text-Some-clause-compacts g c =
+    not_unkeyed _ c.parse_words.ensures (ap (option_map (λ k. k.now)) c.in-verify-text-Some.is-2)
