@@ -6,6 +6,7 @@
 mod calls;
 mod disk;
 
+use cacache_core::keeping::let_go;
 use calls::trial::Calls;
 use disk::scene::Stage;
 use rows::{Flaw, Outcome, Trial, run};
@@ -38,5 +39,7 @@ fn main(rt: HostRuntime) -> ExitCode {
         disk: Stage::new(alloc),
         calls: Calls { alloc },
     };
-    run(&rt, &mut steps)
+    let code = run(&rt, &mut steps);
+    let_go(steps);
+    code
 }

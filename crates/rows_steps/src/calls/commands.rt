@@ -1,6 +1,7 @@
 //! Calls as words, as `put k hello 5 -`: the kind, the key, and what it needs.
 use crate::calls::words::bytes_of;
 use cacache_core::integrity::Algorithm;
+use cacache_core::keeping::beside;
 use cacache_core::text::Text;
 use cacache_table::{Command, Delete, Export, How, Insert, Json, Link, Options, Put, Source};
 use rows::Flaw;
@@ -41,8 +42,8 @@ fn put_of(alloc: Global, words: &str) -> Result<Command, Flaw> {
     let (key, rest) = cut(words);
     let (data, rest) = cut(rest);
     let key = key_of(alloc, key)?;
-    let data = bytes_of(alloc, data)?;
-    let options = options_of(alloc, rest)?;
+    let (data, key) = beside(bytes_of(alloc, data), key)?;
+    let (options, (key, data)) = beside(options_of(alloc, rest), (key, data))?;
     Ok(Command::Put(Put {
         key,
         data,
@@ -56,8 +57,8 @@ fn link_of(alloc: Global, words: &str) -> Result<Command, Flaw> {
     let (key, rest) = cut(words);
     let (target, rest) = cut(rest);
     let key = key_of(alloc, key)?;
-    let target = Text::from_str(alloc, target)?;
-    let options = options_of(alloc, rest)?;
+    let (target, key) = beside(Text::from_str(alloc, target), key)?;
+    let (options, (key, target)) = beside(options_of(alloc, rest), (key, target))?;
     Ok(Command::Link(Link {
         key,
         target,
@@ -70,7 +71,7 @@ fn link_of(alloc: Global, words: &str) -> Result<Command, Flaw> {
 fn insert_of(alloc: Global, words: &str) -> Result<Command, Flaw> {
     let (key, rest) = cut(words);
     let key = Text::from_str(alloc, key)?;
-    let options = options_of(alloc, rest)?;
+    let (options, key) = beside(options_of(alloc, rest), key)?;
     Ok(Command::Insert(Insert {
         key,
         moment: MOMENT,
@@ -101,7 +102,7 @@ fn export_of(alloc: Global, how: How, words: &str) -> Result<Command, Flaw> {
     let (kind, rest) = cut(rest);
     let (name, to) = cut(rest);
     let source = source_of(alloc, kind, name)?;
-    let to = Text::from_str(alloc, to)?;
+    let (to, source) = beside(Text::from_str(alloc, to), source)?;
     let checked = checked == "checked";
     Ok(Command::Export(source, Export { how, checked, to }))
 }

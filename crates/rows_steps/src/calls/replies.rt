@@ -1,5 +1,6 @@
 //! Replies as texts, in the words of rows.
 use cacache_core::errors::Error;
+use cacache_core::keeping::beside;
 use cacache_table::{Found, Items, Reply};
 use rows::answers::shown_error;
 use rows::words::word_of;
@@ -21,13 +22,19 @@ fn shown_item(alloc: Global, item: &Result<Found, Error>) -> Result<String, Allo
     }
 }
 
-/// The items of a listing.
-fn shown_items(alloc: Global, items: &Items) -> Result<String, AllocError> {
-    let mut text = String::from_str(alloc, "Listed")?;
+/// Puts the items of a listing behind the text.
+fn show_items(alloc: Global, items: &Items, text: &mut String) -> Result<(), AllocError> {
     for item in items.as_slice() {
         text.push_str("; ")?;
         text.push_str(shown_item(alloc, item)?.as_str())?;
     }
+    Ok(())
+}
+
+/// The items of a listing.
+fn shown_items(alloc: Global, items: &Items) -> Result<String, AllocError> {
+    let mut text = String::from_str(alloc, "Listed")?;
+    let (_, text) = beside(show_items(alloc, items, &mut text), text)?;
     Ok(text)
 }
 

@@ -5,7 +5,7 @@ ghost use Rattle.cacache_store.specs.Fits.{Fits, Logs, is_no_memory};
 use crate::calls::fitting::{Told, fitting};
 use crate::calls::replies::shown_reply;
 use crate::calls::steps::shown_step;
-use cacache_core::keeping::let_go;
+use cacache_core::keeping::{beside, let_go};
 use cacache_store::store::{Answer, LogItem, PlainAnswer, PlainFile, PlainStep, PlainTemp, Store};
 use cacache_table::Reply;
 use rows::Flaw;
@@ -114,26 +114,26 @@ impl Script {
         }
     }
 
-    /// The steps of the log, in words.
-    fn made(&self) -> Result<String, AllocError> {
-        let mut steps = String::new(self.alloc);
+    /// Adds the steps of the log and those that were handed back, in words.
+    fn add_steps(&self, steps: &mut String) -> Result<(), AllocError> {
         for item in &self.log {
             if let LogItem::Made(step, _) = item {
-                add_step(self.alloc, &mut steps, step)?;
+                add_step(self.alloc, steps, step)?;
             }
         }
-        Ok(steps)
+        if !self.refused.is_empty() {
+            add(steps, self.refused.as_str())?;
+        }
+        if steps.is_empty() {
+            add(steps, "-")?;
+        }
+        Ok(())
     }
 
     /// The steps of the log and those that were handed back, in words.
     fn steps(&self) -> Result<String, AllocError> {
-        let mut steps = self.made()?;
-        if !self.refused.is_empty() {
-            add(&mut steps, self.refused.as_str())?;
-        }
-        if steps.is_empty() {
-            add(&mut steps, "-")?;
-        }
+        let mut steps = String::new(self.alloc);
+        let (_, steps) = beside(self.add_steps(&mut steps), steps)?;
         Ok(steps)
     }
 
@@ -146,7 +146,7 @@ impl Script {
             return Err(Flaw::Unfit);
         }
         let steps = self.steps()?;
-        let reply = shown_reply(self.alloc, reply)?;
+        let (reply, steps) = beside(shown_reply(self.alloc, reply), steps)?;
         Ok(format!(in self.alloc; "{steps} | {reply}")?)
     }
 }

@@ -1,5 +1,5 @@
 //! One call, which is given the answers of a row.
-ghost use Rattle.std.specs.Prelude.{IsTrue, IfOk};
+ghost use Rattle.std.specs.Prelude.{IsTrue, OnOk};
 ghost use Rattle.cacache_jobs.specs.Jobs.{can_go_on};
 
 use crate::calls::commands::command_of;
@@ -7,10 +7,11 @@ use crate::calls::replies::shown_reply;
 use crate::calls::row::{Row, row_of};
 use crate::calls::script::{NO_ANSWER, Script, add_step};
 use crate::calls::told::answer_of;
-use cacache_core::keeping::let_go;
+use cacache_core::keeping::{beside, let_go};
 use cacache_jobs::{Job, Next, call};
 use cacache_store::env::Env;
 use cacache_store::store::{PlainFile, PlainTemp};
+use cacache_table::Command;
 use rows::words::{is_nothing, written_out};
 use rows::{Flaw, Outcome, Trial};
 use std::alloc::Global;
@@ -24,28 +25,34 @@ const BASE: &str = "/b";
 /// The number of the temporary file.
 const NUMBER: u64 = 1;
 
-/// The steps and the reply of the call, made on a store.
-fn over_store(alloc: Global, row: Row<'_>) -> Result<String, Flaw> {
-    let script = Script::new(alloc, row.answers)?;
-    let mut env = Env::new(alloc, script, (), (), BASE)?;
-    let command = command_of(alloc, row.call)?;
-    let reply = call(&mut env, CACHE, command, NUMBER);
+/// The steps and the reply of a call that is made here.
+fn called(env: &mut Env<Script, (), ()>, command: Command) -> Result<String, Flaw> {
+    let reply = call(env, CACHE, command, NUMBER);
     let came = env.store.came(&reply);
     let_go(reply);
     came
 }
 
+/// The steps and the reply of the call, made on a store.
+fn over_store(alloc: Global, row: Row<'_>) -> Result<String, Flaw> {
+    let script = Script::new(alloc, row.answers)?;
+    let env = Env::new(alloc, script, (), (), BASE)?;
+    let (command, mut env) = beside(command_of(alloc, row.call), env)?;
+    let came = called(&mut env, command);
+    let_go(env);
+    came
+}
+
 /// One turn: the job's step, with this answer.
-fn turned(
+fn turn(
     alloc: Global,
-    job: Job<PlainFile, PlainTemp>,
+    job: &mut Job<PlainFile, PlainTemp>,
     steps: &mut String,
     words: &str,
-) -> Result<Job<PlainFile, PlainTemp>, Flaw>
-    requires { IsTrue (can_go_on job) }
-    ensures { IfOk result (λ job. IsTrue (can_go_on job)) }
+) -> Result<(), Flaw>
+    requires { IsTrue (can_go_on job.old) }
+    ensures { OnOk result (IsTrue (can_go_on job.new)) }
 {
-    let mut job = job;
     match job.next() {
         Next::Over(reply) => {
             let_go(reply);
@@ -54,10 +61,27 @@ fn turned(
         Next::Step(step) => {
             let added = add_step(alloc, steps, &step);
             job.take(answer_of(alloc, step, words)?);
-            added?;
-            Ok(job)
+            Ok(added?)
         }
     }
+}
+
+/// The turns of the job with all answers of a row.
+fn turns(
+    alloc: Global,
+    job: &mut Job<PlainFile, PlainTemp>,
+    steps: &mut String,
+    answers: &str,
+) -> Result<(), Flaw>
+    requires { IsTrue (can_go_on job.old) }
+    ensures { OnOk result (IsTrue (can_go_on job.new)) }
+{
+    for words in answers.split(';') {
+        if !is_nothing(words) {
+            turn(alloc, job, steps, words.trim())?;
+        }
+    }
+    Ok(())
 }
 
 /// The reply that a job hands out last.
@@ -75,17 +99,26 @@ fn ended(alloc: Global, next: Next<PlainFile, PlainTemp>) -> Result<String, Flaw
     }
 }
 
+/// The steps and the reply of this job, which takes these answers.
+fn answered(
+    alloc: Global,
+    job: &mut Job<PlainFile, PlainTemp>,
+    answers: &str,
+) -> Result<String, Flaw>
+    requires { IsTrue (can_go_on job.old) }
+{
+    let mut steps = String::new(alloc);
+    turns(alloc, job, &mut steps, answers)?;
+    let reply = ended(alloc, job.next())?;
+    Ok(format!(in alloc; "{steps} | {reply}")?)
+}
+
 /// The steps and the reply of the job alone, which takes any answers.
 fn by_hand(alloc: Global, row: Row<'_>) -> Result<String, Flaw> {
     let mut job = Job::new(alloc, CACHE, BASE, command_of(alloc, row.call)?, NUMBER);
-    let mut steps = String::new(alloc);
-    for words in row.answers.split(';') {
-        if !is_nothing(words) {
-            job = turned(alloc, job, &mut steps, words.trim())?;
-        }
-    }
-    let reply = ended(alloc, job.next())?;
-    Ok(format!(in alloc; "{steps} | {reply}")?)
+    let came = answered(alloc, &mut job, row.answers);
+    let_go(job);
+    came
 }
 
 /// The steps that the call of a row asks for, and its reply.

@@ -4,7 +4,7 @@ use crate::disk::shown::{shown_answer, shown_item};
 use crate::disk::tree::{disk_of, shown_copy, shown_tree};
 use cacache_core::bytes::Bytes;
 use cacache_core::errors::Error;
-use cacache_core::keeping::let_go;
+use cacache_core::keeping::{beside, let_go};
 use cacache_disk::{Disk, Luck};
 use cacache_memory::MemStore;
 use cacache_store::store::{Answer, PlainAnswer, PlainStep, Store};
@@ -40,17 +40,23 @@ fn heard_in(alloc: Global, answer: PlainAnswer) -> Result<Heard, Flaw> {
     }
 }
 
-/// What an answer says, and what its copy says where that is something else.
+/// What an answer says, with what its copy says where that is something else.
+fn with_copy(alloc: Global, heard: Heard, copied: &str) -> Result<Heard, Flaw> {
+    if heard.text.as_str() == copied {
+        return Ok(heard);
+    }
+    let Heard { text, handle } = heard;
+    let (text, handle) = beside(format!(in alloc; "{text} but {copied}"), handle)?;
+    Ok(Heard { text, handle })
+}
+
+/// The same of an answer and its copy.
 fn both(alloc: Global, answer: PlainAnswer, copy: PlainAnswer) -> Result<Heard, Flaw> {
     let copied = shown_answer(alloc, &copy);
     let_go(copy);
-    let Heard { text, handle } = heard_in(alloc, answer)?;
-    let copied = copied?;
-    if text == copied {
-        return Ok(Heard { text, handle });
-    }
-    let text = format!(in alloc; "{text} but {copied}")?;
-    Ok(Heard { text, handle })
+    let (heard, copied) = beside(heard_in(alloc, answer), copied)?;
+    let (copied, heard) = beside(copied, heard)?;
+    with_copy(alloc, heard, copied.as_str())
 }
 
 /// Does a step on a disk.
@@ -144,7 +150,10 @@ impl Place {
             return Ok(Place::Store(MemStore::new(alloc)?));
         }
         if let Some(words) = before.strip_prefix("of ") {
-            return store_of(alloc, &disk_of(alloc, words)?);
+            let disk = disk_of(alloc, words)?;
+            let place = store_of(alloc, &disk);
+            let_go(disk);
+            return place;
         }
         Ok(Place::Disk(disk_of(alloc, before)?))
     }

@@ -5,7 +5,7 @@ use crate::disk::lucks::luck_of;
 use crate::disk::place::{Heard, Place, is_plain};
 use crate::disk::steps::step_of;
 use crate::disk::words::{bytes_of, text_of};
-use cacache_core::keeping::set;
+use cacache_core::keeping::{beside, set};
 use cacache_disk::Luck;
 use rows::words::{number_of, written_out};
 use rows::{Flaw, Outcome, Trial};
@@ -32,7 +32,7 @@ fn asked(alloc: Global, place: &mut Place, kind: &str, word: &str) -> Result<Str
 /// What somebody else does on two words.
 fn planted(alloc: Global, place: &mut Place, path: &str, bytes: &str) -> Result<String, Flaw> {
     let path = text_of(alloc, path)?;
-    let bytes = bytes_of(alloc, bytes)?;
+    let (bytes, path) = beside(bytes_of(alloc, bytes), path)?;
     place.plant(alloc, path.as_str(), &bytes)
 }
 
@@ -45,7 +45,7 @@ impl Scene {
         let step = step_of(alloc, &mut self.held, words)?;
         let Heard { text, handle } = self.place.step(alloc, step, luck)?;
         if let Some(handle) = handle {
-            self.held = Some(handle);
+            set(&mut self.held, Some(handle));
         }
         Ok(text)
     }
@@ -80,20 +80,30 @@ impl Scene {
         })
     }
 
+    /// What came of the words of a row, where this stood before.
+    fn got(
+        &mut self,
+        alloc: Global,
+        words: Words<'_>,
+        luck: Luck,
+        before: &str,
+    ) -> Result<String, Flaw> {
+        let answer = match self.came(alloc, words, luck) {
+            Err(Flaw::Refused) => self.refused(alloc, before)?,
+            came => came?,
+        };
+        let (after, answer) = beside(self.place.shown(alloc), answer)?;
+        Ok(got(alloc, before, answer.as_str(), after.as_str())?)
+    }
+
     /// Tries a row: what it wants, and what came.
     fn compared(&mut self, alloc: Global, row: Row<'_>) -> Result<Outcome, Flaw> {
         let words = words_of(row.step)?;
         let luck = luck_of(row.luck)?;
         let before = self.place.shown(alloc)?;
-        let answer = match self.came(alloc, words, luck) {
-            Err(Flaw::Refused) => self.refused(alloc, before.as_str())?,
-            came => came?,
-        };
-        let after = self.place.shown(alloc)?;
-        Ok(Outcome {
-            wanted: wanted(alloc, row, before.as_str())?,
-            got: got(alloc, before.as_str(), answer.as_str(), after.as_str())?,
-        })
+        let (got, before) = beside(self.got(alloc, words, luck, before.as_str()), before)?;
+        let (wanted, got) = beside(wanted(alloc, row, before.as_str()), got)?;
+        Ok(Outcome { wanted, got })
     }
 }
 

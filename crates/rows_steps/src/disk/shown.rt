@@ -1,5 +1,6 @@
 //! Answers and what a log keeps as texts, in the words of rows.
 use cacache_core::bytes::Bytes;
+use cacache_core::keeping::beside;
 use cacache_core::text::Text;
 use cacache_store::store::{
     Answer, Listing, LogItem, Name, PlainAnswer, PlainFile, PlainStep, PlainTemp, Step,
@@ -118,7 +119,7 @@ fn shown_step(alloc: Global, step: &PlainStep) -> Result<String, AllocError> {
 /// A step and its answer.
 fn shown_made(alloc: Global, step: &PlainStep, answer: &PlainAnswer) -> Result<String, AllocError> {
     let step = shown_step(alloc, step)?;
-    let answer = shown_answer(alloc, answer)?;
+    let (answer, step) = beside(shown_answer(alloc, answer), step)?;
     format!(in alloc; "{step}: {answer}")
 }
 

@@ -2,6 +2,7 @@
 use crate::disk::columns::Words;
 use crate::disk::handles::{Handle, file_of, temp_of};
 use crate::disk::words::{bytes_of, text_of};
+use cacache_core::keeping::{beside, let_go};
 use cacache_store::store::{PlainStep, Step};
 use rows::Flaw;
 use rows::words::number_of;
@@ -22,20 +23,31 @@ fn one_path(alloc: Global, kind: &str, path: &str) -> Result<PlainStep, Flaw> {
         "RemoveDir" => Ok(Step::RemoveDir(path)),
         "SyncFile" => Ok(Step::SyncFile(path)),
         "SyncDir" => Ok(Step::SyncDir(path)),
-        _ => Err(Flaw::NotRead),
+        _ => {
+            let_go(path);
+            Err(Flaw::NotRead)
+        }
     }
 }
 
 /// A step on two paths, by words.
-fn two_paths(alloc: Global, kind: &str, first: &str, second: &str) -> Result<PlainStep, Flaw> {
+pub(crate) fn two_paths(
+    alloc: Global,
+    kind: &str,
+    first: &str,
+    second: &str,
+) -> Result<PlainStep, Flaw> {
     let first = text_of(alloc, first)?;
-    let second = text_of(alloc, second)?;
+    let (second, first) = beside(text_of(alloc, second), first)?;
     match kind {
         "Symlink" => Ok(Step::Symlink(first, second)),
         "Copy" => Ok(Step::Copy(first, second)),
         "Reflink" => Ok(Step::Reflink(first, second)),
         "HardLink" => Ok(Step::HardLink(first, second)),
-        _ => Err(Flaw::NotRead),
+        _ => {
+            let_go((first, second));
+            Err(Flaw::NotRead)
+        }
     }
 }
 
@@ -82,7 +94,7 @@ fn reading(
 }
 
 /// An append, by words.
-fn appending(alloc: Global, path: &str, bytes: &str) -> Result<PlainStep, Flaw> {
+pub(crate) fn appending(alloc: Global, path: &str, bytes: &str) -> Result<PlainStep, Flaw> {
     let path = text_of(alloc, path)?;
     let bytes = bytes_of(alloc, bytes)?;
     Ok(Step::Append(path, bytes))

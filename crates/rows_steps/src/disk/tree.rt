@@ -1,8 +1,9 @@
 //! A disk as words: `a/` is a folder, `f=x` a file and `l->f` a link, folders before what stands in them.
-use crate::disk::words::{bytes_of, text_of};
-use cacache_core::keeping::let_go;
+use crate::disk::steps::{appending, two_paths};
+use crate::disk::words::text_of;
+use cacache_core::keeping::{beside, let_go};
 use cacache_disk::{Disk, Luck};
-use cacache_store::store::{Answer, Kind, Listing, PlainAnswer, PlainStep, Step};
+use cacache_store::store::{Answer, Kind, Listing, Name, PlainAnswer, PlainStep, Step};
 use rows::Flaw;
 use rows::words::word_of;
 use std::alloc::{AllocError, Global};
@@ -13,12 +14,10 @@ const DEPTH: usize = 100;
 /// The step that makes what a word says.
 fn making(alloc: Global, word: &str) -> Result<PlainStep, Flaw> {
     if let Some((path, target)) = word.split_once("->") {
-        let target = text_of(alloc, target)?;
-        return Ok(Step::Symlink(target, text_of(alloc, path)?));
+        return two_paths(alloc, "Symlink", target, path);
     }
     if let Some((path, bytes)) = word.split_once('=') {
-        let bytes = bytes_of(alloc, bytes)?;
-        return Ok(Step::Append(text_of(alloc, path)?, bytes));
+        return appending(alloc, path, bytes);
     }
     if !word.ends_with('/') {
         return Err(Flaw::NotRead);
@@ -42,17 +41,23 @@ fn make(alloc: Global, disk: &mut Disk, word: &str) -> Result<(), Flaw> {
     if is_made { Ok(()) } else { Err(Flaw::NotRead) }
 }
 
+/// Makes what the words say.
+fn make_all(alloc: Global, disk: &mut Disk, text: &str) -> Result<(), Flaw> {
+    for word in text.split(' ') {
+        make(alloc, disk, word)?;
+    }
+    Ok(())
+}
+
 /// A disk with what the words say. The first word is `/`, the top folder.
 pub(crate) fn disk_of(alloc: Global, text: &str) -> Result<Disk, Flaw> {
     let mut disk = Disk::new(alloc)?;
-    for word in text.split(' ') {
-        make(alloc, &mut disk, word)?;
-    }
+    let (_, disk) = beside(make_all(alloc, &mut disk, text), disk)?;
     Ok(disk)
 }
 
 /// The targets of a disk's links, in the order of their paths, as its `Debug` text shows them: no answer tells a target.
-#[derive(Drop)]
+#[derive(Clone, Copy)]
 struct Targets<'a> {
     rest: &'a str,
 }
@@ -106,18 +111,37 @@ fn joined(alloc: Global, folder: &str, name: &str) -> Result<String, AllocError>
     format!(in alloc; "{folder}/{name}")
 }
 
-/// A file or link as a word.
-fn shown_leaf(
+/// What stands at a path as a word.
+fn shown_at(
     alloc: Global,
     disk: &Disk,
     targets: &mut Targets<'_>,
     path: &str,
     kind: Kind,
 ) -> Result<String, AllocError> {
-    if kind == Kind::Link {
-        return format!(in alloc; " {path}->{}", targets.next());
+    match kind {
+        Kind::Folder => format!(in alloc; " {path}/"),
+        Kind::Link => format!(in alloc; " {path}->{}", targets.next()),
+        Kind::File => format!(in alloc; " {path}={}", shown_bytes(disk, path)?),
     }
-    format!(in alloc; " {path}={}", shown_bytes(disk, path)?)
+}
+
+/// Puts what stands at a name of a folder behind the text: its path.
+fn show_name(
+    alloc: Global,
+    disk: &Disk,
+    targets: &mut Targets<'_>,
+    folder: &str,
+    name: &Name,
+    text: &mut String,
+) -> Result<String, AllocError> {
+    let path = joined(alloc, folder, name.name.as_str())?;
+    let (shown, path) = beside(
+        shown_at(alloc, disk, targets, path.as_str(), name.kind),
+        path,
+    )?;
+    let (_, path) = beside(text.push_str(shown.as_str()), path)?;
+    Ok(path)
 }
 
 /// Puts what is in a folder behind the text.
@@ -136,13 +160,9 @@ fn show_folder(
         return Ok(());
     };
     for name in listing.as_slice() {
-        let path = joined(alloc, folder, name.name.as_str())?;
+        let path = show_name(alloc, disk, targets, folder, name, text)?;
         if name.kind == Kind::Folder {
-            text.push_str(format!(in alloc; " {path}/")?.as_str())?;
             show_folder(alloc, disk, targets, path.as_str(), depth - 1, text)?;
-        } else {
-            let leaf = shown_leaf(alloc, disk, targets, path.as_str(), name.kind)?;
-            text.push_str(leaf.as_str())?;
         }
     }
     Ok(())
@@ -153,13 +173,21 @@ pub(crate) fn shown_tree(alloc: Global, disk: &mut Disk) -> Result<String, Alloc
     let all = format!(in alloc; "{disk:?}")?;
     let mut targets = Targets { rest: all.as_str() };
     let mut text = String::from_str(alloc, "/")?;
-    show_folder(alloc, disk, &mut targets, "", DEPTH, &mut text)?;
+    let shown = show_folder(alloc, disk, &mut targets, "", DEPTH, &mut text);
+    let (_, text) = beside(shown, text)?;
     Ok(text)
+}
+
+/// All that a disk holds once that is made which a word says.
+fn shown_with(alloc: Global, disk: &mut Disk, word: &str) -> Result<String, Flaw> {
+    make(alloc, disk, word)?;
+    Ok(shown_tree(alloc, disk)?)
 }
 
 /// What a copy of a disk holds once that is made which a word says.
 pub(crate) fn shown_copy(alloc: Global, disk: &Disk, word: &str) -> Result<String, Flaw> {
     let mut copy = disk.clone()?;
-    make(alloc, &mut copy, word)?;
-    Ok(shown_tree(alloc, &mut copy)?)
+    let shown = shown_with(alloc, &mut copy, word);
+    let_go(copy);
+    shown
 }
