@@ -3,6 +3,7 @@
 use crate::acts::{Act, Deed};
 use crate::look::{End, Follow, Halt, Look, What};
 use crate::odds::Odd;
+use cacache_core::keeping::beside;
 use std::io::ErrorKind;
 
 /// What Linux makes of a step.
@@ -29,12 +30,38 @@ fn want(holds: bool, kind: ErrorKind) -> Result<(), Halt> {
 }
 
 /// Why a folder that an end names can't be removed, whatever it holds.
-fn removable(end: &End) -> Result<(), Halt> {
+fn unremovable(end: &End) -> Option<ErrorKind> {
     match end.name.as_str() {
-        "" => Err(Halt::Fails(ErrorKind::ResourceBusy)),
-        "." => Err(Halt::Fails(ErrorKind::InvalidInput)),
-        ".." => Err(Halt::Fails(ErrorKind::DirectoryNotEmpty)),
-        _ => Ok(()),
+        "" => Some(ErrorKind::ResourceBusy),
+        "." => Some(ErrorKind::InvalidInput),
+        ".." => Some(ErrorKind::DirectoryNotEmpty),
+        _ => None,
+    }
+}
+
+/// Why a step can't be done at an end, whatever stands there.
+fn fault_at(act: Act, end: &End) -> Option<ErrorKind> {
+    match act {
+        Act::RemoveDir => unremovable(end),
+        Act::Append | Act::Copy | Act::RemoveFile if end.is_dots() => {
+            Some(ErrorKind::IsADirectory)
+        }
+        _ if end.is_dots() => Some(ErrorKind::AlreadyExists),
+        Act::Append | Act::Copy | Act::CreateTemp if end.slash => Some(ErrorKind::IsADirectory),
+        _ => None,
+    }
+}
+
+/// Why a step can't be done at an end where this stands.
+fn fault_where(act: Act, end: &End, what: &What) -> Option<ErrorKind> {
+    match (act, what) {
+        (Act::RemoveFile, What::File | What::Link(_)) if end.slash => {
+            Some(ErrorKind::NotADirectory)
+        }
+        (Act::MakeDirs | Act::Symlink | Act::HardLink, What::File | What::Folder | What::Link(_)) =>
+            { Some(ErrorKind::AlreadyExists) }
+        (Act::Symlink | Act::HardLink, What::Nothing) if end.slash => Some(ErrorKind::NotFound),
+        _ => None,
     }
 }
 
@@ -58,48 +85,27 @@ impl<'a> Look<'a> {
         }
     }
 
-    /// The path of a file that is opened to write, or made.
-    fn writable(&mut self, path: &str) -> Result<String, Halt> {
-        let end = self.walk(path, Follow::Making)?;
-        want(!end.is_dots() && !end.slash, ErrorKind::IsADirectory)?;
-        self.at(&end)
+    /// The path of what a step makes, writes to or removes at an end.
+    fn placed(&self, act: Act, end: &End) -> Result<String, Halt> {
+        if let Some(kind) = fault_at(act, end) {
+            return Err(Halt::Fails(kind));
+        }
+        let path = self.at(end)?;
+        let (what, path) = beside(self.what(path.as_str()), path)?;
+        match fault_where(act, end, &what) {
+            Some(kind) => Err(Halt::Fails(kind)),
+            None => Ok(path),
+        }
     }
 
-    /// The path of a new file.
-    fn fresh(&mut self, path: &str) -> Result<String, Halt> {
-        let end = self.walk(path, Follow::None)?;
-        want(!end.is_dots(), ErrorKind::AlreadyExists)?;
-        want(!end.slash, ErrorKind::IsADirectory)?;
-        self.at(&end)
-    }
-
-    /// The path of a new link.
-    fn free(&mut self, path: &str) -> Result<String, Halt> {
-        let end = self.walk(path, Follow::None)?;
-        want(!end.is_dots(), ErrorKind::AlreadyExists)?;
-        let path = self.at(&end)?;
-        let is_free = matches!(self.what(path.as_str())?, What::Nothing);
-        want(is_free, ErrorKind::AlreadyExists)?;
-        want(!end.slash, ErrorKind::NotFound)?;
-        Ok(path)
-    }
-
-    /// The path of a file or link that is removed.
-    pub(crate) fn unlinked(&mut self, path: &str) -> Result<String, Halt> {
-        let end = self.walk(path, Follow::None)?;
-        want(!end.is_dots(), ErrorKind::IsADirectory)?;
-        let path = self.at(&end)?;
-        let what = self.what(path.as_str())?;
-        let holds = !end.slash || matches!(what, What::Nothing | What::Folder);
-        want(holds, ErrorKind::NotADirectory)?;
-        Ok(path)
-    }
-
-    /// The path of a folder that is removed.
-    fn emptied(&mut self, path: &str) -> Result<String, Halt> {
-        let end = self.walk(path, Follow::None)?;
-        removable(&end)?;
-        self.at(&end)
+    /// The path of what a step makes, writes to or removes.
+    pub(crate) fn place(&mut self, act: Act, path: &str) -> Result<String, Halt> {
+        let follow = match act {
+            Act::Append | Act::Copy => Follow::Making,
+            _ => Follow::None,
+        };
+        let end = self.walk(path, follow)?;
+        self.placed(act, &end)
     }
 
     /// The path of a link that is made to this target.
@@ -109,7 +115,7 @@ impl<'a> Look<'a> {
         }
         self.check_texts(target, path)?;
         want(!target.is_empty(), ErrorKind::NotFound)?;
-        self.free(path)
+        self.place(Act::Symlink, path)
     }
 
     /// The path of a file that gets a second name, or of a link or a folder.
@@ -128,7 +134,7 @@ impl<'a> Look<'a> {
     fn hard_linked(&mut self, from: &str, to: &str) -> Result<(String, String), Halt> {
         self.check_texts(from, to)?;
         let (source, what) = self.linkable(from)?;
-        let target = self.free(to)?;
+        let target = self.place(Act::HardLink, to)?;
         if matches!(what, What::Folder) {
             self.odds.own = Some(Odd::LinkedFolder);
             return Err(Halt::Fails(ErrorKind::PermissionDenied));
@@ -136,10 +142,15 @@ impl<'a> Look<'a> {
         Ok((source, target))
     }
 
+    /// Whether a link can't be made at a path.
+    fn is_taken(&mut self, path: &str) -> bool {
+        self.place(Act::HardLink, path).is_err()
+    }
+
     /// The same; two failures may come in another order than on the disk.
     fn hard_linked_in_order(&mut self, from: &str, to: &str) -> Result<(String, String), Halt> {
         let linked = self.hard_linked(from, to);
-        if linked.is_err() && !self.odds.long && self.odds.own.is_none() && self.free(to).is_err() {
+        if linked.is_err() && !self.odds.long && self.odds.own.is_none() && self.is_taken(to) {
             self.odds.own = Some(Odd::Order);
         }
         linked
@@ -151,16 +162,15 @@ impl<'a> Look<'a> {
         self.odds.last = false;
         want(!matches!(what, What::Nothing), ErrorKind::NotFound)?;
         want(!matches!(what, What::Folder), ErrorKind::InvalidInput)?;
-        Ok((source, self.writable(to)?))
+        Ok((source, self.place(Act::Copy, to)?))
     }
 
     /// The path of a step on one path.
     fn on_one(&mut self, act: Act, path: &str) -> Result<String, Halt> {
         match act {
-            Act::Append => self.writable(path),
-            Act::CreateTemp => self.fresh(path),
-            Act::RemoveFile => self.unlinked(path),
-            Act::RemoveDir => self.emptied(path),
+            Act::Append | Act::CreateTemp | Act::RemoveFile | Act::RemoveDir => {
+                self.place(act, path)
+            }
             Act::ReadDir => self.listed(path),
             _ => self.led(path),
         }

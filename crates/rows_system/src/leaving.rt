@@ -1,4 +1,5 @@
 //! Temporary files that are moved or let go, on both.
+use crate::acts::Act;
 use crate::handles::written;
 use crate::look::{Halt, What};
 use crate::moves::Move;
@@ -30,7 +31,7 @@ impl World {
 
     /// Removes what stands at the path of a temporary file that was let go, as Linux does.
     fn unlink(&mut self, path: &str) -> Result<(), Bad> {
-        let found = self.look().unlinked(path);
+        let found = self.look().place(Act::RemoveFile, path);
         match found {
             Ok(path) => {
                 if self.remove(path.as_str())? {

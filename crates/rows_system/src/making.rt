@@ -1,5 +1,6 @@
 //! How folders are made on Linux where a path has links or odd names: by one call for each folder, from the last name up until
 //! one can be made, and then down again.
+use crate::acts::Act;
 use crate::look::{Follow, Halt, Look, What};
 use cacache_core::keeping::let_go;
 use cacache_core::text::Text;
@@ -20,7 +21,7 @@ pub(crate) struct Making<'a> {
 }
 
 /// Makes a folder that has no links on its way.
-fn put(alloc: Global, disk: &mut Disk, path: &str) -> Result<(), AllocError> {
+pub(crate) fn put(alloc: Global, disk: &mut Disk, path: &str) -> Result<(), AllocError> {
     let step = Step::MakeDirs(Text::from_str(alloc, path)?);
     let done = disk.apply(&step, Luck::Plain);
     let_go(step);
@@ -43,15 +44,7 @@ impl<'a> Making<'a> {
     /// The path of a folder that one call makes.
     fn new_folder(&self, path: &str) -> Result<String, Halt> {
         let mut look = Look::new(self.alloc, self.disk, self.top);
-        let end = look.walk(path, Follow::None)?;
-        if end.is_dots() {
-            return Err(Halt::Fails(ErrorKind::AlreadyExists));
-        }
-        let path = look.at(&end)?;
-        match look.what(path.as_str())? {
-            What::Nothing => Ok(path),
-            _ => Err(Halt::Fails(ErrorKind::AlreadyExists)),
-        }
+        look.place(Act::MakeDirs, path)
     }
 
     /// Makes one folder, which may stand already.

@@ -178,12 +178,8 @@ impl Tally {
     pub(crate) fn text(&self) -> Result<String, AllocError> {
         let mut text = String::new(self.alloc);
         for known in &self.counts {
-            if !text.is_empty() {
-                text.push_str(", ")?;
-            }
-            text.push_str(known.odd.name())?;
-            text.push(' ')?;
-            text.push_str(format!(in self.alloc; "{}", known.count)?.as_str())?;
+            let gap = if text.is_empty() { "" } else { ", " };
+            write!(text, "{gap}{} {}", known.odd.name(), known.count)?;
         }
         Ok(text)
     }

@@ -2,16 +2,14 @@
 use crate::acts::{Act, Deed};
 use crate::draws::{CHAIN, Draws};
 use crate::inodes::Inodes;
+use crate::making::put;
 use crate::odds::Tally;
 use crate::world::{Bad, World};
 use cacache_core::keeping::{let_go, set};
-use cacache_core::text::Text;
-use cacache_disk::{Disk, Luck};
+use cacache_disk::Disk;
 use cacache_folder::FolderStore;
-use cacache_store::store::Step;
 use rows::words::{cut, number_of};
 use rows::{Flaw, Outcome, Trial};
-use std::alloc::AllocError;
 use std::fs;
 
 /// After so many steps a new folder is begun.
@@ -27,15 +25,6 @@ pub(crate) struct Steps {
 }
 
 impl World {
-    /// A folder with all above it on the disk.
-    fn make_root(&mut self, root: &str) -> Result<(), AllocError> {
-        let step = Step::MakeDirs(Text::from_str(self.alloc, root)?);
-        let done = self.disk.apply(&step, Luck::Plain);
-        let_go(step);
-        let_go(done?);
-        Ok(())
-    }
-
     /// Lets the folder go and begins with another one, in both empty.
     fn renew(&mut self, root: &str) -> Result<(), Bad> {
         self.close();
@@ -46,7 +35,7 @@ impl World {
         set(&mut self.disk, Disk::new(self.alloc)?);
         set(&mut self.inodes, Inodes::new(self.alloc));
         self.is_over = false;
-        Ok(self.make_root(root)?)
+        Ok(put(self.alloc, &mut self.disk, root)?)
     }
 
     /// Makes a chain of links.
