@@ -16,6 +16,7 @@
 
 mod acts;
 mod places;
+mod shown;
 mod stuck;
 
 use places::Places;
