@@ -1,9 +1,9 @@
 -- What calls give of what lies in a cache, and what lies there then.
-use Rattle.std.specs.Prelude.{◌≡◌, ℕ, List, Some, None, IfOk, MatchResult, Result, Vec, length}
+use Rattle.std.specs.Prelude.{◌≡◌, ◌⊎◌, ◌<◌, ◌^◌, ℕ, List, [], Some, None, IfOk, MatchResult, Result, Ok, Err, Vec, length}
 use Rattle.std.specs.Global.{Global}
-use Rattle.cacache.specs.Calls.{Error}
+use Rattle.cacache.specs.Calls.{Error, without_message}
 use Rattle.cacache.specs.Integrities.{Hash, Sha256, integrity_under}
-use Rattle.cacache.specs.Laws.{DontClash, GivesJust, HasContent, HasKey, IsExcused, lies_under, shown, tree_of}
+use Rattle.cacache.specs.Laws.{DontClash, FailsFor, FailsForMemory, Fault, GivesJust, HasContent, HasKey, IntegrityError, IntegrityFault, IoError, IsDamaged, IsExcused, LeadsOn, NotFound, OutOfMemory, bytes_under, leads_to, lies_under, shown, tree_of}
 use Rattle.cacache.specs.Stores.{LogItem}
 
 -- ---- what is given
@@ -36,6 +36,35 @@ ArrivesAt cache key to result old new =
     → MatchResult result
     (λ count. (shown (tree_of new) to ≡ Some bytes) × (count ≡ length bytes))
     (λ e. IsExcused e old new)
+
+-- a package whose bytes are damaged or missing isn't exported: the error says so, or that memory was
+-- refused
+abbrev pub RefusesBroken : List ℕ → List ℕ → Result ℕ Error → List LogItem → Type 0
+RefusesBroken cache key result old =
+    (i : List Hash)
+    → leads_to cache key old ≡ Some i
+    → ((fault : IntegrityFault)
+    → IsDamaged cache i fault old → FailsFor (IntegrityError fault) result)
+    × (lies_under cache i old ≡ None → FailsFor (IoError NotFound []) result)
+
+-- where the file shows bytes, and no link that leads nowhere lies in the way, it is linked unless memory
+-- is refused
+abbrev pub LinksShown : List ℕ → List ℕ → Result (List Hash) Error → List LogItem → Type 0
+LinksShown cache file result old =
+    (held : List ℕ)
+    → shown (tree_of old) file ≡ Some held
+    → length held < 2 ^ 64
+    → LeadsOn cache (integrity_under Sha256 held) old
+    → FailsForMemory result
+
+-- bytes lie under the integrity, whole or damaged; or the error says why there are none
+abbrev pub TellsWhetherOpen : List ℕ → List Hash → Result (Unit {0}) Error → List LogItem → Type 0
+TellsWhetherOpen cache i result log =
+    MatchResult result
+    (λ u. (bytes : List ℕ) × (bytes_under cache i log ≡ Ok bytes))
+    (λ e. (e ≡ OutOfMemory)
+    ⊎ ((fault : Fault) × (bytes_under cache i log ≡ Err fault)
+    × (without_message e ≡ IoError fault [])))
 
 -- ---- what lies there
 

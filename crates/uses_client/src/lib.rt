@@ -4,11 +4,11 @@
 //!
 //! | Module | Functions |
 //! |---|---|
-//! | `reading` | `fetch` |
+//! | `reading` | `fetch`, `try_opening` |
 //! | `storing` | `store`, `replace`, `install_two`, `retry_install`, `uninstall` |
 //! | `installing` | `install`, by a writer with metadata and a size |
 //! | `auditing` | `list`, `is_whole`, `audit` |
-//! | `outside` | `mirror` a file, `adopt` one by a linker, `export` a package |
+//! | `outside` | `link` a file, `mirror` one, `adopt` one by a linker, `export` a package |
 #![tactic(auto)]
 
 mod auditing;
@@ -19,6 +19,6 @@ mod storing;
 
 pub use auditing::{Verdict, audit, is_whole, list};
 pub use installing::install;
-pub use outside::{adopt, export, mirror};
-pub use reading::fetch;
+pub use outside::{adopt, export, link, mirror};
+pub use reading::{fetch, try_opening};
 pub use storing::{install_two, replace, retry_install, store, uninstall};

@@ -1,12 +1,32 @@
 //! Files outside of the cache: some that are linked into it, and packages that are copied out.
-ghost use Rattle.cacache.specs.Laws.{IsCache, IsApart, LeavesKnownCache, based};
-ghost use Rattle.uses_client.specs.Given.{ArrivesAt, MirrorsFile};
+ghost use Rattle.std.specs.Prelude.{IfErr, true};
+ghost use Rattle.cacache.specs.Laws.{IsCache, IsApart, LeavesKnownCache, NamesFolder, FailsExport, Copy, Key, based};
+ghost use Rattle.uses_client.specs.Given.{ArrivesAt, LinksShown, MirrorsFile, RefusesBroken};
 
 use cacache::env::{Clock, Env, Names};
 use cacache::laws::{after_copy, after_link, after_read, linker_laws};
 use cacache::store::MemStore;
-use cacache::{Result, SyncToLinker};
+use cacache::{Integrity, Result, SyncToLinker};
 use std::io::Read;
+
+/// Links a file into the cache under a key. Where the cache's path names a folder, and the file shows bytes, that fails for
+/// memory alone, unless a link that leads nowhere lies under their integrity.
+pub fn link<C: Clock, N: Names>(
+    env: &mut Env<MemStore, C, N>,
+    cache: &str,
+    key: &str,
+    file: &str,
+) -> Result<Integrity>
+    requires cache { IsCache cache.now env.old.store }
+    requires apart { IsApart cache.now (based env.old.base file.now) }
+    ensures sound { IsCache cache.now env.new.store }
+    ensures links { NamesFolder cache.now
+        → LinksShown cache.now (based env.old.base file.now) result env.old.store }
+{
+    let linked = cacache::link_to_sync(env, cache, key, file);
+    after_link(env, cache, key, file, &linked);
+    linked
+}
 
 /// Links a file into the cache under a key, and reads it there: while the file shows the same bytes, these are read, if
 /// nothing lay under their integrity.
@@ -57,7 +77,8 @@ pub fn adopt<C: Clock, N: Names>(
     read
 }
 
-/// Copies the bytes under a key to a path outside of the cache, and counts them.
+/// Copies the bytes under a key to a path outside of the cache, and counts them. Where the cache's path names a folder, an
+/// error says what is wrong with the key, its bytes or the path, and nothing changed, or that memory was refused.
 pub fn export<C: Clock, N: Names>(
     env: &mut Env<MemStore, C, N>,
     cache: &str,
@@ -68,6 +89,9 @@ pub fn export<C: Clock, N: Names>(
     requires apart { IsApart cache.now to.now }
     ensures leaves { LeavesKnownCache cache.now env.old.store env.new.store }
     ensures arrives { ArrivesAt cache.now key.now to.now result env.old.store env.new.store }
+    ensures refuses { NamesFolder cache.now → RefusesBroken cache.now key.now result env.old.store }
+    ensures fails { NamesFolder cache.now → IfErr result (λ e.
+        FailsExport cache.now (Key key.now) Copy true to.now e env.old.store env.new.store) }
 {
     let copied = cacache::copy_sync(env, cache, key, to);
     after_copy(env, cache, to, &copied);

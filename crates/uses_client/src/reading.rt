@@ -1,12 +1,12 @@
 //! Packages that are read.
 ghost use Rattle.std.specs.Prelude.{IfOk};
-ghost use Rattle.cacache.specs.Laws.{IsCache, LacksKey, LeavesKnownCache, GivesNoEntry, KeyLiesWhole};
-ghost use Rattle.uses_client.specs.Given.{GivesKey};
+ghost use Rattle.cacache.specs.Laws.{IsCache, LacksKey, LeavesKnownCache, NamesFolder, GivesNoEntry, KeyLiesWhole};
+ghost use Rattle.uses_client.specs.Given.{GivesKey, TellsWhetherOpen};
 
-use cacache::Result;
 use cacache::env::{Clock, Env, Names};
-use cacache::laws::after_read;
+use cacache::laws::{after_read, cache_laws, standing_laws, success_laws};
 use cacache::store::MemStore;
+use cacache::{Integrity, Result, SyncReader};
 
 /// The bytes under a key: whole ones, whatever lies there.
 pub fn fetch<C: Clock, N: Names>(
@@ -24,4 +24,25 @@ pub fn fetch<C: Clock, N: Names>(
     let read = cacache::read_sync(env, cache, key);
     after_read(env, cache, key, &read);
     read
+}
+
+/// Whether a content can be opened to be read in pieces: an error says why there are no bytes under its integrity, or that
+/// memory was refused.
+pub fn try_opening<C: Clock, N: Names>(
+    env: &mut Env<MemStore, C, N>,
+    cache: &str,
+    sri: Integrity,
+) -> Result<()>
+    requires { IsCache cache.now env.old.store }
+    ensures { NamesFolder cache.now → TellsWhetherOpen cache.now sri result env.old.store }
+{
+    success_laws();
+    standing_laws();
+    let _address = sri.address();
+    let opened = SyncReader::open_hash(env, cache, sri);
+    cache_laws(&env.store);
+    match opened {
+        Ok(_reader) => Ok(()),
+        Err(error) => Err(error),
+    }
 }

@@ -1,5 +1,5 @@
 -- Each verdict is on the store that the listing found.
-use Rattle.std.proofs.Common.{◌≡◌, [], ◌∷◌, ◌++◌, ap, subst, sym, ◌∙◌}
+use Rattle.std.proofs.Common.{[], ◌∷◌, ◌++◌, ap, subst, sym, ◌∙◌}
 use Rattle.cacache.specs.Entries.{Found}
 use Rattle.uses_client.specs.declared.auditing.Verdict.{Verdict}
 use Rattle.uses_client.specs.Audits.{AreRight, IsRight, entries_in}

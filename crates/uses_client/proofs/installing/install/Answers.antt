@@ -1,5 +1,5 @@
 -- A writer opens, takes all bytes and commits, or is given up.
-use Rattle.std.proofs.Common.{◌≡◌, Some, List, [], length, arith, ap, rules, subst, sym, ◌∙◌}
+use Rattle.std.proofs.Common.{◌≡◌, Some, [], length, arith, ap, rules, subst, sym, ◌∙◌}
 use Rattle.cacache.specs.Calls.{Said}
 use Rattle.cacache.specs.Integrities.{Sha256, integrity_under}
 use Rattle.cacache.specs.Laws.{LeavesKnownCache, SaysFit, view}
