@@ -136,7 +136,8 @@ def public_paths():
 def block_of(crate, file, head, span):
     """The block with this head, from the word behind `impl` on."""
     trait, _, kind = head.rpartition(" for ")
-    name = re.match(r"[\w:]+", kind)[0].split("::")[-1]
+    named = re.match(r"[\w:]+", kind)  # nothing, such as `()`, has no name
+    name = named[0].split("::")[-1] if named else kind.strip()
     paths = (path for path, known in uses(source(file), VISIBLE) if known == name)
     owner = next((path[0] for path in paths if (TOP / "crates" / path[0]).is_dir()), crate)
     return Block(trait.strip(), owner, name, kind.strip(), file, *span)
