@@ -108,6 +108,11 @@ impl<'a> Look<'a> {
         self.placed(act, &end)
     }
 
+    /// Whether a link can't be made at a path.
+    fn is_taken(&mut self, path: &str) -> bool {
+        self.place(Act::HardLink, path).is_err()
+    }
+
     /// The path of a link that is made to this target.
     fn symlinked(&mut self, target: &str, path: &str) -> Result<String, Halt> {
         if target.is_empty() || has_nul(target) || target.len() >= 4096 {
@@ -140,11 +145,6 @@ impl<'a> Look<'a> {
             return Err(Halt::Fails(ErrorKind::PermissionDenied));
         }
         Ok((source, target))
-    }
-
-    /// Whether a link can't be made at a path.
-    fn is_taken(&mut self, path: &str) -> bool {
-        self.place(Act::HardLink, path).is_err()
     }
 
     /// The same; two failures may come in another order than on the disk.
