@@ -7,6 +7,7 @@ use cacache_async::index::find_async;
 use cacache_async::put::write;
 use cacache_async::read::{read as read_key, read_hash};
 use cacache_async::rm::clear;
+use cacache_core::errors::Result as Answered;
 use cacache_core::keeping::let_go;
 use cacache_store::store::Store;
 use cacache_writers::RemovableTemp;
@@ -17,7 +18,8 @@ use rows::Flaw;
 use rows::answers::given;
 use rows::parts::integrity_of;
 use rows::words::cut;
-use std::alloc::{AllocError, AllocGlobal};
+use std::alloc::{AllocError, AllocGlobal, Global};
+use std::io;
 use std::random::RandomSource;
 use std::sync::Wait;
 
@@ -41,44 +43,43 @@ fn planted<S: Store>(env: &mut On<S>, words: &str) -> Result<String, AllocError>
     String::from_str(env.alloc, if is_planted { "Ok" } else { "not planted" })
 }
 
-/// What the entry of a key says, or what is left of a write that was never polled.
-fn looked<R: Wait + RandomSource + AllocGlobal, S: Store>(
-    rt: &R,
-    env: &mut On<S>,
-    name: &str,
-    cache: &str,
-    key: &str,
-) -> Result<String, Flaw> {
-    let alloc = env.alloc;
-    match name {
-        "find" => Ok(found(alloc, given(block_on(rt, find_async(env, cache, key)))?)?),
-        "unpolled" => {
-            let_go(write(env, cache, key, b"hello"));
-            Ok(names(env, cache)?)
-        }
-        _ => Err(Flaw::NotRead),
-    }
+/// What is left of a write that was never polled.
+fn unpolled<S: Store>(env: &mut On<S>, words: &str) -> Result<String, AllocError> {
+    let (cache, key) = cut(words);
+    let_go(write(env, cache, key, b"hello"));
+    names(env, cache)
 }
 
-/// What a call gives whose future is ready at once, or a look at a folder.
+/// The bytes that a future read.
+fn bytes_read(alloc: Global, came: io::Result<Answered<Vec<u8>>>) -> Result<String, Flaw> {
+    let bytes = given(came)?;
+    Ok(read(alloc, bytes)?)
+}
+
+/// What a call gives whose future is ready at once.
 fn called<R: Wait + RandomSource + AllocGlobal, S: Store>(
     rt: &R,
     env: &mut On<S>,
-    act: &str,
+    name: &str,
+    words: &str,
 ) -> Result<String, Flaw> {
-    let alloc = env.alloc;
-    let (name, words) = cut(act);
+    let alloc = rt.alloc();
     let (cache, what) = cut(words);
     match name {
-        "read" => Ok(read(alloc, given(block_on(rt, read_key(env, cache, what)))?)?),
+        "read" => bytes_read(alloc, block_on(rt, read_key(env, cache, what))),
         "read_hash" => {
             let sri = integrity_of(alloc, what)?;
-            Ok(read(alloc, given(block_on(rt, read_hash(env, cache, &sri)))?)?)
+            bytes_read(alloc, block_on(rt, read_hash(env, cache, &sri)))
         }
-        "clear" => Ok(done(alloc, given(block_on(rt, clear(env, cache)))?)?),
-        "names" => Ok(names(env, words)?),
-        "plant" => Ok(planted(env, words)?),
-        _ => looked(rt, env, name, cache, what),
+        "clear" => {
+            let cleared = given(block_on(rt, clear(env, cache)))?;
+            Ok(done(alloc, cleared)?)
+        }
+        "find" => {
+            let entry = given(block_on(rt, find_async(env, cache, what)))?;
+            Ok(found(alloc, entry)?)
+        }
+        _ => Err(Flaw::NotRead),
     }
 }
 
@@ -95,6 +96,9 @@ where
         "writer" => written(rt, env, on, steps),
         "reader" => read_by_polls(rt, env, on, steps),
         "linker" => linked_by_polls(rt, env, on, steps),
-        _ => called(rt, env, act),
+        "names" => Ok(names(env, words)?),
+        "plant" => Ok(planted(env, words)?),
+        "unpolled" => Ok(unpolled(env, words)?),
+        _ => called(rt, env, name, words),
     }
 }

@@ -1,5 +1,6 @@
 //! Answers as rows say them.
 use cacache_core::errors::Result as Answered;
+use cacache_core::keeping::beside;
 use cacache_entry::Metadata;
 use rows::answers::refused;
 use rows::words::{is_nothing, word_of, written_out};
@@ -11,6 +12,13 @@ pub(crate) fn add(line: &mut String, answer: &str) -> Result<(), AllocError> {
         line.push_str("; ")?;
     }
     line.push_str(answer)
+}
+
+/// A line with an answer behind it.
+pub(crate) fn with(line: String, answer: Result<String, AllocError>) -> Result<String, AllocError> {
+    let (answer, mut line) = beside(answer, line)?;
+    let (_, line) = beside(add(&mut line, answer.as_str()), line)?;
+    Ok(line)
 }
 
 /// The bytes of a word.

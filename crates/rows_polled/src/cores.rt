@@ -1,5 +1,6 @@
 //! The core of a writer: what it is asked, and what it is told of its work.
-use crate::answers::{add, bytes_of};
+use crate::answers::bytes_of;
+use crate::steps::{Stepped, in_turn};
 use cacache_core::errors::{Fault, Result as Answered};
 use cacache_core::integrity::Algorithm;
 use cacache_core::keeping::let_go;
@@ -107,23 +108,28 @@ fn ended(alloc: Global, core: &mut WriterCore, name: &str, what: &str) -> Result
     Ok(String::from_str(alloc, word)?)
 }
 
-/// What a step gives.
-fn stepped(alloc: Global, core: &mut WriterCore, step: &str) -> Result<String, Flaw> {
-    let (name, what) = cut(step);
-    match name {
-        "write" => asked(alloc, core, Request::Write(bytes_of(what))),
-        "flush" => asked(alloc, core, Request::Flush),
-        "close" => asked(alloc, core, Request::Close),
-        _ => ended(alloc, core, name, what),
+/// A core that is asked.
+#[derive(Drop)]
+struct Questions {
+    alloc: Global,
+    core: WriterCore,
+}
+
+impl Stepped for Questions {
+    fn step(&mut self, step: &str) -> Result<String, Flaw> {
+        let alloc = self.alloc;
+        let (name, what) = cut(step);
+        match name {
+            "write" => asked(alloc, &mut self.core, Request::Write(bytes_of(what))),
+            "flush" => asked(alloc, &mut self.core, Request::Flush),
+            "close" => asked(alloc, &mut self.core, Request::Close),
+            _ => ended(alloc, &mut self.core, name, what),
+        }
     }
 }
 
 /// What the steps of a row give, one after another, from a core that was asked nothing yet.
 pub(crate) fn asked_in_turn(alloc: Global, steps: &str) -> Result<String, Flaw> {
-    let mut core = WriterCore::new(Algorithm::Sha256);
-    let mut line = String::new(alloc);
-    for step in steps.split("; ") {
-        add(&mut line, stepped(alloc, &mut core, step)?.as_str())?;
-    }
-    Ok(line)
+    let core = WriterCore::new(Algorithm::Sha256);
+    in_turn(alloc, &mut Questions { alloc, core }, steps)
 }

@@ -1,10 +1,11 @@
 //! The end of a writer: a commit, which may be pending at first, or a drop. What comes behind it.
-use crate::answers::add;
-use crate::gates::turned;
+use crate::answers::{add, with};
+use crate::gates::{turned, worked};
+use crate::steps::{Stepped, with_steps};
 use crate::writers::Desk;
 use cacache_core::errors::Result as Answered;
 use cacache_core::integrity::Integrity;
-use cacache_core::keeping::let_go;
+use cacache_core::keeping::{beside, let_go};
 use cacache_store::store::Store;
 use cacache_writers::{RemovableTemp, Worker, WriterCommitFuture};
 use futures::task::Poll;
@@ -39,10 +40,29 @@ where
     let alloc = rt.alloc();
     match step {
         "commit" => Ok(ended(alloc, task.poll(commit))?),
-        "woken" if task.is_woken() => Ok(String::from_str(alloc, "yes")?),
-        "woken" => Ok(String::from_str(alloc, "no")?),
-        _ => Ok(String::from_str(alloc, turned(rt, worker, step)?)?),
+        _ => worked(rt, task, worker, step),
     }
+}
+
+/// Adds what the steps behind the first poll of a commit give.
+fn add_behind<R, S, T>(
+    rt: &R,
+    task: &MockTask,
+    commit: &mut WriterCommitFuture<'_, R, S, Still, Numbers, T>,
+    worker: &mut Worker<T>,
+    after: &str,
+    line: &mut String,
+) -> Result<(), Flaw>
+where
+    R: Wait + AllocGlobal,
+    S: Store<Temp = T>,
+    T: RemovableTemp,
+{
+    for step in after.split("; ").skip(1) {
+        let answer = stepped(rt, task, commit, worker, step)?;
+        add(line, answer.as_str())?;
+    }
+    Ok(())
 }
 
 /// What the commit gives, or a close, and the steps behind it.
@@ -52,7 +72,7 @@ pub(crate) fn committed<R, S, T>(
     desk: Desk<T>,
     closes: bool,
     after: &str,
-    mut line: String,
+    line: String,
 ) -> Result<String, Flaw>
 where
     R: Wait + AllocGlobal,
@@ -69,14 +89,9 @@ where
     } else {
         writer.commit(rt, env)
     };
-    add(
-        &mut line,
-        ended(rt.alloc(), task.poll(&mut commit))?.as_str(),
-    )?;
-    for step in after.split("; ").skip(1) {
-        let answer = stepped(rt, &task, &mut commit, &mut worker, step)?;
-        add(&mut line, answer.as_str())?;
-    }
+    let mut line = with(line, ended(rt.alloc(), task.poll(&mut commit)))?;
+    let behind = add_behind(rt, &task, &mut commit, &mut worker, after, &mut line);
+    let (_, line) = beside(behind, line)?;
     Ok(line)
 }
 
@@ -85,7 +100,7 @@ pub(crate) fn unpolled<R, S, T>(
     rt: &R,
     env: &mut On<S>,
     desk: Desk<T>,
-    mut line: String,
+    line: String,
 ) -> Result<String, Flaw>
 where
     R: Wait + AllocGlobal,
@@ -98,8 +113,32 @@ where
         worker: _worker,
     } = desk;
     let_go(writer.commit(rt, env));
-    add(&mut line, "-")?;
-    Ok(line)
+    Ok(with(line, String::from_str(rt.alloc(), "-"))?)
+}
+
+/// A worker whose writer was dropped.
+#[derive(Drop)]
+struct Alone<'a, R, T> {
+    rt: &'a R,
+    worker: &'a mut Worker<T>,
+}
+
+impl<'a, R: Wait + AllocGlobal, T: RemovableTemp> Stepped for Alone<'a, R, T> {
+    fn step(&mut self, step: &str) -> Result<String, Flaw> {
+        let word = turned(self.rt, self.worker, step)?;
+        Ok(String::from_str(self.rt.alloc(), word)?)
+    }
+}
+
+/// A line with what the turns of such a worker give.
+fn with_turns<R: Wait + AllocGlobal, T: RemovableTemp>(
+    rt: &R,
+    worker: &mut Worker<T>,
+    after: &str,
+    line: String,
+) -> Result<String, Flaw> {
+    let mut alone = Alone { rt, worker };
+    with_steps(line, &mut alone, after)
 }
 
 /// What the worker's turns give once the writer is dropped.
@@ -107,17 +146,16 @@ pub(crate) fn left<R: Wait + AllocGlobal, T: RemovableTemp>(
     rt: &R,
     desk: Desk<T>,
     after: &str,
-    mut line: String,
+    line: String,
 ) -> Result<String, Flaw> {
     let Desk {
-        task: _task,
+        task,
         writer,
-        mut worker,
+        worker,
     } = desk;
     let_go(writer);
-    add(&mut line, "-")?;
-    for step in after.split("; ").skip(1) {
-        add(&mut line, turned(rt, &mut worker, step)?)?;
-    }
-    Ok(line)
+    let_go(task);
+    let line = with(line, String::from_str(rt.alloc(), "-"));
+    let (line, mut worker) = beside(line, worker)?;
+    with_turns(rt, &mut worker, after, line)
 }

@@ -1,8 +1,10 @@
 //! Gates, and the turns of workers that ask them.
 use cacache_jobs::{Gate, Pass};
 use cacache_writers::{RemovableTemp, Turned, Worker};
+use futures::test::MockTask;
 use rows::Flaw;
 use rows::words::{cut, number_of};
+use std::alloc::AllocGlobal;
 use std::sync::Wait;
 
 /// A gate that lets turns through from this one on, and says so of those before.
@@ -53,4 +55,18 @@ pub(crate) fn turned<R: Wait, T: RemovableTemp>(
 ) -> Result<&'static str, Flaw> {
     let gate = gate_of(step)?;
     Ok(name_of(worker.turn(rt, &gate)))
+}
+
+/// What a turn gives, or whether the task was woken since its last poll.
+pub(crate) fn worked<R: Wait + AllocGlobal, T: RemovableTemp>(
+    rt: &R,
+    task: &MockTask,
+    worker: &mut Worker<T>,
+    step: &str,
+) -> Result<String, Flaw> {
+    let word = match step {
+        "woken" => if task.is_woken() { "yes" } else { "no" },
+        _ => turned(rt, worker, step)?,
+    };
+    Ok(String::from_str(rt.alloc(), word)?)
 }

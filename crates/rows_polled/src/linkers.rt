@@ -1,19 +1,21 @@
 //! Links whose target is read by polls. A poll of a read is always ready.
-use crate::answers::add;
-use crate::readers::came;
+use crate::answers::with;
+use crate::readers::{Readable, read_in_turn};
 use cacache_async::linker::ToLinker;
 use cacache_async::linking::LinkAsync;
 use cacache_core::errors::Result as Answered;
+use cacache_core::keeping::beside;
 use cacache_put::opts::WriteOpts;
 use cacache_store::store::{OpenedFile, Store};
 use futures::executor::block_on;
+use futures::task::{Context, Poll};
 use futures::test::MockTask;
 use row_places::On;
 use rows::Flaw;
 use rows::answers::{given, refused, stored};
 use rows::parts::algorithm_of;
-use rows::words::{cut, number_of};
-use std::alloc::{AllocGlobal, Global};
+use rows::words::cut;
+use std::alloc::AllocGlobal;
 use std::random::RandomSource;
 use std::sync::Wait;
 
@@ -46,62 +48,33 @@ fn opened<R: Wait + RandomSource + AllocGlobal, S: Store>(
     match way {
         "open" => given(block_on(rt, ToLinker::open(env, cache, key, target))),
         "open_hash" => given(block_on(rt, ToLinker::open_hash(env, cache, target))),
-        "new" => {
-            let algorithm = algorithm_of(key)?;
-            given(block_on(rt, ToLinker::new(env, cache, algorithm, target)))
-        }
+        "new" => given(block_on(rt, ToLinker::new(env, cache, algorithm_of(key)?, target))),
         _ => opened_with(rt, env, way, cache, what),
     }
 }
 
-/// What one poll of a read gives.
-fn read<F: OpenedFile>(
-    alloc: Global,
-    task: &MockTask,
-    linker: &mut ToLinker<F>,
-    step: &str,
-) -> Result<String, Flaw> {
-    let ("read", count) = cut(step) else {
-        return Err(Flaw::NotRead);
-    };
-    let mut bytes = vec![in alloc; 0; number_of(count)?]?;
-    let polled = task.enter(|cx| linker.poll_read(cx, &mut bytes));
-    Ok(came(alloc, &bytes, polled)?)
-}
-
-/// What reads give, one after another.
-fn read_in_turn<F: OpenedFile>(
-    alloc: Global,
-    task: &MockTask,
-    linker: &mut ToLinker<F>,
-    steps: &str,
-) -> Result<String, Flaw> {
-    let mut line = String::new(alloc);
-    for step in steps.split("; ") {
-        add(&mut line, read(alloc, task, linker, step)?.as_str())?;
+impl<F: OpenedFile> Readable for ToLinker<F> {
+    fn poll_bytes(&mut self, cx: &mut Context<'_>, bytes: &mut [u8]) -> Poll<Answered<usize>> {
+        self.poll_read(cx, bytes)
     }
-    Ok(line)
 }
 
 /// What the reads give, and the commit behind them, if there is one.
-fn read_and_committed<R, S: Store>(
+fn read_and_committed<R: Wait + RandomSource + AllocGlobal, S: Store>(
     rt: &R,
     env: &mut On<S>,
+    task: &MockTask,
     mut linker: ToLinker<S::File>,
     steps: &str,
-) -> Result<String, Flaw>
-where
-    R: Wait + RandomSource + AllocGlobal,
-{
+) -> Result<String, Flaw> {
     let alloc = rt.alloc();
-    let task = given(MockTask::new(rt))?;
     let Some(reads) = steps.strip_suffix("; commit") else {
-        return read_in_turn(alloc, &task, &mut linker, steps);
+        return read_in_turn(alloc, task, &mut linker, steps);
     };
-    let mut line = read_in_turn(alloc, &task, &mut linker, reads)?;
-    let committed = stored(alloc, given(block_on(rt, linker.commit(env)))?)?;
-    add(&mut line, committed.as_str())?;
-    Ok(line)
+    let line = read_in_turn(alloc, task, &mut linker, reads);
+    let (line, linker) = beside(line, linker)?;
+    let (committed, line) = beside(given(block_on(rt, linker.commit(env))), line)?;
+    Ok(with(line, stored(alloc, committed))?)
 }
 
 /// What the steps give of a linker that is opened so.
@@ -112,7 +85,10 @@ pub(crate) fn linked_by_polls<R: Wait + RandomSource + AllocGlobal, S: Store>(
     steps: &str,
 ) -> Result<String, Flaw> {
     match opened(rt, env, words)? {
-        Ok(linker) => read_and_committed(rt, env, linker, steps),
+        Ok(linker) => {
+            let (task, linker) = beside(given(MockTask::new(rt)), linker)?;
+            read_and_committed(rt, env, &task, linker, steps)
+        }
         Err(error) => Ok(refused(rt.alloc(), error)?),
     }
 }

@@ -17,8 +17,10 @@ mod opening;
 mod places;
 mod polls;
 mod readers;
+mod steps;
 mod writers;
 
+use cacache_core::keeping::let_go;
 use places::Places;
 use rows::run;
 use std::process::ExitCode;
@@ -26,6 +28,9 @@ use std::process::ExitCode;
 fn main(rt: HostRuntime) -> ExitCode {
     match Places::new(&rt) {
         Ok(mut places) => run(&rt, &mut places),
-        Err(_) => ExitCode::from(1),
+        Err(error) => {
+            let_go(error);
+            ExitCode::from(1)
+        }
     }
 }

@@ -1,83 +1,86 @@
 //! The ways in which a writer is opened: each is a future that is ready at once.
 use cacache_core::errors::Result as Answered;
+use cacache_core::keeping::beside;
 use cacache_put::opts::WriteOpts;
 use cacache_store::store::Store;
-use cacache_writers::{OpenAsync, Writer};
+use cacache_writers::{OpenAsync, WriteOptsOpenFuture, Writer};
 use futures::executor::block_on;
-use row_places::On;
+use row_places::{Numbers, On, Still};
 use rows::Flaw;
 use rows::answers::given;
 use rows::parts::{algorithm_of, integrity_of};
 use rows::words::{cut, number_of};
 use serde_json::Value;
-use std::alloc::AllocGlobal;
+use std::alloc::{AllocGlobal, Global};
 use std::random::RandomSource;
 use std::sync::Wait;
 
-/// A writer that says all that a commit may be told: `with CACHE KEY INTEGRITY` expects five bytes of this integrity.
-fn opened_with_all<R: Wait + RandomSource + AllocGlobal, S: Store>(
-    rt: &R,
-    env: &mut On<S>,
-    cache: &str,
-    what: &str,
-) -> Result<Answered<Writer<S::Temp>>, Flaw> {
-    let alloc = rt.alloc();
-    let (key, integrity) = cut(what);
+/// The future that opens a writer.
+type Opening<'a, S> = WriteOptsOpenFuture<'a, S, Still, Numbers>;
+
+/// All that a commit may be told: five bytes of this integrity are expected.
+fn all_opts(alloc: Global, integrity: &str) -> Result<WriteOpts, Flaw> {
     let sri = integrity_of(alloc, integrity)?;
-    let raw = vec![in alloc; 9; 2]?;
-    let opts = WriteOpts::new()
-        .size(5)
-        .time(7)
-        .metadata(Value::Bool(true))
-        .raw_metadata(raw)
-        .integrity(sri)
-        .durable(true);
-    given(block_on(rt, opts.open(env, cache, key)))
+    let (raw, sri) = beside(vec![in alloc; 9; 2], sri)?;
+    Ok(
+        WriteOpts::new()
+            .size(5)
+            .time(7)
+            .metadata(Value::Bool(true))
+            .raw_metadata(raw)
+            .integrity(sri)
+            .durable(true),
+    )
 }
 
-/// A writer that is opened with options: `open CACHE KEY SIZE` and `open_hash CACHE SIZE` expect so many bytes.
-fn opened_with<R: Wait + RandomSource + AllocGlobal, S: Store>(
-    rt: &R,
-    env: &mut On<S>,
+/// That of a writer with options: `open CACHE KEY SIZE` and `open_hash CACHE SIZE` expect so many bytes, and `with CACHE
+/// KEY INTEGRITY` says all that a commit may be told.
+fn opening_with<'a, S: Store>(
+    env: &'a mut On<S>,
     way: &str,
-    cache: &str,
-    what: &str,
-) -> Result<Answered<Writer<S::Temp>>, Flaw> {
-    let (key, size) = cut(what);
+    cache: &'a str,
+    what: &'a str,
+) -> Result<Opening<'a, S>, Flaw> {
+    let (key, said) = cut(what);
     match way {
         "open" => {
-            let opts = WriteOpts::new().size(number_of(size)?);
-            given(block_on(rt, opts.open(env, cache, key)))
+            let size = number_of(said)?;
+            Ok(WriteOpts::new().size(size).open(env, cache, key))
         }
         "open_hash" => {
-            let opts = WriteOpts::new().size(number_of(what)?);
-            given(block_on(rt, opts.open_hash(env, cache)))
+            let size = number_of(what)?;
+            Ok(WriteOpts::new().size(size).open_hash(env, cache))
         }
-        "with" => opened_with_all(rt, env, cache, what),
+        "with" => {
+            let opts = all_opts(env.alloc, said)?;
+            Ok(opts.open(env, cache, key))
+        }
         _ => Err(Flaw::NotRead),
     }
 }
 
-/// A writer that is opened in one of the ways: `create CACHE KEY`, `create_with_algo CACHE ALGORITHM KEY`, `new CACHE
-/// ALGORITHM`, or with options.
+/// That of a writer that is opened in one of the ways: `create CACHE KEY`, `create_with_algo CACHE ALGORITHM KEY`, `new
+/// CACHE ALGORITHM`, or with options.
+fn opening<'a, S: Store>(env: &'a mut On<S>, words: &'a str) -> Result<Opening<'a, S>, Flaw> {
+    let (way, words) = cut(words);
+    let (cache, what) = cut(words);
+    let (name, key) = cut(what);
+    match way {
+        "create" => Ok(Writer::create(env, cache, what)),
+        "create_with_algo" => {
+            let algorithm = algorithm_of(name)?;
+            Ok(Writer::create_with_algo(env, algorithm, cache, key))
+        }
+        "new" => Ok(Writer::new(env, cache, algorithm_of(name)?, Some(3))),
+        _ => opening_with(env, way, cache, what),
+    }
+}
+
+/// A writer that is opened so.
 pub(crate) fn opened<R: Wait + RandomSource + AllocGlobal, S: Store>(
     rt: &R,
     env: &mut On<S>,
     words: &str,
 ) -> Result<Answered<Writer<S::Temp>>, Flaw> {
-    let (way, words) = cut(words);
-    let (cache, what) = cut(words);
-    let (name, key) = cut(what);
-    match way {
-        "create" => given(block_on(rt, Writer::create(env, cache, what))),
-        "create_with_algo" => {
-            let algorithm = algorithm_of(name)?;
-            given(block_on(rt, Writer::create_with_algo(env, algorithm, cache, key)))
-        }
-        "new" => {
-            let algorithm = algorithm_of(name)?;
-            given(block_on(rt, Writer::new(env, cache, algorithm, Some(3))))
-        }
-        _ => opened_with(rt, env, way, cache, what),
-    }
+    given(block_on(rt, opening(env, words)?))
 }

@@ -1,8 +1,9 @@
 //! The places at which rows are tried: a disk in memory and real folders.
 use crate::acts::{made, parts_of};
-use crate::answers::add;
+use crate::answers::with;
 use crate::cores::asked_in_turn;
 use crate::writers::written;
+use cacache_core::keeping::beside;
 use cacache_folder::FolderStore;
 use cacache_memory::MemStore;
 use row_places::{Faulty, Mishaps, On, in_both, in_folders, in_memory, on};
@@ -25,7 +26,7 @@ impl Places<HostRuntime> {
     /// Empty ones. The folders are those below the one where the program runs.
     pub(crate) fn new(rt: &HostRuntime) -> io::Result<Places<HostRuntime>> {
         let folders = in_folders(rt)?;
-        let memory = in_memory(rt.alloc())?;
+        let (memory, folders) = beside(in_memory(rt.alloc()), folders)?;
         Ok(Places {
             rt: *rt,
             memory,
@@ -56,18 +57,27 @@ fn mishaps_of(words: &str) -> Result<Mishaps, Flaw> {
     Ok(mishaps)
 }
 
-/// What a writer's steps give whose temporary file has this luck, and then what the content holds.
+/// What a writer's steps give over a store whose files have mishaps, and then what the content holds.
+fn with_mishaps<R: Wait + RandomSource + AllocGlobal>(
+    rt: &R,
+    env: &mut On<Faulty>,
+    steps: &str,
+) -> Result<String, Flaw> {
+    let line = written(rt, env, "new c sha256", steps)?;
+    let holds = format!(in rt.alloc(); "holds {}", word_of(&env.store.kept));
+    Ok(with(line, holds)?)
+}
+
+/// The same for a writer whose temporary file has this luck.
 fn unlucky<R: Wait + RandomSource + AllocGlobal>(
     rt: &R,
     luck: &str,
     steps: &str,
 ) -> Result<String, Flaw> {
     let alloc = rt.alloc();
-    let mut env = on(alloc, Faulty::new(alloc, mishaps_of(luck)?)?, "/")?;
-    let mut line = written(rt, &mut env, "new c sha256", steps)?;
-    add(&mut line, "holds ")?;
-    line.push_str(word_of(&env.store.kept))?;
-    Ok(line)
+    let store = Faulty::new(alloc, mishaps_of(luck)?)?;
+    let mut env = on(alloc, store, "/")?;
+    with_mishaps(rt, &mut env, steps)
 }
 
 /// What an act gives at both places.
@@ -76,7 +86,8 @@ where
     R: Wait + RandomSource + Files + AllocGlobal + Clone + Drop,
 {
     let in_memory = made(&places.rt, &mut places.memory, act)?;
-    let in_folders = made(&places.rt, &mut places.folders, act)?;
+    let in_folders = made(&places.rt, &mut places.folders, act);
+    let (in_folders, in_memory) = beside(in_folders, in_memory)?;
     Ok(in_both(places.rt.alloc(), in_memory, in_folders)?)
 }
 
@@ -105,7 +116,7 @@ where
     fn outcome(&mut self, row: &str) -> Result<Outcome, Flaw> {
         let (act, wanted) = column(row)?;
         let wanted = String::from_str(self.rt.alloc(), wanted)?;
-        let got = tried(self, act)?;
+        let (got, wanted) = beside(tried(self, act), wanted)?;
         Ok(Outcome { wanted, got })
     }
 }

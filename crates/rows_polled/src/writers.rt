@@ -1,9 +1,11 @@
 //! Writers and their workers: what polls and turns give, one after another.
-use crate::answers::{add, bytes_of};
+use crate::answers::bytes_of;
 use crate::ending::{committed, left, unpolled};
-use crate::gates::turned;
+use crate::gates::{turned, worked};
 use crate::opening::opened;
 use crate::polls::{close, flush, write};
+use crate::steps::{Stepped, in_turn};
+use cacache_core::keeping::{beside, let_go};
 use cacache_store::store::Store;
 use cacache_writers::{RemovableTemp, Worker, Writer};
 use futures::test::MockTask;
@@ -31,22 +33,9 @@ fn piece<R: Wait + AllocGlobal, T: RemovableTemp>(
 ) -> Result<String, Flaw> {
     let alloc = rt.alloc();
     let data = bytes_of(data);
-    write(rt, alloc, &desk.task, &mut desk.writer, data)?;
+    let_go(write(rt, alloc, &desk.task, &mut desk.writer, data)?);
     turned(rt, &mut desk.worker, "turn")?;
     Ok(write(rt, alloc, &desk.task, &mut desk.writer, data)?)
-}
-
-/// What a turn of the worker gives, or whether the task was woken since its last poll.
-fn worked<R: Wait + AllocGlobal, T: RemovableTemp>(
-    rt: &R,
-    desk: &mut Desk<T>,
-    step: &str,
-) -> Result<String, Flaw> {
-    let word = match step {
-        "woken" => if desk.task.is_woken() { "yes" } else { "no" },
-        _ => turned(rt, &mut desk.worker, step)?,
-    };
-    Ok(String::from_str(rt.alloc(), word)?)
 }
 
 /// What a step gives.
@@ -62,7 +51,20 @@ fn stepped<R: Wait + AllocGlobal, T: RemovableTemp>(
         "flush" => Ok(flush(rt, alloc, &desk.task, &mut desk.writer)?),
         "close" => Ok(close(rt, alloc, &desk.task, &mut desk.writer)?),
         "piece" => piece(rt, desk, data),
-        _ => worked(rt, desk, step),
+        _ => worked(rt, &desk.task, &mut desk.worker, step),
+    }
+}
+
+/// A desk at which steps are made.
+#[derive(Drop)]
+struct Shift<'a, R, T> {
+    rt: &'a R,
+    desk: &'a mut Desk<T>,
+}
+
+impl<'a, R: Wait + AllocGlobal, T: RemovableTemp> Stepped for Shift<'a, R, T> {
+    fn step(&mut self, step: &str) -> Result<String, Flaw> {
+        stepped(self.rt, self.desk, step)
     }
 }
 
@@ -72,15 +74,25 @@ fn stepped_in_turn<R: Wait + AllocGlobal, T: RemovableTemp>(
     desk: &mut Desk<T>,
     steps: &str,
 ) -> Result<String, Flaw> {
-    let mut line = String::new(rt.alloc());
-    for step in steps.split("; ") {
-        add(&mut line, stepped(rt, desk, step)?.as_str())?;
-    }
-    Ok(line)
+    let alloc = rt.alloc();
+    let mut shift = Shift { rt, desk };
+    in_turn(alloc, &mut shift, steps)
 }
 
-/// What the steps give up to the end of the writer, its end, and the steps behind it: a commit, a close (`shut`), a commit
-/// that is never polled (`leave`), or a drop.
+/// What ends a writer: a commit, a close, a commit that is never polled, or a drop.
+const ENDS: [&str; 4] = ["; commit", "; shut", "; leave", "; drop"];
+
+/// The steps up to the end of a writer, its end, and those behind it. Both are empty where it isn't ended.
+fn cut_at_end(steps: &str) -> (&str, &'static str, &str) {
+    for end in ENDS {
+        if let Some((before, after)) = steps.split_once(end) {
+            return (before, end, after);
+        }
+    }
+    (steps, "", "")
+}
+
+/// What the steps give up to the end of the writer, its end, and the steps behind it.
 fn made_with<R, S, T>(
     rt: &R,
     env: &mut On<S>,
@@ -92,23 +104,19 @@ where
     S: Store<Temp = T>,
     T: RemovableTemp,
 {
-    if let Some((before, after)) = steps.split_once("; commit") {
-        let line = stepped_in_turn(rt, &mut desk, before)?;
-        return committed(rt, env, desk, false, after, line);
+    let (before, end, after) = cut_at_end(steps);
+    let line = stepped_in_turn(rt, &mut desk, before);
+    let (line, desk) = beside(line, desk)?;
+    match end {
+        "; commit" => committed(rt, env, desk, false, after, line),
+        "; shut" => committed(rt, env, desk, true, after, line),
+        "; leave" => unpolled(rt, env, desk, line),
+        "; drop" => left(rt, desk, after, line),
+        _ => {
+            let_go(desk);
+            Ok(line)
+        }
     }
-    if let Some((before, after)) = steps.split_once("; shut") {
-        let line = stepped_in_turn(rt, &mut desk, before)?;
-        return committed(rt, env, desk, true, after, line);
-    }
-    if let Some((before, _)) = steps.split_once("; leave") {
-        let line = stepped_in_turn(rt, &mut desk, before)?;
-        return unpolled(rt, env, desk, line);
-    }
-    if let Some((before, after)) = steps.split_once("; drop") {
-        let line = stepped_in_turn(rt, &mut desk, before)?;
-        return left(rt, desk, after, line);
-    }
-    stepped_in_turn(rt, &mut desk, steps)
 }
 
 /// The writer with a worker and a task.
@@ -116,8 +124,8 @@ fn desk_of<R: RandomSource + AllocGlobal, T: Drop>(
     rt: &R,
     writer: Writer<T>,
 ) -> Result<Desk<T>, Flaw> {
-    let task = given(MockTask::new(rt))?;
-    let worker = given(writer.worker())?;
+    let (task, writer) = beside(given(MockTask::new(rt)), writer)?;
+    let (worker, task) = beside(given(writer.worker()), task)?;
     Ok(Desk {
         task,
         writer,
