@@ -1,9 +1,10 @@
 //! What the system is asked for at each step, and files that behave in ways of their own.
-use crate::common::{below, fresh};
+use crate::common::{below, cleared, fresh};
 use crate::held::held_after;
 use crate::rows::told;
 use crate::watched::{Notes, Watched, taken};
 use crate::ways::{Ways, shortened, ways_of};
+use cacache_core::keeping::let_go;
 use cacache_folder::{FolderStore, FolderTemp};
 use std::alloc::{AllocError, Global};
 use std::rt::HostRuntime;
@@ -147,17 +148,27 @@ pub fn asked_of(
     format!(in alloc; "{end} after {calls}")
 }
 
+/// The same, where no temporary file is held.
+pub fn asked_once(
+    alloc: Global,
+    root: &str,
+    store: &mut FolderStore<Watched>,
+    notes: &Notes,
+    words: &str,
+) -> Result<String, AllocError> {
+    let mut held: Option<FolderTemp<Watched>> = None;
+    let asked = asked_of(alloc, root, store, notes, &mut held, words);
+    let_go(held);
+    asked
+}
+
 /// The same on a store of its own.
-pub fn asked(rt: HostRuntime, root: &str, ways: Ways, words: &str) -> Result<String, AllocError> {
+fn asked(rt: HostRuntime, root: &str, ways: Ways, words: &str) -> Result<String, AllocError> {
     let (watched, notes) = Watched::new(rt, ways)?;
-    asked_of(
-        rt.alloc(),
-        root,
-        &mut FolderStore::new(watched),
-        &notes,
-        &mut None,
-        words,
-    )
+    let mut store = FolderStore::new(watched);
+    let asked = asked_once(rt.alloc(), root, &mut store, &notes, words);
+    let_go((store, notes));
+    asked
 }
 
 /// How the row came, if it came otherwise.
@@ -202,6 +213,14 @@ fn other_in(
     Ok(None)
 }
 
+/// Makes a file and a folder.
+fn make_both(rt: HostRuntime, root: &str) -> io::Result<()> {
+    let file = below(rt.alloc(), root, "/file")?;
+    fs::write(&rt, file.as_str(), b"hello")?;
+    let folder = below(rt.alloc(), root, "/folder")?;
+    fs::create_dir(&rt, folder.as_str())
+}
+
 /// The first row that comes otherwise below a folder with a file and a folder, in any of these ways.
 fn other_in_any(
     rt: HostRuntime,
@@ -209,10 +228,7 @@ fn other_in_any(
     ways: &[&str],
     rows: &[&str],
 ) -> io::Result<Option<String>> {
-    let file = below(rt.alloc(), root, "/file")?;
-    let folder = below(rt.alloc(), root, "/folder")?;
-    fs::write(&rt, file.as_str(), b"hello")?;
-    fs::create_dir(&rt, folder.as_str())?;
+    make_both(rt, root)?;
     for name in ways {
         let other = other_in(rt, root, name, rows)?;
         if other.is_some() {
@@ -226,16 +242,14 @@ fn other_in_any(
 fn all_come_in(rt: HostRuntime, name: &str, ways: &[&str], rows: &[&str]) -> Result<(), Fail> {
     let root = fresh(rt, name)?;
     let other = other_in_any(rt, root.as_str(), ways, rows);
-    fs::remove_dir_all(&rt, root.as_str())?;
-    told(other?)
+    told(cleared(rt, root, other)??)
 }
 
 /// The first row that comes otherwise below a fresh folder.
 fn other_below(rt: HostRuntime, name: &str, rows: &[&str]) -> io::Result<Option<String>> {
     let root = fresh(rt, name)?;
     let other = first_other(rt, root.as_str(), rows);
-    fs::remove_dir_all(&rt, root.as_str())?;
-    Ok(other?)
+    Ok(cleared(rt, root, other)??)
 }
 
 /// Fails if a row comes otherwise below a fresh folder.

@@ -1,14 +1,15 @@
 //! That steps leave no file open.
-use crate::asked::asked_of;
-use crate::common::fresh;
+use crate::asked::asked_once;
+use crate::common::{cleared, fresh};
 use crate::watched::{Notes, Watched};
 use crate::ways::PLAIN;
+use cacache_core::keeping::let_go;
 use cacache_folder::FolderStore;
-use std::alloc::AllocError;
+use std::alloc::{AllocError, Global};
+use std::io;
 use std::rc::Rc;
 use std::rt::HostRuntime;
 use std::test::Fail;
-use std::{fs, io};
 
 /// Steps that open a file or a folder, some of which fail.
 const OPENING: [&str; 12] = [
@@ -28,7 +29,7 @@ const OPENING: [&str; 12] = [
 
 /// Does each of these steps once, and so many appends.
 fn do_all(
-    rt: HostRuntime,
+    alloc: Global,
     root: &str,
     store: &mut FolderStore<Watched>,
     notes: &Notes,
@@ -36,7 +37,7 @@ fn do_all(
 ) -> Result<(), AllocError> {
     for number in 0..appends {
         let words = OPENING.get(number).copied().unwrap_or("Append /file x");
-        asked_of(rt.alloc(), root, store, notes, &mut None, words)?;
+        let_go(asked_once(alloc, root, store, notes, words)?);
     }
     Ok(())
 }
@@ -46,16 +47,18 @@ fn holders_below(rt: HostRuntime, root: &str) -> io::Result<(usize, usize)> {
     let (watched, notes) = Watched::new(rt, PLAIN)?;
     let mut store = FolderStore::new(watched);
     let before = Rc::strong_count(&notes);
-    do_all(rt, root, &mut store, &notes, 2000)?;
-    Ok((before, Rc::strong_count(&notes)))
+    let done = do_all(rt.alloc(), root, &mut store, &notes, 2000);
+    let after = Rc::strong_count(&notes);
+    let_go((store, notes));
+    done?;
+    Ok((before, after))
 }
 
 #[test]
 fn no_step_leaves_a_file_open(rt: HostRuntime) -> Result<(), Fail> {
     let root = fresh(rt, "closed")?;
     let holders = holders_below(rt, root.as_str());
-    fs::remove_dir_all(&rt, root.as_str())?;
-    let (before, after) = holders?;
+    let (before, after) = cleared(rt, root, holders)??;
     assert_eq!(rt; after, before);
     Ok(())
 }

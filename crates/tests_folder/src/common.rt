@@ -1,5 +1,6 @@
 //! What the tests share.
 use cacache_core::bytes::Bytes;
+use cacache_core::keeping::{beside, let_go};
 use cacache_core::text::Text;
 use cacache_folder::SystemClock;
 use cacache_store::env::Clock;
@@ -56,4 +57,12 @@ pub fn fresh(rt: HostRuntime, name: &str) -> io::Result<String> {
     let root = format!(in rt.alloc(); "{}/cacache_folder-{name}-{now}", base.as_str())?;
     fs::create_dir(&rt, root.as_str())?;
     Ok(root)
+}
+
+/// Removes a folder and all below, and hands back what came of the steps there.
+pub fn cleared<T: Drop>(rt: HostRuntime, root: String, came: T) -> io::Result<T> {
+    let removed = fs::remove_dir_all(&rt, root.as_str());
+    let_go(root);
+    let (_, came) = beside(removed, came)?;
+    Ok(came)
 }

@@ -1,10 +1,9 @@
-//! Temporary files that are moved, and synced.
-use crate::common::{below, bytes_of, fresh};
-use crate::steps::end_of;
-use cacache_core::bytes::Bytes;
-use cacache_core::keeping::let_go;
+//! Temporary files that are written to, synced and moved.
+use crate::common::{below, bytes_of, cleared, fresh};
+use crate::steps::{end_of, shown};
+use cacache_core::keeping::{beside, let_go, set};
 use cacache_core::text::Text;
-use cacache_folder::FolderStore;
+use cacache_folder::{FolderStore, FolderTemp};
 use cacache_store::store::{Answer, Step, Store};
 use std::alloc::{AllocError, Global};
 use std::io::Write;
@@ -35,72 +34,85 @@ fn empty<S: Store>(
     Ok(temp_of(store.step(Step::CreateTemp(path))))
 }
 
-/// Makes a temporary file with the bytes `newer`, written in one step.
-fn newer<S: Store>(
+/// The step of a word on a temporary file: `Write`, with the bytes of a text, `Sync`, or `Persist`, with a path.
+fn step_on<F, T: Drop>(
     alloc: Global,
     root: &str,
-    store: &mut S,
-    path: &str,
-) -> Result<Option<S::Temp>, AllocError> {
-    let bytes = bytes_of(alloc, "newer")?;
-    match empty(alloc, root, store, path)? {
-        Some(temp) => Ok(temp_of(store.step(Step::Write(temp, bytes)))),
-        None => Ok(None),
+    ask: &str,
+    word: &str,
+    temp: T,
+) -> Result<Step<F, T>, AllocError> {
+    match ask {
+        "Write" => {
+            let (bytes, temp) = beside(bytes_of(alloc, word), temp)?;
+            Ok(Step::Write(temp, bytes))
+        }
+        "Sync" => Ok(Step::SyncTemp(temp)),
+        _ => {
+            let (path, temp) = beside(below(alloc, root, word), temp)?;
+            Ok(Step::Persist(temp, path))
+        }
     }
 }
 
-/// Makes a temporary file and writes the bytes `newer` to it. Returns how the line of the write ends.
-pub fn wrote<S: Store>(
+/// Does a step, keeps the temporary file of its answer, and returns how its line ends.
+pub fn keeping<S: Store>(
+    alloc: Global,
+    store: &mut S,
+    step: Step<S::File, S::Temp>,
+    held: &mut Option<S::Temp>,
+) -> Result<String, AllocError> {
+    let answer = store.step(step);
+    let end = shown(alloc, &answer);
+    set(held, temp_of(answer));
+    end
+}
+
+/// Does the step of a word on the temporary file that is held, and returns how its line ends.
+pub fn held_step<S: Store>(
     alloc: Global,
     root: &str,
     store: &mut S,
-    path: &str,
+    held: &mut Option<S::Temp>,
+    words: (&str, &str),
 ) -> Result<String, AllocError> {
-    let bytes = bytes_of(alloc, "newer")?;
-    match empty(alloc, root, store, path)? {
-        Some(temp) => end_of(alloc, store.step(Step::Write(temp, bytes))),
+    let (ask, word) = words;
+    match held.take() {
+        Some(temp) => {
+            let step = step_on(alloc, root, ask, word, temp)?;
+            keeping(alloc, store, step, held)
+        }
         None => String::from_str(alloc, "no file"),
     }
 }
 
-/// Moves a temporary file, and returns how the line of that step ends.
-fn moved<S: Store>(
+/// Does the steps of some words on the temporary file that is held, and returns how the line of the last ends.
+fn last_end<S: Store>(
     alloc: Global,
+    root: &str,
     store: &mut S,
-    temp: S::Temp,
-    path: Text,
+    held: &mut Option<S::Temp>,
+    steps: &[(&str, &str)],
 ) -> Result<String, AllocError> {
-    end_of(alloc, store.step(Step::Persist(temp, path)))
+    let mut end = String::new(alloc);
+    for words in steps {
+        set(&mut end, held_step(alloc, root, store, held, *words)?);
+    }
+    Ok(end)
 }
 
-/// Makes a temporary file with the bytes `newer` and moves it to the target. Returns how the line of the move ends.
-pub fn persisted<S: Store>(
+/// Makes a temporary file and does the steps of some words on it. Returns how the line of the last ends.
+pub fn on_temp<S: Store>(
     alloc: Global,
     root: &str,
     store: &mut S,
     path: &str,
-    target: &str,
+    steps: &[(&str, &str)],
 ) -> Result<String, AllocError> {
-    let target = below(alloc, root, target)?;
-    match newer(alloc, root, store, path)? {
-        Some(temp) => moved(alloc, store, temp, target),
-        None => String::from_str(alloc, "no file"),
-    }
-}
-
-/// Makes an empty temporary file and moves it to the target. Returns how the line of the move ends.
-pub fn persisted_empty<S: Store>(
-    alloc: Global,
-    root: &str,
-    store: &mut S,
-    path: &str,
-    target: &str,
-) -> Result<String, AllocError> {
-    let target = below(alloc, root, target)?;
-    match empty(alloc, root, store, path)? {
-        Some(temp) => moved(alloc, store, temp, target),
-        None => String::from_str(alloc, "no file"),
-    }
+    let mut held = empty(alloc, root, store, path)?;
+    let end = last_end(alloc, root, store, &mut held, steps);
+    let_go(held);
+    end
 }
 
 /// Hands a temporary file these bytes as a `Write`. Returns how many it took, and how the line of reading it ends.
@@ -129,40 +141,6 @@ pub fn given_bytes<S: Store>(
         Some(mut temp) => taken_by(alloc, store, &mut temp, again, bytes.as_slice()),
         None => String::from_str(alloc, "no file"),
     }
-}
-
-/// Syncs a temporary file, and returns how the line of that step ends.
-fn sync_end<S: Store>(
-    alloc: Global,
-    store: &mut S,
-    temp: Option<S::Temp>,
-) -> Result<String, AllocError> {
-    match temp {
-        Some(temp) => end_of(alloc, store.step(Step::SyncTemp(temp))),
-        None => String::from_str(alloc, "no file"),
-    }
-}
-
-/// Makes a temporary file with the bytes `newer` and syncs it. Returns how the line of the sync ends.
-pub fn synced<S: Store>(
-    alloc: Global,
-    root: &str,
-    store: &mut S,
-    path: &str,
-) -> Result<String, AllocError> {
-    let temp = newer(alloc, root, store, path)?;
-    sync_end(alloc, store, temp)
-}
-
-/// Makes an empty temporary file and syncs it. Returns how the line of the sync ends.
-pub fn synced_empty<S: Store>(
-    alloc: Global,
-    root: &str,
-    store: &mut S,
-    path: &str,
-) -> Result<String, AllocError> {
-    let temp = empty(alloc, root, store, path)?;
-    sync_end(alloc, store, temp)
 }
 
 /// The mode of a file without what kind of file it is, and its number in the file system.
@@ -200,44 +178,78 @@ fn make_folders(rt: HostRuntime, root: &str) -> io::Result<()> {
     Ok(())
 }
 
-/// What is seen of a temporary file of a cache that becomes a content: its mode and number before, those after, and
+/// What is seen of a temporary file that is moved from one path to another: its mode and number before, those after, and
 /// whether the first path is still taken.
+fn seen_at(
+    rt: HostRuntime,
+    path: &str,
+    target: &str,
+) -> io::Result<((u32, u64), (u32, u64), bool)> {
+    let to = Text::from_str(rt.alloc(), target)?;
+    let mut store = FolderStore::new(rt);
+    let before = noted_and_moved(rt, &mut store, path, to);
+    let_go(store);
+    let before = before?;
+    let after = mode_and_number(rt, target)?;
+    Ok((before, after, fs::exists(&rt, path)?))
+}
+
+/// The same of a temporary file of a cache that becomes a content.
 fn seen_below(rt: HostRuntime, root: &str) -> io::Result<((u32, u64), (u32, u64), bool)> {
     make_folders(rt, root)?;
     let path = below(rt.alloc(), root, TEMP)?;
-    let target = below(rt.alloc(), root, CONTENT)?;
-    let to = target.clone()?;
-    let before = noted_and_moved(rt, &mut FolderStore::new(rt), path.as_str(), to)?;
-    let after = mode_and_number(rt, target.as_str())?;
-    Ok((before, after, fs::exists(&rt, path.as_str())?))
+    let (target, path) = beside(below(rt.alloc(), root, CONTENT), path)?;
+    let seen = seen_at(rt, path.as_str(), target.as_str());
+    let_go((path, target));
+    seen
 }
 
 #[test]
 fn a_temporary_file_is_private_and_is_moved_itself(rt: HostRuntime) -> Result<(), Fail> {
     let root = fresh(rt, "private")?;
-    let (before, after, is_left) = seen_below(rt, root.as_str())?;
-    fs::remove_dir_all(&rt, root.as_str())?;
+    let seen = seen_below(rt, root.as_str());
+    let (before, after, is_left) = cleared(rt, root, seen)??;
     assert_eq!(rt; before.0, 0o600);
     assert_eq!(rt; after, before);
     assert!(rt; !is_left);
     Ok(())
 }
 
+/// Makes an empty temporary file on a real folder.
+fn real_empty(rt: HostRuntime, root: &str) -> Result<Option<FolderTemp<HostRuntime>>, AllocError> {
+    let mut store = FolderStore::new(rt);
+    let temp = empty(rt.alloc(), root, &mut store, "/temp");
+    let_go(store);
+    temp
+}
+
+/// Removes the temporary file as somebody else would.
+fn remove_file(rt: HostRuntime, root: &str) -> io::Result<()> {
+    let path = below(rt.alloc(), root, "/temp")?;
+    let removed = fs::remove_file(&rt, path.as_str());
+    let_go(path);
+    removed
+}
+
 /// Whether a temporary file that somebody else removed says so when it is to be removed.
 fn misses_below(rt: HostRuntime, root: &str) -> io::Result<bool> {
-    let path = below(rt.alloc(), root, "/temp")?;
-    let Some(temp) = empty(rt.alloc(), root, &mut FolderStore::new(rt), "/temp")? else {
-        return Ok(false);
-    };
-    fs::remove_file(&rt, path.as_str())?;
-    Ok(temp.remove().is_err())
+    match real_empty(rt, root)? {
+        Some(temp) => {
+            let (_, temp) = beside(remove_file(rt, root), temp)?;
+            let removed = temp.remove();
+            let misses = removed.is_err();
+            let_go(removed);
+            Ok(misses)
+        }
+        None => Ok(false),
+    }
 }
 
 #[test]
 fn a_removal_says_that_it_failed(rt: HostRuntime) -> Result<(), Fail> {
     let root = fresh(rt, "unremoved")?;
     let misses = misses_below(rt, root.as_str());
-    fs::remove_dir_all(&rt, root.as_str())?;
-    assert!(rt; misses?);
+    let misses = cleared(rt, root, misses)??;
+    assert!(rt; misses);
     Ok(())
 }

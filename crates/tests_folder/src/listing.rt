@@ -1,7 +1,6 @@
 //! Folders whose names don't fit into one read.
-use crate::common::fresh;
-use crate::steps::end_after;
-use cacache_folder::FolderStore;
+use crate::common::{cleared, fresh};
+use crate::steps::end_anew;
 use std::rt::HostRuntime;
 use std::test::Fail;
 use std::{fs, io};
@@ -26,14 +25,14 @@ fn fill(rt: HostRuntime, root: &str) -> io::Result<()> {
 /// How the listing of a folder with these files ends.
 fn end_below(rt: HostRuntime, root: &str) -> io::Result<String> {
     fill(rt, root)?;
-    Ok(end_after(rt.alloc(), root, &mut FolderStore::new(rt), "ReadDir /")?)
+    Ok(end_anew(rt, root, "ReadDir /")?)
 }
 
 #[test]
 fn a_long_listing_is_whole(rt: HostRuntime) -> Result<(), Fail> {
     let root = fresh(rt, "listed")?;
     let end = end_below(rt, root.as_str());
-    fs::remove_dir_all(&rt, root.as_str())?;
-    assert_eq!(rt; end?.as_str(), "Names 2040 0 0");
+    let end = cleared(rt, root, end)??;
+    assert_eq!(rt; end.as_str(), "Names 2040 0 0");
     Ok(())
 }

@@ -1,7 +1,7 @@
 //! Files that are read piece by piece.
 use crate::common::text_of;
 use cacache_core::bytes::Bytes;
-use cacache_core::keeping::let_go;
+use cacache_core::keeping::{beside, let_go};
 use cacache_core::text::Text;
 use cacache_store::store::{Answer, Step, Store};
 use std::alloc::{AllocError, Global};
@@ -36,18 +36,54 @@ fn show(shown: &mut String, bytes: &[u8]) -> Result<(), AllocError> {
     shown.push(')')
 }
 
-/// Reads one piece, shows it, and returns the file unless it is at its end.
+/// Reads one piece, keeps it, and returns the file unless it is at its end.
 fn next_of<S: Store>(
     store: &mut S,
     file: S::File,
     max: usize,
-    shown: &mut String,
+    pieces: &mut Vec<Bytes>,
 ) -> Result<Option<S::File>, AllocError> {
-    let Some((file, bytes)) = piece_of(store.step(Step::Read(file, max))) else {
-        return Ok(None);
-    };
-    show(shown, bytes.as_slice())?;
-    Ok(if bytes.is_empty() { None } else { Some(file) })
+    match piece_of(store.step(Step::Read(file, max))) {
+        Some((file, bytes)) => {
+            let is_end = bytes.is_empty();
+            let (_, file) = beside(pieces.push(bytes), file)?;
+            Ok(if is_end { None } else { Some(file) })
+        }
+        None => Ok(None),
+    }
+}
+
+/// Reads a file in so many steps of at most `max` bytes, or to its end, and keeps the pieces.
+fn add_pieces<S: Store>(
+    store: &mut S,
+    file: Option<S::File>,
+    max: usize,
+    steps: usize,
+    pieces: &mut Vec<Bytes>,
+) -> Result<(), AllocError> {
+    let mut file = file;
+    for _ in 0..steps {
+        let Some(open) = file else {
+            return Ok(());
+        };
+        file = next_of(store, open, max, pieces)?;
+    }
+    let_go(file);
+    Ok(())
+}
+
+/// Opens the file and reads it in so many steps of at most `max` bytes, or to its end.
+fn pieces_of<S: Store>(
+    alloc: Global,
+    store: &mut S,
+    path: Text,
+    max: usize,
+    steps: usize,
+) -> Result<Vec<Bytes>, AllocError> {
+    let file = file_of(store.step(Step::Open(path)));
+    let mut pieces = Vec::new(alloc);
+    let (_, pieces) = beside(add_pieces(store, file, max, steps, &mut pieces), pieces)?;
+    Ok(pieces)
 }
 
 /// Opens the file and reads it in steps of at most `max` bytes, each of which is put into a bracket.
@@ -58,39 +94,20 @@ pub fn pieces<S: Store>(
     max: &str,
 ) -> Result<String, AllocError> {
     let max = max.parse::<usize>().unwrap_or(usize::MAX);
+    let pieces = pieces_of(alloc, store, path, max, 9)?;
     let mut shown = String::new(alloc);
-    let mut file = file_of(store.step(Step::Open(path)));
-    for _ in 0..9 {
-        let Some(open) = file else {
-            return Ok(shown);
-        };
-        file = next_of(store, open, max, &mut shown)?;
+    for piece in &pieces {
+        show(&mut shown, piece.as_slice())?;
     }
     Ok(shown)
 }
 
-/// Reads one piece, adds it, and returns the file unless it is at its end.
-fn add_next<S: Store>(
-    store: &mut S,
-    file: S::File,
-    all: &mut Vec<u8>,
-) -> Result<Option<S::File>, AllocError> {
-    let Some((file, bytes)) = piece_of(store.step(Step::Read(file, usize::MAX))) else {
-        return Ok(None);
-    };
-    all.extend_from_slice(bytes.as_slice())?;
-    Ok(if bytes.is_empty() { None } else { Some(file) })
-}
-
 /// Opens the file and reads it in steps to its end.
 pub fn whole<S: Store>(alloc: Global, store: &mut S, path: Text) -> Result<String, AllocError> {
+    let pieces = pieces_of(alloc, store, path, usize::MAX, 99)?;
     let mut all = Vec::new(alloc);
-    let mut file = file_of(store.step(Step::Open(path)));
-    for _ in 0..99 {
-        let Some(open) = file else {
-            break;
-        };
-        file = add_next(store, open, &mut all)?;
+    for piece in &pieces {
+        all.extend_from_slice(piece.as_slice())?;
     }
     text_of(alloc, all.as_slice())
 }

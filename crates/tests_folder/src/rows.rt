@@ -1,10 +1,12 @@
 //! What each step answers on a real folder, one after another. What is wanted is what the system's manual says.
-use crate::common::fresh;
+use crate::common::{cleared, fresh};
 use crate::steps::other_of;
+use cacache_core::keeping::let_go;
 use cacache_folder::FolderStore;
+use std::alloc::AllocError;
+use std::io;
 use std::rt::HostRuntime;
 use std::test::Fail;
-use std::{fs, io};
 
 const MADE: &str = "\
 MakeDirs /a/b/c: Done
@@ -175,12 +177,19 @@ ReadAll /proc/self/mem: Failed Device
 ReadDir : Failed NotFound
 MakeDirs : Failed NotFound";
 
+/// The first line that comes otherwise below a folder.
+fn other_in(rt: HostRuntime, root: &str, lines: &str) -> Result<Option<String>, AllocError> {
+    let mut store = FolderStore::new(rt);
+    let other = other_of(rt.alloc(), root, &mut store, lines);
+    let_go(store);
+    other
+}
+
 /// The first line that comes otherwise below a fresh folder.
 fn other_below(rt: HostRuntime, name: &str, lines: &str) -> io::Result<Option<String>> {
     let root = fresh(rt, name)?;
-    let other = other_of(rt.alloc(), root.as_str(), &mut FolderStore::new(rt), lines);
-    fs::remove_dir_all(&rt, root.as_str())?;
-    Ok(other?)
+    let other = other_in(rt, root.as_str(), lines);
+    Ok(cleared(rt, root, other)??)
 }
 
 /// Fails with a line that came otherwise.
@@ -238,5 +247,5 @@ fn a_long_file_is_whole_however_it_is_read(rt: HostRuntime) -> Result<(), Fail> 
 
 #[test]
 fn devices_that_fail_are_faults(rt: HostRuntime) -> Result<(), Fail> {
-    told(other_of(rt.alloc(), "", &mut FolderStore::new(rt), DEVICES)?)
+    told(other_in(rt, "", DEVICES)?)
 }

@@ -1,14 +1,15 @@
 //! What the system is asked for in whole runs of steps on one store, with the paths of all calls.
 use crate::asked::asked_of;
-use crate::common::fresh;
+use crate::common::{cleared, fresh};
 use crate::rows::told;
 use crate::watched::{Notes, Watched};
 use crate::ways::{PLAIN, TOLD, Ways};
+use cacache_core::keeping::let_go;
 use cacache_folder::{FolderStore, FolderTemp};
-use std::alloc::AllocError;
+use std::alloc::{AllocError, Global};
+use std::io;
 use std::rt::HostRuntime;
 use std::test::Fail;
-use std::{fs, io};
 
 /// A durable put, its reads, and the beginning of a put that is given up.
 const PUT: &str = "\
@@ -94,17 +95,16 @@ fn is_wanted(came: &str, wanted: &str) -> bool {
 
 /// The first line that comes otherwise on this store.
 fn first_other(
-    rt: HostRuntime,
+    alloc: Global,
     root: &str,
     store: &mut FolderStore<Watched>,
     notes: &Notes,
+    held: &mut Option<FolderTemp<Watched>>,
     lines: &str,
 ) -> Result<Option<String>, AllocError> {
-    let alloc = rt.alloc();
-    let mut held: Option<FolderTemp<Watched>> = None;
     for line in lines.lines() {
         let (words, wanted) = line.split_once(": ").unwrap_or((line, ""));
-        let came = asked_of(alloc, root, store, notes, &mut held, words)?;
+        let came = asked_of(alloc, root, store, notes, held, words)?;
         if !is_wanted(came.as_str(), wanted) {
             return Ok(Some(format!(in alloc; "{words}: {came}")?));
         }
@@ -112,14 +112,27 @@ fn first_other(
     Ok(None)
 }
 
-/// The same below a fresh folder, on a store of these ways.
-fn other_below(rt: HostRuntime, name: &str, ways: Ways, lines: &str) -> io::Result<Option<String>> {
-    let root = fresh(rt, name)?;
+/// The first line that comes otherwise on a store of these ways.
+fn other_in(
+    rt: HostRuntime,
+    root: &str,
+    ways: Ways,
+    lines: &str,
+) -> Result<Option<String>, AllocError> {
     let (watched, notes) = Watched::new(rt, ways)?;
     let mut store = FolderStore::new(watched);
-    let other = first_other(rt, root.as_str(), &mut store, &notes, lines);
-    fs::remove_dir_all(&rt, root.as_str())?;
-    Ok(other?)
+    let mut held: Option<FolderTemp<Watched>> = None;
+    let other = first_other(rt.alloc(), root, &mut store, &notes, &mut held, lines);
+    let_go((store, held));
+    let_go(notes);
+    other
+}
+
+/// The same below a fresh folder.
+fn other_below(rt: HostRuntime, name: &str, ways: Ways, lines: &str) -> io::Result<Option<String>> {
+    let root = fresh(rt, name)?;
+    let other = other_in(rt, root.as_str(), ways, lines);
+    Ok(cleared(rt, root, other)??)
 }
 
 /// Fails if a line comes otherwise on one store of these ways below a fresh folder.

@@ -1,11 +1,16 @@
 //! Steps as lines of text: `Append /file one: Took 3` is a step, its paths below a folder, and its answer.
 use crate::common::{below, bytes_of, text_of};
-use crate::handles::{given_bytes, persisted, persisted_empty, synced, synced_empty, wrote};
+use crate::handles::{given_bytes, on_temp};
 use crate::pieces::{given, given_whole, pieces, whole};
 use cacache_core::keeping::let_go;
 use cacache_core::text::Text;
+use cacache_folder::FolderStore;
 use cacache_store::store::{Answer, Kind, Listing, Step, Store};
 use std::alloc::{AllocError, Global};
+use std::rt::HostRuntime;
+
+/// The words of a write to a temporary file, of those that say none.
+const NEWER: (&str, &str) = ("Write", "newer");
 
 /// A step on one path.
 fn short_step<F, T>(ask: &str, path: Text) -> Option<Step<F, T>> {
@@ -146,16 +151,24 @@ pub fn end_after<S: Store>(
 ) -> Result<String, AllocError> {
     let (ask, path, other) = split(words);
     match ask {
-        "Persist" => persisted(alloc, root, store, path, other),
-        "SyncTemp" => synced(alloc, root, store, path),
-        "SyncEmpty" => synced_empty(alloc, root, store, path),
-        "Write" => wrote(alloc, root, store, path),
-        "PersistEmpty" => persisted_empty(alloc, root, store, path, other),
+        "Persist" => on_temp(alloc, root, store, path, &[NEWER, ("Persist", other)]),
+        "PersistEmpty" => on_temp(alloc, root, store, path, &[("Persist", other)]),
+        "SyncTemp" => on_temp(alloc, root, store, path, &[NEWER, ("Sync", "")]),
+        "SyncEmpty" => on_temp(alloc, root, store, path, &[("Sync", "")]),
+        "Write" => on_temp(alloc, root, store, path, &[NEWER]),
         "Pieces" | "Whole" | "Gives" | "GivesWhole" | "Takes" => {
             by_handle(alloc, root, store, (ask, path, other))
         }
         _ => stepped(alloc, root, store, (ask, path, other)),
     }
+}
+
+/// Does what the words say on a store of its own over real folders.
+pub fn end_anew(rt: HostRuntime, root: &str, words: &str) -> Result<String, AllocError> {
+    let mut store = FolderStore::new(rt);
+    let end = end_after(rt.alloc(), root, &mut store, words);
+    let_go(store);
+    end
 }
 
 /// Does the steps of the lines one after another, and returns the first line that came otherwise.

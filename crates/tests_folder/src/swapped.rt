@@ -1,7 +1,8 @@
 //! What somebody else does between two steps: a link in the place of a folder that a walk goes through, folders that are removed,
 //! and a file that is made anew.
-use crate::common::{below, fresh};
+use crate::common::{below, cleared, fresh};
 use crate::steps::end_after;
+use cacache_core::keeping::{beside, let_go};
 use cacache_core::text::Text;
 use cacache_folder::FolderStore;
 use cacache_store::store::Store;
@@ -46,6 +47,19 @@ fn add_end<S: Store>(
     ends.push(';')
 }
 
+/// Adds how a step of somebody else ends.
+fn add_end_of_else(
+    rt: HostRuntime,
+    root: &str,
+    step: &str,
+    ends: &mut String,
+) -> Result<(), AllocError> {
+    let mut store = FolderStore::new(rt);
+    let added = add_end(rt.alloc(), root, &mut store, step, ends);
+    let_go(store);
+    added
+}
+
 /// Adds how each removal of a file in the folder ends.
 fn add_removals<S: Store>(
     alloc: Global,
@@ -61,35 +75,68 @@ fn add_removals<S: Store>(
     Ok(())
 }
 
-/// How some steps on one store end, one after another; `swap` is the exchange, `RemoveFiles` removes all of a folder, and
-/// behind `Else` stands a step of somebody else.
+/// Adds how a step ends: `swap` is the exchange, `RemoveFiles` removes all of a folder, and behind `Else` stands a step of
+/// somebody else.
+fn add_step(
+    rt: HostRuntime,
+    root: &str,
+    store: &mut FolderStore<HostRuntime>,
+    step: &str,
+    ends: &mut String,
+) -> io::Result<()> {
+    match step.split_once(' ') {
+        None => swap(rt, root),
+        Some(("RemoveFiles", folder)) => Ok(add_removals(rt.alloc(), root, store, folder, ends)?),
+        Some(("Else", step)) => Ok(add_end_of_else(rt, root, step, ends)?),
+        Some(_) => Ok(add_end(rt.alloc(), root, store, step, ends)?),
+    }
+}
+
+/// Adds how some steps on one store end, one after another.
+fn add_steps(
+    rt: HostRuntime,
+    root: &str,
+    store: &mut FolderStore<HostRuntime>,
+    steps: &[&str],
+    ends: &mut String,
+) -> io::Result<()> {
+    for step in steps {
+        add_step(rt, root, store, step, ends)?;
+    }
+    Ok(())
+}
+
+/// How some steps on one store end, one after another.
 fn ends(rt: HostRuntime, root: &str, steps: &[&str]) -> io::Result<String> {
     let mut store = FolderStore::new(rt);
     let mut ends = String::new(rt.alloc());
-    for step in steps {
-        match step.split_once(' ') {
-            None => swap(rt, root)?,
-            Some(("RemoveFiles", folder)) => {
-                add_removals(rt.alloc(), root, &mut store, folder, &mut ends)?
-            }
-            Some(("Else", step)) => {
-                add_end(rt.alloc(), root, &mut FolderStore::new(rt), step, &mut ends)?
-            }
-            Some(_) => add_end(rt.alloc(), root, &mut store, step, &mut ends)?,
-        }
-    }
+    let added = add_steps(rt, root, &mut store, steps, &mut ends);
+    let_go(store);
+    let (_, ends) = beside(added, ends)?;
     Ok(ends)
 }
 
-/// The same below a fresh folder with `cache/in` and `other`, which have the files, and how many `other` has then.
-fn ends_and_left(rt: HostRuntime, name: &str, steps: &[&str]) -> io::Result<(String, String)> {
+/// How some steps end below a folder, and how many files `other` has then.
+#[derive(Drop)]
+struct Came {
+    ends: String,
+    left: String,
+}
+
+/// How some steps end below a folder with `cache/in` and `other`, which have the files.
+fn came_below(rt: HostRuntime, root: &str, steps: &[&str]) -> io::Result<Came> {
+    fill(rt, &below(rt.alloc(), root, "/cache/in")?)?;
+    fill(rt, &below(rt.alloc(), root, "/other")?)?;
+    let came = ends(rt, root, steps)?;
+    let (left, ends) = beside(ends(rt, root, &["ReadDir /other"]), came)?;
+    Ok(Came { ends, left })
+}
+
+/// The same below a fresh folder.
+fn came_of(rt: HostRuntime, name: &str, steps: &[&str]) -> io::Result<Came> {
     let root = fresh(rt, name)?;
-    fill(rt, &below(rt.alloc(), root.as_str(), "/cache/in")?)?;
-    fill(rt, &below(rt.alloc(), root.as_str(), "/other")?)?;
-    let came = ends(rt, root.as_str(), steps)?;
-    let left = ends(rt, root.as_str(), &["ReadDir /other"])?;
-    fs::remove_dir_all(&rt, root.as_str())?;
-    Ok((came, left))
+    let came = came_below(rt, root.as_str(), steps);
+    cleared(rt, root, came)?
 }
 
 #[test]
@@ -100,9 +147,9 @@ fn a_listed_folder_is_listed_through_no_link(rt: HostRuntime) -> Result<(), Fail
         "ReadDir /cache/in",
         "ReadDir /cache/in",
     ];
-    let (came, _) = ends_and_left(rt, "relisted", &steps)?;
+    let came = came_of(rt, "relisted", &steps)?;
     let wanted = "Names 0 1 0;Failed NotADirectory;Names 12 0 0;";
-    assert_eq!(rt; came.as_str(), wanted);
+    assert_eq!(rt; came.ends.as_str(), wanted);
     Ok(())
 }
 
@@ -117,13 +164,13 @@ fn a_folder_is_looked_at_before_a_walk_removes_more_of_it(rt: HostRuntime) -> Re
         "RemoveFile /cache/in/c",
         "RemoveDir /cache/in",
     ];
-    let (came, left) = ends_and_left(rt, "swapped", &steps)?;
+    let came = came_of(rt, "swapped", &steps)?;
     let refused = "Failed NotADirectory;";
     let wanted = format!(in rt.alloc();
         "Names 0 1 0;Names 12 0 0;Done;{refused}{refused}{refused}"
     )?;
-    assert_eq!(rt; came, wanted);
-    assert_eq!(rt; left.as_str(), "Names 11 0 0;");
+    assert_eq!(rt; came.ends, wanted);
+    assert_eq!(rt; came.left.as_str(), "Names 11 0 0;");
     Ok(())
 }
 
@@ -135,8 +182,8 @@ fn a_folder_that_stays_is_cleared(rt: HostRuntime) -> Result<(), Fail> {
         "RemoveFiles /cache/in",
         "RemoveDir /cache/in",
     ];
-    let (came, _) = ends_and_left(rt, "cleared", &steps)?;
-    assert!(rt; !came.contains("Failed"), "{came}");
+    let came = came_of(rt, "cleared", &steps)?;
+    assert!(rt; !came.ends.contains("Failed"), "{}", came.ends);
     Ok(())
 }
 
@@ -160,7 +207,7 @@ fn what_somebody_else_removed_or_wrote_is_seen(rt: HostRuntime) -> Result<(), Fa
     ];
     let wanted =
         "Done;Done;Took 3;Bytes one;Done;Took 3;Bytes two;Done;Failed NotFound;Done;Temp;Done;Took 5;Length 5;";
-    let (came, _) = ends_and_left(rt, "else", &steps)?;
-    assert_eq!(rt; came.as_str(), wanted);
+    let came = came_of(rt, "else", &steps)?;
+    assert_eq!(rt; came.ends.as_str(), wanted);
     Ok(())
 }

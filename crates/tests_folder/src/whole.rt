@@ -4,7 +4,7 @@ use crate::steps::end_after;
 use crate::watched::Watched;
 use crate::ways::{PLAIN, Ways};
 use cacache_core::bytes::Bytes;
-use cacache_core::keeping::let_go;
+use cacache_core::keeping::{beside, let_go};
 use cacache_core::text::Text;
 use cacache_folder::FolderStore;
 use cacache_store::store::{Answer, Step, Store};
@@ -33,15 +33,19 @@ fn slow(size: usize) -> Ways {
     }
 }
 
+/// A store over files of these ways.
+fn store_of(rt: HostRuntime, ways: Ways) -> Result<FolderStore<Watched>, AllocError> {
+    let (watched, notes) = Watched::new(rt, ways)?;
+    let_go(notes);
+    Ok(FolderStore::new(watched))
+}
+
 /// How the line of reading the file at `/file` ends.
 fn end_of_read(rt: HostRuntime, root: &str, ways: Ways) -> Result<String, AllocError> {
-    let (watched, _) = Watched::new(rt, ways)?;
-    end_after(
-        rt.alloc(),
-        root,
-        &mut FolderStore::new(watched),
-        "ReadAll /file",
-    )
+    let mut store = store_of(rt, ways)?;
+    let end = end_after(rt.alloc(), root, &mut store, "ReadAll /file");
+    let_go(store);
+    end
 }
 
 /// The bytes of an answer.
@@ -87,14 +91,21 @@ fn a_file_is_read_whole_whatever_it_says_of_its_size(rt: HostRuntime) -> Result<
     Ok(())
 }
 
+/// Whether the file is read as these bytes, where it says this of its size.
+fn is_read(rt: HostRuntime, root: &str, size: usize, wanted: &[u8]) -> Result<bool, AllocError> {
+    let path = below(rt.alloc(), root, "/file")?;
+    let (mut store, path) = beside(store_of(rt, sized(size)), path)?;
+    let is_read = is_read_as(&mut store, path, wanted);
+    let_go(store);
+    Ok(is_read)
+}
+
 #[test]
 fn a_longer_file_is_read_whole(rt: HostRuntime) -> Result<(), Fail> {
     let long = vec![in rt.alloc(); 7; 3 * FIRST_READ + 1]?;
     let root = with_file(rt, "long", &long)?;
     for size in [0, FIRST_READ, long.len()] {
-        let (watched, _) = Watched::new(rt, sized(size))?;
-        let path = below(rt.alloc(), root.as_str(), "/file")?;
-        let is_whole = is_read_as(&mut FolderStore::new(watched), path, &long);
+        let is_whole = is_read(rt, root.as_str(), size, &long)?;
         assert!(rt; is_whole, "{size}");
     }
     fs::remove_dir_all(&rt, root.as_str())?;
