@@ -2,39 +2,78 @@
 use cacache_core::keeping::let_go;
 use cacache_core::text::Text;
 use cacache_disk::{Disk, Luck};
-use cacache_store::store::{Answer, Kind, Listing, PlainAnswer, Step};
+use cacache_store::store::{Answer, Kind, Listing, Name, Step};
 use rows::words::word_of;
 use std::alloc::{AllocError, Global};
 
 /// How deep folders are looked into.
 const DEPTH: usize = 10;
 
-/// The listing in an answer.
-fn listing_in(answer: PlainAnswer) -> Option<Listing> {
-    match answer {
-        Answer::Names(listing) => Some(listing),
-        other => {
-            let_go(other);
-            None
-        }
-    }
+/// A place in a folder.
+#[derive(Drop)]
+struct Place {
+    path: String,
+    is_folder: bool,
 }
 
-/// What is in a folder.
-fn listed(alloc: Global, disk: &mut Disk, folder: &str) -> Result<Option<Listing>, AllocError> {
-    let step = Step::ReadDir(Text::from_str(alloc, folder)?);
+/// The place of a name in a folder.
+fn place_of(alloc: Global, folder: &str, name: &Name) -> Result<Place, AllocError> {
+    let path = format!(in alloc; "{folder}/{}", name.name.as_str())?;
+    let is_folder = name.kind == Kind::Folder;
+    Ok(Place { path, is_folder })
+}
+
+/// The places of a listing.
+fn places_in(alloc: Global, folder: &str, listing: &Listing) -> Result<Vec<Place>, AllocError> {
+    let mut places = Vec::new(alloc);
+    for name in listing.as_slice() {
+        places.push(place_of(alloc, folder, name)?)?;
+    }
+    Ok(places)
+}
+
+/// The places in a folder; none where it can't be listed.
+fn inside(alloc: Global, disk: &mut Disk, folder: &str) -> Result<Vec<Place>, AllocError> {
+    let path = if folder.is_empty() { "/" } else { folder };
+    let step = Step::ReadDir(Text::from_str(alloc, path)?);
     let applied = disk.apply(&step, Luck::Plain);
     let_go(step);
-    Ok(listing_in(applied?))
+    let answer = applied?;
+    let inside = match &answer {
+        Answer::Names(listing) => places_in(alloc, folder, listing),
+        _ => Ok(Vec::new(alloc)),
+    };
+    let_go(answer);
+    inside
 }
 
 /// A file with its bytes. Nothing here makes a link.
 fn file(alloc: Global, disk: &Disk, path: &str) -> Result<String, AllocError> {
-    match disk.shared(path)? {
-        Some(bytes) if bytes.is_empty() => format!(in alloc; "{path}="),
-        Some(bytes) => format!(in alloc; "{path}={}", word_of(bytes.as_slice())),
-        None => format!(in alloc; "{path}?"),
-    }
+    let Some(bytes) = disk.shared(path)? else {
+        return format!(in alloc; "{path}?");
+    };
+    let text = if bytes.is_empty() {
+        ""
+    } else {
+        word_of(bytes.as_slice())
+    };
+    format!(in alloc; "{path}={text}")
+}
+
+/// Adds a place: a folder's path with a `/` behind it, or a file with its bytes.
+fn add(
+    alloc: Global,
+    disk: &Disk,
+    place: &Place,
+    places: &mut Vec<String>,
+) -> Result<(), AllocError> {
+    let path = place.path.as_str();
+    let text = if place.is_folder {
+        format!(in alloc; "{path}/")?
+    } else {
+        file(alloc, disk, path)?
+    };
+    Ok(places.push(text)?)
 }
 
 /// Adds all that is below a folder.
@@ -48,16 +87,11 @@ fn add_below(
     if depth == 0 {
         return Ok(());
     }
-    let Some(listing) = listed(alloc, disk, if folder.is_empty() { "/" } else { folder })? else {
-        return Ok(());
-    };
-    for name in listing.as_slice() {
-        let path = format!(in alloc; "{folder}/{}", name.name.as_str())?;
-        if name.kind == Kind::Folder {
-            places.push(format!(in alloc; "{path}/")?)?;
-            add_below(alloc, disk, path.as_str(), depth - 1, places)?;
-        } else {
-            places.push(file(alloc, disk, path.as_str())?)?;
+    let inside = inside(alloc, disk, folder)?;
+    for place in &inside {
+        add(alloc, disk, place, places)?;
+        if place.is_folder {
+            add_below(alloc, disk, place.path.as_str(), depth - 1, places)?;
         }
     }
     Ok(())

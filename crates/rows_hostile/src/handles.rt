@@ -1,10 +1,10 @@
 //! Readers, writers and linkers over a store that fails one read or write. A row's words say which one, counted from 0, and how
 //! many the handle is asked for before its end. Each read asks for five bytes of `hello world`, and each write hands in the
 //! next part of it, or all of it; the file takes three bytes at most.
-use cacache::content::read::open;
-use cacache::{Integrity, Result as Answered, WriteOpts};
-use cacache_core::keeping::let_go;
-use row_places::{Faulty, Mishaps};
+use cacache::content::read::{Reader, open};
+use cacache::{Integrity, Result as Answered, SyncToLinker, SyncWriter, WriteOpts};
+use cacache_core::keeping::{beside, let_go};
+use row_places::{Failing, Faulty, Mishaps, Short};
 use rows::Flaw;
 use rows::answers::{checked, refused, stored};
 use rows::words::{cut, number_of, word_of};
@@ -20,14 +20,64 @@ const PARTS: [&str; 3] = ["hello", " worl", "d"];
 /// An environment over a faulty store.
 type On = row_places::On<Faulty>;
 
+/// What a row asks for.
+#[derive(Clone, Copy)]
+struct Asked {
+    /// The number of the read or write that fails.
+    fails: usize,
+    /// How many there are before the end of the handle.
+    count: usize,
+    /// Whether no file can be removed.
+    stays: bool,
+}
+
+/// The numbers of a row.
+fn numbers(words: &str, stays: bool) -> Result<Asked, Flaw> {
+    let (fails, count) = cut(words);
+    Ok(Asked {
+        fails: number_of(fails)?,
+        count: number_of(count)?,
+        stays,
+    })
+}
+
+/// What a row of this kind asks for. A writer that is handed all at once has no count, and ` stays` stands behind the numbers
+/// of one that can't remove its file.
+fn asked_of(kind: &str, words: &str) -> Result<Asked, Flaw> {
+    match (kind, words.strip_suffix(" stays")) {
+        ("whole", _) => Ok(Asked {
+            fails: number_of(words)?,
+            count: 1,
+            stays: false,
+        }),
+        ("abandons", Some(words)) => numbers(words, true),
+        _ => numbers(words, false),
+    }
+}
+
 /// An environment whose read or write of this number fails, and whose writes take three bytes at most.
-fn on(alloc: Global, fails: usize) -> Result<On, AllocError> {
+fn on(alloc: Global, asked: Asked) -> Result<On, AllocError> {
     let mishaps = Mishaps {
-        fails: Some(fails),
+        fails: Some(asked.fails),
         most: 3,
+        stays: asked.stays,
         ..Mishaps::NONE
     };
     row_places::on(alloc, Faulty::new(alloc, mishaps)?, "/")
+}
+
+/// A text with an end behind it.
+fn with_end(text: String, end: Result<String, AllocError>) -> Result<String, AllocError> {
+    let (end, mut text) = beside(end, text)?;
+    let (_, text) = beside(text.push_str(end.as_str()), text)?;
+    Ok(text)
+}
+
+/// A text with what the store keeps behind it.
+fn with_kept(env: &On, text: Result<String, AllocError>) -> Result<String, AllocError> {
+    let text = text?;
+    let kept = word_of(env.store.kept.as_slice());
+    format!(in env.alloc; "{text}, kept {kept}")
 }
 
 /// Adds what so many reads give, each with a comma behind it.
@@ -36,14 +86,35 @@ fn add_reads<R: Read>(text: &mut String, reader: &mut R, count: usize) -> Result
     for _ in 0..count {
         text.push_str(match reader.read(&mut buf) {
             Ok(count) => word_of(&buf[..count]),
-            Err(_) => "failed",
+            Err(error) => {
+                let_go(error);
+                "failed"
+            }
         })?;
         text.push_str(", ")?;
     }
     Ok(())
 }
 
-/// Adds what so many writes take, each with a comma behind it.
+/// What so many reads give.
+fn all_reads<R: Read>(alloc: Global, reader: &mut R, count: usize) -> Result<String, AllocError> {
+    let mut text = String::new(alloc);
+    let (_, text) = beside(add_reads(&mut text, reader, count), text)?;
+    Ok(text)
+}
+
+/// How much a write takes, with a comma behind it.
+fn taken<W: Write>(alloc: Global, writer: &mut W, part: &str) -> Result<String, AllocError> {
+    match writer.write(part.as_bytes()) {
+        Ok(count) => format!(in alloc; "{count}, "),
+        Err(error) => {
+            let_go(error);
+            String::from_str(alloc, "failed, ")
+        }
+    }
+}
+
+/// Adds how much so many writes take.
 fn add_writes<W: Write>(
     alloc: Global,
     text: &mut String,
@@ -51,39 +122,32 @@ fn add_writes<W: Write>(
     count: usize,
 ) -> Result<(), AllocError> {
     for part in PARTS.get(..count).unwrap_or(&PARTS) {
-        let taken = match writer.write(part.as_bytes()) {
-            Ok(count) => format!(in alloc; "{count}, ")?,
-            Err(_) => String::from_str(alloc, "failed, ")?,
-        };
+        let taken = taken(alloc, writer, part)?;
         text.push_str(taken.as_str())?;
     }
     Ok(())
 }
 
-/// The two numbers of a row.
-fn numbers(words: &str) -> Result<(usize, usize), Flaw> {
-    let (fails, count) = cut(words);
-    Ok((number_of(fails)?, number_of(count)?))
-}
-
-/// What a reader gives, and its check.
-fn read(env: &mut On, sri: Integrity, count: usize) -> Result<String, AllocError> {
-    let alloc = env.alloc;
+/// How much so many writes take.
+fn all_writes<W: Write>(alloc: Global, writer: &mut W, count: usize) -> Result<String, AllocError> {
     let mut text = String::new(alloc);
-    let mut reader = match open(env, "c", sri) {
-        Ok(reader) => reader,
-        Err(error) => return refused(alloc, error),
-    };
-    add_reads(&mut text, &mut reader, count)?;
-    let end = checked(alloc, reader.check())?;
-    text.push_str(end.as_str())?;
+    let (_, text) = beside(add_writes(alloc, &mut text, writer, count), text)?;
     Ok(text)
 }
 
-/// What a reader of this row gives.
-pub(crate) fn reads(alloc: Global, words: &str) -> Result<String, Flaw> {
-    let (fails, count) = numbers(words)?;
-    let mut env = on(alloc, fails)?;
+/// What the reads of a reader give, and its check.
+fn read_and_check(
+    alloc: Global,
+    mut reader: Reader<Failing>,
+    count: usize,
+) -> Result<String, AllocError> {
+    let (text, reader) = beside(all_reads(alloc, &mut reader, count), reader)?;
+    with_end(text, checked(alloc, reader.check()))
+}
+
+/// What a reader gives, and its check.
+fn read(env: &mut On, count: usize) -> Result<String, Flaw> {
+    let alloc = env.alloc;
     let sri = match Integrity::parse(alloc, BOTH) {
         Ok(sri) => sri,
         Err(error) => {
@@ -91,46 +155,48 @@ pub(crate) fn reads(alloc: Global, words: &str) -> Result<String, Flaw> {
             return Err(Flaw::NoMemory);
         }
     };
-    Ok(read(&mut env, sri, count)?)
+    Ok(match open(env, "c", sri) {
+        Ok(reader) => read_and_check(alloc, reader, count)?,
+        Err(error) => refused(alloc, error)?,
+    })
 }
 
-/// What a writer's writes take, and its commit.
+/// What the writes of a writer take, and its commit.
+fn write_and_commit(
+    env: &mut On,
+    mut writer: SyncWriter<Short>,
+    count: usize,
+) -> Result<String, AllocError> {
+    let (text, writer) = beside(all_writes(env.alloc, &mut writer, count), writer)?;
+    with_end(text, stored(env.alloc, writer.commit(env)))
+}
+
+/// What a writer's writes take, its commit, and what is stored then.
 fn write(env: &mut On, count: usize) -> Result<String, AllocError> {
-    let alloc = env.alloc;
-    let mut text = String::new(alloc);
+    let text = match WriteOpts::new().open_hash_sync(env, "c") {
+        Ok(writer) => write_and_commit(env, writer, count),
+        Err(error) => refused(env.alloc, error),
+    };
+    with_kept(env, text)
+}
+
+/// What is said of a write, what came of the commit, and what is stored then.
+fn told(env: &On, said: &str, end: Answered<Integrity>) -> Result<String, AllocError> {
+    let end = stored(env.alloc, end)?;
+    with_kept(env, format!(in env.alloc; "{said}, {end}"))
+}
+
+/// What a writer that is handed all at once says of it, its commit, and what is stored then.
+fn write_whole(env: &mut On) -> Result<String, AllocError> {
     let mut writer = match WriteOpts::new().open_hash_sync(env, "c") {
         Ok(writer) => writer,
-        Err(error) => return refused(alloc, error),
+        Err(error) => return told(env, "", Err(error)),
     };
-    add_writes(alloc, &mut text, &mut writer, count)?;
-    let end = stored(alloc, writer.commit(env))?;
-    text.push_str(end.as_str())?;
-    Ok(text)
-}
-
-/// What a writer of this row takes, and what is stored then.
-pub(crate) fn writes(alloc: Global, words: &str) -> Result<String, Flaw> {
-    let (fails, count) = numbers(words)?;
-    let mut env = on(alloc, fails)?;
-    let text = write(&mut env, count)?;
-    let kept = word_of(env.store.kept.as_slice());
-    Ok(format!(in alloc; "{text}, kept {kept}")?)
-}
-
-/// What a writer of this row that is handed all at once says of it, and what is stored then.
-pub(crate) fn writes_whole(alloc: Global, words: &str) -> Result<String, Flaw> {
-    let mut env = on(alloc, number_of(words)?)?;
-    let (said, end) = match WriteOpts::new().open_hash_sync(&mut env, "c") {
-        Ok(mut writer) => {
-            let written = writer.write_all(b"hello world");
-            let said = if written.is_ok() { "written" } else { "failed" };
-            (said, writer.commit(&mut env))
-        }
-        Err(error) => ("", Err(error)),
-    };
-    let text = stored(alloc, end)?;
-    let kept = word_of(env.store.kept.as_slice());
-    Ok(format!(in alloc; "{said}, {text}, kept {kept}")?)
+    let written = writer.write_all(b"hello world");
+    let said = if written.is_ok() { "written" } else { "failed" };
+    let_go(written);
+    let end = writer.commit(env);
+    told(env, said, end)
 }
 
 /// What a writer's commit answers that hands each part on or is abandoned, or why it was.
@@ -142,39 +208,45 @@ fn commit_or_abandon(env: &mut On, count: usize) -> Answered<Integrity> {
     writer.commit(env)
 }
 
-/// What such a writer of this row answers, what is stored then, and how many files were to be removed. `stays` behind the
-/// numbers says that none can be.
-pub(crate) fn abandons(alloc: Global, words: &str) -> Result<String, Flaw> {
-    let (words, stays) = match words.strip_suffix(" stays") {
-        Some(words) => (words, true),
-        None => (words, false),
-    };
-    let (fails, count) = numbers(words)?;
-    let mut env = on(alloc, fails)?;
-    env.store.mishaps.stays = stays;
-    let end = commit_or_abandon(&mut env, count);
-    let text = stored(alloc, end)?;
-    let (kept, removals) = (word_of(env.store.kept.as_slice()), env.store.removals);
-    Ok(format!(in alloc; "{text}, kept {kept}, removals {removals}")?)
+/// What such a writer answers, what is stored then, and how many files were to be removed.
+fn write_or_abandon(env: &mut On, count: usize) -> Result<String, AllocError> {
+    let end = commit_or_abandon(env, count);
+    let text = with_kept(env, stored(env.alloc, end))?;
+    format!(in env.alloc; "{text}, removals {}", env.store.removals)
+}
+
+/// What the reads of a linker give, and its commit.
+fn read_and_link(
+    env: &mut On,
+    mut linker: SyncToLinker<Failing>,
+    count: usize,
+) -> Result<String, AllocError> {
+    let (text, linker) = beside(all_reads(env.alloc, &mut linker, count), linker)?;
+    with_end(text, stored(env.alloc, linker.commit(env)))
 }
 
 /// What a linker gives, and its commit.
 fn link(env: &mut On, count: usize) -> Result<String, AllocError> {
-    let alloc = env.alloc;
-    let mut text = String::new(alloc);
-    let mut linker = match WriteOpts::new().link_to_hash_sync(env, "c", "/t") {
-        Ok(linker) => linker,
-        Err(error) => return refused(alloc, error),
-    };
-    add_reads(&mut text, &mut linker, count)?;
-    let end = stored(alloc, linker.commit(env))?;
-    text.push_str(end.as_str())?;
-    Ok(text)
+    match WriteOpts::new().link_to_hash_sync(env, "c", "/t") {
+        Ok(linker) => read_and_link(env, linker, count),
+        Err(error) => refused(env.alloc, error),
+    }
 }
 
-/// What a linker of this row gives.
-pub(crate) fn links(alloc: Global, words: &str) -> Result<String, Flaw> {
-    let (fails, count) = numbers(words)?;
-    let mut env = on(alloc, fails)?;
-    Ok(link(&mut env, count)?)
+/// What the handle of a row of this kind gives in an environment.
+fn handled_in(env: &mut On, kind: &str, count: usize) -> Result<String, Flaw> {
+    match kind {
+        "reader" => read(env, count),
+        "writer" => Ok(write(env, count)?),
+        "whole" => Ok(write_whole(env)?),
+        "abandons" => Ok(write_or_abandon(env, count)?),
+        _ => Ok(link(env, count)?),
+    }
+}
+
+/// What the handle of a row of this kind gives: `reader`, `writer`, `whole`, `abandons` or `linker`.
+pub(crate) fn handled(alloc: Global, kind: &str, words: &str) -> Result<String, Flaw> {
+    let asked = asked_of(kind, words)?;
+    let mut env = on(alloc, asked)?;
+    handled_in(&mut env, kind, asked.count)
 }

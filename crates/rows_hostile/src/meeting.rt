@@ -3,24 +3,22 @@ use crate::facts::{CONTENTS, Content};
 use crate::model::Call;
 use crate::side::{Came, Sides};
 use crate::texts::found;
-use cacache_core::keeping::let_go;
+use cacache_core::keeping::{beside, let_go};
 use cacache_disk::Luck;
 use std::alloc::{AllocError, Global};
 
 /// How many moves a put makes.
 pub(crate) const MOVES: usize = 7;
 
-/// Makes so many moves of a caller's call: the last reply, or how the sides differ.
-fn moves(sides: &mut Sides, caller: usize, count: usize) -> Result<Came, AllocError> {
-    let mut last = Came::On;
+/// Makes so many moves of a caller's call: how the sides differ, if they do.
+fn moves(sides: &mut Sides, caller: usize, count: usize) -> Result<Option<String>, AllocError> {
     for _ in 0..count {
-        let_go(last);
-        last = sides.go(caller, Luck::Plain)?;
-        if matches!(&last, Came::Differs(_)) {
-            return Ok(last);
+        match sides.go(caller, Luck::Plain)? {
+            Came::Differs(text) => return Ok(Some(text)),
+            came => let_go(came),
         }
     }
-    Ok(last)
+    Ok(None)
 }
 
 /// Makes these events: how the sides differ, if they do.
@@ -34,7 +32,7 @@ fn meet(
     sides.begin(1, Call::Put(second))?;
     let rest = MOVES.saturating_sub(before);
     for (caller, count) in [(0, before), (1, MOVES), (0, rest)] {
-        if let Came::Differs(text) = moves(sides, caller, count)? {
+        if let Some(text) = moves(sides, caller, count)? {
             return Ok(Some(text));
         }
     }
@@ -52,13 +50,41 @@ fn holds_both(sides: &Sides, first: Content, second: Content) -> Result<bool, Al
 fn finds(alloc: Global, sides: &mut Sides, first: Content) -> Result<bool, AllocError> {
     sides.begin(1, Call::Find)?;
     let wanted = found(alloc, first)?;
-    match sides.go(1, Luck::Plain)? {
-        Came::Over(reply) => Ok(reply == wanted),
-        _ => Ok(false),
+    let (came, wanted) = beside(sides.go(1, Luck::Plain), wanted)?;
+    Ok(matches!(&came, Came::Over(reply) if *reply == wanted))
+}
+
+/// How two puts that met differ from what is to come, if they do.
+fn unlike(
+    alloc: Global,
+    sides: &mut Sides,
+    first: Content,
+    second: Content,
+) -> Result<Option<String>, AllocError> {
+    if let Some(text) = sides.differing()? {
+        return Ok(Some(text));
+    }
+    if holds_both(sides, first, second)? && finds(alloc, sides, first)? {
+        return Ok(None);
+    }
+    Ok(Some(String::from_str(alloc, "not both, or the earlier one found")?))
+}
+
+/// The same of two puts that meet so on these sides.
+fn met_on(
+    alloc: Global,
+    sides: &mut Sides,
+    first: Content,
+    second: Content,
+    before: usize,
+) -> Result<Option<String>, AllocError> {
+    match meet(sides, first, second, before)? {
+        Some(text) => Ok(Some(text)),
+        None => unlike(alloc, sides, first, second),
     }
 }
 
-/// How two puts that meet so differ from what is to come, if they do.
+/// The same on sides of their own.
 fn met(
     alloc: Global,
     first: Content,
@@ -66,16 +92,7 @@ fn met(
     before: usize,
 ) -> Result<Option<String>, AllocError> {
     let mut sides = Sides::new(alloc, 2, false)?;
-    if let Some(text) = meet(&mut sides, first, second, before)? {
-        return Ok(Some(text));
-    }
-    if let Some(text) = sides.differing()? {
-        return Ok(Some(text));
-    }
-    if holds_both(&sides, first, second)? && finds(alloc, &mut sides, first)? {
-        return Ok(None);
-    }
-    Ok(Some(String::from_str(alloc, "not both, or the earlier one found")?))
+    met_on(alloc, &mut sides, first, second, before)
 }
 
 /// Both puts as first, and each number of moves before the second one's: how many runs went as they are to, or what differed.

@@ -1,6 +1,6 @@
 //! Replies of a world in words.
 use cacache_core::errors::Error;
-use cacache_core::keeping::let_go;
+use cacache_core::keeping::{beside, let_go};
 use cacache_table::{Found, Items, Reply};
 use cacache_world::Move;
 use rows::words::word_of;
@@ -25,17 +25,23 @@ fn shown_found(alloc: Global, found: &Found) -> Result<String, AllocError> {
     format!(in alloc; "found {key} {integrity} {time} {size} {raw:?}")
 }
 
-/// The items of a listing.
-fn shown_items(alloc: Global, items: &Items) -> Result<String, AllocError> {
-    let mut text = String::from_str(alloc, "listed")?;
+/// Adds the items of a listing.
+fn add_items(alloc: Global, text: &mut String, items: &Items) -> Result<(), AllocError> {
     for item in items.as_slice() {
+        text.push_str("; ")?;
         let item = match item {
             Ok(found) => shown_found(alloc, found)?,
             Err(error) => shown_error(alloc, error)?,
         };
-        text.push_str("; ")?;
         text.push_str(item.as_str())?;
     }
+    Ok(())
+}
+
+/// The items of a listing.
+fn shown_items(alloc: Global, items: &Items) -> Result<String, AllocError> {
+    let mut text = String::from_str(alloc, "listed")?;
+    let (_, text) = beside(add_items(alloc, &mut text, items), text)?;
     Ok(text)
 }
 

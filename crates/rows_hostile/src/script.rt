@@ -59,7 +59,7 @@ impl Drop for Run {
 
 impl Run {
     /// Before the first call.
-    fn new(alloc: Global, change: Change) -> Result<Run, AllocError> {
+    pub(crate) fn new(alloc: Global, change: Change) -> Result<Run, AllocError> {
         let spares = matches!(change, Change::Memory);
         let sides = Sides::new(alloc, CALLERS, spares)?;
         Ok(Run {
@@ -141,7 +141,11 @@ impl Run {
     }
 
     /// Makes all calls of the script: how the sides differ, if they do.
-    fn calls(&mut self, alloc: Global, tally: &mut Tally) -> Result<Option<String>, AllocError> {
+    pub(crate) fn calls(
+        &mut self,
+        alloc: Global,
+        tally: &mut Tally,
+    ) -> Result<Option<String>, AllocError> {
         for (caller, call) in &SCRIPT {
             if let Some(text) = self.call(alloc, *caller, *call, tally)? {
                 return Ok(Some(text));
@@ -152,13 +156,12 @@ impl Run {
     }
 }
 
-/// A run with this change, and how its sides differ, if they do.
+/// How the sides of a run with this change differ, if they do.
 pub(crate) fn played(
     alloc: Global,
     change: Change,
     tally: &mut Tally,
-) -> Result<(Run, Option<String>), AllocError> {
+) -> Result<Option<String>, AllocError> {
     let mut run = Run::new(alloc, change)?;
-    let differing = run.calls(alloc, tally)?;
-    Ok((run, differing))
+    run.calls(alloc, tally)
 }

@@ -5,6 +5,7 @@ use crate::model::{Call, Model};
 use crate::replies::{NO_MEMORY, told};
 use cacache_core::bytes::Bytes;
 use cacache_core::integrity::Algorithm;
+use cacache_core::keeping::{beside, let_go};
 use cacache_core::text::Text;
 use cacache_disk::Luck;
 use cacache_table::{Command, Options, Put};
@@ -52,12 +53,17 @@ fn world_of(alloc: Global, callers: usize) -> Result<World, AllocError> {
     }
 }
 
+/// The bytes of a content.
+fn bytes_of(alloc: Global, content: Content) -> Result<Bytes, AllocError> {
+    Bytes::new(alloc, Vec::from_slice(alloc, content.text().as_bytes())?)
+}
+
 /// The put of a content.
 fn put_of(alloc: Global, content: Content) -> Result<Put, AllocError> {
-    let key = Some(Text::from_str(alloc, KEY)?);
-    let data = Bytes::new(alloc, Vec::from_slice(alloc, content.text().as_bytes())?)?;
+    let key = Text::from_str(alloc, KEY)?;
+    let (data, key) = beside(bytes_of(alloc, content), key)?;
     Ok(Put {
-        key,
+        key: Some(key),
         data,
         moment: content.moment() as u128,
         options: Options::blank(Algorithm::Sha256),
@@ -81,13 +87,17 @@ fn compared(
     wanted: Option<String>,
     got: Option<String>,
 ) -> Result<Came, AllocError> {
-    if wanted != got {
-        return Ok(Came::Differs(format!(in alloc; "wanted {wanted:?}, got {got:?}")?));
+    if wanted == got {
+        let_go(wanted);
+        return Ok(match got {
+            None => Came::On,
+            Some(reply) => Came::Over(reply),
+        });
     }
-    match got {
-        None => Ok(Came::On),
-        Some(reply) => Ok(Came::Over(reply)),
-    }
+    let text = format!(in alloc; "wanted {wanted:?}, got {got:?}");
+    let_go(wanted);
+    let_go(got);
+    Ok(Came::Differs(text?))
 }
 
 /// Whether one of the places is this one.
@@ -110,11 +120,22 @@ fn missing<'a>(places: &'a [String], others: &[String]) -> Option<&'a str> {
     None
 }
 
+/// A place that some have and the others haven't, if there is one.
+fn lacking(alloc: Global, wanted: &[String], got: &[String]) -> Result<Option<String>, AllocError> {
+    if let Some(place) = missing(wanted, got) {
+        return Ok(Some(format!(in alloc; "not on the disk: {place}")?));
+    }
+    match missing(got, wanted) {
+        Some(place) => Ok(Some(format!(in alloc; "on the disk: {place}")?)),
+        None => Ok(None),
+    }
+}
+
 impl Sides {
     /// Both, with so many callers and no call. `spares` says whether one call may be over since it had no memory.
     pub(crate) fn new(alloc: Global, callers: usize, spares: bool) -> Result<Sides, AllocError> {
         let model = Model::new(alloc, callers)?;
-        let world = world_of(alloc, callers)?;
+        let (world, model) = beside(world_of(alloc, callers), model)?;
         Ok(Sides {
             alloc,
             world,
@@ -168,17 +189,32 @@ impl Sides {
         true
     }
 
-    /// A caller's call makes its next step under this luck.
-    pub(crate) fn go(&mut self, caller: usize, luck: Luck) -> Result<Came, AllocError> {
-        let wanted = self.model.go(caller, luck)?;
-        let Ok(moved) = self.move_in_world(caller, luck) else {
-            return Ok(Came::Differs(String::from_str(self.alloc, "no move")?));
-        };
-        let got = told(self.alloc, moved)?;
+    /// What came of a move, after which the model wants this reply, if any.
+    fn came(
+        &mut self,
+        caller: usize,
+        wanted: Option<String>,
+        moved: Move,
+    ) -> Result<Came, AllocError> {
+        let (got, wanted) = beside(told(self.alloc, moved), wanted)?;
         if self.is_spared(caller, &got) {
+            let_go(wanted);
+            let_go(got);
             return Ok(Came::Over(String::from_str(self.alloc, NO_MEMORY)?));
         }
         compared(self.alloc, wanted, got)
+    }
+
+    /// A caller's call makes its next step under this luck.
+    pub(crate) fn go(&mut self, caller: usize, luck: Luck) -> Result<Came, AllocError> {
+        let wanted = self.model.go(caller, luck)?;
+        match self.move_in_world(caller, luck) {
+            Ok(moved) => self.came(caller, wanted, moved),
+            Err(_fault) => {
+                let_go(wanted);
+                Ok(Came::Differs(String::from_str(self.alloc, "no move")?))
+            }
+        }
     }
 
     /// A caller gives its call up, if it has one: whether both say the same of that.
@@ -198,13 +234,7 @@ impl Sides {
     /// How what the world's disk holds differs from the model's value, if it does.
     pub(crate) fn differing(&self) -> Result<Option<String>, AllocError> {
         let wanted = self.model.value.places()?;
-        let got = places_of(self.alloc, self.world.disk())?;
-        if let Some(place) = missing(wanted.as_slice(), got.as_slice()) {
-            return Ok(Some(format!(in self.alloc; "not on the disk: {place}")?));
-        }
-        if let Some(place) = missing(got.as_slice(), wanted.as_slice()) {
-            return Ok(Some(format!(in self.alloc; "on the disk: {place}")?));
-        }
-        Ok(None)
+        let (got, wanted) = beside(places_of(self.alloc, self.world.disk()), wanted)?;
+        lacking(self.alloc, wanted.as_slice(), got.as_slice())
     }
 }

@@ -1,9 +1,10 @@
 //! What a row asks for, and what came.
 use crate::changes::changes;
-use crate::handles::{abandons, links, reads, writes, writes_whole};
+use crate::handles::handled;
 use crate::meeting::all_met;
 use crate::script::{Change, Run, played};
 use crate::tally::Tally;
+use cacache_core::keeping::beside;
 use rows::words::{column, cut};
 use rows::{Flaw, Outcome, Trial};
 use std::alloc::{AllocError, Global};
@@ -20,8 +21,7 @@ pub(crate) struct Scripts {
 fn all_played(alloc: Global, changes: &[Change]) -> Result<String, AllocError> {
     let mut tally = Tally::NONE;
     for change in changes {
-        let (_run, differing) = played(alloc, *change, &mut tally)?;
-        if let Some(text) = differing {
+        if let Some(text) = played(alloc, *change, &mut tally)? {
             return format!(in alloc; "{change:?}: {text}");
         }
     }
@@ -36,21 +36,26 @@ fn all_played(alloc: Global, changes: &[Change]) -> Result<String, AllocError> {
 
 /// What came of the run in which memory may be refused once.
 fn spared(alloc: Global) -> Result<String, AllocError> {
-    let (_run, differing) = played(alloc, Change::Memory, &mut Tally::NONE)?;
-    match differing {
+    match played(alloc, Change::Memory, &mut Tally::NONE)? {
         Some(text) => Ok(text),
         None => String::from_str(alloc, "as the model says"),
     }
 }
 
-/// What came of all runs of a kind.
-fn kind_played(alloc: Global, kind: &str) -> Result<String, Flaw> {
-    let (run, differing) = played(alloc, Change::Nothing, &mut Tally::NONE)?;
-    if let Some(text) = differing {
-        return Ok(text);
-    }
-    let changes = changes(alloc, kind, run.sides.history())?;
+/// What came of all runs of a kind, whose changes are at the moves of a plain run.
+fn changed_at(alloc: Global, kind: &str, plain: &Run) -> Result<String, Flaw> {
+    let changes = changes(alloc, kind, plain.sides.history())?;
     Ok(all_played(alloc, changes.as_slice())?)
+}
+
+/// What came of the plain run, where its sides differ, and else of all runs of a kind.
+fn kind_played(alloc: Global, kind: &str) -> Result<String, Flaw> {
+    let mut plain = Run::new(alloc, Change::Nothing)?;
+    let (differing, plain) = beside(plain.calls(alloc, &mut Tally::NONE), plain)?;
+    match differing {
+        Some(text) => Ok(text),
+        None => changed_at(alloc, kind, &plain),
+    }
 }
 
 /// What came of a row.
@@ -59,11 +64,7 @@ fn tried(alloc: Global, act: &str) -> Result<String, Flaw> {
     match kind {
         "memory" => Ok(spared(alloc)?),
         "puts" => Ok(all_met(alloc)?),
-        "reader" => reads(alloc, words),
-        "writer" => writes(alloc, words),
-        "whole" => writes_whole(alloc, words),
-        "abandons" => abandons(alloc, words),
-        "linker" => links(alloc, words),
+        "reader" | "writer" | "whole" | "abandons" | "linker" => handled(alloc, kind, words),
         _ => kind_played(alloc, kind),
     }
 }
@@ -82,7 +83,7 @@ impl Trial for Scripts {
     fn outcome(&mut self, row: &str) -> Result<Outcome, Flaw> {
         let (act, wanted) = column(row)?;
         let got = tried(self.alloc, act)?;
-        let wanted = String::from_str(self.alloc, wanted)?;
+        let (wanted, got) = beside(String::from_str(self.alloc, wanted), got)?;
         self.differs = self.differs || wanted != got;
         Ok(Outcome { wanted, got })
     }
