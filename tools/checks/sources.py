@@ -34,6 +34,11 @@ def files(crate):
     return sorted((TOP / "crates" / crate / "src").rglob("*.rt"))
 
 
+def in_product(file):
+    """Whether a file is one of the product's crates: not of one that shows rows, tests it or uses it."""
+    return file.relative_to(TOP / "crates").parts[0].startswith("cacache")
+
+
 def file_of(crate, module):
     """The file of a module, which is given by the words of its path."""
     src = TOP / "crates" / crate / "src"
