@@ -7,13 +7,14 @@ pub use Rattle.cacache_entry.specs.Latest.{NoneAnswers}
 pub use Rattle.cacache_table.specs.declared.command.Command.{Command}
 pub use Rattle.cacache_table.specs.declared.command.Put.{Put}
 pub use Rattle.cacache_table.specs.Promises.{Answers}
+pub use Rattle.cacache_table.specs.StepPaths.{content_path}
 pub use Rattle.cacache_table.specs.Storing.{put_commit}
 pub use Rattle.cacache_value.specs.Acts.{PutBytes}
 pub use Rattle.cacache_loss.specs.declared.loss.Loss.{Loss}
 pub use Rattle.cacache_loss.specs.Chosen.{chosen}
 pub use Rattle.cacache_history.specs.declared.record.Record.{Record}
 pub use Rattle.cacache_history.specs.declared.record.Record.TheVariants.{Began, Moved, Stopped}
-pub use Rattle.cacache_history.specs.Commits.{CommitsAs, IsCase, deeds}
+pub use Rattle.cacache_history.specs.Commits.{AreRemovals, CommitsAs, DropsAmong, IsCase, RemovesFound, deeds}
 pub use Rattle.cacache_history.specs.Headline.{Headline}
 pub use Rattle.cacache_history.specs.History.{History, Call, IsLegal, Reaches}
 pub use Rattle.cacache_history.specs.Lookups.{FoundOfPuts, IsOneOfPuts, SparesKey, WasWritten, found_of_put, lookup_at}

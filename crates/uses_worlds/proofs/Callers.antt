@@ -1,9 +1,10 @@
 -- What a user says of many callers follows from the laws of places.
 use Rattle.std.proofs.Common.{◌≡◌, ◌⊎◌, inl, inr, ℕ, suc, List, [], ◌∷◌, Option, None, Some, slice_get, sym, ap, subst, ◌∙◌, arith}
+use Rattle.cacache.specs.Calls.{Reply}
 use Rattle.cacache.specs.Entries.{Found}
-use Rattle.cacache.specs.Histories.{Call, FoundOfPuts, Headline, History, IsCase, MetDigestsAreSame, MoveAt, Moved, Put, SparesKey, call_site, found_of_put, now_before}
+use Rattle.cacache.specs.Histories.{Call, Command, FoundOfPuts, Headline, History, IsCase, MetDigestsAreSame, MoveAt, Moved, Put, Reaches, SparesKey, call_site, found_of_put, now_before}
 use Rattle.cacache.specs.Integrities.{Meets}
-use Rattle.uses_worlds.specs.Callers.{CrashesAreSafe, OneOfTwo, PutThenGet, ReadersNeverLie}
+use Rattle.uses_worlds.specs.Callers.{CrashesAreSafe, OneOfTwo, PutThenGet, ReadersNeverLie, RemovalsAreSafe}
 
 -- ---- puts
 
@@ -47,12 +48,24 @@ module _ (h : History) (place caller : ℕ) (call : Call) (other : List ℕ) (mo
       let its_call : call ≡ made = cc in
       subst (λ (x : Call). SparesKey other x.command) its_call spares
 
+-- what a call of this command did
+case_of : (h : History) → Headline h → (call : Call) (reply : Option Reply) → Reaches h call reply → {command : Command} → call.command ≡ command
+    → IsCase (call_site h.setup call.number) command call.turns reply
+case_of h head call reply reaches is = subst (λ c. IsCase (call_site h.setup call.number) c call.turns reply) is (head.commits call reply reaches)
+
 pub crash_safe : (h : History) → Headline h → CrashesAreSafe h
 crash_safe h head = record {
-  whole = λ call p reply reaches is. subst (λ c. IsCase (call_site h.setup call.number) c call.turns reply) is (head.commits call reply reaches);
+  whole = λ call p reply reaches is. case_of h head call reply reaches is;
   others = λ place caller call p other move is put differs.
       head.places.stays other place (suc place) (omega arith)
       (λ at c made from to. only h place caller call other move is (subst (SparesKey other) (sym put) differs) at c made (omega (arith, from, to)));
+}
+
+pub removals_are_safe : (h : History) → Headline h → RemovalsAreSafe h
+removals_are_safe h head = record {
+  address = λ call i reply reaches is. case_of h head call reply reaches is;
+  key = λ call key reply reaches is. case_of h head call reply reaches is;
+  all = λ call reply reaches is. case_of h head call reply reaches is;
 }
 
 -- ---- reads

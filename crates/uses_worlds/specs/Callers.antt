@@ -3,7 +3,7 @@ use Rattle.std.specs.Prelude.{◌≡◌, ◌⊎◌, ◌≤◌, ℕ, suc, List, [
 use Rattle.cacache.specs.Calls.{LookedUp, Read, Reply, Stored}
 use Rattle.cacache.specs.Calls as commands
 use Rattle.cacache.specs.Entries.{Found}
-use Rattle.cacache.specs.Histories.{Call, CallIn, CommitsAs, History, IsOneOfPuts, MoveAt, MovesAre, Put, PutBytes, Reaches, SparesKey, WasWritten, deeds, digest, found_of_put, lookup_at, now_before, put_commit}
+use Rattle.cacache.specs.Histories.{AreRemovals, Call, CallIn, CommitsAs, DropsAmong, History, IsOneOfPuts, MoveAt, MovesAre, Put, PutBytes, Reaches, RemovesFound, SparesKey, WasWritten, content_path, deeds, digest, found_of_put, lookup_at, now_before, put_commit}
 use Rattle.cacache.specs.Integrities.{Hash, Meets}
 
 -- a put is answered, and since it began each other call spares its key; then a read of the key
@@ -40,6 +40,17 @@ pub record CrashesAreSafe (h : History) : Type 0 where
       → CommitsAs (put_commit h.setup.cache p) (λ names. PutBytes names p.data) (deeds call.turns)
       reply
   pub others : LeavesOthers h
+
+-- a removal, over or left on its way: by address it dropped at most that content; with a key, at most
+-- the content that its own lookup found, and then the key's bucket; a clearing put and added nothing
+pub record RemovalsAreSafe (h : History) : Type 0 where
+  pub address : (call : Call) (i : List Hash) (reply : Option Reply) → Reaches h call reply
+      → call.command ≡ commands.RemoveHash i
+      → DropsAmong (content_path h.setup.cache i ∷ []) (deeds call.turns)
+  pub key : (call : Call) (key : List ℕ) (reply : Option Reply) → Reaches h call reply
+      → call.command ≡ commands.RemoveFully key → RemovesFound h.setup.cache key call.turns
+  pub all : (call : Call) (reply : Option Reply) → Reaches h call reply
+      → call.command ≡ commands.Clear → AreRemovals (deeds call.turns)
 
 -- bytes that are read by a key meet the integrity of an entry of it that was written before
 abbrev pub ReadersNeverLie : History → Type 0

@@ -2,7 +2,8 @@
 //!
 //! - [`survives`] says what is read after a loss of power, and [`goes_on`] what is written and read then; [`some_survive`]
 //!   says that there are histories of which they speak.
-//! - [`put_then_get`], [`one_of_two`], [`crash_safe`] and [`readers_never_lie`] say what many callers see of one cache, of each world.
+//! - [`put_then_get`], [`one_of_two`], [`crash_safe`], [`removals_are_safe`] and [`readers_never_lie`] say what many callers see of one
+//!   cache, of each world.
 //! - [`close_after_reads`] says what threads that shared a world were answered.
 #![tactic(auto)]
 
@@ -12,4 +13,4 @@ mod worlds;
 
 pub use losing::{Reads, goes_on, some_survive, survives};
 pub use sharing::close_after_reads;
-pub use worlds::{crash_safe, one_of_two, put_then_get, readers_never_lie};
+pub use worlds::{crash_safe, one_of_two, put_then_get, readers_never_lie, removals_are_safe};

@@ -1,5 +1,5 @@
 //! What many callers see of one cache, in words of their user. Nothing is done: a world has these facts.
-ghost use Rattle.uses_worlds.specs.Callers.{CrashesAreSafe, OneOfTwo, PutThenGet, ReadersNeverLie};
+ghost use Rattle.uses_worlds.specs.Callers.{CrashesAreSafe, OneOfTwo, PutThenGet, ReadersNeverLie, RemovalsAreSafe};
 
 use cacache::laws::digest_laws;
 use cacache::world::World;
@@ -24,6 +24,14 @@ pub fn one_of_two(world: &World)
 /// moves changes what a lookup of another key finds.
 pub fn crash_safe(world: &World)
     ensures { CrashesAreSafe world.now }
+{
+    world.stands();
+}
+
+/// A removal by address, over or left on its way, dropped at most that content; one of a key with its content at most what
+/// the key led to and its bucket. A clearing put and added nothing.
+pub fn removals_are_safe(world: &World)
+    ensures { RemovalsAreSafe world.now }
 {
     world.stands();
 }
