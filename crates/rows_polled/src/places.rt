@@ -9,6 +9,7 @@ use cacache_memory::MemStore;
 use row_places::{Faulty, Mishaps, On, in_both, in_folders, in_memory, on};
 use rows::words::{column, cut, number_of, word_of};
 use rows::{Flaw, Outcome, Trial};
+use std::alloc::Global;
 use std::io;
 use std::random::RandomSource;
 use std::rt::Files;
@@ -35,21 +36,21 @@ impl Places<HostRuntime> {
     }
 }
 
-/// The number of a write, which words count from 1.
-fn write_of(number: &str) -> Result<Option<usize>, Flaw> {
+/// The number of a read or a write, which words count from 1.
+fn number_in(number: &str) -> Result<Option<usize>, Flaw> {
     match number_of(number)?.checked_sub(1) {
         None => Err(Flaw::NotRead),
         number => Ok(number),
     }
 }
 
-/// What goes wrong with a temporary file, in words: `fails N` and `short N` name the write that fails, or takes one byte
-/// at most; after `unflushed` no flush is done, and after `unremoved` the file isn't removed.
+/// What goes wrong with a file, in words: `fails N` and `short N` name the read or write that fails, or takes one byte at
+/// most; after `unflushed` no flush is done, and after `unremoved` the file isn't removed.
 fn mishaps_of(words: &str) -> Result<Mishaps, Flaw> {
     let mut mishaps = Mishaps::NONE;
     match cut(words) {
-        ("fails", number) => mishaps.fails = write_of(number)?,
-        ("short", number) => mishaps.short = write_of(number)?,
+        ("fails", number) => mishaps.fails = number_in(number)?,
+        ("short", number) => mishaps.short = number_in(number)?,
         ("unflushed", _) => mishaps.unflushed = true,
         ("unremoved", _) => mishaps.stays = true,
         _ => return Err(Flaw::NotRead),
@@ -68,16 +69,29 @@ fn with_mishaps<R: Wait + RandomSource + AllocGlobal>(
     Ok(with(line, holds)?)
 }
 
+/// An environment over a store whose files have this luck.
+fn with_luck(alloc: Global, luck: &str) -> Result<On<Faulty>, Flaw> {
+    let store = Faulty::new(alloc, mishaps_of(luck)?)?;
+    Ok(on(alloc, store, "/")?)
+}
+
 /// The same for a writer whose temporary file has this luck.
 fn unlucky<R: Wait + RandomSource + AllocGlobal>(
     rt: &R,
     luck: &str,
     steps: &str,
 ) -> Result<String, Flaw> {
-    let alloc = rt.alloc();
-    let store = Faulty::new(alloc, mishaps_of(luck)?)?;
-    let mut env = on(alloc, store, "/")?;
+    let mut env = with_luck(rt.alloc(), luck)?;
     with_mishaps(rt, &mut env, steps)
+}
+
+/// What an act gives that opens the file of a store with the luck in front of it.
+fn faulty<R: Wait + RandomSource + AllocGlobal>(rt: &R, words: &str) -> Result<String, Flaw> {
+    let Some((luck, act)) = words.split_once(", ") else {
+        return Err(Flaw::NotRead);
+    };
+    let mut env = with_luck(rt.alloc(), luck)?;
+    made(rt, &mut env, act)
 }
 
 /// What an act gives at both places.
@@ -91,7 +105,7 @@ where
     Ok(in_both(places.rt.alloc(), in_memory, in_folders)?)
 }
 
-/// What an act gives: `core` and `unlucky` at no place, after `memory` or `folders` there alone, else at both places.
+/// What an act gives: `core`, `unlucky` and `faulty` at no place, after `memory` or `folders` there alone, else at both places.
 fn tried<R>(places: &mut Places<R>, act: &str) -> Result<String, Flaw>
 where
     R: Wait + RandomSource + Files + AllocGlobal + Clone + Drop,
@@ -103,6 +117,7 @@ where
             let (luck, steps) = parts_of(words);
             unlucky(&places.rt, luck, steps)
         }
+        "faulty" => faulty(&places.rt, words),
         "memory" => made(&places.rt, &mut places.memory, words),
         "folders" => made(&places.rt, &mut places.folders, words),
         _ => at_both(places, act),
