@@ -11,7 +11,7 @@ pub use cacache_results::{
     after_clear, after_copy, after_exists, after_find, after_insert, after_link, after_link_hash,
     after_list, after_read, after_read_hash, after_read_left, after_remove, after_remove_fully,
     after_remove_hash, after_share, after_write, after_write_hash, after_write_left, durable_cases,
-    joining_laws, linker_laws, loss_results, writer_laws,
+    joining_laws, link_losses, linker_laws, loss_results, writer_laws,
 };
 pub use cacache_sequence::{
     cache_laws, handle_laws, look_laws, parts_laws, sequence_laws, standing_laws, success_laws,

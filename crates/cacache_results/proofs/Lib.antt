@@ -12,6 +12,10 @@ pub mod JoinedResults
 pub mod ListResults
 pub mod LossResults
 pub mod LeftWrites
+pub mod KeptLinks
+pub mod UnchangedFiles
+pub mod FoundLinks
+pub mod LinkLosses
 pub mod LinkerResults
 pub mod PlainRuns
 pub mod PlainPuts

@@ -8,5 +8,6 @@ pub mod Linkers
 pub mod Joins
 pub mod Lists
 pub mod Losses
+pub mod FoundLinks
 pub mod Success
 pub mod DurableCases

@@ -21,5 +21,5 @@ pub use joins::joining_laws;
 pub use linkers::linker_laws;
 pub use listing::after_list;
 pub use looks::{after_exists, after_find, after_read, after_read_hash};
-pub use losses::{after_read_left, after_write_left, durable_cases, loss_results};
+pub use losses::{after_read_left, after_write_left, durable_cases, link_losses, loss_results};
 pub use outside::{after_copy, after_link, after_link_hash, after_share};

@@ -1,5 +1,6 @@
 //! Behind a loss of power: a store in memory that began with what it left.
 ghost use Rattle.cacache_results.specs.DurableCases.{InsertsStandInOne, PutsStandInOne, PutsStandLast};
+ghost use Rattle.cacache_results.specs.FoundLinks.{HistoriesKeepLinks};
 ghost use Rattle.cacache_results.specs.Losses.{LeftReadMeans, LeftWriteMeans, LossesLeaveLast, LossesLeavePuts};
 ghost use Rattle.cacache_results.specs.Losses.{LossesLeaveStanding};
 
@@ -15,6 +16,13 @@ pub fn loss_results()
     ensures stands { LossesLeaveStanding }
     ensures puts { LossesLeavePuts }
     ensures last { LossesLeaveLast }
+{}
+
+/// What a loss of power leaves of a durable put of a legal history that answered, whatever stood at its content's address:
+/// bytes with the digest of the address, or the link that it found there. What the link leads to is bytes with that digest
+/// too, where its target is a file that no step of the history changed.
+pub fn link_losses()
+    ensures { HistoriesKeepLinks }
 {}
 
 /// Histories of one durable commit alone: at any cache whose text names a folder one is legal, so that the laws of losses

@@ -1,0 +1,203 @@
+-- A link at a content's path stays through calm moves and losses, or a synced content comes in its place.
+use Rattle.std.proofs.Common.{◌≡◌, ◌⊎◌, inl, inr, ℕ, Bool, true, false, cond, List, [], ◌∷◌, Option, None, Some, Ok, Err, refl, sym, ap, subst, ◌∙◌}
+use Rattle.std.specs.Prelude.{Result, IfOk, unwrap_or}
+use Rattle.cacache_core.specs.declared.errors.Fault.{Fault}
+use Rattle.cacache_core.specs.PathNames.{Names, names_of}
+use Rattle.cacache_store.specs.declared.store.plain.PlainTemp.{PlainTemp}
+use Rattle.cacache_store.specs.declared.store.step.Step.TheVariants.{CreateTemp, Write, Persist, Append, SyncTemp, SyncFile, SyncDir}
+use Rattle.cacache_store.specs.declared.store.answer.Answer.TheVariants.{Done, Failed}
+use Rattle.cacache_store.specs.Plain.{PlainStep, PlainAnswer}
+use Rattle.cacache_disk.specs.declared.luck.Luck.{Luck}
+use Rattle.cacache_disk.specs.declared.node.Node.{Node}
+use Rattle.cacache_disk.specs.declared.node.Node.TheVariants.{File, Link}
+use Rattle.cacache_disk.specs.Tree.{Tree, look, put, cut, same_path, bytes_of}
+use Rattle.cacache_disk.specs.LedTo.{leads}
+use Rattle.cacache_disk.specs.Apply.{apply, make_some}
+use Rattle.cacache_disk.proofs.Maps.{same_path-true}
+use Rattle.cacache_disk.proofs.PutNodes.{look-put}
+use Rattle.cacache_disk.proofs.Roots.{same_self}
+use Rattle.cacache_value.specs.Kinds.{Content, Bucket, Temporary, Way, path_kind, is_used, IsFor}
+use Rattle.cacache_value.specs.Placed.{Placed, Proper}
+use Rattle.cacache_value.specs.Traces.{Move}
+use Rattle.cacache_loss.specs.CalmMoves.{AreCalm, CalmStep, IsCalm, OfBytes, PutWell, PutsMove, PutsStep, is_calm}
+use Rattle.cacache_loss.specs.declared.fixing.Fixing.{Fixing}
+use Rattle.cacache_loss.specs.declared.fixing.Place.{Place}
+use Rattle.cacache_loss.specs.Fixing.{Fixed, changed, file_synced, fixed_after, folder_synced, is_at, is_child_of, is_sync, is_synced, moved_to, moves_file, place_now, temp_synced}
+use Rattle.cacache_loss.specs.Loss.{Loss, node_left}
+use Rattle.cacache_loss.specs.LossLaws.{GoodNode, IsSafe}
+use Rattle.cacache_loss.specs.LostTrees.{OfCache}
+use Rattle.cacache_loss.specs.Moments.{Moment, after, lost_then, next}
+use Rattle.cacache_loss.specs.Syncs.{SyncsFolders}
+use Rattle.cacache_loss.proofs.Contents.{good_file}
+use Rattle.cacache_loss.proofs.KeptPaths.{cond_whole, keeps, files_keep, names_kept, sync_tree, cache_next, each_calm}
+use Rattle.cacache_loss.proofs.StepCases.{PersistCase, refused, moved, persist_case, make_apart}
+use Rattle.cacache_loss.proofs.SyncedFolders.{IsLeft, survives}
+use Rattle.cacache_loss.proofs.UnchangedPaths.{at_false, Misses, file_kept, name_kept}
+
+-- ---- a link, or a good file
+
+-- the link to this target, or a file with good bytes, all of them synced
+abbrev pub SafeOrLink : (List ℕ → Type 0) → List ℕ → Place → Type 0
+SafeOrLink Good target place = (place.node ≡ Some (Link target)) ⊎ IsSafe Good place
+
+-- the link, or a file with good bytes
+abbrev pub GoodOrLink : (List ℕ → Type 0) → List ℕ → Option Node → Type 0
+GoodOrLink Good target here = (here ≡ Some (Link target)) ⊎ GoodNode Good here
+
+-- what stood at a name when its folder was fixed was one of these too
+abbrev WasEither : (List ℕ → Type 0) → List ℕ → Option Place → Type 0
+WasEither Good target None = Unit {0}
+WasEither Good target (Some place) = SafeOrLink Good target place
+
+of_bytes : (Good : List ℕ → Type 0) (o : Option (List ℕ)) (bytes : List ℕ) → o ≡ Some bytes → OfBytes Good o → Good bytes
+of_bytes Good None bytes e g = absurd g
+of_bytes Good (Some b) bytes e g = let same : b ≡ bytes = cc in subst Good same g
+
+whole_at : (fixed : Fixed) (r : Result Names Fault) (from : Names) → r ≡ Ok from → IfOk r (λ n. (fixed.files n).whole ≡ true) → (fixed.files from).whole ≡ true
+whole_at fixed (Ok n) from e h = let same : n ≡ from = cc in subst (λ n. (fixed.files n).whole ≡ true) same h
+whole_at fixed (Err fault) from e h = absurd cc
+
+was_or_now : (Good : List ℕ → Type 0) (target : List ℕ) (o : Option Place) (now : Place) → WasEither Good target o → SafeOrLink Good target now → SafeOrLink Good target (unwrap_or o now)
+was_or_now Good target None now w s = s
+was_or_now Good target (Some place) now w s = w
+
+cond_was : (Good : List ℕ → Type 0) (target : List ℕ) (b : Bool) (o : Option Place) → WasEither Good target o → WasEither Good target (cond b None o)
+cond_was Good target true o w = tt
+cond_was Good target false o w = w
+
+-- the same node, fixed as far or further
+either_so : (Good : List ℕ → Type 0) (target : List ℕ) (old new : Place) → new.node ≡ old.node → (old.fixing.whole ≡ true → new.fixing.whole ≡ true) → SafeOrLink Good target old → SafeOrLink Good target new
+either_so Good target old new node whole (inl e) = inl (node ∙ e)
+either_so Good target old new node whole (inr s) = inr (subst (GoodNode Good) (sym node) s.0, whole s.1)
+
+some_node : (Good : List ℕ → Type 0) (target : List ℕ) (place : Place) → SafeOrLink Good target place → (n : Node) × (place.node ≡ Some n)
+some_node Good target place (inl e) = (Link target, e)
+some_node Good target place (inr s) = let g = good_file Good place.node s.0 in (File g.0, g.1)
+
+-- ---- calm moves
+
+module _ (home : Option Names) (c : Names) (at : path_kind home c ≡ Content) (Good : List ℕ → Type 0) (target : List ℕ) where
+  abbrev Either : Place → Type 0
+  Either = SafeOrLink Good target
+
+  abbrev Was : Option Place → Type 0
+  Was = WasEither Good target
+
+  abbrev Holds : Moment → Type 0
+  Holds w = OfCache home w × Either (place_now w.tree w.fixed c)
+
+  -- what a step makes of what stands at the path, and of what stood at its name
+  abbrev Keeps : Tree → Fixed → Tree → Fixed → Type 0
+  Keeps t fixed new later = Either (place_now new later c) × (Was (fixed.names c) → Was (later.names c))
+
+  module _ (t : Tree) (fixed : Fixed) (placed : Placed home t) (node : Node) (there : look t c ≡ Some node) (now : Either (place_now t fixed c)) where
+    made : (names : Names) (count : ℕ) → path_kind home names ≡ Way → look (make_some t [] names count) c ≡ Some node
+    made names count way = make_apart home Content t [] names c count at (λ e. cc) way ∙ there
+
+    -- a step that doesn't reach it
+    missed : (step : PlainStep) (luck : Luck) (answer : PlainAnswer) → is_calm step ≡ true → Proper home step → Misses c step
+        → Keeps t fixed (apply t step luck).1 (changed fixed t (apply t step luck).1 step answer)
+    missed step luck answer calm is misses = (
+      either_so Good target (place_now t fixed c) (place_now (apply t step luck).1 (changed fixed t (apply t step luck).1 step answer) c)
+          (keeps home t placed c (Some node) there made step luck calm is misses ∙ sym there)
+          (λ whole. ap (λ (f : Fixing). f.whole) (files_keep home t placed c (Some node) there made fixed step luck answer calm is misses) ∙ whole) now,
+      subst Was (sym (names_kept home t placed c (Some node) there made fixed step luck answer calm is misses)),
+    )
+
+    -- a file that moves there
+    module _ (f : PlainTemp) (p : List ℕ) (answer : PlainAnswer) (from_temp : IsFor home Temporary f.path)
+        (puts : answer ≡ Done → names_of p ≡ Ok c → OfBytes Good f.bytes × IfOk (names_of f.path) (λ from. (fixed.files from).whole ≡ true)) where
+      arrived : (new : List ℕ) (old to : Names) → f.bytes ≡ Some new → names_of f.path ≡ Ok old → names_of p ≡ Ok to → answer ≡ Done → c ≡ to
+          → Keeps t fixed (put (cut t old) to (File new)) (changed fixed t (put (cut t old) to (File new)) (Persist f p) answer)
+      arrived new old to has is names done same =
+          let g = puts done (names ∙ ap Ok (sym same)) in
+          let here : same_path c to ≡ true = ap (same_path c) (sym same) ∙ same_self c in (
+            inr (
+              subst (GoodNode Good) (sym (look-put (cut t old) to (File new) c ∙ ap (λ b. cond b (Some (File new)) (look (cut t old) c)) here)) (of_bytes Good f.bytes new has g.0),
+              rw (done, is, names, here) (whole_at fixed (names_of f.path) old is g.1),
+            ),
+            (λ w. rw (done, is, names, here) (was_or_now Good target (fixed.names c) (place_now t fixed c) w now)),
+          )
+
+      stayed : (fault : Fault) → answer ≡ Failed fault → Keeps t fixed t (changed fixed t t (Persist f p) answer)
+      stayed fault failed =
+          let unmoved : moved_to (moves_file (Persist f p) answer) c ≡ false = rw failed refl in (
+            either_so Good target (place_now t fixed c) (place_now t (changed fixed t t (Persist f p) answer) c) refl
+                (λ whole. ap (λ (f : Fixing). f.whole) (file_kept fixed t t (Persist f p) answer c (Some node) there there unmoved refl refl) ∙ whole) now,
+            subst Was (sym (name_kept fixed t t (Persist f p) answer c (Some node) there there unmoved)),
+          )
+
+      reached : (o : PlainAnswer × Tree) → is_at (names_of p) c ≡ true → answer ≡ o.0 → PersistCase t f p o
+          → Keeps t fixed o.1 (changed fixed t o.1 (Persist f p) answer)
+      reached o here told (refused fault e) =
+          subst (λ (o : PlainAnswer × Tree). answer ≡ o.0 → Keeps t fixed o.1 (changed fixed t o.1 (Persist f p) answer)) (sym e) (λ is. stayed fault is) told
+      reached o here told (moved new old to has from names e) =
+          subst (λ (o : PlainAnswer × Tree). answer ≡ o.0 → Keeps t fixed o.1 (changed fixed t o.1 (Persist f p) answer)) (sym e)
+          (λ is. arrived new old to has from names is (same_path-true c to (ap (λ r. is_at r c) (sym names) ∙ here))) told
+
+      persisted : (luck : Luck) (b : Bool) → is_at (names_of p) c ≡ b → IsFor home Content p → answer ≡ (apply t (Persist f p) luck).0
+          → Keeps t fixed (apply t (Persist f p) luck).1 (changed fixed t (apply t (Persist f p) luck).1 (Persist f p) answer)
+      persisted luck false misses is told = missed (Persist f p) luck answer refl (from_temp, is) (at_false home Temporary Content c (names_of f.path) from_temp at (λ e. cc), misses)
+      persisted luck true here is told = reached (apply t (Persist f p) luck) here told (persist_case t f p luck)
+
+    -- ---- syncs
+
+    sync_keeps : (b : Bool) (later : Fixed) → Keeps t fixed t later → Keeps t fixed t (cond b later fixed)
+    sync_keeps true later kept = kept
+    sync_keeps false later kept = (now, λ w. w)
+
+    by_sync : (step : PlainStep) (luck : Luck) (b : Bool) (later : Fixed) → is_sync step ≡ true → Keeps t fixed t later
+        → Keeps t fixed (apply t step luck).1 (cond b later fixed)
+    by_sync step luck b later is kept = subst (λ new. Keeps t fixed new (cond b later fixed)) (sym (sync_tree t step luck is)) (sync_keeps b later kept)
+
+    -- ---- each step
+
+    each_keeps : (step : PlainStep) (luck : Luck) (answer : PlainAnswer) → CalmStep home step → Proper home step
+        → PutsStep Good c (record { tree = t; fixed = fixed }) step answer → answer ≡ (apply t step luck).0
+        → Keeps t fixed (apply t step luck).1 (fixed_after fixed t (apply t step luck).1 step answer)
+    each_keeps (Persist f p) luck answer calm is puts told = persisted f p answer is.0 puts luck (is_at (names_of p) c) refl is.1 told
+    each_keeps (Append p line) luck answer calm is puts told = missed (Append p line) luck answer refl is (at_false home Bucket Content c (names_of p) is.0 at (λ e. cc))
+    each_keeps (SyncTemp f) luck answer calm is puts told =
+        by_sync (SyncTemp f) luck (is_synced answer) (temp_synced fixed f) refl
+        (either_so Good target (place_now t fixed c) (place_now t (temp_synced fixed f) c) refl (cond_whole (is_at (names_of f.path) c) (unwrap_or f.bytes []) (fixed.files c)) now, λ w. w)
+    each_keeps (SyncFile p) luck answer calm is puts told =
+        by_sync (SyncFile p) luck (is_synced answer) (file_synced fixed t p) refl
+        (either_so Good target (place_now t fixed c) (place_now t (file_synced fixed t p) c) refl (cond_whole (is_at (leads t p) c) (bytes_of (look t c)) (fixed.files c)) now, λ w. w)
+    each_keeps (SyncDir p) luck answer calm is puts told =
+        by_sync (SyncDir p) luck (is_synced answer) (folder_synced fixed p) refl
+        (either_so Good target (place_now t fixed c) (place_now t (folder_synced fixed p) c) refl (λ whole. whole) now, cond_was Good target (is_child_of (names_of p) c) (fixed.names c))
+    each_keeps (CreateTemp p) luck answer calm is puts told = missed (CreateTemp p) luck answer refl is (at_false home Temporary Content c (names_of p) is at (λ e. cc))
+    each_keeps (Write f bytes) luck answer calm is puts told = missed (Write f bytes) luck answer refl is (at_false home Temporary Content c (names_of f.path) calm.1 at (λ e. cc))
+    each_keeps step luck answer calm is puts told = missed step luck answer calm.0 is tt
+
+  kept_in : (w : Moment) (m : Move) → Holds w → IsCalm home w m → PutsMove Good c w m → Keeps w.tree w.fixed (next w m).tree (next w m).fixed
+  kept_in w m h calm puts =
+      let n = some_node Good target (place_now w.tree w.fixed c) h.1 in
+      each_keeps w.tree w.fixed h.0.0 n.0 n.1 h.1 m.step m.luck m.answer calm.0 calm.1 puts calm.2
+
+  holds_next : (w : Moment) (m : Move) → Holds w → IsCalm home w m → PutsMove Good c w m → Holds (next w m)
+  holds_next w m h calm puts = (cache_next home w m h.0 calm.1, (kept_in w m h calm puts).0)
+
+  -- ---- losses
+
+  not_top : (h : Option Names) → path_kind h [] ≡ Content → ⊥
+  not_top None e = cc
+  not_top (Some []) e = cc
+  not_top (Some (n ∷ rest)) e = cc
+
+  left_either : (place : Place) (tail : List ℕ) → Either place → GoodOrLink Good target (node_left place.fixing tail place.node)
+  left_either place tail (inl e) = inl (ap (node_left place.fixing tail) e)
+  left_either place tail (inr s) = let g = good_file Good place.node s.0 in inr (rw (g.1, s.1) g.2)
+
+  left_here : (here : Option Node) (tail : List ℕ) → IsLeft Either tail here → GoodOrLink Good target here
+  left_here here tail left = subst (GoodOrLink Good target) (sym left.2) (left_either left.0 tail left.1)
+
+  -- what a loss leaves at the path, once its folders are synced
+  pub link_survives : (w : Moment) (moves : List Move) (loss : Loss) → OfCache home w → Either (place_now w.tree w.fixed c) → AreCalm home w moves → PutWell Good c w moves → SyncsFolders home [] c moves
+      → GoodOrLink Good target (lost_then home (after w moves) loss c)
+  link_survives w moves loss of_cache now calm puts way =
+      left_here (lost_then home (after w moves) loss c) (loss.tail c)
+      (survives home c (ap is_used at) (λ e. not_top home (ap (path_kind home) (sym e) ∙ at)) Holds (PutsMove Good c) Was (λ w h. h.0.0) (λ w h. h.0.1)
+      (λ w h. some_node Good target (place_now w.tree w.fixed c) h.1)
+      holds_next tt (λ w m h calm puts. (kept_in w m h calm puts).1) w moves loss (of_cache, now) (each_calm home w moves calm) puts
+      Either way (λ end. end.1) (λ place was. was))

@@ -1,0 +1,137 @@
+-- A file that no step changes stays through each loss, where all was fixed at first.
+use Rattle.std.proofs.Common.{◌≡◌, inr, ℕ, Bool, true, false, cond, List, [], ◌∷◌, ◌++◌, Option, None, Some, refl, sym, ap, subst, ◌∙◌, append_assoc, append-nil}
+use Rattle.std.specs.Prelude.{unwrap_or}
+use Rattle.cacache_core.specs.PathNames.{Names, names_of}
+use Rattle.cacache_store.specs.declared.store.step.Step.TheVariants.{Persist, SyncTemp, SyncFile, SyncDir}
+use Rattle.cacache_store.specs.Plain.{PlainStep, PlainAnswer}
+use Rattle.cacache_disk.specs.declared.luck.Luck.{Luck}
+use Rattle.cacache_disk.specs.declared.node.Node.{Node}
+use Rattle.cacache_disk.specs.declared.node.Node.TheVariants.{Folder, File}
+use Rattle.cacache_disk.specs.Tree.{Tree, bytes_of, look}
+use Rattle.cacache_disk.specs.LedTo.{leads}
+use Rattle.cacache_disk.specs.Apply.{apply}
+use Rattle.cacache_disk.specs.Rooted.{Rooted, is_folder}
+use Rattle.cacache_disk.proofs.KeptFolders.{steps_keep_rooted}
+use Rattle.cacache_disk.proofs.Standing.{upper_folder}
+use Rattle.cacache_value.specs.Kinds.{Content, Temporary, path_kind}
+use Rattle.cacache_value.specs.Placed.{MayStand, Placed, Proper}
+use Rattle.cacache_value.specs.Traces.{IsTrace, Move}
+use Rattle.cacache_loss.specs.ChangedNames.{opening}
+use Rattle.cacache_loss.specs.declared.fixing.Fixing.{Fixing}
+use Rattle.cacache_loss.specs.declared.fixing.Place.{Place}
+use Rattle.cacache_loss.specs.Fixing.{Fixed, file_synced, fixed_after, folder_synced, is_at, is_child_of, is_sync, is_synced, moved_to, moves_file, name_after, place_now, temp_synced}
+use Rattle.cacache_loss.specs.Loss.{Loss, lead_folders, left_at, node_left}
+use Rattle.cacache_loss.specs.LostTrees.{OfCache}
+use Rattle.cacache_loss.specs.Moments.{EachMove, Moment, after, lost_then, next}
+use Rattle.cacache_loss.specs.Syncs.{Leaves, LeavesStep}
+use Rattle.cacache_loss.proofs.KeptPaths.{cache_next, cond_none, cond_whole, sync_tree}
+use Rattle.cacache_loss.proofs.SyncedFolders.{left_firm}
+use Rattle.cacache_loss.proofs.UnchangedPaths.{at_false, file_kept, moved_false, name_kept}
+
+module _ (home : Option Names) (path : Names) (bytes : List ℕ) where
+  -- no name on the way to the path changed since its folder was synced, nor the path's own
+  abbrev Firm : Fixed → Type 0
+  Firm fixed = (p rest : Names) → p ++ rest ≡ path → fixed.names p ≡ None
+
+  -- the file stands there, and all of it is synced
+  abbrev Stands : Tree → Fixed → Type 0
+  Stands t fixed = (look t path ≡ Some (File bytes)) × ((fixed.files path).whole ≡ true) × Firm fixed
+
+  abbrev pub Holds : Moment → Type 0
+  Holds w = OfCache home w × Stands w.tree w.fixed
+
+  -- ---- a step
+
+  module _ (t : Tree) (fixed : Fixed) (placed : Placed home t) (rooted : Rooted t) (now : Stands t fixed) where
+    folder_at : (new : Tree) → Rooted new → look new path ≡ Some (File bytes) → (p rest : Names) (name : List ℕ) → p ++ name ∷ rest ≡ path → look new p ≡ Some Folder
+    folder_at new rooted_new there p rest name e = upper_folder new p rest name (File bytes) rooted_new (ap (look new) e ∙ there)
+
+    -- no file moves to a folder
+    not_moved : (step : PlainStep) (answer : PlainAnswer) (p : Names) → Proper home step → look t p ≡ Some Folder → moved_to (moves_file step answer) p ≡ false
+    not_moved (Persist f to) answer p is folder =
+        let may : MayStand home (Some Folder) (path_kind home p) = subst (λ here. MayStand home here (path_kind home p)) folder (placed p) in
+        moved_false (Persist f to) answer p (
+          at_false home Temporary (path_kind home p) p (names_of f.path) is.0 refl (λ e. subst (MayStand home (Some Folder)) e may),
+          at_false home Content (path_kind home p) p (names_of to) is.1 refl (λ e. subst (MayStand home (Some Folder)) e may),
+        )
+    not_moved step answer p is folder = refl
+
+    cond_names : (b : Bool) (later : Fixed) → Firm later → Firm (cond b later fixed)
+    cond_names true later firm = firm
+    cond_names false later firm = now.2
+
+    sync_stands : (b : Bool) (later : Fixed) → ((fixed.files path).whole ≡ true → (later.files path).whole ≡ true) → Firm later → Stands t (cond b later fixed)
+    sync_stands true later whole firm = (now.0, whole now.1, firm)
+    sync_stands false later whole firm = now
+
+    by_sync : (step : PlainStep) (luck : Luck) (b : Bool) (later : Fixed) → is_sync step ≡ true → Stands t (cond b later fixed) → Stands (apply t step luck).1 (cond b later fixed)
+    by_sync step luck b later is stands = subst (λ new. Stands new (cond b later fixed)) (sym (sync_tree t step luck is)) stands
+
+    -- a name on the way, where the file stands before and after
+    named_on : (new : Tree) → Rooted new → (step : PlainStep) (answer : PlainAnswer) → Proper home step → look new path ≡ Some (File bytes) → moved_to (moves_file step answer) path ≡ false
+        → (p rest : Names) → p ++ rest ≡ path → name_after fixed t new step answer p ≡ None
+    named_on new rooted_new step answer is there unmoved p [] e =
+        let same : p ≡ path = sym (append-nil p) ∙ e in
+        name_kept fixed t new step answer p (Some (File bytes)) (ap (look t) same ∙ now.0) (ap (look new) same ∙ there) (ap (moved_to (moves_file step answer)) same ∙ unmoved)
+        ∙ now.2 p [] e
+    named_on new rooted_new step answer is there unmoved p (name ∷ rest) e =
+        name_kept fixed t new step answer p (Some Folder) (folder_at t rooted now.0 p rest name e) (folder_at new rooted_new there p rest name e)
+        (not_moved step answer p is (folder_at t rooted now.0 p rest name e))
+        ∙ now.2 p (name ∷ rest) e
+
+    stands_on : (step : PlainStep) (luck : Luck) (answer : PlainAnswer) → Proper home step → LeavesStep path (record { tree = t; fixed = fixed }) step (apply t step luck).1 answer
+        → Stands (apply t step luck).1 (fixed_after fixed t (apply t step luck).1 step answer)
+    stands_on (SyncTemp f) luck answer is leaves =
+        by_sync (SyncTemp f) luck (is_synced answer) (temp_synced fixed f) refl
+        (sync_stands (is_synced answer) (temp_synced fixed f) (cond_whole (is_at (names_of f.path) path) (unwrap_or f.bytes []) (fixed.files path)) now.2)
+    stands_on (SyncFile p) luck answer is leaves =
+        by_sync (SyncFile p) luck (is_synced answer) (file_synced fixed t p) refl
+        (sync_stands (is_synced answer) (file_synced fixed t p) (cond_whole (is_at (leads t p) path) (bytes_of (look t path)) (fixed.files path)) now.2)
+    stands_on (SyncDir p) luck answer is leaves =
+        by_sync (SyncDir p) luck (is_synced answer) (folder_synced fixed p) refl
+        (sync_stands (is_synced answer) (folder_synced fixed p) (λ whole. whole) (λ q rest e. cond_none (is_child_of (names_of p) q) (fixed.names q) (now.2 q rest e)))
+    stands_on step luck answer is leaves =
+        let new = (apply t step luck).1 in
+        let there : look new path ≡ Some (File bytes) = leaves.0 ∙ now.0 in (
+          there,
+          ap (λ (f : Fixing). f.whole) (file_kept fixed t new step answer path (Some (File bytes)) now.0 there leaves.3 leaves.2 leaves.1) ∙ now.1,
+          λ p rest e. named_on new (steps_keep_rooted t step luck rooted) step answer is there leaves.3 p rest e,
+        )
+
+  holds_next : (w : Moment) (m : Move) → Holds w → Proper home m.step → Leaves path w m → Holds (next w m)
+  holds_next w m h is leaves = (cache_next home w m h.0 is, stands_on w.tree w.fixed h.0.0 h.0.1 h.1 m.step m.luck m.answer is leaves)
+
+  pub holds_after : (w : Moment) (moves : List Move) → Holds w → IsTrace home w.tree moves → EachMove (Leaves path) w moves → Holds (after w moves)
+  holds_after w [] h trace leaves = h
+  holds_after w (m ∷ moves) h trace leaves = holds_after (next w m) moves (holds_next w m h trace.0 leaves.0) trace.2 leaves.1
+
+  -- where all is fixed
+  pub holds_first : (t : Tree) → Placed home t → Rooted t → look t path ≡ Some (File bytes) → Holds (opening t)
+  holds_first t placed rooted there = ((placed, rooted), (there, refl, λ p rest e. refl))
+
+  -- ---- a loss
+
+  whole_left : (f : Fixing) (tail : List ℕ) (here : Option Node) → here ≡ Some (File bytes) → f.whole ≡ true → node_left f tail here ≡ Some (File bytes)
+  whole_left f tail here is whole = rw (is, whole) refl
+
+  module _ (w : Moment) (loss : Loss) (h : Holds w) where
+    abbrev left : Names → Place
+    left = left_at home w.tree w.fixed loss
+
+    firm : (p rest : Names) → p ++ rest ≡ path → left p ≡ place_now w.tree w.fixed p
+    firm p rest e = left_firm home w.tree w.fixed loss p (inr (h.1.2 p rest e))
+
+    left_folder : (p rest : Names) (name : List ℕ) → p ++ name ∷ rest ≡ path → is_folder (left p).node ≡ true
+    left_folder p rest name e =
+        ap (λ (place : Place). is_folder place.node) (firm p (name ∷ rest) e)
+        ∙ ap is_folder (upper_folder w.tree p rest name (File bytes) h.0.1 (ap (look w.tree) e ∙ h.1.0))
+
+    led : (p rest : Names) → p ++ rest ≡ path → lead_folders left p rest ≡ true
+    led p [] e = refl
+    led p (name ∷ rest) e = rw (left_folder p rest name e) (led (p ++ name ∷ []) rest (append_assoc p (name ∷ []) rest ∙ e))
+
+    pub file_left : lost_then home w loss path ≡ Some (File bytes)
+    file_left =
+        ap (λ b. cond b (node_left (left path).fixing (loss.tail path) (left path).node) None) (led [] path refl)
+        ∙ ap (λ (place : Place). node_left place.fixing (loss.tail path) place.node) (firm path [] (append-nil path))
+        ∙ whole_left (w.fixed.files path) (loss.tail path) (look w.tree path) h.1.0 h.1.1
