@@ -134,8 +134,8 @@ module _ {h : History} {folder : Names} {before rest : List Record} {caller : �
       let moment : moment_at h (here q) ≡ after (moment_at h before) (steps_of q.place.between) = moment_more h before q.place.between in
       let was : look (moment_at h before).tree path ≡ Some (Link target)
       = stood_before (Some folder) path at target (moment_at h before) q.place.between (own_record q ∷ q.place.later) of_cache
-        (subst (λ records. AreCalm (Some folder) (moment_at h before) (steps_of records)) q.place.is calm)
-        (ap (λ (w : Moment). look w.tree path) (sym moment) ∙ linked) in
+      (subst (λ records. AreCalm (Some folder) (moment_at h before) (steps_of records)) q.place.is calm)
+      (ap (λ (w : Moment). look w.tree path) (sym moment) ∙ linked) in
       stands_at before ∙ ap blob_in was
 
   module _ (e : made ≡ (steps.SyncFile text, answers.Done)) where
