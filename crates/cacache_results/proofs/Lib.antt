@@ -15,6 +15,7 @@ pub mod LeftWrites
 pub mod KeptLinks
 pub mod UnchangedFiles
 pub mod FoundLinks
+pub mod AnsweredPuts
 pub mod LinkLosses
 pub mod LinkerResults
 pub mod PlainRuns

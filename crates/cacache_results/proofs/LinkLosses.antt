@@ -1,28 +1,18 @@
 -- What losses leave of durable puts that found a link, in a legal history.
 use Rattle.std.proofs.Common.{◌≡◌, ◌⊎◌, inl, inr, ℕ, List, [], ◌∷◌, ◌++◌, None, Some, Ok, refl, sym, ap, subst, ◌∙◌, append-nil}
 use Rattle.cacache_core.specs.declared.errors.Fault.TheVariants.{IsADirectory}
-use Rattle.cacache_core.specs.declared.integrity.digest.Hash.{Hash}
-use Rattle.cacache_core.specs.Integrity.{IsHash}
-use Rattle.cacache_core.specs.PathNames.{Names, names_of}
-use Rattle.cacache_core.specs.Paths.{content_names, folders_to, joined}
-use Rattle.cacache_store.specs.declared.store.step.Step.TheVariants as steps
-use Rattle.cacache_store.specs.declared.store.answer.Answer.TheVariants as answers
+use Rattle.cacache_core.specs.PathNames.{Names}
 use Rattle.cacache_disk.specs.declared.node.Node.TheVariants.{File}
 use Rattle.cacache_disk.specs.Apply.{apply}
 use Rattle.cacache_disk.specs.LedTo.{file_at, followed, leads, place, standing}
 use Rattle.cacache_disk.specs.Rooted.{Rooted}
 use Rattle.cacache_disk.specs.Tree.{Tree, look}
 use Rattle.cacache_disk.proofs.Standing.{way_clear}
-use Rattle.cacache_table.specs.declared.command.Command.TheVariants as commands
 use Rattle.cacache_table.specs.declared.command.Put.{Put}
-use Rattle.cacache_table.specs.declared.reply.Reply.TheVariants.{Stored}
-use Rattle.cacache_table.specs.declared.carried.Commit.{Commit}
-use Rattle.cacache_table.specs.Runs.{Moves}
-use Rattle.cacache_table.specs.StepPaths.{content_folders, content_path}
-use Rattle.cacache_table.specs.Storing.{put_commit}
+use Rattle.cacache_table.specs.Storing.{insertion_of, put_commit}
 use Rattle.cacache_value.specs.Shows.{blob_bytes, link_end}
 use Rattle.cacache_value.specs.Traces.{IsTrace}
-use Rattle.cacache_value.specs.Value.{AtLink, blob_in, value_of_tree}
+use Rattle.cacache_value.specs.Value.{AtLink, value_of_tree}
 use Rattle.cacache_history.specs.declared.record.Record.{Record}
 use Rattle.cacache_history.specs.declared.record.Record.TheVariants.{Began, Moved, Stopped}
 use Rattle.cacache_history.specs.AddedEntries.{address_of_put}
@@ -33,91 +23,18 @@ use Rattle.cacache_history.specs.Values.{steps_of}
 use Rattle.cacache_history.proofs.Digests.{digest_hash}
 use Rattle.cacache_history.proofs.LinkedContents.{links_are_right}
 use Rattle.cacache_loss.specs.Loss.{Loss}
-use Rattle.cacache_loss.specs.LossLaws.{GoodNode, HasDigest}
 use Rattle.cacache_loss.specs.LostTrees.{OfCache, StoodWell}
 use Rattle.cacache_loss.specs.LostValues.{HoldsContent, LeftOf}
-use Rattle.cacache_loss.specs.Moments.{EachMove, Moment, lost_then, next}
+use Rattle.cacache_loss.specs.Moments.{EachMove, Moment, next}
 use Rattle.cacache_loss.specs.Syncs.{Leaves}
 use Rattle.cacache_loss.proofs.LostTrees.{losses_leave_trees}
-use Rattle.cacache_loss.proofs.LostValues.{contents_are_held}
 use Rattle.cacache_durable.specs.FewCalls.{FewCalls}
-use Rattle.cacache_durable.specs.Outlasting.{FindsThere, moment_at}
-use Rattle.cacache_durable.proofs.AtMoves.{QuietPlace, here, own_record, quiet_here, split}
-use Rattle.cacache_durable.proofs.CommitMoves.{HasDirs}
-use Rattle.cacache_durable.proofs.CommitPlaces.{Secures, own, place_in, put_secures}
-use Rattle.cacache_durable.proofs.DurableContents.{content_named, put_outlasts}
-use Rattle.cacache_durable.proofs.PutMoves.{secures}
-use Rattle.cacache_durable.proofs.SyncedTemps.{put_well_at}
+use Rattle.cacache_durable.specs.Outlasting.{moment_at}
 use Rattle.cacache_durable.proofs.Traces.{made_move, of_cache_at, trace_at, tree_at}
-use Rattle.cacache_results.specs.FoundLinks.{AnsweredPut, FoundLink, GivesDigest, HistoriesKeepLinks, LeadsUnchanged, PutsOrLinksGive, PutsOrLinksOutlast, StaysUnchanged, UnchangedFilesStay}
-use Rattle.cacache_results.proofs.FoundLinks.{found_left}
+use Rattle.cacache_results.specs.FoundLinks.{AnsweredPut, EntriesHaveBehind, FoundLink, GivesDigest, HistoriesKeepLinks, LeadsUnchanged, PutsOrLinksGive, PutsOrLinksOutlast, StaysUnchanged, UnchangedFilesStay}
+use Rattle.cacache_durable.proofs.BehindEntries.{entry_behind}
+use Rattle.cacache_results.proofs.AnsweredPuts.{key_left, key_whole, puts_or_links}
 use Rattle.cacache_results.proofs.UnchangedFiles.{Holds, file_left, holds_after, holds_first}
-
--- ---- the content, or the link
-
-module _ (h : History) (legal : IsLegal h) (folder : Names) (home_is : home h.setup ≡ Some folder) (p : Put) (put : AnsweredPut h folder p) where
-  abbrev a : Hash
-  a = address_of_put p
-
-  abbrev commit : Commit
-  commit = put_commit h.setup.cache p
-
-  abbrev path : Names
-  path = folder ++ content_names a
-
-  is_hash : IsHash a
-  is_hash = digest_hash p.options.algorithm p.data
-
-  text_is : content_path commit.cache commit.computed ≡ joined h.setup.cache (content_names a)
-  unfolding content_path
-  text_is = refl
-
-  folders_are : content_folders commit.cache commit.computed ≡ folders_to h.setup.cache (content_names a)
-  unfolding content_folders
-  folders_are = refl
-
-  text_named : names_of (content_path commit.cache commit.computed) ≡ Ok path
-  text_named = ap names_of text_is ∙ content_named h folder a is_hash home_is
-
-  abbrev moves : Moves
-  moves = own h legal put.before put.rest put.is put.reply (commands.Put p) put.call
-
-  found : Secures put.reply commit moves
-  found = put_secures h legal put.before put.rest put.is put.reply p put.durable path put.call text_named
-
-  content_place : QuietPlace h folder path put.before put.rest put.call.caller found.made found.more
-  content_place = record {
-    legal = legal;
-    home_is = home_is;
-    is = put.is;
-    quiet = put.quiet;
-    reply = Stored put.reply;
-    call = put.call.call;
-    place = place_in h legal put.before put.rest put.is put.reply (commands.Put p) put.call found.front found.made found.more found.is;
-  }
-
-  dirs : HasDirs (folders_to h.setup.cache (content_names a)) found.more
-  dirs = subst (λ folders. HasDirs folders found.more) folders_are (secures put.reply commit put.durable found.more found.runs).0
-
-  module _ (few : FewCalls h) (loss : Loss) (left : Tree) (left_of : LeftOf folder (moment_at h h.records) loss left) where
-    held : GoodNode (HasDigest a) (lost_then (Some folder) (moment_at h h.records) loss path) → HoldsContent a (value_of_tree (Some folder) left)
-    held = contents_are_held folder a (moment_at h h.records) loss left left_of
-
-    puts_or_links : HoldsContent a (value_of_tree (Some folder) left) ⊎ FoundLink h put.before put.rest put.call.caller a (value_of_tree (Some folder) left)
-    puts_or_links =
-        let q = content_place in
-        let puts = put_well_at h legal few (here q) (own_record q ∷ q.place.later) (split q) folder home_is a is_hash (quiet_here q) in
-        elim found.puts [
-          | inl f ↦ inl (held (put_outlasts a is_hash q puts dirs loss f.0 (f.1 ∙ ap (λ text. (steps.Persist f.0 text, answers.Done)) text_is)))
-          | inr e ↦
-              let synced = e ∙ ap (λ text. (steps.SyncFile text, answers.Done)) text_is in
-              let finds : FindsThere put.call.caller (joined h.setup.cache (content_names a)) put.rest
-              = record { between = q.place.between; sync = own_record q; later = q.place.later; is = q.place.is; is_sync = (refl, synced) } in
-              elim (found_left a is_hash q puts dirs loss synced) [
-                | inl good ↦ inl (held good)
-                | inr link ↦ inr (finds, record { target = link.0; was = link.1; is = ap blob_in (left_of path ∙ link.2) })
-              ]
-        ]
 
 -- ---- files that no step changed
 
@@ -182,7 +99,11 @@ module _ (h : History) (legal : IsLegal h) where
 
 module _ (h : History) (legal : IsLegal h) where
   puts_or_links_outlast : FewCalls h → PutsOrLinksOutlast h
-  puts_or_links_outlast few folder p loss left home_is put left_of = puts_or_links h legal folder home_is p put few loss left left_of
+  puts_or_links_outlast few folder p loss left home_is put left_of = (puts_or_links h legal folder home_is p put few loss left left_of, key_left h legal folder home_is p put loss left left_of p.key refl)
+
+  entries_have_behind : EntriesHaveBehind h
+  entries_have_behind folder p key loss left home_is put keyed left_of =
+      entry_behind (insertion_of (put_commit h.setup.cache p) key).entry (key_whole h legal folder home_is p put key keyed) loss left left_of
 
   unchanged_files_stay : UnchangedFilesStay h
   unchanged_files_stay folder target bytes loss left home_is file left_of = unchanged_left h legal target bytes file folder home_is loss left left_of
@@ -201,11 +122,12 @@ module _ (h : History) (legal : IsLegal h) where
 
   puts_or_links_give : FewCalls h → PutsOrLinksGive h
   puts_or_links_give few folder p loss left home_is put left_of unchanged =
-      gives folder p loss left home_is put left_of unchanged (puts_or_links_outlast few folder p loss left home_is put left_of)
+      gives folder p loss left home_is put left_of unchanged (puts_or_links h legal folder home_is p put few loss left left_of)
 
 pub histories_keep_links : HistoriesKeepLinks
 histories_keep_links h legal = record {
   puts = puts_or_links_outlast h legal;
+  behind = entries_have_behind h legal;
   files = unchanged_files_stay h legal;
   gives = puts_or_links_give h legal;
 }

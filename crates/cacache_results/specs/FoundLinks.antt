@@ -8,6 +8,7 @@ use Rattle.cacache_disk.specs.Tree.{Tree, look}
 use Rattle.cacache_table.specs.declared.command.Command.TheVariants as commands
 use Rattle.cacache_table.specs.declared.command.Put.{Put}
 use Rattle.cacache_table.specs.declared.reply.Reply.TheVariants.{Stored}
+use Rattle.cacache_table.specs.Storing.{insertion_of, put_commit}
 use Rattle.cacache_value.specs.Shows.{blob_bytes}
 use Rattle.cacache_value.specs.Value.{AtLink, Value, value_of_tree}
 use Rattle.cacache_loss.specs.Loss.{Loss}
@@ -22,7 +23,7 @@ use Rattle.cacache_history.specs.Setup.{home}
 use Rattle.cacache_history.specs.Values.{steps_of, value_at}
 use Rattle.cacache_durable.specs.Ending.{EndsFrom}
 use Rattle.cacache_durable.specs.FewCalls.{FewCalls}
-use Rattle.cacache_durable.specs.Outlasting.{FindsThere, moment_at}
+use Rattle.cacache_durable.specs.Outlasting.{FindsThere, KeyOutlasts, OutlastsWith, moment_at}
 use Rattle.cacache_durable.specs.QuietMoves.{AreQuiet}
 
 -- ---- which puts
@@ -76,14 +77,24 @@ GivesDigest folder address t =
 -- ---- the laws
 
 -- after each later loss a durable put's address holds bytes with its digest, or still the link that
--- the put found there
+-- the put found there; with a key its entry is there too
 abbrev pub PutsOrLinksOutlast : History → Type 0
 PutsOrLinksOutlast h =
     (folder : Names) (p : Put) (loss : Loss) (left : Tree) → home h.setup ≡ Some folder
     → (put : AnsweredPut h folder p) → LeftOf folder (moment_at h h.records) loss left
-    → HoldsContent (address_of_put p) (value_of_tree (Some folder) left)
+    → (HoldsContent (address_of_put p) (value_of_tree (Some folder) left)
     ⊎ FoundLink h put.before put.rest put.call.caller (address_of_put p)
-    (value_of_tree (Some folder) left)
+    (value_of_tree (Some folder) left))
+    × KeyOutlasts h put.before put.rest put.call.caller p p.key (value_of_tree (Some folder) left)
+
+-- behind its entry stand the first of those that the history added there
+abbrev pub EntriesHaveBehind : History → Type 0
+EntriesHaveBehind h =
+    (folder : Names) (p : Put) (key : List ℕ) (loss : Loss) (left : Tree)
+    → home h.setup ≡ Some folder → (put : AnsweredPut h folder p) → p.key ≡ Some key
+    → LeftOf folder (moment_at h h.records) loss left
+    → OutlastsWith h folder put.before put.rest put.call.caller key
+    (insertion_of (put_commit h.setup.cache p) key).entry loss (value_of_tree (Some folder) left)
 
 -- a file that no step changed is there after each loss, with its bytes
 abbrev pub UnchangedFilesStay : History → Type 0
@@ -104,6 +115,8 @@ PutsOrLinksGive h =
 pub record LinksOutlast (h : History) : Type 0 where
   -- the content or the link, where each call has a temporary file of its own
   pub puts : FewCalls h → PutsOrLinksOutlast h
+  -- what is left behind the entry of such a put
+  pub behind : EntriesHaveBehind h
   -- the link's target
   pub files : UnchangedFilesStay h
   -- and so what both give
