@@ -14,6 +14,7 @@ pub use Rattle.cacache_loss.specs.declared.loss.Loss.{Loss}
 pub use Rattle.cacache_loss.specs.Chosen.{chosen}
 pub use Rattle.cacache_history.specs.declared.record.Record.{Record}
 pub use Rattle.cacache_history.specs.declared.record.Record.TheVariants.{Began, Moved, Stopped}
+pub use Rattle.cacache_history.specs.AddedEntries.{address_of_put}
 pub use Rattle.cacache_history.specs.Commits.{AreRemovals, CommitsAs, DropsAmong, IsCase, RemovesFound, deeds}
 pub use Rattle.cacache_history.specs.Headline.{Headline}
 pub use Rattle.cacache_history.specs.History.{History, Call, IsLegal, Reaches}
@@ -28,4 +29,5 @@ pub use Rattle.cacache_world.specs.Losses.{LeftBy}
 pub use Rattle.cacache_sequence.specs.Standing.{IsStanding}
 pub use Rattle.cacache_results.specs.DurableCases.{CanBeWritten, GoElsewhere, InsertsStandInOne, IsLastPut, PutsStandInOne, PutsStandLast, StandsIn, StoresDurably, followed_by}
 pub use Rattle.cacache_results.specs.FoundLinks.{AnsweredPut, EntriesHaveBehind, FoundLink, GivesDigest, HistoriesKeepLinks, KeepsLink, LeadsUnchanged, LinksOutlast, PutsOrLinksGive, PutsOrLinksOutlast, StaysUnchanged, UnchangedFilesStay}
+pub use Rattle.cacache_results.specs.LeftLinks.{LeadsThrough, LinkIsLeft, LossesLeaveLastLinks, LossesLeaveLinks}
 pub use Rattle.cacache_results.specs.Losses.{IsLast, IsLeft, LeadsToDigest, LeftRead, LeftReadMeans, LeftWriteMeans, LeftWritten, LossesLeaveLast, LossesLeavePuts, LossesLeaveStanding, PutIsLeft, StandsBefore}

@@ -10,6 +10,7 @@ pub mod LinkResults
 pub mod WriterResults
 pub mod JoinedResults
 pub mod ListResults
+pub mod LeftReads
 pub mod LossResults
 pub mod LeftWrites
 pub mod KeptLinks
@@ -17,6 +18,7 @@ pub mod UnchangedFiles
 pub mod FoundLinks
 pub mod AnsweredPuts
 pub mod LinkLosses
+pub mod LeftLinks
 pub mod LinkerResults
 pub mod PlainRuns
 pub mod PlainPuts

@@ -40,6 +40,7 @@ use Rattle.cacache_sequence.proofs.Looked.{same_stays_known}
 use Rattle.cacache_sequence.proofs.Looks.{looks_keep, tree_stays}
 use Rattle.cacache_sequence.proofs.Standing.{looks_leave_standing, standing_reads}
 use Rattle.cacache_results.specs.Losses.{IsLeft, LeadsToDigest, LeftReadMeans, LossesLeaveLast, LossesLeavePuts, LossesLeaveStanding, PutIsLeft, entry_written}
+use Rattle.cacache_results.proofs.LeftReads.{left_read}
 use Rattle.cacache_results.proofs.ReadResults.{given}
 use Rattle.cacache_results.proofs.Told.{called}
 
@@ -52,14 +53,14 @@ losses_leave_standing h loss log outlives left =
 -- ---- durable puts
 
 -- where no integrity was expected, the put's entry answers to its key
-put_answers : (cache key : List ℕ) (p : Put) → p.options.integrity ≡ None → answer_to key (entry_written cache key p) ≡ Some (Some (found_of_put cache key p))
+pub put_answers : (cache key : List ℕ) (p : Put) → p.options.integrity ≡ None → answer_to key (entry_written cache key p) ≡ Some (Some (found_of_put cache key p))
 put_answers cache key p none =
     let own = integrity_under p.options.algorithm p.data in
     answers_so key (integrity_text own) (entry_written cache key p) own refl (ap (λ o. Some (integrity_text (given_or own o))) none)
     (printed own (own_integrity p.options.algorithm p.data))
 
 -- bytes that have the digest of the put's meet its integrity
-met_by : (p : Put) (bytes : List ℕ) → digest p.options.algorithm bytes ≡ digest p.options.algorithm p.data → Meets (integrity_under p.options.algorithm p.data) bytes
+pub met_by : (p : Put) (bytes : List ℕ) → digest p.options.algorithm bytes ≡ digest p.options.algorithm p.data → Meets (integrity_under p.options.algorithm p.data) bytes
 met_by p bytes same =
     let own = hash_of p.options.algorithm (digest p.options.algorithm p.data) in
     let is : own ≡ hash_of p.options.algorithm (digest p.options.algorithm bytes) = ap (hash_of p.options.algorithm) (sym same) in
@@ -121,5 +122,6 @@ left_read_means cache key r new logged old standing ran =
       same = tree_stays cache (commands.Get key) (reply_of bytes_read r) old.store new.store tt c;
       standing = looks_leave_standing cache (commands.Get key) (reply_of bytes_read r) old.store new.store tt c standing;
       known = same_stays_known cache old.store new.store (looks_keep cache (commands.Get key) (reply_of bytes_read r) old.store new.store tt c);
+      reads = λ i bytes leads formed lies. given r (Unit {0}) bytes old.store new.store (left_read cache key (reply_of bytes_read r) old.store new.store standing c i bytes formed lies.0 lies.1 leads);
       gives = λ i bytes has. given r (HasKey cache key i bytes new.store) bytes old.store new.store (standing_reads cache key bytes i (reply_of bytes_read r) old.store new.store standing has c);
     }

@@ -28,8 +28,8 @@ use Rattle.cacache_durable.specs.QuietMoves.{AreQuiet}
 
 -- ---- which puts
 
--- a durable put that answers, from a place on where it had put nothing: from there on others remove,
--- link and export nothing, and put its content durably. Whatever stood at its address there
+-- a durable put that answers, from a place on where it had put nothing: from there on others
+-- remove, link and export nothing, and put its content durably. Whatever stood at its address there
 pub record AnsweredPut (h : History) (folder : Names) (p : Put) : Type 0 where
   pub before : List Record
   pub rest : List Record
@@ -42,8 +42,10 @@ pub record AnsweredPut (h : History) (folder : Names) (p : Put) : Type 0 where
 
 -- ---- what is left
 
--- after the first records a link to this target stood at an address, and in this value it still does
-pub record KeepsLink (h : History) (before : List Record) (address : Hash) (v : Value) : Type 0 where
+-- after the first records a link to this target stood at an address, and in this value it still
+-- does
+pub record KeepsLink (h : History) (before : List Record) (address : Hash) (v : Value)
+    : Type 0 where
   pub target : List ℕ
   pub was : (value_at h before).contents address ≡ Some (AtLink target)
   pub is : v.contents address ≡ Some (AtLink target)
@@ -76,8 +78,8 @@ GivesDigest folder address t =
 
 -- ---- the laws
 
--- after each later loss a durable put's address holds bytes with its digest, or still the link that
--- the put found there; with a key its entry is there too
+-- after each later loss a durable put's address holds bytes with its digest, or still the link
+-- that the put found there; with a key its entry is there too
 abbrev pub PutsOrLinksOutlast : History → Type 0
 PutsOrLinksOutlast h =
     (folder : Names) (p : Put) (loss : Loss) (left : Tree) → home h.setup ≡ Some folder
@@ -104,7 +106,8 @@ UnchangedFilesStay h =
     → LeftOf folder (moment_at h h.records) loss left
     → look left file.path ≡ Some (File bytes)
 
--- so where the link leads to such a file, what lies at the put's address gives bytes with its digest
+-- so where the link leads to such a file, what lies at the put's address gives bytes with its
+-- digest
 abbrev pub PutsOrLinksGive : History → Type 0
 PutsOrLinksGive h =
     (folder : Names) (p : Put) (loss : Loss) (left : Tree) → home h.setup ≡ Some folder

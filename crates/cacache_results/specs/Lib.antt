@@ -9,5 +9,6 @@ pub mod Joins
 pub mod Lists
 pub mod Losses
 pub mod FoundLinks
+pub mod LeftLinks
 pub mod Success
 pub mod DurableCases

@@ -5,7 +5,7 @@ use Rattle.cacache_core.specs.declared.errors.Error.{Error}
 use Rattle.cacache_core.specs.declared.integrity.algorithm.Algorithm.{Algorithm}
 use Rattle.cacache_core.specs.declared.integrity.digest.Hash.{Hash}
 use Rattle.cacache_core.specs.Digests.{digest}
-use Rattle.cacache_core.specs.Integrity.{integrity_under}
+use Rattle.cacache_core.specs.Integrity.{IsIntegrity, integrity_under}
 use Rattle.cacache_core.specs.PathNames.{Names, home_of}
 use Rattle.cacache_core.specs.Paths.{bucket_names}
 use Rattle.cacache_store.specs.declared.env.Env.{Env}
@@ -36,7 +36,7 @@ use Rattle.cacache_sequence.specs.Inserts.{leads_to}
 use Rattle.cacache_sequence.specs.Keeping.{found_under, StaysKnown}
 use Rattle.cacache_sequence.specs.ReadAnswers.{entries_on}
 use Rattle.cacache_sequence.specs.Standing.{IsStanding}
-use Rattle.cacache_results.specs.Reads.{GivesJust}
+use Rattle.cacache_results.specs.Reads.{GivesJust, LiesWhole}
 
 -- ---- what is left
 
@@ -78,7 +78,7 @@ PutIsLeft cache key p t =
 
 -- ---- reads
 
--- a read by key gives what the key leads to, and leaves everything
+-- a read by key gives what the key leads to, also through a link, and leaves everything
 pub record LeftRead (cache key : List ℕ) (r : Result (Vec ℕ Global) Error) (old new : List LogItem)
     : Type 0 where
   pub same : tree_of new ≡ tree_of old
@@ -86,6 +86,8 @@ pub record LeftRead (cache key : List ℕ) (r : Result (Vec ℕ Global) Error) (
   pub known : StaysKnown cache old new
   pub gives : (i : List Hash) (bytes : List ℕ) → HasKey cache key i bytes old
       → GivesJust bytes r old new
+  pub reads : (i : List Hash) (bytes : List ℕ) → leads_to cache key old ≡ Some i → IsIntegrity i
+      → LiesWhole cache i old bytes → GivesJust bytes r old new
 
 -- ---- writes
 

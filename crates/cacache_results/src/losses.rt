@@ -1,6 +1,7 @@
 //! Behind a loss of power: a store in memory that began with what it left.
 ghost use Rattle.cacache_results.specs.DurableCases.{InsertsStandInOne, PutsStandInOne, PutsStandLast};
 ghost use Rattle.cacache_results.specs.FoundLinks.{HistoriesKeepLinks};
+ghost use Rattle.cacache_results.specs.LeftLinks.{LossesLeaveLastLinks, LossesLeaveLinks};
 ghost use Rattle.cacache_results.specs.Losses.{LeftReadMeans, LeftWriteMeans, LossesLeaveLast, LossesLeavePuts};
 ghost use Rattle.cacache_results.specs.Losses.{LossesLeaveStanding};
 
@@ -19,10 +20,13 @@ pub fn loss_results()
 {}
 
 /// What a loss of power leaves of a durable put of a legal history that answered, whatever stood at its content's address:
-/// bytes with the digest of the address, or the link that it found there. What the link leads to is bytes with that digest
-/// too, where its target is a file that no step of the history changed.
+/// bytes with the digest of the address, or the link that it found there, and its entry. What the link leads to is bytes
+/// with that digest too, where its target is a file that no step of the history changed: then the key leads to these bytes,
+/// where none behind the put's entry answers to it.
 pub fn link_losses()
-    ensures { HistoriesKeepLinks }
+    ensures outlast { HistoriesKeepLinks }
+    ensures puts { LossesLeaveLinks }
+    ensures last { LossesLeaveLastLinks }
 {}
 
 /// Histories of one durable commit alone: at any cache whose text names a folder one is legal, so that the laws of losses

@@ -2,11 +2,11 @@
 use Rattle.std.proofs.Common.{◌≡◌, inl, inr, ℕ, List, None, Some, Vec, Global, Result, Ok, Err, refl, sym, ap, subst, ◌∙◌}
 use Rattle.cacache.specs.Calls.{Error}
 use Rattle.cacache.specs.Entries.{Entry}
-use Rattle.cacache.specs.Histories.{FewCalls, HistoriesOutlive, History, IsStanding, LeadsToDigest, LeftBy, LeftRead, LeftWritten, Loss, LossesLeaveLast, LossesLeavePuts, LossesLeaveStanding, MetDigestsAreSame, NoneAnswers, Outlives, Put, PutsStandLast, Tree, chosen, digest}
+use Rattle.cacache.specs.Histories.{FewCalls, HistoriesOutlive, History, IsStanding, LeadsThrough, LeadsToDigest, LeftBy, LeftRead, LeftWritten, LinksOutlast, Loss, LossesLeaveLast, LossesLeaveLastLinks, LossesLeavePuts, LossesLeaveStanding, MetDigestsAreSame, NoneAnswers, Outlives, Put, PutsStandLast, Tree, chosen, digest}
 use Rattle.cacache.specs.Laws.{GivesJust, HasKey, IsExcused, KeepsBeside, OutOfMemory, StaysKnown, tree_of}
 use Rattle.cacache.specs.Stores.{LogItem}
 use Rattle.cacache.specs.Integrities.{Hash, Sha256}
-use Rattle.uses_worlds.specs.Losses.{GivesPut, GoesOn, SomeSurvive, Survives, SurvivesAlone}
+use Rattle.uses_worlds.specs.Losses.{GivesPut, GoesOn, LinkSurvives, SomeSurvive, Survives, SurvivesAlone}
 use Rattle.uses_worlds.specs.declared.losing.Reads.{Reads}
 
 -- where memory is refused before the read
@@ -41,6 +41,24 @@ alone_here h loss key r old new outlives few lasts stands lost read folder p her
     let chosen_loss = chosen loss.undone.items loss.tails.items in
     let leads = lasts h chosen_loss folder key p (tree_of old) outlives few lost here put keyed none last old refl in
     (tree_of old, lost, gives h.setup.cache key p r old new leads (read (stands h chosen_loss old outlives lost)))
+
+-- ---- where the content may be a link
+
+pub refused_link : (h : History) (loss : Loss) (key : List ℕ) → Outlives h → LinkSurvives h loss key (Err OutOfMemory)
+refused_link h loss key outlives folder p here put keyed none unchanged last =
+    let one = (outlives.caches (chosen loss.undone.items loss.tails.items)).one in
+    (one.tree, one.left, inl refl)
+
+gives_through : (cache key : List ℕ) (p : Put) (r : Result (Vec ℕ Global) Error) (old new : List LogItem) → LeadsThrough cache key p old → LeftRead cache key r old new → GivesPut p r (tree_of old)
+gives_through cache key p (Ok v) old new leads read = ap (digest p.options.algorithm) (read.reads _ leads.bytes leads.leads leads.formed leads.lies) ∙ leads.same
+gives_through cache key p (Err e) old new leads read = inr (old, new, refl, read.reads _ leads.bytes leads.leads leads.formed leads.lies)
+
+pub link_here : (h : History) (loss : Loss) (key : List ℕ) (r : Result (Vec ℕ Global) Error) (old new : List LogItem) → Outlives h → LinksOutlast h → FewCalls h → LossesLeaveLastLinks → LossesLeaveStanding
+    → LeftBy h loss (tree_of old) → (IsStanding h.setup.cache old → LeftRead h.setup.cache key r old new) → LinkSurvives h loss key r
+link_here h loss key r old new outlives outlast few lasts stands lost read folder p here put keyed none unchanged last =
+    let chosen_loss = chosen loss.undone.items loss.tails.items in
+    let leads = lasts h chosen_loss folder key p (tree_of old) outlast few lost here put keyed none unchanged last old refl in
+    (tree_of old, lost, gives_through h.setup.cache key p r old new leads (read (stands h chosen_loss old outlives lost)))
 
 -- ---- writes after a loss
 

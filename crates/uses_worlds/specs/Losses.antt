@@ -3,7 +3,7 @@ use Rattle.std.specs.Prelude.{◌≡◌, ◌⊎◌, ℕ, List, None, Some, Ok, V
 use Rattle.std.specs.Global.{Global}
 use Rattle.cacache.specs.Calls.{Error}
 use Rattle.cacache.specs.Entries.{Entry}
-use Rattle.cacache.specs.Histories.{DurablePut, FewCalls, GoElsewhere, History, IsLast, IsLegal, LeadsToDigest, LeftBy, Loss, Names, NoneAnswers, Put, Record, StandsBefore, StandsIn, StoresDurably, Tree, digest, followed_by, home, names_of}
+use Rattle.cacache.specs.Histories.{AnsweredPut, DurablePut, FewCalls, GoElsewhere, History, IsLast, IsLegal, LeadsToDigest, LeadsUnchanged, LeftBy, Loss, Names, NoneAnswers, Put, Record, StandsBefore, StandsIn, StoresDurably, Tree, address_of_put, digest, followed_by, home, names_of}
 use Rattle.cacache.specs.Laws.{IsExcused, OutOfMemory, tree_of}
 use Rattle.cacache.specs.Stores.{LogItem}
 use Rattle.uses_worlds.specs.declared.losing.Reads.{Reads}
@@ -34,6 +34,16 @@ abbrev pub SurvivesAlone : History → Loss → List ℕ → Result (Vec ℕ Glo
 SurvivesAlone h loss key r =
     (folder : Names) (p : Put) → home h.setup ≡ Some folder → (put : DurablePut h folder p)
     → p.key ≡ Some key → p.options.integrity ≡ None
+    → IsLast h folder put.rest put.call.caller key p
+    → (left : Tree) × LeftBy h loss left × GivesPut p r left
+
+-- so it is whatever stood at the address of its content, where a link there led to a file that no step
+-- of the history changed
+abbrev pub LinkSurvives : History → Loss → List ℕ → Result (Vec ℕ Global) Error → Type 0
+LinkSurvives h loss key r =
+    (folder : Names) (p : Put) → home h.setup ≡ Some folder → (put : AnsweredPut h folder p)
+    → p.key ≡ Some key → p.options.integrity ≡ None
+    → LeadsUnchanged h put.before (address_of_put p)
     → IsLast h folder put.rest put.call.caller key p
     → (left : Tree) × LeftBy h loss left × GivesPut p r left
 

@@ -3,11 +3,12 @@ ghost use Rattle.std.specs.Prelude.{◌≡◌, IfOk, IfErr};
 ghost use Rattle.cacache.specs.Histories.{IsStanding, LeftBy, LeftRead, LeftWritten};
 ghost use Rattle.cacache.specs.Integrities.{Sha256};
 ghost use Rattle.cacache.specs.Laws.{OutOfMemory, tree_of};
-ghost use Rattle.uses_worlds.specs.Losses.{GoesOn, SomeSurvive, Survives, SurvivesAlone};
+ghost use Rattle.uses_worlds.specs.Losses.{GoesOn, LinkSurvives, SomeSurvive, Survives, SurvivesAlone};
 
 use cacache::env::{Clock, Env, Names};
 use cacache::laws::{
-    after_read_left, after_write_left, digest_laws, durable_cases, durable_laws, loss_results,
+    after_read_left, after_write_left, digest_laws, durable_cases, durable_laws, link_losses,
+    loss_results,
 };
 use cacache::store::MemStore;
 use cacache::world::{Loss, World};
@@ -51,6 +52,28 @@ pub fn survives<C: Clock, N: Names>(
 {
     world.stands();
     loss_results();
+    let Ok(store) = left_store(world, loss) else {
+        return Err(Error::OutOfMemory);
+    };
+    let Ok(mut env) = Env::new(world.allocator(), store, clock, names, "/") else {
+        return Err(Error::OutOfMemory);
+    };
+    read_left(&mut env, world.cache(), key)
+}
+
+/// The power goes in a world, and a key is read that was put durably where a link may have stood at the content's address.
+pub fn link_survives<C: Clock, N: Names>(
+    world: &World,
+    loss: &Loss,
+    key: &str,
+    clock: C,
+    names: N,
+) -> Result<Vec<u8>>
+    ensures { LinkSurvives world.now loss.now key.now result }
+{
+    world.stands();
+    loss_results();
+    link_losses();
     let Ok(store) = left_store(world, loss) else {
         return Err(Error::OutOfMemory);
     };

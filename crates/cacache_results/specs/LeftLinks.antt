@@ -1,0 +1,63 @@
+-- What a store in memory holds that began with what a loss of power left of a durable put, where its content may be a link.
+use Rattle.std.specs.Prelude.{◌≡◌, ℕ, List, None, Some}
+use Rattle.cacache_core.specs.declared.integrity.digest.Hash.{Hash}
+use Rattle.cacache_core.specs.Digests.{digest}
+use Rattle.cacache_core.specs.Integrity.{IsIntegrity, integrity_under}
+use Rattle.cacache_core.specs.PathNames.{Names}
+use Rattle.cacache_store.specs.declared.store.log.LogItem.{LogItem}
+use Rattle.cacache_disk.specs.Tree.{Tree}
+use Rattle.cacache_memory.specs.Replay.{tree_of}
+use Rattle.cacache_entry.specs.Entry.{Entry}
+use Rattle.cacache_entry.specs.Latest.{NoneAnswers}
+use Rattle.cacache_table.specs.declared.command.Put.{Put}
+use Rattle.cacache_loss.specs.Loss.{Loss}
+use Rattle.cacache_history.specs.AddedEntries.{address_of_put}
+use Rattle.cacache_history.specs.History.{History}
+use Rattle.cacache_history.specs.Setup.{home}
+use Rattle.cacache_durable.specs.FewCalls.{FewCalls}
+use Rattle.cacache_sequence.specs.Inserts.{leads_to}
+use Rattle.cacache_results.specs.FoundLinks.{AnsweredPut, LeadsUnchanged, LinksOutlast}
+use Rattle.cacache_results.specs.Losses.{IsLast, IsLeft, StandsBefore}
+use Rattle.cacache_results.specs.Reads.{LiesWhole}
+
+-- ---- what is left
+
+-- the integrity of a put's bytes
+abbrev pub integrity_put : Put → List Hash
+integrity_put p = integrity_under p.options.algorithm p.data
+
+-- the key leads to bytes that have the digest of the put's, which lie there or where a link leads
+pub record LeadsThrough (cache key : List ℕ) (p : Put) (log : List LogItem) : Type 0 where
+  pub bytes : List ℕ
+  pub same : digest p.options.algorithm bytes ≡ digest p.options.algorithm p.data
+  pub leads : leads_to cache key log ≡ Some (integrity_put p)
+  pub formed : IsIntegrity (integrity_put p)
+  pub lies : LiesWhole cache (integrity_put p) log bytes
+
+-- the put's entry stands there; where none behind it answers to the key, the key leads to such bytes
+-- in each store with this tree
+abbrev pub LinkIsLeft : List ℕ → List ℕ → Put → Tree → Type 0
+LinkIsLeft cache key p t =
+    (more : List Entry) × StandsBefore cache key p more t
+    × (NoneAnswers key more → (log : List LogItem) → tree_of log ≡ t → LeadsThrough cache key p log)
+
+-- ---- laws
+
+-- what a durable put stored that answered is left, of which no integrity was expected; where a link
+-- stood at its address, one to a file that no step of the history changed
+abbrev pub LossesLeaveLinks : Type 0
+LossesLeaveLinks =
+    (h : History) (loss : Loss) (folder : Names) (key : List ℕ) (p : Put) (t : Tree)
+    → LinksOutlast h → FewCalls h → IsLeft h loss t → home h.setup ≡ Some folder
+    → (put : AnsweredPut h folder p) → p.key ≡ Some key → p.options.integrity ≡ None
+    → LeadsUnchanged h put.before (address_of_put p) → LinkIsLeft h.setup.cache key p t
+
+-- and where its entry is the last of its bucket, the key leads to its bytes in each such store
+abbrev pub LossesLeaveLastLinks : Type 0
+LossesLeaveLastLinks =
+    (h : History) (loss : Loss) (folder : Names) (key : List ℕ) (p : Put) (t : Tree)
+    → LinksOutlast h → FewCalls h → IsLeft h loss t → home h.setup ≡ Some folder
+    → (put : AnsweredPut h folder p) → p.key ≡ Some key → p.options.integrity ≡ None
+    → LeadsUnchanged h put.before (address_of_put p)
+    → IsLast h folder put.rest put.call.caller key p
+    → (log : List LogItem) → tree_of log ≡ t → LeadsThrough h.setup.cache key p log
