@@ -28,6 +28,6 @@ pub use Rattle.cacache_durable.specs.Outlasting.{DurableInsert, DurablePut, Hist
 pub use Rattle.cacache_world.specs.Losses.{LeftBy}
 pub use Rattle.cacache_sequence.specs.Standing.{IsStanding}
 pub use Rattle.cacache_results.specs.DurableCases.{CanBeWritten, GoElsewhere, InsertsStandInOne, IsLastPut, PutsStandInOne, PutsStandLast, StandsIn, StoresDurably, followed_by}
-pub use Rattle.cacache_results.specs.FoundLinks.{AnsweredPut, EntriesHaveBehind, FoundLink, GivesDigest, HistoriesKeepLinks, KeepsLink, LeadsUnchanged, LinksOutlast, PutsOrLinksGive, PutsOrLinksOutlast, StaysUnchanged, UnchangedFilesStay}
+pub use Rattle.cacache_results.specs.FoundLinks.{AnsweredPut, EntriesHaveBehind, FoundLink, GivesDigest, HistoriesKeepLinks, KeepsLink, LeadsUnchanged, LinksLeadUnchanged, LinksOutlast, OnlyLinksIn, PutsOrLinksGive, PutsOrLinksOutlast, StaysUnchanged, UnchangedFilesStay, linking_in}
 pub use Rattle.cacache_results.specs.LeftLinks.{LeadsThrough, LinkIsLeft, LossesLeaveLastLinks, LossesLeaveLinks}
 pub use Rattle.cacache_results.specs.Losses.{IsLast, IsLeft, LeadsToDigest, LeftRead, LeftReadMeans, LeftWriteMeans, LeftWritten, LossesLeaveLast, LossesLeavePuts, LossesLeaveStanding, PutIsLeft, StandsBefore}

@@ -17,6 +17,8 @@ pub mod KeptLinks
 pub mod UnchangedFiles
 pub mod FoundLinks
 pub mod AnsweredPuts
+pub mod OutsideSteps
+pub mod OutsideFiles
 pub mod LinkLosses
 pub mod LeftLinks
 pub mod LinkerResults

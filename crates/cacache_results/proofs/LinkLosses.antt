@@ -34,6 +34,7 @@ use Rattle.cacache_durable.proofs.Traces.{made_move, of_cache_at, trace_at, tree
 use Rattle.cacache_results.specs.FoundLinks.{AnsweredPut, EntriesHaveBehind, FoundLink, GivesDigest, HistoriesKeepLinks, LeadsUnchanged, PutsOrLinksGive, PutsOrLinksOutlast, StaysUnchanged, UnchangedFilesStay}
 use Rattle.cacache_durable.proofs.BehindEntries.{entry_behind}
 use Rattle.cacache_results.proofs.AnsweredPuts.{key_left, key_whole, puts_or_links}
+use Rattle.cacache_results.proofs.OutsideFiles.{links_lead_unchanged}
 use Rattle.cacache_results.proofs.UnchangedFiles.{Holds, file_left, holds_after, holds_first}
 
 -- ---- files that no step changed
@@ -129,5 +130,6 @@ histories_keep_links h legal = record {
   puts = puts_or_links_outlast h legal;
   behind = entries_have_behind h legal;
   files = unchanged_files_stay h legal;
+  unchanged = links_lead_unchanged h legal;
   gives = puts_or_links_give h legal;
 }

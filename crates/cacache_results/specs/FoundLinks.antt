@@ -1,5 +1,5 @@
 -- What losses of power leave of a durable put that found a link at its content's address.
-use Rattle.std.specs.Prelude.{◌≡◌, ◌⊎◌, ℕ, List, [], ◌++◌, Some, true, Ok}
+use Rattle.std.specs.Prelude.{◌≡◌, ◌⊎◌, ℕ, List, [], ◌∷◌, ◌++◌, Some, true, Ok}
 use Rattle.cacache_core.specs.declared.integrity.digest.Hash.{Hash}
 use Rattle.cacache_core.specs.PathNames.{Names, names_of}
 use Rattle.cacache_core.specs.Paths.{content_names, joined}
@@ -8,6 +8,7 @@ use Rattle.cacache_disk.specs.Tree.{Tree, look}
 use Rattle.cacache_table.specs.declared.command.Command.TheVariants as commands
 use Rattle.cacache_table.specs.declared.command.Put.{Put}
 use Rattle.cacache_table.specs.declared.reply.Reply.TheVariants.{Stored}
+use Rattle.cacache_table.specs.Licence.{KeepsTo, Licence, taking_in}
 use Rattle.cacache_table.specs.Storing.{insertion_of, put_commit}
 use Rattle.cacache_value.specs.Shows.{blob_bytes}
 use Rattle.cacache_value.specs.Value.{AtLink, Value, value_of_tree}
@@ -17,6 +18,7 @@ use Rattle.cacache_loss.specs.LostValues.{HoldsContent, LeftOf}
 use Rattle.cacache_loss.specs.Moments.{EachMove}
 use Rattle.cacache_loss.specs.Syncs.{Leaves}
 use Rattle.cacache_history.specs.declared.record.Record.{Record}
+use Rattle.cacache_history.specs.declared.record.Record.TheVariants.{Began, Moved, Stopped}
 use Rattle.cacache_history.specs.AddedEntries.{address_of_put}
 use Rattle.cacache_history.specs.History.{History, IsLegal, initial, now_at}
 use Rattle.cacache_history.specs.Setup.{home}
@@ -70,6 +72,18 @@ LeadsUnchanged h before address =
     (target : List ℕ) → (value_at h before).contents address ≡ Some (AtLink target)
     → (bytes : List ℕ) × StaysUnchanged h target bytes
 
+-- bytes, entries and links may come in, but nothing goes out or is removed
+abbrev pub linking_in : Licence
+linking_in = record taking_in { links = true }
+
+-- each call that begins in these records does no more than this
+abbrev pub OnlyLinksIn : List Record → Type 0
+OnlyLinksIn [] = Unit {0}
+OnlyLinksIn (Began caller command ∷ records) =
+    KeepsTo linking_in command × OnlyLinksIn records
+OnlyLinksIn (Moved caller luck made reply ∷ records) = OnlyLinksIn records
+OnlyLinksIn (Stopped caller ∷ records) = OnlyLinksIn records
+
 -- what lies at an address, or where a link there leads, is bytes with its digest
 abbrev pub GivesDigest : Names → Hash → Tree → Type 0
 GivesDigest folder address t =
@@ -114,6 +128,12 @@ PutsOrLinksGive h =
     → (put : AnsweredPut h folder p) → LeftOf folder (moment_at h h.records) loss left
     → LeadsUnchanged h put.before (address_of_put p) → GivesDigest folder (address_of_put p) left
 
+-- where no call exports or removes, each link at a put's address leads to such a file
+abbrev pub LinksLeadUnchanged : History → Type 0
+LinksLeadUnchanged h =
+    OnlyLinksIn h.records → (before later : List Record) → h.records ≡ before ++ later
+    → (p : Put) → LeadsUnchanged h before (address_of_put p)
+
 -- what a loss of power leaves of durable puts that found a link
 pub record LinksOutlast (h : History) : Type 0 where
   -- the content or the link, where each call has a temporary file of its own
@@ -122,6 +142,8 @@ pub record LinksOutlast (h : History) : Type 0 where
   pub behind : EntriesHaveBehind h
   -- the link's target
   pub files : UnchangedFilesStay h
+  -- which no step changes, where no call exports or removes
+  pub unchanged : LinksLeadUnchanged h
   -- and so what both give
   pub gives : FewCalls h → PutsOrLinksGive h
 
