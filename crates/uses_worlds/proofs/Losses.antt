@@ -6,7 +6,7 @@ use Rattle.cacache.specs.Histories.{FewCalls, HistoriesOutlive, History, IsStand
 use Rattle.cacache.specs.Laws.{GivesJust, HasKey, IsExcused, KeepsBeside, OutOfMemory, StaysKnown, tree_of}
 use Rattle.cacache.specs.Stores.{LogItem}
 use Rattle.cacache.specs.Integrities.{Hash, Sha256}
-use Rattle.uses_worlds.specs.Losses.{GivesPut, GoesOn, LinkSurvives, SomeSurvive, Survives, SurvivesAlone}
+use Rattle.uses_worlds.specs.Losses.{GivesPut, GoesOn, LinkSurvives, LinkedSurvives, SomeSurvive, Survives, SurvivesAlone}
 use Rattle.uses_worlds.specs.declared.losing.Reads.{Reads}
 
 -- where memory is refused before the read
@@ -59,6 +59,11 @@ link_here h loss key r old new outlives outlast few lasts stands lost read folde
     let chosen_loss = chosen loss.undone.items loss.tails.items in
     let leads = lasts h chosen_loss folder key p (tree_of old) outlast few lost here put keyed none unchanged last old refl in
     (tree_of old, lost, gives_through h.setup.cache key p r old new leads (read (stands h chosen_loss old outlives lost)))
+
+-- no step changes a link's target where no call exports or removes
+pub linked_too : (h : History) (loss : Loss) (key : List ℕ) (r : Result (Vec ℕ Global) Error) → LinksOutlast h → LinkSurvives h loss key r → LinkedSurvives h loss key r
+linked_too h loss key r outlast survives folder p only here put keyed none last =
+    survives folder p here put keyed none (outlast.unchanged only put.before put.rest put.is p) last
 
 -- ---- writes after a loss
 

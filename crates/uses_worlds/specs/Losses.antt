@@ -3,7 +3,7 @@ use Rattle.std.specs.Prelude.{◌≡◌, ◌⊎◌, ℕ, List, None, Some, Ok, V
 use Rattle.std.specs.Global.{Global}
 use Rattle.cacache.specs.Calls.{Error}
 use Rattle.cacache.specs.Entries.{Entry}
-use Rattle.cacache.specs.Histories.{AnsweredPut, DurablePut, FewCalls, GoElsewhere, History, IsLast, IsLegal, LeadsToDigest, LeadsUnchanged, LeftBy, Loss, Names, NoneAnswers, Put, Record, StandsBefore, StandsIn, StoresDurably, Tree, address_of_put, digest, followed_by, home, names_of}
+use Rattle.cacache.specs.Histories.{AnsweredPut, DurablePut, FewCalls, GoElsewhere, History, IsLast, IsLegal, LeadsToDigest, LeadsUnchanged, LeftBy, Loss, Names, NoneAnswers, OnlyLinksIn, Put, Record, StandsBefore, StandsIn, StoresDurably, Tree, address_of_put, digest, followed_by, home, names_of}
 use Rattle.cacache.specs.Laws.{IsExcused, OutOfMemory, tree_of}
 use Rattle.cacache.specs.Stores.{LogItem}
 use Rattle.uses_worlds.specs.declared.losing.Reads.{Reads}
@@ -44,6 +44,14 @@ LinkSurvives h loss key r =
     (folder : Names) (p : Put) → home h.setup ≡ Some folder → (put : AnsweredPut h folder p)
     → p.key ≡ Some key → p.options.integrity ≡ None
     → LeadsUnchanged h put.before (address_of_put p)
+    → IsLast h folder put.rest put.call.caller key p
+    → (left : Tree) × LeftBy h loss left × GivesPut p r left
+
+-- it is read without asking of links, where no call of the history exports or removes
+abbrev pub LinkedSurvives : History → Loss → List ℕ → Result (Vec ℕ Global) Error → Type 0
+LinkedSurvives h loss key r =
+    (folder : Names) (p : Put) → OnlyLinksIn h.records → home h.setup ≡ Some folder
+    → (put : AnsweredPut h folder p) → p.key ≡ Some key → p.options.integrity ≡ None
     → IsLast h folder put.rest put.call.caller key p
     → (left : Tree) × LeftBy h loss left × GivesPut p r left
 

@@ -3,7 +3,7 @@ ghost use Rattle.std.specs.Prelude.{◌≡◌, IfOk, IfErr};
 ghost use Rattle.cacache.specs.Histories.{IsStanding, LeftBy, LeftRead, LeftWritten};
 ghost use Rattle.cacache.specs.Integrities.{Sha256};
 ghost use Rattle.cacache.specs.Laws.{OutOfMemory, tree_of};
-ghost use Rattle.uses_worlds.specs.Losses.{GoesOn, LinkSurvives, SomeSurvive, Survives, SurvivesAlone};
+ghost use Rattle.uses_worlds.specs.Losses.{GoesOn, LinkSurvives, LinkedSurvives, SomeSurvive, Survives, SurvivesAlone};
 
 use cacache::env::{Clock, Env, Names};
 use cacache::laws::{
@@ -69,7 +69,8 @@ pub fn link_survives<C: Clock, N: Names>(
     clock: C,
     names: N,
 ) -> Result<Vec<u8>>
-    ensures { LinkSurvives world.now loss.now key.now result }
+    ensures link { LinkSurvives world.now loss.now key.now result }
+    ensures any { LinkedSurvives world.now loss.now key.now result }
 {
     world.stands();
     loss_results();
