@@ -1,5 +1,5 @@
 -- What a loss of power left of durable puts, where their contents may be links.
-use Rattle.std.proofs.Common.{◌≡◌, ℕ, List, [], ◌∷◌, ◌++◌, Option, None, Some, option_map, refl, sym, ap, subst, ◌∙◌}
+use Rattle.std.proofs.Common.{◌≡◌, ℕ, List, [], ◌∷◌, ◌++◌, Option, None, Some, option_map, sym, ap, subst, ◌∙◌}
 use Rattle.sha1.specs.Sha1.{sha1}
 use Rattle.cacache_core.specs.declared.integrity.digest.Hash.{Hash}
 use Rattle.cacache_core.specs.Digests.{digest}
@@ -13,7 +13,7 @@ use Rattle.cacache_entry.proofs.Lookups.{last_answer_decides}
 use Rattle.cacache_table.specs.declared.command.Put.{Put}
 use Rattle.cacache_value.specs.Acts.{list_of}
 use Rattle.cacache_value.specs.Shows.{blob_bytes}
-use Rattle.cacache_value.specs.Value.{Value, value_of_tree}
+use Rattle.cacache_value.specs.Value.{value_of_tree}
 use Rattle.cacache_loss.specs.Loss.{Lost}
 use Rattle.cacache_history.specs.AddedEntries.{address_of_put}
 use Rattle.cacache_history.specs.Lookups.{found_of_put}
