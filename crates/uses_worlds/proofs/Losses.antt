@@ -1,5 +1,6 @@
 -- What a user says of a loss of power follows from the laws of what it leaves.
 use Rattle.std.proofs.Common.{◌≡◌, inl, inr, ℕ, List, None, Some, Vec, Global, Result, Ok, Err, refl, sym, ap, subst, ◌∙◌}
+use Rattle.std.specs.Prelude.{IsErrAnd}
 use Rattle.cacache.specs.Calls.{Error}
 use Rattle.cacache.specs.Entries.{Entry}
 use Rattle.cacache.specs.Histories.{FewCalls, HistoriesOutlive, History, IsStanding, LeadsThrough, LeadsToDigest, LeftBy, LeftRead, LeftWritten, LinksOutlast, Loss, LossesLeaveLast, LossesLeaveLastLinks, LossesLeavePuts, LossesLeaveStanding, MetDigestsAreSame, NoneAnswers, Outlives, Put, PutsStandLast, Tree, chosen, digest}
@@ -8,6 +9,11 @@ use Rattle.cacache.specs.Stores.{LogItem}
 use Rattle.cacache.specs.Integrities.{Hash, Sha256}
 use Rattle.uses_worlds.specs.Losses.{GivesPut, GoesOn, LinkSurvives, LinkedSurvives, SomeSurvive, Survives, SurvivesAlone}
 use Rattle.uses_worlds.specs.declared.losing.Reads.{Reads}
+
+-- what `?` hands on where memory was refused
+pub handed_on : {X : Type 0} (P : Result X Error → Type 0) (r : Result X Error) (e : Error) → IsErrAnd r (λ x. x ≡ e) → e ≡ OutOfMemory → P (Err OutOfMemory) → P r
+handed_on P (Ok x) e same is p = absurd same
+handed_on P (Err x) e same is p = subst (λ x. P (Err x)) (sym (same ∙ is)) p
 
 -- where memory is refused before the read
 pub refused : (h : History) (loss : Loss) (key : List ℕ) → Outlives h → FewCalls h → LossesLeavePuts → Survives h loss key (Err OutOfMemory)

@@ -14,13 +14,22 @@ use cacache::store::MemStore;
 use cacache::world::{Loss, World};
 use cacache::{Algorithm, Error, Integrity, Result, read_sync, write_sync};
 
-/// A store that begins with what is left of a world's disk where the power goes now.
-fn left_store(world: &World, loss: &Loss) -> Result<MemStore>
-    ensures tree { IfOk result (λ store. LeftBy world.now loss.now (tree_of store)) }
+/// An environment that begins with what is left of a world's disk where the power goes now.
+fn begun<C: Clock, N: Names>(
+    world: &World,
+    loss: &Loss,
+    clock: C,
+    names: N,
+) -> Result<Env<MemStore, C, N>>
+    ensures tree { IfOk result (λ env. LeftBy world.now loss.now (tree_of env.store)) }
     ensures memory { IfErr result (λ e. e ≡ OutOfMemory) }
 {
-    match world.lose(loss) {
-        Ok(disk) => MemStore::of(world.allocator(), &disk),
+    let Ok(disk) = world.lose(loss) else {
+        return Err(Error::OutOfMemory);
+    };
+    let store = MemStore::of(world.allocator(), &disk)?;
+    match Env::new(world.allocator(), store, clock, names, "/") {
+        Ok(env) => Ok(env),
         Err(_) => Err(Error::OutOfMemory),
     }
 }
@@ -52,12 +61,7 @@ pub fn survives<C: Clock, N: Names>(
 {
     world.stands();
     loss_results();
-    let Ok(store) = left_store(world, loss) else {
-        return Err(Error::OutOfMemory);
-    };
-    let Ok(mut env) = Env::new(world.allocator(), store, clock, names, "/") else {
-        return Err(Error::OutOfMemory);
-    };
+    let mut env = begun(world, loss, clock, names)?;
     read_left(&mut env, world.cache(), key)
 }
 
@@ -75,12 +79,7 @@ pub fn link_survives<C: Clock, N: Names>(
     world.stands();
     loss_results();
     link_losses();
-    let Ok(store) = left_store(world, loss) else {
-        return Err(Error::OutOfMemory);
-    };
-    let Ok(mut env) = Env::new(world.allocator(), store, clock, names, "/") else {
-        return Err(Error::OutOfMemory);
-    };
+    let mut env = begun(world, loss, clock, names)?;
     read_left(&mut env, world.cache(), key)
 }
 
@@ -122,10 +121,7 @@ pub fn goes_on<C: Clock, N: Names>(
     loss_results();
     digest_laws();
     let cache = world.cache();
-    let store = left_store(world, loss)?;
-    let Ok(mut env) = Env::new(world.allocator(), store, clock, names, "/") else {
-        return Err(Error::OutOfMemory);
-    };
+    let mut env = begun(world, loss, clock, names)?;
     write_left(&mut env, cache, written, data)?;
     let since = read_left(&mut env, cache, written)?;
     let before = read_left(&mut env, cache, key)?;
