@@ -4,6 +4,8 @@
 #[cfg(test)]
 mod bytes;
 #[cfg(test)]
+mod losing;
+#[cfg(test)]
 mod making;
 #[cfg(test)]
 mod names;
