@@ -1,15 +1,14 @@
 //! What a loss of power leaves of a durable put that found a link in the place of its content.
-use crate::making::{put, world_of};
+use crate::making::{STORED_HELLO, world_of};
+use crate::playing::{Act, Row, played};
 use cacache::read_sync;
 use cacache::store::MemStore;
 use cacache::world::Loss;
 use cacache_core::errors::Fault;
-use cacache_core::integrity::Algorithm;
 use cacache_core::keeping::{beside, let_go};
 use cacache_core::text::Text;
 use cacache_disk::Luck;
-use cacache_table::{Command, Link, Options, Reply};
-use cacache_world::{Move, World};
+use cacache_world::World;
 use row_places::on;
 use std::alloc::{AllocError, Global};
 use std::test::Fail;
@@ -18,69 +17,18 @@ use std::test::Fail;
 const CONTENT: &str =
     "/cache/content-v2/sha256/b9/4d/27b9934d3e08a52e52d7da7dabfac484efe37a5380ee9088f7ace2efcde9";
 
-/// More moves than any call makes.
-const MOST: usize = 99;
-
-/// The number of the move by which a durable put moves its content to its place.
-const PERSIST: usize = 5;
-
-/// A link to the outside file.
-fn link(alloc: Global) -> Result<Command, AllocError> {
-    let target = Text::from_str(alloc, "/files/a")?;
-    let (key, target) = beside(Text::from_str(alloc, "a"), target)?;
-    Ok(Command::Link(Link {
-        key: Some(key),
-        target,
-        moment: 7,
-        options: Options::blank(Algorithm::Sha256),
-    }))
-}
-
-/// A durable put of what the outside file holds.
-fn durable_put(alloc: Global) -> Result<Command, AllocError> {
-    let mut command = put(alloc, "b", "hello world")?;
-    if let Command::Put(put) = &mut command {
-        put.options.durable = true;
-    }
-    Ok(command)
-}
-
-/// Whether the caller's call stored, if a move with this luck ends it.
-fn stored(world: &mut World, luck: Luck) -> Option<bool> {
-    let came = world.move_one(0, luck);
-    let told = match &came {
-        Ok(Move::More) => None,
-        Ok(Move::Done(Reply::Stored(_))) => Some(true),
-        _ => Some(false),
-    };
-    let_go(came);
-    told
-}
-
-/// Whether the caller makes a call that stores, whose move of this number fails.
-fn stores(world: &mut World, command: Command, fails: usize) -> bool {
-    if world.begin(0, command).is_err() {
-        return false;
-    }
-    for number in 0..MOST {
-        let luck = if number == fails {
-            Luck::Fail(Fault::Device, None)
-        } else {
-            Luck::Plain
-        };
-        if let Some(stored) = stored(world, luck) {
-            return stored;
-        }
-    }
-    false
-}
-
-/// Whether a link is stored, and a durable put behind it that can't move its content to its place and finds the link there.
-fn are_stored(alloc: Global, world: &mut World) -> Result<bool, AllocError> {
-    let is_linked = stores(world, link(alloc)?, MOST);
-    let is_put = stores(world, durable_put(alloc)?, PERSIST);
-    Ok(is_linked && is_put)
-}
+/// A link is stored. Then the sixth move of a durable put can't move its content to its place, and the put finds the link.
+const FINDS_A_LINK: &[Row] = &[
+    (0, Act::Link("a"), 8, Luck::Plain, STORED_HELLO),
+    (
+        0,
+        Act::PutDurably("b", "hello world"),
+        6,
+        Luck::Fail(Fault::Device, None),
+        "more",
+    ),
+    (0, Act::Go, 14, Luck::Plain, STORED_HELLO),
+];
 
 /// A store that begins with what a loss leaves that undoes the content's name where no sync fixed it.
 fn left(alloc: Global, world: &World) -> Result<MemStore, AllocError> {
@@ -107,20 +55,20 @@ fn read_left(alloc: Global, world: &World) -> Result<Vec<u8>, AllocError> {
     }
 }
 
-/// Whether both calls stored, and what is read after the loss.
-fn read_back(alloc: Global) -> Result<(bool, Vec<u8>), AllocError> {
+/// What comes of the rows, and what is read after the loss.
+fn read_back(alloc: Global) -> Result<(String, Vec<u8>), AllocError> {
     let mut world = world_of(alloc, 1)?;
-    let are_stored = are_stored(alloc, &mut world);
+    let came = played(alloc, &mut world, FINDS_A_LINK);
     let read = read_left(alloc, &world);
     let_go(world);
-    let (are_stored, read) = beside(are_stored, read)?;
-    Ok((are_stored, read?))
+    let (came, read) = beside(came, read)?;
+    Ok((came, read?))
 }
 
 #[test]
 fn a_durable_put_that_found_a_link_outlives_a_loss(rt: HostRuntime) -> Result<(), Fail> {
-    let (are_stored, read) = read_back(rt.alloc())?;
-    assert!(rt; are_stored);
+    let (came, read) = read_back(rt.alloc())?;
+    assert_eq!(rt; came.as_str(), "");
     assert_eq!(rt; read.as_slice(), b"hello world".as_slice());
     Ok(())
 }

@@ -1,5 +1,5 @@
 //! What callers do, as rows, and what comes of it in words.
-use crate::making::{integrity, put};
+use crate::making::{durable_put, integrity, link, put};
 use cacache_core::errors::Error;
 use cacache_core::keeping::let_go;
 use cacache_core::text::Text;
@@ -13,6 +13,10 @@ use std::alloc::{AllocError, Global};
 pub(crate) enum Act {
     /// It begins to put a text under a key.
     Put(&'static str, &'static str),
+    /// It does so durably.
+    PutDurably(&'static str, &'static str),
+    /// It begins to link to the outside file under a key.
+    Link(&'static str),
     /// It begins to look a key up.
     Find(&'static str),
     /// It begins to read the content of an integrity.
@@ -33,6 +37,8 @@ pub(crate) type Row = (usize, Act, usize, Luck, &'static str);
 fn command_of(alloc: Global, act: Act) -> Result<Option<Command>, AllocError> {
     Ok(Some(match act {
         Act::Put(key, data) => put(alloc, key, data)?,
+        Act::PutDurably(key, data) => durable_put(alloc, key, data)?,
+        Act::Link(key) => link(alloc, key)?,
         Act::Find(key) => Command::Find(Text::from_str(alloc, key)?),
         Act::GetHash(text) => Command::GetHash(integrity(alloc, text)?),
         Act::RemoveFully(key) => Command::RemoveFully(Text::from_str(alloc, key)?),

@@ -1,5 +1,5 @@
 //! What callers see of calls that are under way, failed or given up.
-use crate::making::{HELLO, world_of};
+use crate::making::{HELLO, STORED_HELLO, world_of};
 use crate::playing::{Act, Row, played};
 use cacache_core::errors::Fault;
 use cacache_core::keeping::beside;
@@ -23,9 +23,7 @@ const ONE: &str = "sha256-dpLDrTVAu4A8Ags67mbNiIcSMjTqDG5xQ8Ct1z/0Me0=";
 
 const TWO: &str = "sha256-P8TM/nRYcOLA2Z9x8w/wZWyN7dQcwdfT03aw2+aF4vM=";
 
-/// What puts of `hello world`, `one` and `two` reply.
-const STORED_HELLO: &str = "stored sha256-uU0nuZNNPgilLlLX2n2r+sSE7+N6U4DukIj3rOLvzek=";
-
+/// What puts of `one` and `two` reply.
 const STORED_ONE: &str = "stored sha256-dpLDrTVAu4A8Ags67mbNiIcSMjTqDG5xQ8Ct1z/0Me0=";
 
 const STORED_TWO: &str = "stored sha256-P8TM/nRYcOLA2Z9x8w/wZWyN7dQcwdfT03aw2+aF4vM=";
