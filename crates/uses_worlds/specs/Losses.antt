@@ -20,6 +20,10 @@ GivesPut p r t =
     MatchResult r (λ v. digest p.options.algorithm v.items ≡ digest p.options.algorithm p.data)
     (FailsOn t)
 
+-- so it is on the tree that this loss leaves
+abbrev pub GivesPutLeft : History → Loss → Put → Result (Vec ℕ Global) Error → Type 0
+GivesPutLeft h loss p r = (left : Tree) × LeftBy h loss left × GivesPut p r left
+
 -- what a durable put stored that answered is read after a loss of power, where in what is left no
 -- entry behind its own answers to its key
 abbrev pub Survives : History → Loss → List ℕ → Result (Vec ℕ Global) Error → Type 0
@@ -34,8 +38,7 @@ abbrev pub SurvivesAlone : History → Loss → List ℕ → Result (Vec ℕ Glo
 SurvivesAlone h loss key r =
     (folder : Names) (p : Put) → home h.setup ≡ Some folder → (put : DurablePut h folder p)
     → p.key ≡ Some key → p.options.integrity ≡ None
-    → IsLast h folder put.rest put.call.caller key p
-    → (left : Tree) × LeftBy h loss left × GivesPut p r left
+    → IsLast h folder put.rest put.call.caller key p → GivesPutLeft h loss p r
 
 -- so it is whatever stood at the address of its content, where a link there led to a file that no step
 -- of the history changed
@@ -44,16 +47,14 @@ LinkSurvives h loss key r =
     (folder : Names) (p : Put) → home h.setup ≡ Some folder → (put : AnsweredPut h folder p)
     → p.key ≡ Some key → p.options.integrity ≡ None
     → LeadsUnchanged h put.before (address_of_put p)
-    → IsLast h folder put.rest put.call.caller key p
-    → (left : Tree) × LeftBy h loss left × GivesPut p r left
+    → IsLast h folder put.rest put.call.caller key p → GivesPutLeft h loss p r
 
 -- it is read without asking of links, where no call of the history exports or removes
 abbrev pub LinkedSurvives : History → Loss → List ℕ → Result (Vec ℕ Global) Error → Type 0
 LinkedSurvives h loss key r =
     (folder : Names) (p : Put) → OnlyLinksIn h.records → home h.setup ≡ Some folder
     → (put : AnsweredPut h folder p) → p.key ≡ Some key → p.options.integrity ≡ None
-    → IsLast h folder put.rest put.call.caller key p
-    → (left : Tree) × LeftBy h loss left × GivesPut p r left
+    → IsLast h folder put.rest put.call.caller key p → GivesPutLeft h loss p r
 
 -- ---- writes after a loss
 
