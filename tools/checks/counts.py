@@ -84,14 +84,14 @@ def documents():
 
 
 def rows():
-    """The numbers of rows that PROMISES states, those of one program added up, against what the programs of rows print."""
+    """The numbers of rows that PROMISES states, those of one file added up, against what `all_rows` prints of it."""
     text, stated = " ".join(read("docs/PROMISES.md").split()), {}
-    for count, crate in re.findall(r"by ([\d,]+) rows[^(]*\(`(rows_\w+)/stdin`", text):
-        stated[crate] = stated.get(crate, 0) + number(count)
-    for crate, count in stated.items():
-        there = told(f"crates/{crate}/stdout", r"(?m)^all: (\d+) rows hold$")
+    for count, name in re.findall(r"by ([\d,]+) rows[^(]*\(`(\w+)\.rows`", text):
+        stated[name] = stated.get(name, 0) + number(count)
+    for name, count in stated.items():
+        there = told("crates/all_rows/stdout", rf"(?ms)^== {name}$.*?^all: (\d+) rows hold$")
         if count != int(there):
-            yield f"docs/PROMISES.md: {count} rows of {crate}, and there are {there}"
+            yield f"docs/PROMISES.md: {count} rows of {name}, and there are {there}"
 
 
 def lists(name):

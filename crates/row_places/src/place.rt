@@ -1,9 +1,11 @@
 //! An environment in which rows are tried: its clock stands still, and its numbers begin at 0.
+use cacache_core::keeping::beside;
 use cacache_folder::FolderStore;
 use cacache_memory::MemStore;
 use cacache_store::env::{Clock, Env, Names};
 use cacache_store::store::Store;
-use std::alloc::{AllocError, Global};
+use std::alloc::{AllocError, AllocGlobal, Global};
+use std::rt::Files;
 use std::{fs, io};
 
 /// When each entry is made where a row says nothing else, in milliseconds.
@@ -57,10 +59,15 @@ pub fn in_memory(alloc: Global) -> Result<On<MemStore>, AllocError> {
     on(alloc, MemStore::new(alloc)?, "/")
 }
 
-/// An environment on real folders, those below the one where the program runs.
-pub fn in_folders(rt: &HostRuntime) -> io::Result<On<FolderStore<HostRuntime>>> {
-    let here = fs::canonicalize(rt, ".")?;
-    Ok(on(rt.alloc(), FolderStore::new(*rt), here.as_str())?)
+/// An environment on real folders, those below a folder of this name, which is made where the program runs.
+pub fn in_folders<R>(rt: &R, name: &str) -> io::Result<On<FolderStore<R>>>
+where
+    R: Files + AllocGlobal + Clone + Drop,
+{
+    fs::create_dir_all(rt, name)?;
+    let base = fs::canonicalize(rt, name)?;
+    let (own, base) = beside(rt.clone(), base)?;
+    Ok(on(rt.alloc(), FolderStore::new(own), base.as_str())?)
 }
 
 /// What an act gave in memory and on real folders, where it is to give the same.

@@ -13,8 +13,18 @@ pub enum Flaw {
     NoMemory,
     /// Memory for what it tries was refused.
     Refused,
-    /// What the program says.
-    Told(&'static str),
+    /// The system refused the folder in which rows are tried.
+    FolderRefused,
+    /// A step was made that no answer is left for.
+    NoAnswerLeft,
+    /// Memory for a step was refused, which changed nothing.
+    RefusedAndKept,
+    /// Memory for a step was refused, which changed something.
+    RefusedAndChanged,
+    /// A call as a future logged something else than the call.
+    OtherLog,
+    /// A future that had answered was polled again, and didn't say that it is closed.
+    NotClosed,
 }
 
 impl Display for Flaw {
@@ -24,7 +34,12 @@ impl Display for Flaw {
             Flaw::Unfit => "something in it doesn't fit where it stands",
             Flaw::NoMemory => "no memory to read it",
             Flaw::Refused => "memory was refused",
-            Flaw::Told(text) => text,
+            Flaw::FolderRefused => "the system refused the folder that is tried",
+            Flaw::NoAnswerLeft => "a step that no answer is left for",
+            Flaw::RefusedAndKept => "memory was refused, and nothing changed",
+            Flaw::RefusedAndChanged => "memory was refused, but something changed",
+            Flaw::OtherLog => "the future logs something else",
+            Flaw::NotClosed => "the second poll isn't closed",
         })
     }
 }

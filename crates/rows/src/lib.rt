@@ -1,5 +1,5 @@
-//! Rows of text that a program reads and tries, one to a line. A program of rows is a `Trial`, which says what a row wants
-//! and what came, and a `main` that calls `run`; or a loop of its own over a `Report`, where its rows send its runtime to
+//! Rows of text that are read and tried, one to a line. A library of rows is a `Trial`, which says what a row wants and what
+//! came, and a function that hands it to `all_hold`; or a loop of its own over a `Report`, where its rows send its runtime to
 //! threads.
 #![tactic(auto)]
 
@@ -14,5 +14,5 @@ mod trial;
 pub mod words;
 
 pub use flaw::Flaw;
-pub use report::{Line, Report, run, status};
+pub use report::{Line, Report, all_hold};
 pub use trial::{Outcome, Trial};

@@ -5,9 +5,8 @@ use crate::tally::Tally;
 use crate::trial::{Outcome, Trial};
 use std::alloc::Global;
 use std::io;
-use std::process::ExitCode;
 
-/// What a line of standard input is.
+/// What a line of rows is.
 #[derive(Drop)]
 pub enum Line {
     /// A group of rows begins.
@@ -18,7 +17,7 @@ pub enum Line {
     Other,
 }
 
-/// How the rows went so far. A program whose rows send its runtime to threads goes through them by this; each other one is
+/// How the rows went so far. A library whose rows send its runtime to threads goes through them by this; each other one has
 /// a `Trial`.
 #[derive(Drop)]
 pub struct Report {
@@ -140,26 +139,17 @@ fn take(
     }
 }
 
-/// Tries the rows of standard input, prints how they went, and tells whether each of them holds.
-fn all_hold(rt: &(impl Input + Print + AllocGlobal), trial: &mut impl Trial) -> io::Result<bool> {
+/// Tries the lines of a text as rows, each with this trial. A line `# ..` begins a group of rows, and after a line `= NAME ..`
+/// the text behind the name stands for `{NAME}` in a row. Prints how many rows of each group hold, and each row that doesn't
+/// with what was wanted and what came. Tells whether each row holds.
+pub fn all_hold(
+    rt: &(impl Print + AllocGlobal),
+    rows: &str,
+    trial: &mut impl Trial,
+) -> io::Result<bool> {
     let mut report = Report::new(rt.alloc());
-    for line in rt.lines(rt.alloc()) {
-        take(rt, &mut report, trial, line?.as_str())?;
+    for line in rows.lines() {
+        take(rt, &mut report, trial, line)?;
     }
     report.end(rt)
-}
-
-/// What a program of rows returns: 0 if each row holds, and else 1.
-pub fn status(all_hold: io::Result<bool>) -> ExitCode {
-    match all_hold {
-        Ok(true) => ExitCode::from(0),
-        _ => ExitCode::from(1),
-    }
-}
-
-/// Tries the rows of standard input, each with this trial. A line `# ..` begins a group of rows, and after a line `= NAME ..`
-/// the text behind the name stands for `{NAME}` in a row. Prints how many rows of each group hold, and each row that doesn't
-/// with what was wanted and what came. The status is 0 if each row holds, and else 1.
-pub fn run(rt: &(impl Input + Print + AllocGlobal), trial: &mut impl Trial) -> ExitCode {
-    status(all_hold(rt, trial))
 }

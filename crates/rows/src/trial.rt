@@ -1,4 +1,4 @@
-//! What a program of rows tries.
+//! What a library of rows tries.
 ghost use Rattle.std.specs.Prelude.{◌≡◌, ◌↔◌, IsTrue};
 ghost use Rattle.std.specs.String.{string_bytes};
 
@@ -22,7 +22,7 @@ impl Outcome {
     }
 }
 
-/// What a program of rows tries.
+/// What a library of rows tries.
 pub trait Trial {
     /// Forgets the rows so far: a group of rows begins.
     fn begin(&mut self) {}

@@ -23,13 +23,14 @@ pub(crate) struct Places<R> {
     folders: On<FolderStore<R>>,
 }
 
-impl Places<HostRuntime> {
-    /// Empty ones. The folders are those below the one where the program runs.
-    pub(crate) fn new(rt: &HostRuntime) -> io::Result<Places<HostRuntime>> {
-        let folders = in_folders(rt)?;
+impl<R: Files + AllocGlobal + Clone + Drop> Places<R> {
+    /// Empty ones. The folders are those below `polled`, where the program runs.
+    pub(crate) fn new(rt: &R) -> io::Result<Places<R>> {
+        let folders = in_folders(rt, "polled")?;
         let (memory, folders) = beside(in_memory(rt.alloc()), folders)?;
+        let (rt, (memory, folders)) = beside(rt.clone(), (memory, folders))?;
         Ok(Places {
-            rt: *rt,
+            rt,
             memory,
             folders,
         })

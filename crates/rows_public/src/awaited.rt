@@ -9,31 +9,13 @@ use std::alloc::AllocGlobal;
 use std::random::RandomSource;
 use std::sync::Wait;
 
-/// Why a future gives no answer.
-#[derive(Clone, Copy)]
-pub(crate) enum Unanswered {
-    /// Memory for its executor was refused.
-    Refused,
-    /// Its second poll isn't closed.
-    NotClosed,
-}
-
-impl From<Unanswered> for Flaw {
-    fn from(why: Unanswered) -> Flaw {
-        match why {
-            Unanswered::Refused => Flaw::Refused,
-            Unanswered::NotClosed => Flaw::Told("the second poll isn't closed"),
-        }
-    }
-}
-
 /// Whether this is the answer of a poll after the call's answer.
 fn is_closed<T>(answer: &Answered<T>) -> bool {
     matches!(answer, Err(Error::IoError(Fault::Closed, _)))
 }
 
 /// What the future's first poll answers; its second one must be closed.
-pub(crate) fn awaited<R, F, T>(rt: &R, future: F) -> Result<Answered<T>, Unanswered>
+pub(crate) fn awaited<R, F, T>(rt: &R, future: F) -> Result<Answered<T>, Flaw>
 where
     R: Wait + RandomSource + AllocGlobal,
     F: Future<Output = Answered<T>>,
@@ -42,13 +24,13 @@ where
 {
     let mut future = future;
     let Ok(first) = block_on(rt, &mut future) else {
-        return Err(Unanswered::Refused);
+        return Err(Flaw::Refused);
     };
     match block_on(rt, &mut future) {
         Ok(second) if is_closed(&second) => Ok(first),
         _ => {
             let_go(first);
-            Err(Unanswered::NotClosed)
+            Err(Flaw::NotClosed)
         }
     }
 }

@@ -28,8 +28,8 @@ pub(crate) struct Places {
 impl Places {
     /// Empty ones. The folders are those below the one where the program runs.
     pub(crate) fn new(rt: &HostRuntime) -> io::Result<Places> {
-        let folders = in_folders(rt)?;
-        let beside = in_folders(rt)?;
+        let folders = in_folders(rt, ".")?;
+        let beside = in_folders(rt, ".")?;
         let memory = in_memory(rt.alloc())?;
         let futures = in_memory(rt.alloc())?;
         Ok(Places {
@@ -85,7 +85,7 @@ fn in_both_memories<R: Threads + Wait + Clock + RandomSource + AllocGlobal + Syn
     let of_future = by_future(rt, &mut places.futures, row)?;
     let gained = places.memory.store.log().get(before..);
     if gained != places.futures.store.log().get(before..) {
-        return Err(Flaw::Told("the future logs something else"));
+        return Err(Flaw::OtherLog);
     }
     if line == of_future {
         return Ok(line);

@@ -71,7 +71,7 @@ impl<T: Drop> From<AllocFailed<T>> for Bad {
 
 impl From<io::Error> for Bad {
     fn from(_error: io::Error) -> Bad {
-        Bad::Flaw(Flaw::Told("the system refused the folder that is tried"))
+        Bad::Flaw(Flaw::FolderRefused)
     }
 }
 

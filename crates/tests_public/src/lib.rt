@@ -1,4 +1,5 @@
-//! Tests of what rows can't say: stores of a test's own, worlds, and the example of the README. There is nothing else here.
+//! Tests of what rows can't say: stores of a test's own, worlds, threads, and the example of the README. There is nothing
+//! else here.
 #![tactic(auto)]
 
 #[cfg(test)]
@@ -17,6 +18,8 @@ mod playing;
 mod readme;
 #[cfg(test)]
 mod reads;
+#[cfg(test)]
+mod threads;
 #[cfg(test)]
 mod turns;
 #[cfg(test)]

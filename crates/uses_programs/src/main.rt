@@ -1,14 +1,15 @@
-//! Five programs to read, each a file of its own beside this one. Each word of the command line names one, and they run
-//! in the order of the words.
+//! Five programs to read, each a file of its own beside this one, and the examples of the public calls, `calls`. Each word
+//! of the command line names one, and they run in the order of the words.
 #![tactic(auto)]
 
 mod builds;
+mod calls;
 mod downloads;
 mod packages;
 mod responses;
 mod threads;
 
-use cacache::errors::{Fault, IoErrorExt};
+use cacache::errors::Fault;
 use cacache::text::Text;
 use cacache::{Error, Result};
 use std::alloc::AllocGlobal;
@@ -35,10 +36,12 @@ where
     }
 }
 
-fn main(rt: HostRuntime) -> Result<()> {
-    let words = args(&rt).context(rt.alloc(), "Failed to read the words")?;
-    for name in words.skip(1) {
-        run(&rt, rt, name.as_str())?;
+fn main(rt: HostRuntime) -> anyhow::Result<()> {
+    for name in args(&rt)?.skip(1) {
+        match name.as_str() {
+            "calls" => calls::run(rt, rt)?,
+            name => run(&rt, rt, name)?,
+        }
     }
     Ok(())
 }

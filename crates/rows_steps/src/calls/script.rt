@@ -12,9 +12,6 @@ use rows::Flaw;
 use rows::words::is_nothing;
 use std::alloc::{AllocError, Global};
 
-/// There are fewer answers than steps.
-pub(crate) const NO_ANSWER: Flaw = Flaw::Told("a step that no answer is left for");
-
 /// A store that answers by a script: one text for each step.
 #[derive(Drop)]
 pub(crate) struct Script {
@@ -90,7 +87,7 @@ impl Script {
         ensures log { self.new.log ≡ self.old.log }
     {
         let Some(words) = self.answers.pop() else {
-            self.flaw = Some(NO_ANSWER);
+            self.flaw = Some(Flaw::NoAnswerLeft);
             return None;
         };
         if words.as_str() == "NoMemory" {

@@ -5,7 +5,7 @@ ghost use Rattle.cacache_jobs.specs.Jobs.{can_go_on};
 use crate::calls::commands::command_of;
 use crate::calls::replies::shown_reply;
 use crate::calls::row::{Row, row_of};
-use crate::calls::script::{NO_ANSWER, Script, add_step};
+use crate::calls::script::{Script, add_step};
 use crate::calls::told::answer_of;
 use cacache_core::keeping::{beside, let_go};
 use cacache_jobs::{Job, Next, call};
@@ -94,7 +94,7 @@ fn ended(alloc: Global, next: Next<PlainFile, PlainTemp>) -> Result<String, Flaw
         }
         Next::Step(step) => {
             let_go(step);
-            Err(NO_ANSWER)
+            Err(Flaw::NoAnswerLeft)
         }
     }
 }

@@ -74,9 +74,9 @@ impl Scene {
     fn refused(&mut self, alloc: Global, before: &str) -> Result<String, Flaw> {
         let after = self.place.shown(alloc)?;
         Err(if after.as_str() == before {
-            Flaw::Told("memory was refused, and nothing changed")
+            Flaw::RefusedAndKept
         } else {
-            Flaw::Told("memory was refused, but something changed")
+            Flaw::RefusedAndChanged
         })
     }
 

@@ -1,4 +1,0 @@
-use Rattle.tests_threads.proofs.meetings.a_world_closes_after_four_threads.Given as goal
-
-abbrev pub ghosts-meeting : goal.ghosts-meeting
-ghosts-meeting g a = record { name = a.blank.name; parts = a.blank.parts }

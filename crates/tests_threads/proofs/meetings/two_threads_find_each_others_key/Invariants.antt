@@ -1,4 +1,0 @@
-use Rattle.tests_threads.proofs.meetings.two_threads_find_each_others_key.Given as goal
-
-abbrev pub ghosts-meeting : goal.ghosts-meeting
-ghosts-meeting g a = record { name = a.blank.name; parts = a.blank.parts }

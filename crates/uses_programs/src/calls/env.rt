@@ -1,0 +1,18 @@
+//! Environments.
+use crate::calls::shown;
+use anyhow::Result;
+
+/// That of real folders, none of which is touched.
+pub(crate) fn folders(rt: HostRuntime) -> Result<String> {
+    let env = cacache::env::folders(rt, "/home/me")?;
+    let base = env.base.as_str(); // "/home/me"
+    shown(rt.alloc(), base.as_bytes())
+}
+
+/// That of a disk in memory.
+pub(crate) fn memory(rt: HostRuntime) -> Result<String> {
+    let mut env = cacache::env::memory(rt, "/")?;
+    cacache::write_sync(&mut env, "my-cache", "key", b"my data")?;
+    let bytes = cacache::read_sync(&mut env, "my-cache", "key")?; // b"my data"
+    shown(rt.alloc(), &bytes)
+}
