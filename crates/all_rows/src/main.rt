@@ -27,6 +27,7 @@ where
 {
     match name {
         "core" => rows_core::all_hold(host, rows),
+        "folder" => rows_folder::all_hold(host, rows),
         "steps" => rows_steps::all_hold(host, rows),
         "world" => rows_world::all_hold(host, rows),
         "loss" => rows_loss::all_hold(host, rows),

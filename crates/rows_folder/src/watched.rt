@@ -1,39 +1,17 @@
 //! A runtime of its own, which hands each call on to the system's and notes what was asked.
-ghost use Rattle.std.specs.Prelude.{◌≤◌, IfOk};
-
 use crate::made_up::MadeUp;
-use crate::ways::Ways;
+use crate::watched_file::{Notes, WatchedFile, failing, note, note_paths};
+use crate::ways::{Ways, name_of};
 use std::alloc::{Alloc, AllocError, Allocator, Global};
 use std::cell::RefCell;
-use std::fs::{File, Metadata, OpenFile, OpenOptions};
+use std::fs::{Metadata, OpenOptions};
 use std::io;
-use std::io::{ErrorKind, Read, Seek, SeekFrom, Write};
+use std::io::ErrorKind;
 use std::rc::Rc;
-use std::rt::{Files, HostRuntime};
-
-/// What was asked, with a `;` behind each call.
-pub type Notes = Rc<RefCell<String>>;
-
-/// Notes a call with its paths.
-fn note_paths(notes: &Notes, call: &str, paths: &[&str]) -> io::Result<()> {
-    if let Ok(mut notes) = notes.try_borrow_mut() {
-        notes.push_str(call)?;
-        for path in paths {
-            notes.push(' ')?;
-            notes.push_str(path)?;
-        }
-        notes.push(';')?;
-    }
-    Ok(())
-}
-
-/// Notes a call.
-fn note(notes: &Notes, call: &str) -> io::Result<()> {
-    note_paths(notes, call, &[])
-}
+use std::rt::Files;
 
 /// The notes so far, which begin anew.
-pub fn taken(notes: &Notes, alloc: Global) -> String {
+pub(crate) fn taken(notes: &Notes, alloc: Global) -> String {
     notes
         .try_replace(String::new(alloc))
         .unwrap_or(String::new(alloc))
@@ -43,7 +21,7 @@ pub fn taken(notes: &Notes, alloc: Global) -> String {
 /// name begins with `bare` has five bytes and no number, a file `kept` isn't removed, a folder `shy` is made and said to be
 /// refused, and a device stands in a folder `special`. The names of each folder are made up.
 #[derive(Clone, Drop)]
-pub struct Watched {
+pub(crate) struct Watched {
     host: HostRuntime,
     ways: Ways,
     notes: Notes,
@@ -51,7 +29,7 @@ pub struct Watched {
 
 impl Watched {
     /// The runtime, and what it will have been asked.
-    pub fn new(host: HostRuntime, ways: Ways) -> Result<(Watched, Notes), AllocError> {
+    pub(crate) fn new(host: HostRuntime, ways: Ways) -> Result<(Watched, Notes), AllocError> {
         let alloc = host.alloc();
         let notes = Rc::new(alloc, RefCell::new(String::new(alloc)))?;
         let watched = Watched {
@@ -69,36 +47,13 @@ impl Watched {
         } else {
             note(&self.notes, call)?;
         }
-        match self.ways.refused {
-            Some(kind) => Err(io::Error::from(kind)),
-            None => Ok(()),
-        }
+        failing(self.ways.refused)
     }
-}
 
-/// An open file that behaves in its ways.
-#[derive(Drop)]
-pub struct WatchedFile {
-    file: File,
-    ways: Ways,
-    notes: Notes,
-}
-
-impl WatchedFile {
-    /// How many bytes the next read or write moves, of those that there is room for.
-    fn room(&mut self, call: &str, room: usize) -> io::Result<usize>
-        ensures { IfOk result (λ count. count ≤ room) }
-    {
-        if let Some(kind) = self.ways.fault {
-            return Err(io::Error::from(kind));
-        }
-        if let Some(left) = self.ways.interruptions.checked_sub(1) {
-            self.ways.interruptions = left;
-            note(&self.notes, "interrupted")?;
-            return Err(io::Error::from(ErrorKind::Interrupted));
-        }
-        note(&self.notes, call)?;
-        Ok(room.min(self.ways.most))
+    /// Notes how a file is opened, as `asked` does.
+    fn asked_to_open(&self, how: &OpenOptions, path: &str) -> io::Result<()> {
+        let how = format!(in self.host.alloc(); "{how:?}")?;
+        self.asked(name_of(how.as_str()), &[path])
     }
 }
 
@@ -110,72 +65,18 @@ impl Alloc for Watched {
     }
 }
 
-impl Read for WatchedFile {
-    fn read(&mut self, buf: &mut [u8]) -> io::Result<usize> {
-        let room = self.room("read", buf.len())?;
-        self.file.read(&mut buf[..room])
-    }
-}
-
-impl Write for WatchedFile {
-    fn write(&mut self, buf: &[u8]) -> io::Result<usize> {
-        let room = self.room("write", buf.len())?;
-        self.file.write(&buf[..room])
-    }
-
-    fn flush(&mut self) -> io::Result<()> {
-        note(&self.notes, "flush")?;
-        self.file.flush()
-    }
-}
-
-impl Seek for WatchedFile {
-    fn seek(&mut self, to: SeekFrom) -> io::Result<u64> {
-        note(&self.notes, "seek")?;
-        self.file.seek(to)
-    }
-}
-
-impl OpenFile for WatchedFile {
-    fn metadata(&self) -> io::Result<Metadata> {
-        match self.ways.size {
-            Some(size) => Ok(Metadata::of_file(size)),
-            None => self.file.metadata(),
-        }
-    }
-
-    fn set_len(&self, size: u64) -> io::Result<()> {
-        note(&self.notes, "set_len")?;
-        self.file.set_len(size)
-    }
-
-    fn sync_all(&self) -> io::Result<()> {
-        note(&self.notes, "sync_all")?;
-        match self.ways.fault {
-            Some(kind) => Err(io::Error::from(kind)),
-            None => self.file.sync_all(),
-        }
-    }
-
-    fn sync_data(&self) -> io::Result<()> {
-        note(&self.notes, "sync_data")?;
-        self.file.sync_data()
-    }
-}
-
 impl Files for Watched {
     type File = WatchedFile;
 
     type Dir = MadeUp;
 
     fn open_file(&self, how: &OpenOptions, path: &str) -> io::Result<WatchedFile> {
-        let asked = format!(in self.host.alloc(); "{how:?}")?;
-        self.asked(asked.as_str(), &[path])?;
+        self.asked_to_open(how, path)?;
         if path.ends_with("/full") {
             return Err(io::Error::from(ErrorKind::OutOfMemory));
         }
-        let notes = self.notes.clone()?;
         let file = self.host.open_file(how, path)?;
+        let notes = self.notes.clone()?;
         let ways = self.ways;
         Ok(WatchedFile { file, ways, notes })
     }
@@ -200,11 +101,10 @@ impl Files for Watched {
 
     fn symlink_metadata(&self, path: &str) -> io::Result<Metadata> {
         self.asked("symlink_metadata", &[path])?;
-        match self.ways.fault {
-            Some(kind) => Err(io::Error::from(kind)),
-            None if path.contains("/special/") => self.host.symlink_metadata("/dev/null"),
-            None => self.host.symlink_metadata(path),
-        }
+        failing(self.ways.fault)?;
+        let is_special = path.contains("/special/");
+        self.host
+            .symlink_metadata(if is_special { "/dev/null" } else { path })
     }
 
     fn hard_link(&self, from: &str, to: &str) -> io::Result<()> {
@@ -224,10 +124,8 @@ impl Files for Watched {
 
     fn rename(&self, from: &str, to: &str) -> io::Result<()> {
         self.asked("rename", &[from, to])?;
-        match self.ways.rename {
-            Some(kind) => Err(io::Error::from(kind)),
-            None => self.host.rename(from, to),
-        }
+        failing(self.ways.rename)?;
+        self.host.rename(from, to)
     }
 
     fn remove_file(&self, path: &str) -> io::Result<()> {

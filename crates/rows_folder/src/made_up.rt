@@ -1,5 +1,5 @@
 //! Open folders whose names are made up: `a`, and more in a folder `odd`, `slow`, `torn` or `late`.
-use crate::watched::Notes;
+use crate::watched_file::Notes;
 use std::io;
 use std::io::{ErrorKind, Read};
 
@@ -23,7 +23,7 @@ enum Giving {
 
 /// An open folder with made-up names, of which so many reads were made. It holds the notes while it is open.
 #[derive(Drop)]
-pub struct MadeUp {
+pub(crate) struct MadeUp {
     giving: Giving,
     made: usize,
     notes: Notes,
@@ -31,7 +31,7 @@ pub struct MadeUp {
 
 impl MadeUp {
     /// The open folder at this path.
-    pub fn new(path: &str, notes: Notes) -> MadeUp {
+    pub(crate) fn new(path: &str, notes: Notes) -> MadeUp {
         MadeUp {
             giving: giving_of(path),
             made: 0,

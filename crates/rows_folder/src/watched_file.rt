@@ -1,0 +1,113 @@
+//! Open files that behave in ways of their own, and notes of what was asked.
+ghost use Rattle.std.specs.Prelude.{◌≤◌, IfOk};
+
+use crate::ways::Ways;
+use std::cell::RefCell;
+use std::fs::{File, Metadata, OpenFile};
+use std::io;
+use std::io::{ErrorKind, Read, Seek, SeekFrom, Write};
+use std::rc::Rc;
+
+/// What was asked, with a `;` behind each call.
+pub(crate) type Notes = Rc<RefCell<String>>;
+
+/// Notes a call with its paths.
+pub(crate) fn note_paths(notes: &Notes, call: &str, paths: &[&str]) -> io::Result<()> {
+    if let Ok(mut notes) = notes.try_borrow_mut() {
+        notes.push_str(call)?;
+        for path in paths {
+            notes.push(' ')?;
+            notes.push_str(path)?;
+        }
+        notes.push(';')?;
+    }
+    Ok(())
+}
+
+/// Notes a call.
+pub(crate) fn note(notes: &Notes, call: &str) -> io::Result<()> {
+    note_paths(notes, call, &[])
+}
+
+/// Fails where calls are to fail.
+pub(crate) fn failing(kind: Option<ErrorKind>) -> io::Result<()> {
+    match kind {
+        Some(kind) => Err(io::Error::from(kind)),
+        None => Ok(()),
+    }
+}
+
+/// An open file that behaves in its ways.
+#[derive(Drop)]
+pub(crate) struct WatchedFile {
+    pub(crate) file: File,
+    pub(crate) ways: Ways,
+    pub(crate) notes: Notes,
+}
+
+impl WatchedFile {
+    /// How many bytes the next read or write moves, of those that there is room for.
+    fn room(&mut self, call: &str, room: usize) -> io::Result<usize>
+        ensures { IfOk result (λ count. count ≤ room) }
+    {
+        failing(self.ways.fault)?;
+        if let Some(left) = self.ways.interruptions.checked_sub(1) {
+            self.ways.interruptions = left;
+            note(&self.notes, "interrupted")?;
+            return Err(io::Error::from(ErrorKind::Interrupted));
+        }
+        note(&self.notes, call)?;
+        Ok(room.min(self.ways.most))
+    }
+}
+
+impl Read for WatchedFile {
+    fn read(&mut self, buf: &mut [u8]) -> io::Result<usize> {
+        let room = self.room("read", buf.len())?;
+        self.file.read(&mut buf[..room])
+    }
+}
+
+impl Write for WatchedFile {
+    fn write(&mut self, buf: &[u8]) -> io::Result<usize> {
+        let room = self.room("write", buf.len())?;
+        self.file.write(&buf[..room])
+    }
+
+    fn flush(&mut self) -> io::Result<()> {
+        note(&self.notes, "flush")?;
+        self.file.flush()
+    }
+}
+
+impl Seek for WatchedFile {
+    fn seek(&mut self, to: SeekFrom) -> io::Result<u64> {
+        note(&self.notes, "seek")?;
+        self.file.seek(to)
+    }
+}
+
+impl OpenFile for WatchedFile {
+    fn metadata(&self) -> io::Result<Metadata> {
+        match self.ways.size {
+            Some(size) => Ok(Metadata::of_file(size)),
+            None => self.file.metadata(),
+        }
+    }
+
+    fn set_len(&self, size: u64) -> io::Result<()> {
+        note(&self.notes, "set_len")?;
+        self.file.set_len(size)
+    }
+
+    fn sync_all(&self) -> io::Result<()> {
+        note(&self.notes, "sync_all")?;
+        failing(self.ways.fault)?;
+        self.file.sync_all()
+    }
+
+    fn sync_data(&self) -> io::Result<()> {
+        note(&self.notes, "sync_data")?;
+        self.file.sync_data()
+    }
+}

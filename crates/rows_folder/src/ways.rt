@@ -1,0 +1,176 @@
+//! Ways in which watched files behave, and the ways to open one.
+use rows::Flaw;
+use rows::words::number_of;
+use std::io::ErrorKind;
+
+/// The ways of a runtime's files.
+#[derive(Clone, Copy)]
+pub(crate) struct Ways {
+    /// Why each read, write and sync fails, and the question what kind of thing an entry of a folder is.
+    pub(crate) fault: Option<ErrorKind>,
+    /// How many reads and writes are interrupted, before one goes through.
+    pub(crate) interruptions: u32,
+    /// The most bytes that a read or a write moves.
+    pub(crate) most: usize,
+    /// What the file says of its size, if it isn't to say its true size.
+    pub(crate) size: Option<u64>,
+    /// Why each rename fails.
+    pub(crate) rename: Option<ErrorKind>,
+    /// Why each call on a path fails.
+    pub(crate) refused: Option<ErrorKind>,
+    /// Whether the paths are noted too.
+    pub(crate) paths: bool,
+}
+
+/// The ways of the system's files.
+const PLAIN: Ways = Ways {
+    fault: None,
+    interruptions: 0,
+    most: usize::MAX,
+    size: None,
+    rename: None,
+    refused: None,
+    paths: false,
+};
+
+/// The same, and the paths are noted.
+const TOLD: Ways = Ways {
+    paths: true,
+    ..PLAIN
+};
+
+/// Each read and write fails.
+const BROKEN: Ways = Ways {
+    fault: Some(ErrorKind::NotADirectory),
+    ..PLAIN
+};
+
+/// Each read and write is refused for memory.
+const FULL: Ways = Ways {
+    fault: Some(ErrorKind::OutOfMemory),
+    ..PLAIN
+};
+
+/// Each rename fails.
+const UNMOVED: Ways = Ways {
+    rename: Some(ErrorKind::PermissionDenied),
+    ..PLAIN
+};
+
+/// Each rename is refused for memory.
+const CROWDED: Ways = Ways {
+    rename: Some(ErrorKind::OutOfMemory),
+    ..PLAIN
+};
+
+/// Each read and write moves one byte.
+const SHORT: Ways = Ways { most: 1, ..PLAIN };
+
+/// The same, but the first is interrupted.
+const ONCE: Ways = Ways {
+    interruptions: 1,
+    ..SHORT
+};
+
+/// The same, but the first five are interrupted.
+const OFTEN: Ways = Ways {
+    interruptions: 5,
+    ..SHORT
+};
+
+/// Each call on a path is denied.
+const DENIED: Ways = Ways {
+    refused: Some(ErrorKind::PermissionDenied),
+    ..PLAIN
+};
+
+/// Each call on a path fails for a reason without a name.
+const UNKNOWN: Ways = Ways {
+    refused: Some(ErrorKind::Uncategorized),
+    ..PLAIN
+};
+
+/// Each read, write, sync and rename is denied.
+const DENIED_INSIDE: Ways = Ways {
+    fault: Some(ErrorKind::PermissionDenied),
+    rename: Some(ErrorKind::PermissionDenied),
+    ..PLAIN
+};
+
+/// Each read, write, sync and rename fails for a reason without a name.
+const UNKNOWN_INSIDE: Ways = Ways {
+    fault: Some(ErrorKind::Uncategorized),
+    rename: Some(ErrorKind::Uncategorized),
+    ..PLAIN
+};
+
+/// The ways of a name.
+fn named(name: &str) -> Result<Ways, Flaw> {
+    Ok(match name {
+        "plain" => PLAIN,
+        "told" => TOLD,
+        "broken" => BROKEN,
+        "full" => FULL,
+        "unmoved" => UNMOVED,
+        "crowded" => CROWDED,
+        "short" => SHORT,
+        "once" => ONCE,
+        "often" => OFTEN,
+        "denied" => DENIED,
+        "unknown" => UNKNOWN,
+        "denied-inside" => DENIED_INSIDE,
+        "unknown-inside" => UNKNOWN_INSIDE,
+        _ => return Err(Flaw::NotRead),
+    })
+}
+
+/// Files that say so many bytes of their size; `slow` ones are also interrupted once, and then give three bytes at a time.
+fn sized(name: &str, size: usize) -> Result<Ways, Flaw> {
+    let sized = Ways {
+        size: Some(size as u64),
+        ..PLAIN
+    };
+    match name {
+        "size" => Ok(sized),
+        "slow" => Ok(Ways {
+            interruptions: 1,
+            most: 3,
+            ..sized
+        }),
+        _ => Err(Flaw::NotRead),
+    }
+}
+
+/// The ways of a word, as `plain` or `size=10`.
+pub(crate) fn ways_of(word: &str) -> Result<Ways, Flaw> {
+    match word.split_once('=') {
+        Some((name, size)) => sized(name, number_of(size)?),
+        None => named(word),
+    }
+}
+
+/// How a file is opened to append to it, to read it, and to make it as a temporary file, each with a name.
+const OPENINGS: [(&str, &str); 3] = [
+    (
+        "append",
+        "OpenOptions { read: false, write: false, append: true, truncate: false, create: true, create_new: false, mode: 438 }",
+    ),
+    (
+        "read",
+        "OpenOptions { read: true, write: false, append: false, truncate: false, create: false, create_new: false, mode: 438 }",
+    ),
+    (
+        "create",
+        "OpenOptions { read: false, write: true, append: false, truncate: false, create: false, create_new: true, mode: 384 }",
+    ),
+];
+
+/// The name of a way to open a file, or the text of one that has none.
+pub(crate) fn name_of(opening: &str) -> &str {
+    for (name, text) in OPENINGS {
+        if text == opening {
+            return name;
+        }
+    }
+    opening
+}
