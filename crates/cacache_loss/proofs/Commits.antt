@@ -1,5 +1,5 @@
 -- A durable commit survives from its own steps on.
-use Rattle.std.proofs.Common.{◌≡◌, ℕ, Bool, true, false, cond, List, [], ◌∷◌, ◌++◌, Option, None, Some, Ok, fold, refl, sym, ap, subst, ◌∙◌, append_assoc}
+use Rattle.std.proofs.Common.{◌≡◌, inl, inr, ℕ, Bool, true, false, cond, List, [], ◌∷◌, ◌++◌, Option, None, Some, Ok, fold, refl, sym, ap, subst, ◌∙◌, append_assoc}
 use Rattle.std.specs.Prelude.{unwrap_or}
 use Rattle.std.proofs.lemmas.List.Sums.{fold-append}
 use Rattle.cacache_core.specs.PathNames.{Names, names_of}
@@ -17,17 +17,21 @@ use Rattle.cacache_disk.proofs.PutNodes.{look-put}
 use Rattle.cacache_disk.proofs.Roots.{same_self}
 use Rattle.cacache_entry.specs.Latest.{after_entry, latest}
 use Rattle.cacache_entry.proofs.Lookups.{last_answer_decides}
+use Rattle.cacache_value.specs.Kinds.{Content, path_kind}
 use Rattle.cacache_value.specs.Value.{bucket_in}
 use Rattle.cacache_value.specs.Placed.{Proper}
 use Rattle.cacache_value.specs.Traces.{Move}
 use Rattle.cacache_loss.specs.Fixing.{Fixed, Fixing, between, changed, file_synced, fixed_after, folder_synced, is_at, is_synced, place_now, temp_synced}
-use Rattle.cacache_loss.specs.Moments.{EachMove, Moment, after, next}
-use Rattle.cacache_loss.specs.Syncs.{IsFileSync, IsPut, IsTempSync, Leaves, LeavesStep}
+use Rattle.cacache_loss.specs.CalmMoves.{AreCalm, PutWell}
+use Rattle.cacache_loss.specs.Loss.{Loss}
+use Rattle.cacache_loss.specs.LostTrees.{OfCache}
+use Rattle.cacache_loss.specs.Moments.{EachMove, Moment, after, lost_then, next}
+use Rattle.cacache_loss.specs.Syncs.{IsFileSync, IsPut, IsTempSync, Leaves, LeavesStep, SyncsFolders}
 use Rattle.cacache_loss.specs.LossLaws.{CommitsSurvive, FoundSurvive, GoodNode, HasDigest, IsSafe, LookupsSurvive}
 use Rattle.cacache_loss.proofs.StepCases.{PersistCase, refused, moved, persist_case}
 use Rattle.cacache_loss.proofs.UnchangedPaths.{file_kept}
-use Rattle.cacache_loss.proofs.KeptPaths.{cond_whole, sync_tree, cache_next, each_calm}
-use Rattle.cacache_loss.proofs.Contents.{good_file, content_survives}
+use Rattle.cacache_loss.proofs.KeptPaths.{cond_whole, sync_tree, cache_next}
+use Rattle.cacache_loss.proofs.Contents.{GoodOrLink, SafeOrLink, contents_survive, content_survives, good_file, only_good}
 use Rattle.cacache_loss.proofs.Buckets.{leads_file}
 
 -- ---- a temporary file that is synced stays so while nobody touches it
@@ -90,32 +94,39 @@ module _ (Good : List ℕ → Type 0) (t : Tree) (fixed : Fixed) (f : PlainTemp)
 pub commits_survive : CommitsSurvive
 commits_survive home a c q f bytes w s between later m moves loss at from has good sync leaves same of_cache calm is calms puts way =
     let whole = whole_after (next w s) between q leaves (temp_whole w.fixed w.tree (next w s).tree f q s.step s.answer from sync) in
-    content_survives home c at (HasDigest a) (next later m) moves loss (
-      cache_next home later m of_cache calm.1,
-      put_safe (HasDigest a) later.tree later.fixed f q c bytes from has good (subst (λ (w : Moment). IsWhole w.fixed q) (sym same) whole) m.step m.luck m.answer calm.2 is,
-    )
-    (each_calm home (next later m) moves calms) puts way
+    contents_survive home a c (next later m) moves loss at (cache_next home later m of_cache calm.1)
+    (put_safe (HasDigest a) later.tree later.fixed f q c bytes from has good (subst (λ (w : Moment). IsWhole w.fixed q) (sym same) whole) m.step m.luck m.answer calm.2 is)
+    calms puts way
 
 -- ---- or is found
 
-found_safe : (Good : List ℕ → Type 0) (t : Tree) (fixed : Fixed) (c : Names) (luck : Luck) (step : PlainStep) (answer : PlainAnswer) → Rooted t → GoodNode Good (look t c)
-    → IsFileSync c step answer → IsSafe Good (place_now (apply t step luck).1 (fixed_after fixed t (apply t step luck).1 step answer) c)
-found_safe Good t fixed c luck (SyncFile p) answer rooted good s =
-    let g = good_file Good (look t c) good in (
-      rw (sync_tree t (SyncFile p) luck refl) good,
-      rw (s.1, leads_file t p g.0 c rooted s.0 g.1, same_self c) refl,
-    )
-found_safe Good t fixed c luck step answer rooted good s = absurd s
+module _ (Good Links : List ℕ → Type 0) (home : Option Names) (c : Names) where
+  found_safe : (t : Tree) (fixed : Fixed) (luck : Luck) (step : PlainStep) (answer : PlainAnswer) → Rooted t → GoodOrLink Good Links (look t c)
+      → IsFileSync c step answer → SafeOrLink Good Links (place_now (apply t step luck).1 (fixed_after fixed t (apply t step luck).1 step answer) c)
+  found_safe t fixed luck (SyncFile p) answer rooted (inl good) s =
+      let g = good_file Good (look t c) good in
+      inl (
+        rw (sync_tree t (SyncFile p) luck refl) good,
+        rw (s.1, leads_file t p g.0 c rooted s.0 g.1, same_self c) refl,
+      )
+  found_safe t fixed luck (SyncFile p) answer rooted (inr link) s = inr (link.0, link.1, ap (λ t. look t c) (sync_tree t (SyncFile p) luck refl) ∙ link.2)
+  found_safe t fixed luck step answer rooted either s = absurd s
 
-file_sync_proper : (home : Option Names) (c : Names) (step : PlainStep) (answer : PlainAnswer) → IsFileSync c step answer → Proper home step
-file_sync_proper home c (SyncFile p) answer s = tt
-file_sync_proper home c step answer s = absurd s
+  file_sync_proper : (step : PlainStep) (answer : PlainAnswer) → IsFileSync c step answer → Proper home step
+  file_sync_proper (SyncFile p) answer s = tt
+  file_sync_proper step answer s = absurd s
+
+  -- the file or the link that a sync found is left
+  pub found_stays : (w : Moment) (s : Move) (moves : List Move) (loss : Loss) → path_kind home c ≡ Content → OfCache home w → GoodOrLink Good Links (look w.tree c) → IsFileSync c s.step s.answer
+      → AreCalm home (next w s) moves → PutWell Good c (next w s) moves → SyncsFolders home [] c moves → GoodOrLink Good Links (lost_then home (after (next w s) moves) loss c)
+  found_stays w s moves loss at of_cache found sync later puts way =
+      content_survives home c at Good Links (next w s) moves loss (cache_next home w s of_cache (file_sync_proper s.step s.answer sync))
+      (found_safe w.tree w.fixed s.luck s.step s.answer of_cache.1 found sync) later puts way
 
 pub found_survive : FoundSurvive
 found_survive home a c w s moves loss at of_cache good sync later puts way =
-    content_survives home c at (HasDigest a) (next w s) moves loss
-    (cache_next home w s of_cache (file_sync_proper home c s.step s.answer sync), found_safe (HasDigest a) w.tree w.fixed c s.luck s.step s.answer of_cache.1 good sync)
-    (each_calm home (next w s) moves later) puts way
+    only_good (HasDigest a) (lost_then home (after (next w s) moves) loss c)
+    (found_stays (HasDigest a) (λ target. ⊥) home c w s moves loss at of_cache (inl good) sync later puts way)
 
 -- ---- lookups
 

@@ -1,5 +1,5 @@
--- Contents that a durable commit put survive.
-use Rattle.std.proofs.Common.{◌≡◌, ℕ, Bool, true, false, cond, List, [], ◌∷◌, Option, None, Some, Ok, Err, refl, sym, ap, subst, ◌∙◌}
+-- Contents that a durable commit put survive, and links that stand at the path of one.
+use Rattle.std.proofs.Common.{◌≡◌, ◌⊎◌, inl, inr, ℕ, Bool, true, false, cond, List, [], ◌∷◌, Option, None, Some, Ok, Err, refl, sym, ap, subst, ◌∙◌}
 use Rattle.std.specs.Prelude.{Result, IfOk, unwrap_or}
 use Rattle.cacache_core.specs.declared.errors.Fault.{Fault}
 use Rattle.cacache_core.specs.PathNames.{Names, names_of}
@@ -21,9 +21,9 @@ use Rattle.cacache_value.specs.Placed.{Placed, Proper}
 use Rattle.cacache_value.specs.Traces.{Move}
 use Rattle.cacache_loss.specs.Fixing.{Fixed, Fixing, Place, changed, file_synced, fixed_after, folder_synced, is_at, is_child_of, is_sync, is_synced, moved_to, moves_file, place_now, temp_synced}
 use Rattle.cacache_loss.specs.Loss.{Loss, node_left}
-use Rattle.cacache_loss.specs.Moments.{EachMove, Moment, after, lost_then, next}
+use Rattle.cacache_loss.specs.Moments.{Moment, after, lost_then, next}
 use Rattle.cacache_loss.specs.LostTrees.{OfCache}
-use Rattle.cacache_loss.specs.CalmMoves.{CalmStep, IsCalm, OfBytes, PutWell, PutsMove, PutsStep, is_calm}
+use Rattle.cacache_loss.specs.CalmMoves.{AreCalm, CalmStep, IsCalm, OfBytes, PutWell, PutsMove, PutsStep, is_calm}
 use Rattle.cacache_loss.specs.Syncs.{SyncsFolders}
 use Rattle.cacache_loss.specs.LossLaws.{ContentsSurvive, GoodNode, HasDigest, IsSafe}
 use Rattle.cacache_loss.proofs.StepCases.{PersistCase, refused, moved, persist_case, make_apart}
@@ -31,10 +31,24 @@ use Rattle.cacache_loss.proofs.UnchangedPaths.{at_false, Misses, file_kept, name
 use Rattle.cacache_loss.proofs.KeptPaths.{cond_whole, keeps, files_keep, names_kept, sync_tree, cache_next, each_calm}
 use Rattle.cacache_loss.proofs.SyncedFolders.{IsLeft, survives}
 
--- what stood at a name when its folder was fixed is safe too
-abbrev pub WasSafe : (List ℕ → Type 0) → Option Place → Type 0
-WasSafe Good None = Unit {0}
-WasSafe Good (Some place) = IsSafe Good place
+-- ---- a good file, or a link
+
+-- a link to one of these targets
+abbrev pub LinksTo : (List ℕ → Type 0) → Option Node → Type 0
+LinksTo Links here = (target : List ℕ) × Links target × (here ≡ Some (Link target))
+
+-- a file with good bytes, or such a link
+abbrev pub GoodOrLink : (Good Links : List ℕ → Type 0) → Option Node → Type 0
+GoodOrLink Good Links here = GoodNode Good here ⊎ LinksTo Links here
+
+-- a file with good bytes, all of them synced, or such a link
+abbrev pub SafeOrLink : (Good Links : List ℕ → Type 0) → Place → Type 0
+SafeOrLink Good Links place = IsSafe Good place ⊎ LinksTo Links place.node
+
+-- where no link may stand it is a file
+pub only_good : (Good : List ℕ → Type 0) (here : Option Node) → GoodOrLink Good (λ target. ⊥) here → GoodNode Good here
+only_good Good here (inl good) = good
+only_good Good here (inr link) = absurd link.1
 
 -- a good node is a file
 abbrev pub IsGoodFile : (List ℕ → Type 0) → Option Node → Type 0
@@ -54,58 +68,76 @@ whole_at : (fixed : Fixed) (r : Result Names Fault) (from : Names) → r ≡ Ok 
 whole_at fixed (Ok n) from e h = let same : n ≡ from = cc in subst (λ n. (fixed.files n).whole ≡ true) same h
 whole_at fixed (Err fault) from e h = absurd cc
 
-was_or_now : (Good : List ℕ → Type 0) (o : Option Place) (now : Place) → WasSafe Good o → IsSafe Good now → IsSafe Good (unwrap_or o now)
-was_or_now Good None now w s = s
-was_or_now Good (Some place) now w s = w
+-- ---- calm moves
 
-module _ (home : Option Names) (c : Names) (at : path_kind home c ≡ Content) (Good : List ℕ → Type 0) where
-  -- a good and synced file at the path, in a tree of the cache
-  abbrev pub Holds : Moment → Type 0
-  Holds w = OfCache home w × IsSafe Good (place_now w.tree w.fixed c)
+module _ (home : Option Names) (c : Names) (at : path_kind home c ≡ Content) (Good Links : List ℕ → Type 0) where
+  abbrev Either : Place → Type 0
+  Either = SafeOrLink Good Links
 
-  -- what a step makes of the content, and of what stood at its name
+  -- what stood at a name when its folder was fixed was one of these too
+  abbrev Was : Option Place → Type 0
+  Was None = Unit {0}
+  Was (Some place) = Either place
+
+  was_or_now : (o : Option Place) (now : Place) → Was o → Either now → Either (unwrap_or o now)
+  was_or_now None now w s = s
+  was_or_now (Some place) now w s = w
+
+  cond_was : (b : Bool) (o : Option Place) → Was o → Was (cond b None o)
+  cond_was true o w = tt
+  cond_was false o w = w
+
+  -- the same node, fixed as far or further
+  either_so : (old new : Place) → new.node ≡ old.node → (old.fixing.whole ≡ true → new.fixing.whole ≡ true) → Either old → Either new
+  either_so old new node whole (inl s) = inl (subst (GoodNode Good) (sym node) s.0, whole s.1)
+  either_so old new node whole (inr link) = inr (link.0, link.1, node ∙ link.2)
+
+  some_node : (place : Place) → Either place → (n : Node) × (place.node ≡ Some n)
+  some_node place (inl s) = let g = good_file Good place.node s.0 in (File g.0, g.1)
+  some_node place (inr link) = (Link link.0, link.2)
+
+  abbrev Holds : Moment → Type 0
+  Holds w = OfCache home w × Either (place_now w.tree w.fixed c)
+
+  -- what a step makes of what stands at the path, and of what stood at its name
   abbrev Keeps : Tree → Fixed → Tree → Fixed → Type 0
-  Keeps t fixed new later = IsSafe Good (place_now new later c) × (WasSafe Good (fixed.names c) → WasSafe Good (later.names c))
+  Keeps t fixed new later = Either (place_now new later c) × (Was (fixed.names c) → Was (later.names c))
 
-  module _ (t : Tree) (fixed : Fixed) (placed : Placed home t) (bytes : List ℕ) (there : look t c ≡ Some (File bytes)) (good : Good bytes)
-      (whole : (fixed.files c).whole ≡ true) where
-    made : (names : Names) (count : ℕ) → path_kind home names ≡ Way → look (make_some t [] names count) c ≡ Some (File bytes)
+  module _ (t : Tree) (fixed : Fixed) (placed : Placed home t) (node : Node) (there : look t c ≡ Some node) (now : Either (place_now t fixed c)) where
+    made : (names : Names) (count : ℕ) → path_kind home names ≡ Way → look (make_some t [] names count) c ≡ Some node
     made names count way = make_apart home Content t [] names c count at (λ e. cc) way ∙ there
 
     -- a step that doesn't reach it
     missed : (step : PlainStep) (luck : Luck) (answer : PlainAnswer) → is_calm step ≡ true → Proper home step → Misses c step
         → Keeps t fixed (apply t step luck).1 (changed fixed t (apply t step luck).1 step answer)
     missed step luck answer calm is misses = (
-      (
-        subst (GoodNode Good) (sym (keeps home t placed c (Some (File bytes)) there made step luck calm is misses)) good,
-        ap (λ (f : Fixing). f.whole) (files_keep home t placed c (Some (File bytes)) there made fixed step luck answer calm is misses) ∙ whole,
-      ),
-      subst (WasSafe Good) (sym (names_kept home t placed c (Some (File bytes)) there made fixed step luck answer calm is misses)),
+      either_so (place_now t fixed c) (place_now (apply t step luck).1 (changed fixed t (apply t step luck).1 step answer) c)
+          (keeps home t placed c (Some node) there made step luck calm is misses ∙ sym there)
+          (λ whole. ap (λ (f : Fixing). f.whole) (files_keep home t placed c (Some node) there made fixed step luck answer calm is misses) ∙ whole) now,
+      subst Was (sym (names_kept home t placed c (Some node) there made fixed step luck answer calm is misses)),
     )
 
     -- a file that moves there
     module _ (f : PlainTemp) (p : List ℕ) (answer : PlainAnswer) (from_temp : IsFor home Temporary f.path)
         (puts : answer ≡ Done → names_of p ≡ Ok c → OfBytes Good f.bytes × IfOk (names_of f.path) (λ from. (fixed.files from).whole ≡ true)) where
-      now_safe : IsSafe Good (place_now t fixed c)
-      now_safe = (subst (GoodNode Good) (sym there) good, whole)
-
       arrived : (new : List ℕ) (old to : Names) → f.bytes ≡ Some new → names_of f.path ≡ Ok old → names_of p ≡ Ok to → answer ≡ Done → c ≡ to
           → Keeps t fixed (put (cut t old) to (File new)) (changed fixed t (put (cut t old) to (File new)) (Persist f p) answer)
       arrived new old to has is names done same =
           let g = puts done (names ∙ ap Ok (sym same)) in
           let here : same_path c to ≡ true = ap (same_path c) (sym same) ∙ same_self c in (
-            (
+            inl (
               subst (GoodNode Good) (sym (look-put (cut t old) to (File new) c ∙ ap (λ b. cond b (Some (File new)) (look (cut t old) c)) here)) (of_bytes Good f.bytes new has g.0),
               rw (done, is, names, here) (whole_at fixed (names_of f.path) old is g.1),
             ),
-            (λ w. rw (done, is, names, here) (was_or_now Good (fixed.names c) (place_now t fixed c) w now_safe)),
+            (λ w. rw (done, is, names, here) (was_or_now (fixed.names c) (place_now t fixed c) w now)),
           )
 
       stayed : (fault : Fault) → answer ≡ Failed fault → Keeps t fixed t (changed fixed t t (Persist f p) answer)
       stayed fault failed =
           let unmoved : moved_to (moves_file (Persist f p) answer) c ≡ false = rw failed refl in (
-            (subst (GoodNode Good) (sym there) good, ap (λ (f : Fixing). f.whole) (file_kept fixed t t (Persist f p) answer c (Some (File bytes)) there there unmoved refl refl) ∙ whole),
-            subst (WasSafe Good) (sym (name_kept fixed t t (Persist f p) answer c (Some (File bytes)) there there unmoved)),
+            either_so (place_now t fixed c) (place_now t (changed fixed t t (Persist f p) answer) c) refl
+                (λ whole. ap (λ (f : Fixing). f.whole) (file_kept fixed t t (Persist f p) answer c (Some node) there there unmoved refl refl) ∙ whole) now,
+            subst Was (sym (name_kept fixed t t (Persist f p) answer c (Some node) there there unmoved)),
           )
 
       reached : (o : PlainAnswer × Tree) → is_at (names_of p) c ≡ true → answer ≡ o.0 → PersistCase t f p o
@@ -123,16 +155,9 @@ module _ (home : Option Names) (c : Names) (at : path_kind home c ≡ Content) (
 
     -- ---- syncs
 
-    cond_was : (b : Bool) (o : Option Place) → WasSafe Good o → WasSafe Good (cond b None o)
-    cond_was true o w = tt
-    cond_was false o w = w
-
-    same_there : GoodNode Good (look t c)
-    same_there = subst (GoodNode Good) (sym there) good
-
     sync_keeps : (b : Bool) (later : Fixed) → Keeps t fixed t later → Keeps t fixed t (cond b later fixed)
     sync_keeps true later kept = kept
-    sync_keeps false later kept = ((same_there, whole), λ w. w)
+    sync_keeps false later kept = (now, λ w. w)
 
     by_sync : (step : PlainStep) (luck : Luck) (b : Bool) (later : Fixed) → is_sync step ≡ true → Keeps t fixed t later
         → Keeps t fixed (apply t step luck).1 (cond b later fixed)
@@ -147,48 +172,50 @@ module _ (home : Option Names) (c : Names) (at : path_kind home c ≡ Content) (
     each_keeps (Append p line) luck answer calm is puts told = missed (Append p line) luck answer refl is (at_false home Bucket Content c (names_of p) is.0 at (λ e. cc))
     each_keeps (SyncTemp f) luck answer calm is puts told =
         by_sync (SyncTemp f) luck (is_synced answer) (temp_synced fixed f) refl
-        ((same_there, cond_whole (is_at (names_of f.path) c) (unwrap_or f.bytes []) (fixed.files c) whole), λ w. w)
+        (either_so (place_now t fixed c) (place_now t (temp_synced fixed f) c) refl (cond_whole (is_at (names_of f.path) c) (unwrap_or f.bytes []) (fixed.files c)) now, λ w. w)
     each_keeps (SyncFile p) luck answer calm is puts told =
         by_sync (SyncFile p) luck (is_synced answer) (file_synced fixed t p) refl
-        ((same_there, cond_whole (is_at (leads t p) c) (bytes_of (look t c)) (fixed.files c) whole), λ w. w)
+        (either_so (place_now t fixed c) (place_now t (file_synced fixed t p) c) refl (cond_whole (is_at (leads t p) c) (bytes_of (look t c)) (fixed.files c)) now, λ w. w)
     each_keeps (SyncDir p) luck answer calm is puts told =
-        by_sync (SyncDir p) luck (is_synced answer) (folder_synced fixed p) refl ((same_there, whole), cond_was (is_child_of (names_of p) c) (fixed.names c))
+        by_sync (SyncDir p) luck (is_synced answer) (folder_synced fixed p) refl
+        (either_so (place_now t fixed c) (place_now t (folder_synced fixed p) c) refl (λ whole. whole) now, cond_was (is_child_of (names_of p) c) (fixed.names c))
     each_keeps (CreateTemp p) luck answer calm is puts told = missed (CreateTemp p) luck answer refl is (at_false home Temporary Content c (names_of p) is at (λ e. cc))
     each_keeps (Write f bytes) luck answer calm is puts told = missed (Write f bytes) luck answer refl is (at_false home Temporary Content c (names_of f.path) calm.1 at (λ e. cc))
     each_keeps step luck answer calm is puts told = missed step luck answer calm.0 is tt
 
   kept_in : (w : Moment) (m : Move) → Holds w → IsCalm home w m → PutsMove Good c w m → Keeps w.tree w.fixed (next w m).tree (next w m).fixed
   kept_in w m h calm puts =
-      let g = good_file Good (look w.tree c) h.1.0 in
-      each_keeps w.tree w.fixed h.0.0 g.0 g.1 g.2 h.1.1 m.step m.luck m.answer calm.0 calm.1 puts calm.2
+      let n = some_node (place_now w.tree w.fixed c) h.1 in
+      each_keeps w.tree w.fixed h.0.0 n.0 n.1 h.1 m.step m.luck m.answer calm.0 calm.1 puts calm.2
 
-  pub holds_next : (w : Moment) (m : Move) → Holds w → IsCalm home w m → PutsMove Good c w m → Holds (next w m)
+  holds_next : (w : Moment) (m : Move) → Holds w → IsCalm home w m → PutsMove Good c w m → Holds (next w m)
   holds_next w m h calm puts = (cache_next home w m h.0 calm.1, (kept_in w m h calm puts).0)
+
+  -- ---- losses
 
   not_top : (h : Option Names) → path_kind h [] ≡ Content → ⊥
   not_top None e = cc
   not_top (Some []) e = cc
   not_top (Some (n ∷ rest)) e = cc
 
-  node_of : (w : Moment) → Holds w → (n : Node) × (look w.tree c ≡ Some n)
-  node_of w h = let g = good_file Good (look w.tree c) h.1.0 in (File g.0, g.1)
+  left_either : (place : Place) (tail : List ℕ) → Either place → GoodOrLink Good Links (node_left place.fixing tail place.node)
+  left_either place tail (inl s) = let g = good_file Good place.node s.0 in inl (rw (g.1, s.1) g.2)
+  left_either place tail (inr link) = inr (link.0, link.1, ap (node_left place.fixing tail) link.2)
 
-  left_good : (place : Place) (tail : List ℕ) → IsSafe Good place → GoodNode Good (node_left place.fixing tail place.node)
-  left_good place tail s =
-      let g = good_file Good place.node s.0 in
-      rw (g.1, s.1) g.2
+  left_here : (here : Option Node) (tail : List ℕ) → IsLeft Either tail here → GoodOrLink Good Links here
+  left_here here tail left = subst (GoodOrLink Good Links) (sym left.2) (left_either left.0 tail left.1)
 
-  left_content : (here : Option Node) (tail : List ℕ) → IsLeft (IsSafe Good) tail here → GoodNode Good here
-  left_content here tail left = subst (GoodNode Good) (sym left.2) (left_good left.0 tail left.1)
-
-  pub content_survives : (w : Moment) (moves : List Move) (loss : Loss) → Holds w → EachMove (IsCalm home) w moves → PutWell Good c w moves → SyncsFolders home [] c moves
-      → GoodNode Good (lost_then home (after w moves) loss c)
-  content_survives w moves loss h calm puts way =
-      left_content (lost_then home (after w moves) loss c) (loss.tail c)
-      (survives home c (ap is_used at) (λ e. not_top home (ap (path_kind home) (sym e) ∙ at)) Holds (PutsMove Good c) (WasSafe Good) (λ w h. h.0.0) (λ w h. h.0.1) node_of
-      holds_next tt (λ w m h calm puts. (kept_in w m h calm puts).1) w moves loss h calm puts
-      (IsSafe Good) way (λ end. end.1) (λ place was. was))
+  -- what a loss leaves at the path, once its folders are synced
+  pub content_survives : (w : Moment) (moves : List Move) (loss : Loss) → OfCache home w → Either (place_now w.tree w.fixed c) → AreCalm home w moves → PutWell Good c w moves → SyncsFolders home [] c moves
+      → GoodOrLink Good Links (lost_then home (after w moves) loss c)
+  content_survives w moves loss of_cache now calm puts way =
+      left_here (lost_then home (after w moves) loss c) (loss.tail c)
+      (survives home c (ap is_used at) (λ e. not_top home (ap (path_kind home) (sym e) ∙ at)) Holds (PutsMove Good c) Was (λ w h. h.0.0) (λ w h. h.0.1)
+      (λ w h. some_node (place_now w.tree w.fixed c) h.1)
+      holds_next tt (λ w m h calm puts. (kept_in w m h calm puts).1) w moves loss (of_cache, now) (each_calm home w moves calm) puts
+      Either way (λ end. end.1) (λ place was. was))
 
 pub contents_survive : ContentsSurvive
 contents_survive home a c w moves loss at of_cache safe calm puts way =
-    content_survives home c at (HasDigest a) w moves loss (of_cache, safe) (each_calm home w moves calm) puts way
+    only_good (HasDigest a) (lost_then home (after w moves) loss c)
+    (content_survives home c at (HasDigest a) (λ target. ⊥) w moves loss of_cache (inl safe) calm puts way)

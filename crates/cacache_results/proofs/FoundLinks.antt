@@ -1,5 +1,5 @@
 -- What stays at a content's path where a durable put found a link, or its content.
-use Rattle.std.proofs.Common.{◌≡◌, ◌⊎◌, inl, inr, ℕ, Bool, true, false, cond, List, [], ◌∷◌, ◌++◌, Option, None, Some, Ok, refl, sym, ap, subst, ◌∙◌}
+use Rattle.std.proofs.Common.{◌≡◌, inl, inr, ℕ, Bool, true, false, cond, List, [], ◌∷◌, ◌++◌, Option, None, Some, Ok, refl, sym, ap, subst, ◌∙◌}
 use Rattle.cacache_core.specs.declared.integrity.digest.Hash.{Hash}
 use Rattle.cacache_core.specs.Integrity.{IsHash}
 use Rattle.cacache_core.specs.PathNames.{Names, names_of}
@@ -28,15 +28,16 @@ use Rattle.cacache_history.specs.History.{History, Made, now_at}
 use Rattle.cacache_history.specs.Values.{steps_of, value_at}
 use Rattle.cacache_history.proofs.Values.{contents_are_right}
 use Rattle.cacache_loss.specs.CalmMoves.{AreCalm, CalmStep, PutWell}
-use Rattle.cacache_loss.specs.Fixing.{is_at, is_sync}
+use Rattle.cacache_loss.specs.Fixing.{is_at}
 use Rattle.cacache_loss.specs.Loss.{Loss}
-use Rattle.cacache_loss.specs.LossLaws.{GoodNode, HasDigest}
+use Rattle.cacache_loss.specs.LossLaws.{HasDigest}
 use Rattle.cacache_loss.specs.LostTrees.{OfCache}
 use Rattle.cacache_loss.specs.Moments.{Moment, after, lost_then, next}
 use Rattle.cacache_loss.specs.Syncs.{IsFileSync, SyncsFolders}
 use Rattle.cacache_loss.proofs.CommitFolders.{five_for_contents}
-use Rattle.cacache_loss.proofs.Commits.{found_survive}
-use Rattle.cacache_loss.proofs.KeptPaths.{cache_next, keeps, sync_tree}
+use Rattle.cacache_loss.proofs.Commits.{found_stays}
+use Rattle.cacache_loss.proofs.Contents.{GoodOrLink}
+use Rattle.cacache_loss.proofs.KeptPaths.{cache_next, keeps}
 use Rattle.cacache_loss.proofs.StepCases.{PersistCase, make_apart, moved, persist_case, refused}
 use Rattle.cacache_loss.proofs.UnchangedPaths.{Misses, at_false}
 use Rattle.cacache_durable.specs.Outlasting.{moment_at}
@@ -46,7 +47,6 @@ use Rattle.cacache_durable.proofs.DoneSyncs.{none_synced}
 use Rattle.cacache_durable.proofs.DurableContents.{content_named}
 use Rattle.cacache_durable.proofs.QuietSteps.{calm_at}
 use Rattle.cacache_durable.proofs.Traces.{made_move, moment_more, of_cache_at, tree_at}
-use Rattle.cacache_results.proofs.KeptLinks.{GoodOrLink, link_survives}
 
 -- ---- where a link stands, it stood before calm moves
 
@@ -105,9 +105,6 @@ module _ {h : History} {folder : Names} {before rest : List Record} {caller : �
   abbrev now : Moment
   now = moment_at h (here q)
 
-  abbrev left : Option Node
-  left = lost_then (Some folder) (moment_at h h.records) loss path
-
   named : names_of text ≡ Ok path
   named = content_named h folder a is_hash q.home_is
 
@@ -138,41 +135,27 @@ module _ {h : History} {folder : Names} {before rest : List Record} {caller : �
       (ap (λ (w : Moment). look w.tree path) (sym moment) ∙ linked) in
       stands_at before ∙ ap blob_in was
 
-  module _ (e : made ≡ (steps.SyncFile text, answers.Done)) where
-    -- a right file is left, or the link that stood there before
-    abbrev Left : Type 0
-    Left = GoodNode (HasDigest a) left ⊎ ((target : List ℕ) × ((value_at h before).contents a ≡ Some (AtLink target)) × (left ≡ Some (Link target)))
+  -- a link to this target stood there before
+  abbrev Was : List ℕ → Type 0
+  Was target = (value_at h before).contents a ≡ Some (AtLink target)
 
+  module _ (e : made ≡ (steps.SyncFile text, answers.Done)) where
     sync_done : (apply now.tree (steps.SyncFile text) q.place.luck).0 ≡ answers.Done
     sync_done = let calm = calm_move q in ap (λ step. (apply now.tree step q.place.luck).0) (sym (ap (λ (m : Made). m.0) e)) ∙ sym calm.2 ∙ ap (λ (m : Made). m.1) e
 
-    synced : IsFileSync path made.0 made.1
-    synced = subst (λ (m : Made). IsFileSync path m.0 m.1) (sym e) (named, refl)
+    is_sync : IsFileSync path made.0 made.1
+    is_sync = subst (λ (m : Made). IsFileSync path m.0 m.1) (sym e) (named, refl)
 
-    file_left : GoodNode (HasDigest a) (look now.tree path) → GoodNode (HasDigest a) left
-    file_left good =
-        subst (λ w. GoodNode (HasDigest a) (lost_then (Some folder) w loss path)) (sym (leads_to_end q))
-        (found_survive (Some folder) a path now (own_move q) (steps_of q.place.later) loss at (cache_here q) good synced (calm_later q) well.1 way)
+    found_here : (node : Option Node) → look now.tree path ≡ node → MayStand (Some folder) node Content → GoodOrLink (HasDigest a) Was node
+    found_here None none stands = absurd (none_synced now.tree text path named none q.place.luck sync_done)
+    found_here (Some Folder) is stands = absurd stands
+    found_here (Some (Link target)) is stands = inr (target, link_before target is, refl)
+    found_here (Some (File bytes)) is stands =
+        inl (contents_are_right h q.legal (here q) (own_record q ∷ q.place.later) (split q) a is_hash bytes (stands_at (here q) ∙ ap blob_in is))
 
-    link_left : (target : List ℕ) → look now.tree path ≡ Some (Link target) → GoodOrLink (HasDigest a) target left
-    link_left target linked =
-        let same : (next now (own_move q)).tree ≡ now.tree = sync_tree now.tree made.0 q.place.luck (ap (λ (m : Made). is_sync m.0) e) in
-        subst (λ w. GoodOrLink (HasDigest a) target (lost_then (Some folder) w loss path)) (sym (leads_to_end q))
-        (link_survives (Some folder) path at (HasDigest a) target (next now (own_move q)) (steps_of q.place.later) loss
-        (cache_next (Some folder) now (own_move q) (cache_here q) (calm_move q).1) (inl (ap (λ t. look t path) same ∙ linked))
-        (calm_later q) well.1 way)
-
-    by_link : (target : List ℕ) → look now.tree path ≡ Some (Link target) → GoodOrLink (HasDigest a) target left → Left
-    by_link target linked (inl stays) = inr (target, link_before target linked, stays)
-    by_link target linked (inr good) = inl good
-
-    by_node : (node : Option Node) → look now.tree path ≡ node → MayStand (Some folder) node Content → Left
-    by_node None none stands = absurd (none_synced now.tree text path named none q.place.luck sync_done)
-    by_node (Some Folder) is stands = absurd stands
-    by_node (Some (Link target)) is stands = by_link target is (link_left target is)
-    by_node (Some (File bytes)) is stands =
-        inl (file_left (subst (GoodNode (HasDigest a)) (sym is)
-        (contents_are_right h q.legal (here q) (own_record q ∷ q.place.later) (split q) a is_hash bytes (stands_at (here q) ∙ ap blob_in is))))
-
-    pub found_left : Left
-    found_left = by_node (look now.tree path) refl (suits (Some folder) now.tree path Content at (cache_here q).0)
+    -- a right file is left, or the link that stood there before
+    pub found_left : GoodOrLink (HasDigest a) Was (lost_then (Some folder) (moment_at h h.records) loss path)
+    found_left =
+        subst (λ w. GoodOrLink (HasDigest a) Was (lost_then (Some folder) w loss path)) (sym (leads_to_end q))
+        (found_stays (HasDigest a) Was (Some folder) path now (own_move q) (steps_of q.place.later) loss at (cache_here q)
+        (found_here (look now.tree path) refl (suits (Some folder) now.tree path Content at (cache_here q).0)) is_sync (calm_later q) well.1 way)

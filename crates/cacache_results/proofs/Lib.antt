@@ -13,7 +13,6 @@ pub mod ListResults
 pub mod LeftReads
 pub mod LossResults
 pub mod LeftWrites
-pub mod KeptLinks
 pub mod UnchangedFiles
 pub mod FoundLinks
 pub mod AnsweredPuts
