@@ -1,5 +1,5 @@
--- A content that a durable put stored outlasts a loss, once its folders are synced.
-use Rattle.std.proofs.Common.{◌≡◌, ℕ, true, List, [], ◌∷◌, ◌++◌, Option, None, Some, Ok, refl, sym, ap, subst, ◌∙◌, arith}
+-- A content that a durable put stored outlasts a loss, once its folders are synced, and so does a link that it found there.
+use Rattle.std.proofs.Common.{◌≡◌, inl, inr, ℕ, true, List, [], ◌∷◌, ◌++◌, Option, None, Some, Ok, refl, sym, ap, subst, ◌∙◌, arith}
 use Rattle.std.specs.Prelude.{IfOk}
 use Rattle.cacache_core.specs.declared.integrity.digest.Hash.{Hash}
 use Rattle.cacache_core.specs.Integrity.{IsHash}
@@ -19,7 +19,7 @@ use Rattle.cacache_table.specs.Runs.{Moves}
 use Rattle.cacache_value.specs.Kinds.{Content, node_below, path_kind}
 use Rattle.cacache_value.specs.Placed.{MayStand}
 use Rattle.cacache_value.specs.Traces.{Move}
-use Rattle.cacache_value.specs.Value.{blob_in}
+use Rattle.cacache_value.specs.Value.{AtLink, blob_in}
 use Rattle.cacache_value.proofs.FoundPaths.{suits}
 use Rattle.cacache_value.proofs.KindsApart.{kind-below}
 use Rattle.cacache_history.specs.declared.record.Record.{Record}
@@ -27,23 +27,25 @@ use Rattle.cacache_history.specs.Setup.{home}
 use Rattle.cacache_history.specs.History.{History, Made, now_at}
 use Rattle.cacache_history.specs.Values.{steps_of, value_at}
 use Rattle.cacache_history.proofs.Values.{contents_are_right}
-use Rattle.cacache_loss.specs.CalmMoves.{IsCalm, OfBytes, PutWell, PutsMove, PutsStep}
+use Rattle.cacache_loss.specs.CalmMoves.{AreCalm, IsCalm, OfBytes, PutWell, PutsMove, PutsStep}
 use Rattle.cacache_loss.specs.Fixing.{place_now}
 use Rattle.cacache_loss.specs.Loss.{Loss}
 use Rattle.cacache_loss.specs.LossLaws.{GoodNode, HasDigest, IsSafe}
-use Rattle.cacache_loss.specs.Moments.{Moment, lost_then, next}
+use Rattle.cacache_loss.specs.LostTrees.{OfCache}
+use Rattle.cacache_loss.specs.Moments.{Moment, after, lost_then, next}
 use Rattle.cacache_loss.specs.Syncs.{IsFileSync, IsPut, SyncsFolders}
 use Rattle.cacache_loss.proofs.CommitFolders.{five_for_contents}
-use Rattle.cacache_loss.proofs.Commits.{found_survive, put_safe}
-use Rattle.cacache_loss.proofs.Contents.{contents_survive}
+use Rattle.cacache_loss.proofs.Commits.{found_stays, put_safe}
+use Rattle.cacache_loss.proofs.Contents.{GoodOrLink, contents_survive}
 use Rattle.cacache_loss.proofs.KeptPaths.{cache_next}
 use Rattle.cacache_loss.proofs.StepCases.{PersistCase, moved, persist_case, refused}
-use Rattle.cacache_durable.specs.Outlasting.{IsNoLink, moment_at}
-use Rattle.cacache_durable.proofs.AtMoves.{QuietPlace, after_own, cache_here, cache_text, calm_later, calm_move, calm_rest, here, leads_to_end, own_move, own_record, split, texts_here}
+use Rattle.cacache_durable.specs.Outlasting.{moment_at}
+use Rattle.cacache_durable.proofs.AtMoves.{QuietPlace, after_own, cache_here, cache_text, calm_later, calm_move, here, leads_to_end, own_move, own_record, split, texts_here}
 use Rattle.cacache_durable.proofs.CommitMoves.{HasDirs}
 use Rattle.cacache_durable.proofs.DoneSyncs.{none_synced}
-use Rattle.cacache_durable.proofs.NoLinks.{NoLink, links_stay_none}
-use Rattle.cacache_durable.proofs.Traces.{tree_at}
+use Rattle.cacache_durable.proofs.QuietSteps.{calm_at}
+use Rattle.cacache_durable.proofs.StoodLinks.{stood_before}
+use Rattle.cacache_durable.proofs.Traces.{moment_more, of_cache_at, tree_at}
 
 -- ---- a file that is put
 
@@ -104,49 +106,59 @@ module _ {h : History} {folder : Names} {before rest : List Record} {caller : �
       (five_for_contents h.setup.cache folder a (cache_text q dirs.0) is_hash).enough (steps_of q.place.later)
       (texts_here q (folders_to h.setup.cache (content_names a)) dirs)
 
-  at_end : GoodNode (HasDigest a) (lost_then (Some folder) (after_own q) loss path) → GoodNode (HasDigest a) (lost_then (Some folder) (moment_at h h.records) loss path)
-  at_end = subst (λ w. GoodNode (HasDigest a) (lost_then (Some folder) w loss path)) (sym (leads_to_end q))
+  at_end : (P : Option Node → Type 0) → P (lost_then (Some folder) (after_own q) loss path) → P (lost_then (Some folder) (moment_at h h.records) loss path)
+  at_end P = subst (λ w. P (lost_then (Some folder) w loss path)) (sym (leads_to_end q))
 
   -- a content that was put
   pub put_outlasts : (f : PlainTemp) → made ≡ (steps.Persist f text, answers.Done) → GoodNode (HasDigest a) (lost_then (Some folder) (moment_at h h.records) loss path)
   put_outlasts f e =
-      at_end
+      at_end (GoodNode (HasDigest a))
       (contents_survive (Some folder) a path (next now (own_move q)) (steps_of q.place.later) loss at
       (cache_next (Some folder) now (own_move q) (cache_here q) (calm_move q).1)
       (safe_put (Some folder) (HasDigest a) path text named now (own_move q) f (ap (λ (m : Made). m.0) e) (ap (λ (m : Made). m.1) e) (calm_move q) well.0)
       (calm_later q) well.1 way)
 
-  -- ---- a content that was found there
+  -- ---- a content or a link that was found there
 
-  there : (value_at h (here q)).contents a ≡ blob_in (look now.tree path)
-  there =
-      ap (λ home. blob_in (node_below home (now_at h (here q)).tree (content_names a))) q.home_is
-      ∙ ap (λ t. blob_in (look t path)) (sym (tree_at h (here q)))
+  -- what a place holds at the address is what stands at the path
+  stands_at : (records : List Record) → (value_at h records).contents a ≡ blob_in (look (moment_at h records).tree path)
+  stands_at records =
+      ap (λ home. blob_in (node_below home (now_at h records).tree (content_names a))) q.home_is
+      ∙ ap (λ t. blob_in (look t path)) (sym (tree_at h records))
 
-  right_node : (node : Option Node) → look now.tree path ≡ node → MayStand (Some folder) node Content → NoLink (blob_in node) → (node ≡ None → ⊥) → GoodNode (HasDigest a) node
-  right_node None e stands none some = absurd (some refl)
-  right_node (Some Folder) e stands none some = absurd stands
-  right_node (Some (Link target)) e stands none some = absurd none
-  right_node (Some (File bytes)) e stands none some =
-      contents_are_right h q.legal (here q) (own_record q ∷ q.place.later) (split q) a is_hash bytes (there ∙ ap blob_in e)
+  -- the link that stands where the put makes its move stood there before
+  link_before : (target : List ℕ) → look now.tree path ≡ Some (Link target) → (value_at h before).contents a ≡ Some (AtLink target)
+  link_before target linked =
+      let calm : AreCalm (Some folder) (moment_at h before) (steps_of rest) = subst (λ home. AreCalm home (moment_at h before) (steps_of rest)) q.home_is (calm_at h q.legal before rest q.is path q.quiet) in
+      let of_cache : OfCache (Some folder) (moment_at h before) = subst (λ home. OfCache home (moment_at h before)) q.home_is (of_cache_at h q.legal before rest q.is).0 in
+      let moment : moment_at h (here q) ≡ after (moment_at h before) (steps_of q.place.between) = moment_more h before q.place.between in
+      let was : look (moment_at h before).tree path ≡ Some (Link target)
+      = stood_before (Some folder) path at target (moment_at h before) q.place.between (own_record q ∷ q.place.later) of_cache
+      (subst (λ records. AreCalm (Some folder) (moment_at h before) (steps_of records)) q.place.is calm)
+      (ap (λ (w : Moment). look w.tree path) (sym moment) ∙ linked) in
+      stands_at before ∙ ap blob_in was
 
-  module _ (e : made ≡ (steps.SyncFile text, answers.Done)) (no_link : IsNoLink a (value_at h before)) where
+  -- a link to this target stood there before
+  abbrev Was : List ℕ → Type 0
+  Was target = (value_at h before).contents a ≡ Some (AtLink target)
+
+  module _ (e : made ≡ (steps.SyncFile text, answers.Done)) where
     sync_done : (apply now.tree (steps.SyncFile text) q.place.luck).0 ≡ answers.Done
     sync_done = let calm = calm_move q in ap (λ step. (apply now.tree step q.place.luck).0) (sym (ap (λ (m : Made). m.0) e)) ∙ sym calm.2 ∙ ap (λ (m : Made). m.1) e
-
-    no_link_here : NoLink (blob_in (look now.tree path))
-    no_link_here = subst NoLink there (links_stay_none h q.legal before q.place.between (own_record q ∷ q.place.later) a (q.is ∙ ap (λ records. before ++ records) q.place.is) (calm_rest q) no_link)
-
-    right_here : GoodNode (HasDigest a) (look now.tree path)
-    right_here =
-        let cache = cache_here q in
-        right_node (look now.tree path) refl (suits (Some folder) now.tree path Content at cache.0) no_link_here
-        (λ none. none_synced now.tree text path named none q.place.luck sync_done)
 
     is_sync : IsFileSync path made.0 made.1
     is_sync = subst (λ (m : Made). IsFileSync path m.0 m.1) (sym e) (named, refl)
 
-    pub found_outlasts : GoodNode (HasDigest a) (lost_then (Some folder) (moment_at h h.records) loss path)
-    found_outlasts =
-        at_end
-        (found_survive (Some folder) a path now (own_move q) (steps_of q.place.later) loss at (cache_here q) right_here is_sync (calm_later q) well.1 way)
+    found_here : (node : Option Node) → look now.tree path ≡ node → MayStand (Some folder) node Content → GoodOrLink (HasDigest a) Was node
+    found_here None none stands = absurd (none_synced now.tree text path named none q.place.luck sync_done)
+    found_here (Some Folder) is stands = absurd stands
+    found_here (Some (Link target)) is stands = inr (target, link_before target is, refl)
+    found_here (Some (File bytes)) is stands =
+        inl (contents_are_right h q.legal (here q) (own_record q ∷ q.place.later) (split q) a is_hash bytes (stands_at (here q) ∙ ap blob_in is))
+
+    -- a right file is left, or the link that stood there before
+    pub found_left : GoodOrLink (HasDigest a) Was (lost_then (Some folder) (moment_at h h.records) loss path)
+    found_left =
+        at_end (GoodOrLink (HasDigest a) Was)
+        (found_stays (HasDigest a) Was (Some folder) path now (own_move q) (steps_of q.place.later) loss at (cache_here q)
+        (found_here (look now.tree path) refl (suits (Some folder) now.tree path Content at (cache_here q).0)) is_sync (calm_later q) well.1 way)

@@ -9,7 +9,7 @@ pub mod Ending
 pub mod CommitMoves
 pub mod PutMoves
 pub mod CommitPlaces
-pub mod NoLinks
+pub mod StoodLinks
 pub mod DoneSyncs
 pub mod AtMoves
 pub mod DurableEntries

@@ -1,5 +1,5 @@
 -- What durable commits stored outlasts each later loss of power.
-use Rattle.std.proofs.Common.{◌≡◌, inl, inr, ℕ, true, List, [], ◌∷◌, ◌++◌, Option, None, Some, Ok, length, refl, sym, ap, subst, ◌∙◌, append_assoc}
+use Rattle.std.proofs.Common.{◌≡◌, ◌⊎◌, inl, inr, ℕ, true, List, [], ◌∷◌, ◌++◌, Option, None, Some, Ok, length, refl, sym, ap, subst, ◌∙◌, append_assoc}
 use Rattle.sha1.specs.Sha1.{sha1}
 use Rattle.cacache_core.specs.declared.integrity.digest.Hash.{Hash}
 use Rattle.cacache_core.specs.Integrity.{IsHash}
@@ -19,7 +19,7 @@ use Rattle.cacache_table.specs.Runs.{Moves}
 use Rattle.cacache_table.specs.declared.carried.Commit.{Commit}
 use Rattle.cacache_table.specs.StepPaths.{bucket_path, content_folders, content_path}
 use Rattle.cacache_table.specs.Storing.{insertion_of, put_commit}
-use Rattle.cacache_value.specs.Value.{value_of_tree}
+use Rattle.cacache_value.specs.Value.{blob_in, value_of_tree}
 use Rattle.cacache_history.specs.declared.record.Record.{Record}
 use Rattle.cacache_history.specs.AddedEntries.{address_of_put}
 use Rattle.cacache_history.specs.History.{History, IsLegal, Made, now_at}
@@ -32,14 +32,14 @@ use Rattle.cacache_loss.specs.Moments.{lost_then}
 use Rattle.cacache_loss.proofs.LostValues.{contents_are_held}
 use Rattle.cacache_durable.specs.Ending.{EndsFrom, CallEndsWith}
 use Rattle.cacache_durable.specs.FewCalls.{FewCalls}
-use Rattle.cacache_durable.specs.Outlasting.{DurableInsert, DurablePut, HistoriesOutlive, InsertsHaveBehind, InsertsOutlast, KeyOutlasts, PutsHaveBehind, PutsOutlast, moment_at}
+use Rattle.cacache_durable.specs.Outlasting.{AnsweredPut, DurableInsert, DurablePut, EntriesHaveBehind, FindsThere, FoundLink, HistoriesOutlive, InsertsHaveBehind, InsertsOutlast, KeyOutlasts, PutsHaveBehind, PutsOrLinksOutlast, PutsOutlast, moment_at}
 use Rattle.cacache_durable.specs.QuietMoves.{AreQuiet}
 use Rattle.cacache_durable.proofs.AtMoves.{QuietPlace, here, own_record, quiet_here, split}
 use Rattle.cacache_durable.proofs.BehindEntries.{entry_behind}
 use Rattle.cacache_durable.proofs.CommitMoves.{HasDirs}
 use Rattle.cacache_durable.proofs.PutMoves.{Adds, secures}
 use Rattle.cacache_durable.proofs.CommitPlaces.{Secures, insert_appends, insert_formed, line_is, own, place_in, put_formed, put_secures, written_fits}
-use Rattle.cacache_durable.proofs.DurableContents.{content_named, found_outlasts, put_outlasts}
+use Rattle.cacache_durable.proofs.DurableContents.{content_named, found_left, put_outlasts}
 use Rattle.cacache_durable.proofs.DurableEntries.{WholeEntry, bucket_named, entry_outlasts, whole_append}
 use Rattle.cacache_durable.proofs.SyncedTemps.{put_well_at}
 use Rattle.cacache_durable.proofs.Traces.{losses_leave_caches}
@@ -61,7 +61,7 @@ module _ (h : History) (legal : IsLegal h) (folder : Names) (home_is : home h.se
 
   -- ---- a put
 
-  module _ (p : Put) (put : DurablePut h folder p) where
+  module _ (p : Put) (put : AnsweredPut h folder p) where
     abbrev a : Hash
     a = address_of_put p
 
@@ -97,20 +97,6 @@ module _ (h : History) (legal : IsLegal h) (folder : Names) (home_is : home h.se
     content_place : QuietPlace h folder path put.before put.rest put.call.caller found.made found.more
     content_place = quiet_place put.before put.rest put.is path put.quiet put.reply (commands.Put p) put.call found.front found.made found.more found.is
 
-    -- the content
-    content_left : FewCalls h → (loss : Loss) → GoodNode (HasDigest a) (lost_then (Some folder) (moment_at h h.records) loss path)
-    content_left few loss =
-        let q = content_place in
-        let puts = put_well_at h legal few (here q) (own_record q ∷ q.place.later) (split q) folder home_is a is_hash (quiet_here q) in
-        let dirs = subst (λ folders. HasDirs folders found.more) folders_are after_found.0 in
-        elim found.puts [
-          | inl f ↦ put_outlasts a is_hash q puts dirs loss f.0 (f.1 ∙ ap (λ text. (steps.Persist f.0 text, answers.Done)) text_is)
-          | inr e ↦
-              let synced = e ∙ ap (λ text. (steps.SyncFile text, answers.Done)) text_is in
-              found_outlasts a is_hash q puts dirs loss synced
-              (put.no_link (record { between = q.place.between; sync = own_record q; later = q.place.later; is = q.place.is; is_sync = (refl, synced) }))
-        ]
-
     -- the entry of its key
     adds_whole : (key : List ℕ) → p.key ≡ Some key → Adds put.reply commit (Some key) found.more
         → WholeEntry h folder path put.before put.rest put.call.caller (insertion_of commit key).entry
@@ -138,8 +124,26 @@ module _ (h : History) (legal : IsLegal h) (folder : Names) (home_is : home h.se
       key_left None e = tt
       key_left (Some key) e = entry_outlasts (insertion_of commit key).entry (put_whole key e) loss left left_of
 
-      put_left : FewCalls h → HoldsContent a (value_of_tree (Some folder) left) × KeyOutlasts h put.before put.rest put.call.caller p p.key (value_of_tree (Some folder) left)
-      put_left few = (contents_are_held folder a (moment_at h h.records) loss left left_of (content_left few loss), key_left p.key refl)
+      held : GoodNode (HasDigest a) (lost_then (Some folder) (moment_at h h.records) loss path) → HoldsContent a (value_of_tree (Some folder) left)
+      held = contents_are_held folder a (moment_at h h.records) loss left left_of
+
+      -- the content, or the link that the put found
+      content_left : FewCalls h → HoldsContent a (value_of_tree (Some folder) left) ⊎ FoundLink h put.before put.rest put.call.caller a (value_of_tree (Some folder) left)
+      content_left few =
+          let q = content_place in
+          let puts = put_well_at h legal few (here q) (own_record q ∷ q.place.later) (split q) folder home_is a is_hash (quiet_here q) in
+          let dirs = subst (λ folders. HasDirs folders found.more) folders_are after_found.0 in
+          elim found.puts [
+            | inl f ↦ inl (held (put_outlasts a is_hash q puts dirs loss f.0 (f.1 ∙ ap (λ text. (steps.Persist f.0 text, answers.Done)) text_is)))
+            | inr e ↦
+                let synced = e ∙ ap (λ text. (steps.SyncFile text, answers.Done)) text_is in
+                let finds : FindsThere put.call.caller (joined h.setup.cache (content_names a)) put.rest
+                = record { between = q.place.between; sync = own_record q; later = q.place.later; is = q.place.is; is_sync = (refl, synced) } in
+                elim (found_left a is_hash q puts dirs loss synced) [
+                  | inl good ↦ inl (held good)
+                  | inr link ↦ inr (finds, record { target = link.0; was = link.1; is = ap blob_in (left_of path ∙ link.2) })
+                ]
+          ]
 
   -- ---- an insertion
 
@@ -179,16 +183,35 @@ inserted_whole h legal folder home_is n put =
     insert_whole h legal folder home_is n put.before put.rest put.is put.durable put.quiet put.stored.0
     (by_reply h put.before put.rest (commands.Insert n) put.reply (Stored put.stored.0) put.stored.1 put.call)
 
+pub puts_or_links_outlast : (h : History) → IsLegal h → FewCalls h → PutsOrLinksOutlast h
+puts_or_links_outlast h legal few folder p loss left home_is put left_of =
+    (content_left h legal folder home_is p put loss left left_of few, key_left h legal folder home_is p put loss left left_of p.key refl)
+
+pub entries_have_behind : (h : History) → IsLegal h → EntriesHaveBehind h
+entries_have_behind h legal folder p key loss left home_is put keyed left_of =
+    entry_behind (insertion_of (put_commit h.setup.cache p) key).entry (put_whole h legal folder home_is p put key keyed) loss left left_of
+
+-- the same put, of which nothing is asked of links
+abbrev answered : {h : History} {folder : Names} {p : Put} → DurablePut h folder p → AnsweredPut h folder p
+answered put = record { before = put.before; rest = put.rest; is = put.is; durable = put.durable; reply = put.reply; call = put.call; quiet = put.quiet }
+
+-- it finds no link, so its content is left
 puts_outlast : (h : History) → IsLegal h → FewCalls h → PutsOutlast h
-puts_outlast h legal few folder p loss left home_is put left_of = put_left h legal folder home_is p put loss left left_of few
+puts_outlast h legal few folder p loss left home_is put left_of =
+    let both = puts_or_links_outlast h legal few folder p loss left home_is (answered put) left_of in (
+      elim both.0 [
+        | inl content ↦ content
+        | inr link ↦ absurd (put.no_link link.0 link.1.target link.1.was)
+      ],
+      both.1,
+    )
 
 inserts_outlast : (h : History) → IsLegal h → InsertsOutlast h
 inserts_outlast h legal folder n loss left home_is put left_of =
     entry_outlasts (insertion h.setup.cache n).entry (inserted_whole h legal folder home_is n put) loss left left_of
 
 puts_have_behind : (h : History) → IsLegal h → PutsHaveBehind h
-puts_have_behind h legal folder p key loss left home_is put keyed left_of =
-    entry_behind (insertion_of (put_commit h.setup.cache p) key).entry (put_whole h legal folder home_is p put key keyed) loss left left_of
+puts_have_behind h legal folder p key loss left home_is put = entries_have_behind h legal folder p key loss left home_is (answered put)
 
 inserts_have_behind : (h : History) → IsLegal h → InsertsHaveBehind h
 inserts_have_behind h legal folder n loss left home_is put left_of =

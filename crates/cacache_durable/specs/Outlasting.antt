@@ -1,5 +1,5 @@
 -- What durable commits leave after a loss of power.
-use Rattle.std.specs.Prelude.{◌≡◌, ℕ, List, [], ◌∷◌, ◌++◌, Option, None, Some, true, fold, length}
+use Rattle.std.specs.Prelude.{◌≡◌, ◌⊎◌, ℕ, List, [], ◌∷◌, ◌++◌, Option, None, Some, true, fold, length}
 use Rattle.sha1.specs.Sha1.{sha1}
 use Rattle.cacache_core.specs.declared.integrity.digest.Hash.{Hash}
 use Rattle.cacache_core.specs.PathNames.{Names}
@@ -99,6 +99,18 @@ pub record FindsThere (caller : ℕ) (path : List ℕ) (rest : List Record) : Ty
   pub is : rest ≡ between ++ sync ∷ later
   pub is_sync : IsSyncOf caller path sync
 
+-- a durable put that answers, from a place on where it had put nothing: from there on others
+-- remove, link and export nothing, and put its content durably. Whatever stood at its address there
+pub record AnsweredPut (h : History) (folder : Names) (p : Put) : Type 0 where
+  pub before : List Record
+  pub rest : List Record
+  pub is : h.records ≡ before ++ rest
+  pub durable : p.options.durable ≡ true
+  pub reply : List Hash
+  pub call : EndsFrom h before rest (commands.Put p) (Stored reply)
+  pub quiet :
+      AreQuiet h.setup (folder ++ content_names (address_of_put p)) (now_at h before) rest
+
 -- a durable put that answers, from a place on where it had put nothing: from there on others remove,
 -- link and export nothing, and put its content durably. Where it found its content instead of putting
 -- it, no link stood at its address
@@ -127,9 +139,37 @@ pub record DurableInsert (h : History) (i : Insert) : Type 0 where
   pub stored : (hashes : List Hash) × (reply ≡ Stored hashes)
   pub quiet : AreQuiet h.setup [] (now_at h before) rest
 
+-- ---- what is left where a put found a link
+
+-- after the first records a link to this target stood at an address, and in this value it still
+-- does
+pub record KeepsLink (h : History) (before : List Record) (address : Hash) (v : Value)
+    : Type 0 where
+  pub target : List ℕ
+  pub was : (value_at h before).contents address ≡ Some (AtLink target)
+  pub is : v.contents address ≡ Some (AtLink target)
+
+-- the caller put nothing there, but found the link that stood there before, and it still does
+abbrev pub FoundLink :
+    History → List Record → List Record → ℕ → Hash → Value → Type 0
+FoundLink h before rest caller address v =
+    FindsThere caller (joined h.setup.cache (content_names address)) rest
+    × KeepsLink h before address v
+
 -- ---- the laws
 
--- what a durable put stored is there after each later loss: its content, and with a key its entry
+-- after each later loss a durable put's address holds bytes with its digest, or still the link
+-- that the put found there; with a key its entry is there too
+abbrev pub PutsOrLinksOutlast : History → Type 0
+PutsOrLinksOutlast h =
+    (folder : Names) (p : Put) (loss : Loss) (left : Tree) → home h.setup ≡ Some folder
+    → (put : AnsweredPut h folder p) → LeftOf folder (moment_at h h.records) loss left
+    → (HoldsContent (address_of_put p) (value_of_tree (Some folder) left)
+    ⊎ FoundLink h put.before put.rest put.call.caller (address_of_put p)
+    (value_of_tree (Some folder) left))
+    × KeyOutlasts h put.before put.rest put.call.caller p p.key (value_of_tree (Some folder) left)
+
+-- so where it found no link its content is there, and with a key its entry
 abbrev pub PutsOutlast : History → Type 0
 PutsOutlast h =
     (folder : Names) (p : Put) (loss : Loss) (left : Tree) → home h.setup ≡ Some folder
@@ -137,7 +177,7 @@ PutsOutlast h =
     → HoldsContent (address_of_put p) (value_of_tree (Some folder) left)
     × KeyOutlasts h put.before put.rest put.call.caller p p.key (value_of_tree (Some folder) left)
 
--- so is the entry of a durable insertion
+-- the entry of a durable insertion is there too
 abbrev pub InsertsOutlast : History → Type 0
 InsertsOutlast h =
     (folder : Names) (i : Insert) (loss : Loss) (left : Tree) → home h.setup ≡ Some folder
@@ -145,7 +185,16 @@ InsertsOutlast h =
     → EntryOutlasts h put.before put.rest put.call.caller i.key (insertion h.setup.cache i).entry
     (value_of_tree (Some folder) left)
 
--- the entry of a durable put outlasts a loss with the first of what the history added behind it
+-- behind the entry of a durable put stand the first of those that the history added there
+abbrev pub EntriesHaveBehind : History → Type 0
+EntriesHaveBehind h =
+    (folder : Names) (p : Put) (key : List ℕ) (loss : Loss) (left : Tree)
+    → home h.setup ≡ Some folder → (put : AnsweredPut h folder p) → p.key ≡ Some key
+    → LeftOf folder (moment_at h h.records) loss left
+    → OutlastsWith h folder put.before put.rest put.call.caller key
+    (insertion_of (put_commit h.setup.cache p) key).entry loss (value_of_tree (Some folder) left)
+
+-- so they do where the put found no link
 abbrev pub PutsHaveBehind : History → Type 0
 PutsHaveBehind h =
     (folder : Names) (p : Put) (key : List ℕ) (loss : Loss) (left : Tree)
@@ -154,7 +203,7 @@ PutsHaveBehind h =
     → OutlastsWith h folder put.before put.rest put.call.caller key
     (insertion_of (put_commit h.setup.cache p) key).entry loss (value_of_tree (Some folder) left)
 
--- and so does that of a durable insertion
+-- and behind the entry of a durable insertion
 abbrev pub InsertsHaveBehind : History → Type 0
 InsertsHaveBehind h =
     (folder : Names) (i : Insert) (loss : Loss) (left : Tree) → home h.setup ≡ Some folder

@@ -14,8 +14,6 @@ pub mod LeftReads
 pub mod LossResults
 pub mod LeftWrites
 pub mod UnchangedFiles
-pub mod FoundLinks
-pub mod AnsweredPuts
 pub mod OutsideSteps
 pub mod OutsideFiles
 pub mod LinkLosses

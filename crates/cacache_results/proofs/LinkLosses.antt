@@ -9,7 +9,6 @@ use Rattle.cacache_disk.specs.Rooted.{Rooted}
 use Rattle.cacache_disk.specs.Tree.{Tree, look}
 use Rattle.cacache_disk.proofs.Standing.{way_clear}
 use Rattle.cacache_table.specs.declared.command.Put.{Put}
-use Rattle.cacache_table.specs.Storing.{insertion_of, put_commit}
 use Rattle.cacache_value.specs.Shows.{blob_bytes, link_end}
 use Rattle.cacache_value.specs.Traces.{IsTrace}
 use Rattle.cacache_value.specs.Value.{AtLink, value_of_tree}
@@ -29,11 +28,10 @@ use Rattle.cacache_loss.specs.Moments.{EachMove, Moment, next}
 use Rattle.cacache_loss.specs.Syncs.{Leaves}
 use Rattle.cacache_loss.proofs.LostTrees.{losses_leave_trees}
 use Rattle.cacache_durable.specs.FewCalls.{FewCalls}
-use Rattle.cacache_durable.specs.Outlasting.{moment_at}
+use Rattle.cacache_durable.specs.Outlasting.{AnsweredPut, FoundLink, moment_at}
+use Rattle.cacache_durable.proofs.Outlasting.{entries_have_behind, puts_or_links_outlast}
 use Rattle.cacache_durable.proofs.Traces.{made_move, of_cache_at, trace_at, tree_at}
-use Rattle.cacache_results.specs.FoundLinks.{AnsweredPut, EntriesHaveBehind, FoundLink, GivesDigest, HistoriesKeepLinks, LeadsUnchanged, PutsOrLinksGive, PutsOrLinksOutlast, StaysUnchanged, UnchangedFilesStay}
-use Rattle.cacache_durable.proofs.BehindEntries.{entry_behind}
-use Rattle.cacache_results.proofs.AnsweredPuts.{key_left, key_whole, puts_or_links}
+use Rattle.cacache_results.specs.FoundLinks.{GivesDigest, HistoriesKeepLinks, LeadsUnchanged, PutsOrLinksGive, StaysUnchanged, UnchangedFilesStay}
 use Rattle.cacache_results.proofs.OutsideFiles.{links_lead_unchanged}
 use Rattle.cacache_results.proofs.UnchangedFiles.{Holds, file_left, holds_after, holds_first}
 
@@ -99,13 +97,6 @@ module _ (h : History) (legal : IsLegal h) where
 -- ---- the laws
 
 module _ (h : History) (legal : IsLegal h) where
-  puts_or_links_outlast : FewCalls h → PutsOrLinksOutlast h
-  puts_or_links_outlast few folder p loss left home_is put left_of = (puts_or_links h legal folder home_is p put few loss left left_of, key_left h legal folder home_is p put loss left left_of p.key refl)
-
-  entries_have_behind : EntriesHaveBehind h
-  entries_have_behind folder p key loss left home_is put keyed left_of =
-      entry_behind (insertion_of (put_commit h.setup.cache p) key).entry (key_whole h legal folder home_is p put key keyed) loss left left_of
-
   unchanged_files_stay : UnchangedFilesStay h
   unchanged_files_stay folder target bytes loss left home_is file left_of = unchanged_left h legal target bytes file folder home_is loss left left_of
 
@@ -123,7 +114,7 @@ module _ (h : History) (legal : IsLegal h) where
 
   puts_or_links_give : FewCalls h → PutsOrLinksGive h
   puts_or_links_give few folder p loss left home_is put left_of unchanged =
-      gives folder p loss left home_is put left_of unchanged (puts_or_links h legal folder home_is p put few loss left left_of)
+      gives folder p loss left home_is put left_of unchanged (puts_or_links_outlast h legal few folder p loss left home_is put left_of).0
 
 pub histories_keep_links : HistoriesKeepLinks
 histories_keep_links h legal = record {

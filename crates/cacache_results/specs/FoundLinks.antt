@@ -1,63 +1,28 @@
 -- What losses of power leave of a durable put that found a link at its content's address.
-use Rattle.std.specs.Prelude.{◌≡◌, ◌⊎◌, ℕ, List, [], ◌∷◌, ◌++◌, Some, true, Ok}
+use Rattle.std.specs.Prelude.{◌≡◌, ℕ, List, [], ◌∷◌, ◌++◌, Some, true, Ok}
 use Rattle.cacache_core.specs.declared.integrity.digest.Hash.{Hash}
 use Rattle.cacache_core.specs.PathNames.{Names, names_of}
-use Rattle.cacache_core.specs.Paths.{content_names, joined}
 use Rattle.cacache_disk.specs.declared.node.Node.TheVariants.{File}
 use Rattle.cacache_disk.specs.Tree.{Tree, look}
-use Rattle.cacache_table.specs.declared.command.Command.TheVariants as commands
 use Rattle.cacache_table.specs.declared.command.Put.{Put}
-use Rattle.cacache_table.specs.declared.reply.Reply.TheVariants.{Stored}
 use Rattle.cacache_table.specs.Licence.{KeepsTo, Licence, taking_in}
-use Rattle.cacache_table.specs.Storing.{insertion_of, put_commit}
 use Rattle.cacache_value.specs.Shows.{blob_bytes}
-use Rattle.cacache_value.specs.Value.{AtLink, Value, value_of_tree}
+use Rattle.cacache_value.specs.Value.{AtLink, value_of_tree}
 use Rattle.cacache_loss.specs.Loss.{Loss}
 use Rattle.cacache_loss.specs.LossLaws.{HasDigest}
-use Rattle.cacache_loss.specs.LostValues.{HoldsContent, LeftOf}
+use Rattle.cacache_loss.specs.LostValues.{LeftOf}
 use Rattle.cacache_loss.specs.Moments.{EachMove}
 use Rattle.cacache_loss.specs.Syncs.{Leaves}
 use Rattle.cacache_history.specs.declared.record.Record.{Record}
 use Rattle.cacache_history.specs.declared.record.Record.TheVariants.{Began, Moved, Stopped}
 use Rattle.cacache_history.specs.AddedEntries.{address_of_put}
-use Rattle.cacache_history.specs.History.{History, IsLegal, initial, now_at}
+use Rattle.cacache_history.specs.History.{History, IsLegal, initial}
 use Rattle.cacache_history.specs.Setup.{home}
 use Rattle.cacache_history.specs.Values.{steps_of, value_at}
-use Rattle.cacache_durable.specs.Ending.{EndsFrom}
 use Rattle.cacache_durable.specs.FewCalls.{FewCalls}
-use Rattle.cacache_durable.specs.Outlasting.{FindsThere, KeyOutlasts, OutlastsWith, moment_at}
-use Rattle.cacache_durable.specs.QuietMoves.{AreQuiet}
-
--- ---- which puts
-
--- a durable put that answers, from a place on where it had put nothing: from there on others
--- remove, link and export nothing, and put its content durably. Whatever stood at its address there
-pub record AnsweredPut (h : History) (folder : Names) (p : Put) : Type 0 where
-  pub before : List Record
-  pub rest : List Record
-  pub is : h.records ≡ before ++ rest
-  pub durable : p.options.durable ≡ true
-  pub reply : List Hash
-  pub call : EndsFrom h before rest (commands.Put p) (Stored reply)
-  pub quiet :
-      AreQuiet h.setup (folder ++ content_names (address_of_put p)) (now_at h before) rest
+use Rattle.cacache_durable.specs.Outlasting.{AnsweredPut, EntriesHaveBehind, PutsOrLinksOutlast, moment_at}
 
 -- ---- what is left
-
--- after the first records a link to this target stood at an address, and in this value it still
--- does
-pub record KeepsLink (h : History) (before : List Record) (address : Hash) (v : Value)
-    : Type 0 where
-  pub target : List ℕ
-  pub was : (value_at h before).contents address ≡ Some (AtLink target)
-  pub is : v.contents address ≡ Some (AtLink target)
-
--- the caller put nothing there, but found the link that stood there before, and it still does
-abbrev pub FoundLink :
-    History → List Record → List Record → ℕ → Hash → Value → Type 0
-FoundLink h before rest caller address v =
-    FindsThere caller (joined h.setup.cache (content_names address)) rest
-    × KeepsLink h before address v
 
 -- a target is the path of a file of these bytes, where the history began, which no step changed
 pub record StaysUnchanged (h : History) (target bytes : List ℕ) : Type 0 where
@@ -91,26 +56,6 @@ GivesDigest folder address t =
     × (blob_bytes t ((value_of_tree (Some folder) t).contents address) ≡ Ok bytes)
 
 -- ---- the laws
-
--- after each later loss a durable put's address holds bytes with its digest, or still the link
--- that the put found there; with a key its entry is there too
-abbrev pub PutsOrLinksOutlast : History → Type 0
-PutsOrLinksOutlast h =
-    (folder : Names) (p : Put) (loss : Loss) (left : Tree) → home h.setup ≡ Some folder
-    → (put : AnsweredPut h folder p) → LeftOf folder (moment_at h h.records) loss left
-    → (HoldsContent (address_of_put p) (value_of_tree (Some folder) left)
-    ⊎ FoundLink h put.before put.rest put.call.caller (address_of_put p)
-    (value_of_tree (Some folder) left))
-    × KeyOutlasts h put.before put.rest put.call.caller p p.key (value_of_tree (Some folder) left)
-
--- behind its entry stand the first of those that the history added there
-abbrev pub EntriesHaveBehind : History → Type 0
-EntriesHaveBehind h =
-    (folder : Names) (p : Put) (key : List ℕ) (loss : Loss) (left : Tree)
-    → home h.setup ≡ Some folder → (put : AnsweredPut h folder p) → p.key ≡ Some key
-    → LeftOf folder (moment_at h h.records) loss left
-    → OutlastsWith h folder put.before put.rest put.call.caller key
-    (insertion_of (put_commit h.setup.cache p) key).entry loss (value_of_tree (Some folder) left)
 
 -- a file that no step changed is there after each loss, with its bytes
 abbrev pub UnchangedFilesStay : History → Type 0

@@ -15,8 +15,9 @@ use Rattle.cacache_history.specs.AddedEntries.{address_of_put}
 use Rattle.cacache_history.specs.History.{History}
 use Rattle.cacache_history.specs.Setup.{home}
 use Rattle.cacache_durable.specs.FewCalls.{FewCalls}
+use Rattle.cacache_durable.specs.Outlasting.{AnsweredPut}
 use Rattle.cacache_sequence.specs.Inserts.{leads_to}
-use Rattle.cacache_results.specs.FoundLinks.{AnsweredPut, LeadsUnchanged, LinksOutlast}
+use Rattle.cacache_results.specs.FoundLinks.{LeadsUnchanged, LinksOutlast}
 use Rattle.cacache_results.specs.Losses.{IsLast, IsLeft, StandsBefore}
 use Rattle.cacache_results.specs.Reads.{LiesWhole}
 

@@ -1,0 +1,66 @@
+-- A link that stands at a content's path after calm moves stood there before them.
+use Rattle.std.proofs.Common.{◌≡◌, ℕ, Bool, true, false, cond, List, [], ◌∷◌, ◌++◌, Option, None, Some, refl, sym, ap, subst, ◌∙◌}
+use Rattle.cacache_core.specs.PathNames.{Names, names_of}
+use Rattle.cacache_store.specs.declared.store.plain.PlainTemp.{PlainTemp}
+use Rattle.cacache_store.specs.declared.store.step.Step.TheVariants as steps
+use Rattle.cacache_store.specs.Plain.{PlainStep, PlainAnswer}
+use Rattle.cacache_disk.specs.declared.luck.Luck.{Luck}
+use Rattle.cacache_disk.specs.declared.node.Node.TheVariants.{File, Link}
+use Rattle.cacache_disk.specs.Tree.{Tree, look, put, cut}
+use Rattle.cacache_disk.specs.Apply.{apply}
+use Rattle.cacache_disk.proofs.Maps.{same_path-true}
+use Rattle.cacache_disk.proofs.PutNodes.{look-put}
+use Rattle.cacache_disk.proofs.Roots.{same_self}
+use Rattle.cacache_value.specs.Kinds.{Bucket, Content, Temporary, path_kind}
+use Rattle.cacache_value.specs.Placed.{Placed, Proper}
+use Rattle.cacache_history.specs.declared.record.Record.{Record}
+use Rattle.cacache_history.specs.declared.record.Record.TheVariants.{Began, Moved, Stopped}
+use Rattle.cacache_history.specs.Values.{steps_of}
+use Rattle.cacache_loss.specs.CalmMoves.{AreCalm, CalmStep}
+use Rattle.cacache_loss.specs.Fixing.{is_at}
+use Rattle.cacache_loss.specs.LostTrees.{OfCache}
+use Rattle.cacache_loss.specs.Moments.{Moment, after, next}
+use Rattle.cacache_loss.proofs.KeptPaths.{cache_next, keeps}
+use Rattle.cacache_loss.proofs.StepCases.{PersistCase, make_apart, moved, persist_case, refused}
+use Rattle.cacache_loss.proofs.UnchangedPaths.{Misses, at_false}
+use Rattle.cacache_durable.proofs.Traces.{made_move}
+
+module _ (home : Option Names) (c : Names) (at : path_kind home c ≡ Content) (target : List ℕ) where
+  -- the link stands at the path
+  abbrev Linked : Tree → Type 0
+  Linked t = look t c ≡ Some (Link target)
+
+  module _ (t : Tree) (placed : Placed home t) where
+    missed : (step : PlainStep) (luck : Luck) → CalmStep home step → Proper home step → Misses c step → Linked (apply t step luck).1 → Linked t
+    missed step luck calm is misses linked =
+        sym (keeps home t placed c (look t c) refl (λ names count way. make_apart home Content t [] names c count at (λ e. cc) way) step luck calm.0 is misses) ∙ linked
+
+    reached : (f : PlainTemp) (p : List ℕ) (o : PlainAnswer × Tree) → is_at (names_of p) c ≡ true → PersistCase t f p o → Linked o.1 → Linked t
+    reached f p o here (refused fault e) linked = subst (λ (o : PlainAnswer × Tree). Linked o.1 → Linked t) (sym e) (λ linked. linked) linked
+    reached f p o here (moved new old to has from names e) linked =
+        let same : c ≡ to = same_path-true c to (ap (λ r. is_at r c) (sym names) ∙ here) in
+        let file : look (put (cut t old) c (File new)) c ≡ Some (File new) = look-put (cut t old) c (File new) c ∙ ap (λ b. cond b (Some (File new)) (look (cut t old) c)) (same_self c) in
+        let there : look (put (cut t old) c (File new)) c ≡ Some (Link target)
+        = ap (λ to. look (put (cut t old) to (File new)) c) same ∙ ap (λ (o : PlainAnswer × Tree). look o.1 c) (sym e) ∙ linked in
+        let both : Some (File new) ≡ Some (Link target) = sym file ∙ there in absurd cc
+
+    persisted : (f : PlainTemp) (p : List ℕ) (luck : Luck) (b : Bool) → is_at (names_of p) c ≡ b → CalmStep home (steps.Persist f p) → Proper home (steps.Persist f p)
+        → Linked (apply t (steps.Persist f p) luck).1 → Linked t
+    persisted f p luck false misses calm is linked = missed (steps.Persist f p) luck calm is (at_false home Temporary Content c (names_of f.path) is.0 at (λ e. cc), misses) linked
+    persisted f p luck true here calm is linked = reached f p (apply t (steps.Persist f p) luck) here (persist_case t f p luck) linked
+
+    stood : (step : PlainStep) (luck : Luck) → CalmStep home step → Proper home step → Linked (apply t step luck).1 → Linked t
+    stood (steps.Persist f p) luck calm is linked = persisted f p luck (is_at (names_of p) c) refl calm is linked
+    stood (steps.Append p line) luck calm is linked = missed (steps.Append p line) luck calm is (at_false home Bucket Content c (names_of p) is.0 at (λ e. cc)) linked
+    stood (steps.CreateTemp p) luck calm is linked = missed (steps.CreateTemp p) luck calm is (at_false home Temporary Content c (names_of p) is at (λ e. cc)) linked
+    stood (steps.Write f bytes) luck calm is linked = missed (steps.Write f bytes) luck calm is (at_false home Temporary Content c (names_of f.path) calm.1 at (λ e. cc)) linked
+    stood step luck calm is linked = missed step luck calm is tt linked
+
+  pub stood_before : (w : Moment) (more later : List Record) → OfCache home w → AreCalm home w (steps_of (more ++ later)) → Linked (after w (steps_of more)).tree → Linked w.tree
+  stood_before w [] later of_cache calm linked = linked
+  stood_before w (Began caller command ∷ more) later of_cache calm linked = stood_before w more later of_cache calm linked
+  stood_before w (Moved caller luck None reply ∷ more) later of_cache calm linked = stood_before w more later of_cache calm linked
+  stood_before w (Moved caller luck (Some made) reply ∷ more) later of_cache calm linked =
+      stood w.tree of_cache.0 made.0 luck calm.1.0 calm.0.0
+      (stood_before (next w (made_move luck made)) more later (cache_next home w (made_move luck made) of_cache calm.0.0) (calm.0.2, calm.1.1) linked)
+  stood_before w (Stopped caller ∷ more) later of_cache calm linked = stood_before w more later of_cache calm linked
