@@ -1,26 +1,16 @@
 -- What a loss leaves behind an entry whose line a durable commit appended whole.
-use Rattle.std.proofs.Common.{◌≡◌, ◌+◌, ◌-◌, ◌≤◌, inl, inr, ℕ, Bool, true, false, cond, List, [], ◌∷◌, ◌++◌, Option, Some, Ok, length, take, refl, sym, ap, subst, ◌∙◌, arith, append_assoc, append-nil}
+use Rattle.std.proofs.Common.{◌≡◌, ◌+◌, ◌-◌, ◌≤◌, inl, inr, ℕ, Bool, true, false, List, [], ◌∷◌, ◌++◌, Some, length, take, refl, sym, ap, subst, ◌∙◌, arith, append_assoc, append-nil}
 use Rattle.std.proofs.Math.Seq.{take-append-add}
-use Rattle.std.proofs.lemmas.List.{append_cancel_left, take_all}
+use Rattle.std.proofs.lemmas.List.{append_cancel_left}
 use Rattle.sha1.specs.Sha1.{sha1}
-use Rattle.cacache_core.specs.PathNames.{Names, names_of}
+use Rattle.cacache_core.specs.PathNames.{Names}
 use Rattle.cacache_core.specs.Paths.{bucket_names_of}
-use Rattle.cacache_store.specs.declared.store.step.Step.TheVariants.{Append}
-use Rattle.cacache_store.specs.declared.store.answer.Answer.TheVariants.{Failed, Took}
-use Rattle.cacache_store.specs.Plain.{PlainAnswer}
-use Rattle.cacache_disk.specs.declared.luck.Luck.{Luck}
 use Rattle.cacache_disk.specs.declared.node.Node.TheVariants.{File}
 use Rattle.cacache_disk.specs.Tree.{Tree, bytes_of, look}
-use Rattle.cacache_disk.specs.Apply.{apply}
-use Rattle.cacache_disk.proofs.PutNodes.{look-put}
-use Rattle.cacache_disk.proofs.Roots.{same_self}
-use Rattle.cacache_entry.specs.Entry.{Entry, closed_line, line_of}
+use Rattle.cacache_entry.specs.Entry.{Entry, closed_line}
 use Rattle.cacache_entry.specs.Bucket.{entries_of}
-use Rattle.cacache_entry.specs.FittingEntries.{IsEntry, IsWritable}
-use Rattle.cacache_entry.proofs.Lines.{empty_holds_nothing, lines_append}
-use Rattle.cacache_entry.proofs.Pieces.{entries_split}
+use Rattle.cacache_entry.proofs.Lines.{empty_holds_nothing}
 use Rattle.cacache_value.specs.Kinds.{Bucket, path_kind}
-use Rattle.cacache_value.specs.Placed.{Placed, Proper}
 use Rattle.cacache_value.specs.Traces.{Move}
 use Rattle.cacache_value.specs.Value.{bucket_in, value_of_tree}
 use Rattle.cacache_value.specs.ValueLaws.{IsLonger}
@@ -36,23 +26,14 @@ use Rattle.cacache_loss.specs.CalmMoves.{IsCalm}
 use Rattle.cacache_loss.specs.Moments.{EachMove, Moment, after, lost_then}
 use Rattle.cacache_loss.specs.Moments as moments
 use Rattle.cacache_loss.specs.Syncs.{SyncsFile}
+use Rattle.cacache_loss.proofs.Buckets.{closed_entries, line_stands}
 use Rattle.cacache_loss.proofs.KeptPaths.{cache_next, each_calm}
-use Rattle.cacache_loss.proofs.StepCases.{AppendCase, append_case, grown as longer, took, torn, unsent}
 use Rattle.cacache_durable.specs.Behind.{NoneAppends, StaysSynced}
 use Rattle.cacache_durable.specs.Outlasting.{Outlasts, OutlastsWith, moment_at}
 use Rattle.cacache_durable.proofs.AtMoves.{cache_here, calm_later, calm_move, here, leads_to_end, own_move}
 use Rattle.cacache_durable.proofs.DurableEntries.{WholeEntry, bucket_is, bucket_named, bucket_outlasts, bucket_synced, bucket_way, entry_outlasts}
 use Rattle.cacache_durable.proofs.GrownBuckets.{Stands, grown_after, kept_synced, left_as_fixed, still_after, whole_synced}
 use Rattle.cacache_durable.proofs.LineParts.{HoldsFirst, none_first}
-
--- the line feed that closes a line cuts it from whatever follows
-closed : (x l more : List ℕ) → (x ++ (l ++ 10 ∷ [])) ++ more ≡ (x ++ l) ++ 10 ∷ more
-closed x l more = ap (λ a. a ++ more) (sym (append_assoc x l (10 ∷ []))) ∙ append_assoc (x ++ l) (10 ∷ []) more
-
-closed_entries : (x more : List ℕ) (e : Entry) → IsEntry e → IsWritable e → entries_of ((x ++ closed_line true e) ++ more) ≡ entries_of x ++ e ∷ entries_of more
-closed_entries x more e formed fits =
-    ap entries_of (closed x (line_of e) more) ∙ entries_split (x ++ line_of e) more ∙ ap (λ es. es ++ entries_of more) (lines_append x e formed fits)
-    ∙ append_assoc (entries_of x) (e ∷ []) (entries_of more)
 
 -- ---- what is left of bytes
 
@@ -82,28 +63,6 @@ same_rest e a b same = cc
 
 same_bytes : (a b : List ℕ) → Some (File a) ≡ Some (File b) → a ≡ b
 same_bytes a b e = cc
-
--- ---- the append
-
-took_all : (t : Tree) (p line : List ℕ) (c : Names) (o : PlainAnswer × Tree) → names_of p ≡ Ok c → o.0 ≡ Took (length line) → AppendCase t p line o
-    → look o.1 c ≡ Some (File (bytes_of (look t c) ++ line))
-took_all t p line c o is told (unsent fault e) = let differ : Failed fault ≡ Took (length line) = ap (λ (o : PlainAnswer × Tree). o.0) (sym e) ∙ told in absurd cc
-took_all t p line c o is told (torn names fault n to e) = let differ : Failed fault ≡ Took (length line) = ap (λ (o : PlainAnswer × Tree). o.0) (sym e) ∙ told in absurd cc
-took_all t p line c o is told (took names n to e) =
-    let count : Took n ≡ Took (length line) = ap (λ (o : PlainAnswer × Tree). o.0) (sym e) ∙ told in
-    let size : n ≡ length line = cc in
-    let place : Ok names ≡ Ok c = sym to ∙ is in
-    let same : names ≡ c = cc in
-    let stands : look (longer t c line (length line)) c ≡ Some (File (bytes_of (look t c) ++ take (length line) line))
-    = look-put t c (File (bytes_of (look t c) ++ take (length line) line)) c ∙ ap (λ b. cond b (Some (File (bytes_of (look t c) ++ take (length line) line))) (look t c)) (same_self c) in
-    ap (λ (o : PlainAnswer × Tree). look o.1 c) e ∙ ap (λ q. look (longer t q line n) c) same ∙ ap (λ k. look (longer t c line k) c) size ∙ stands
-    ∙ ap (λ l. Some (File (bytes_of (look t c) ++ l))) (take_all (length line) line (omega arith))
-
--- a line that is taken whole stands behind what was there
-pub line_stands : (home : Option Names) (t : Tree) (c : Names) (p line : List ℕ) (luck : Luck) → Placed home t → Proper home (Append p line)
-    → names_of p ≡ Ok c → (apply t (Append p line) luck).0 ≡ Took (length line)
-    → look (apply t (Append p line) luck).1 c ≡ Some (File (bytes_of (look t c) ++ line))
-line_stands home t c p line luck placed proper is told = took_all t p line c (apply t (Append p line) luck) is told (append_case home t p line luck placed proper.0)
 
 -- ---- at the place of the append
 
@@ -156,7 +115,9 @@ module _ {h : History} {folder path : Names} {before rest : List Record} {caller
 
   -- what was added behind it
   more_is : (other : List ℕ) → entries_of (front ++ other) ≡ bucket_at h (here e.at) digest ++ entry ∷ entries_of other
-  more_is other = closed_entries old other entry e.formed e.fits ∙ ap (λ es. es ++ entry ∷ entries_of other) (bucket_is h folder e.at.home_is (here e.at) digest)
+  more_is other =
+      closed_entries old other entry e.formed e.fits ∙ append_assoc (entries_of old) (entry ∷ []) (entries_of other)
+      ∙ ap (λ es. es ++ entry ∷ entries_of other) (bucket_is h folder e.at.home_is (here e.at) digest)
 
   had : bucket_at h h.records digest ≡ bucket_at h (here e.at) digest ++ entry ∷ entries_of grown.0
   had =

@@ -219,7 +219,7 @@ module _ (home : Option Names) (c : Names) (at : path_kind home c ≡ Bucket) (z
 -- ---- the append itself
 
 took_all : (t : Tree) (p line : List ℕ) (c : Names) (o : PlainAnswer × Tree) → names_of p ≡ Ok c → o.0 ≡ Took (length line) → AppendCase t p line o
-    → BeginsWith (bytes_of (look t c) ++ line) (look o.1 c)
+    → look o.1 c ≡ Some (File (bytes_of (look t c) ++ line))
 took_all t p line c o is told (unsent fault e) = let differ : Failed fault ≡ Took (length line) = ap (λ (o : PlainAnswer × Tree). o.0) (sym e) ∙ told in absurd cc
 took_all t p line c o is told (torn names fault n to e) = let differ : Failed fault ≡ Took (length line) = ap (λ (o : PlainAnswer × Tree). o.0) (sym e) ∙ told in absurd cc
 took_all t p line c o is told (took names n to e) =
@@ -229,16 +229,22 @@ took_all t p line c o is told (took names n to e) =
     let same : names ≡ c = cc in
     let stands : look (grown t c line (length line)) c ≡ Some (File (bytes_of (look t c) ++ take (length line) line))
     = look-put t c (File (bytes_of (look t c) ++ take (length line) line)) c ∙ ap (λ b. cond b (Some (File (bytes_of (look t c) ++ take (length line) line))) (look t c)) (same_self c) in
-    let all : bytes_of (look t c) ++ take (length line) line ≡ (bytes_of (look t c) ++ line) ++ []
-    = ap (λ l. bytes_of (look t c) ++ l) (take_all (length line) line (omega arith)) ∙ sym (append-nil (bytes_of (look t c) ++ line)) in
-    ([], ap (λ (o : PlainAnswer × Tree). look o.1 c) e ∙ ap (λ q. look (grown t q line n) c) same ∙ ap (λ k. look (grown t c line k) c) size ∙ stands ∙ ap (λ b. Some (File b)) all)
+    ap (λ (o : PlainAnswer × Tree). look o.1 c) e ∙ ap (λ q. look (grown t q line n) c) same ∙ ap (λ k. look (grown t c line k) c) size ∙ stands
+    ∙ ap (λ l. Some (File (bytes_of (look t c) ++ l))) (take_all (length line) line (omega arith))
+
+-- a line that is taken whole stands behind what was there
+pub line_stands : (home : Option Names) (t : Tree) (c : Names) (p line : List ℕ) (luck : Luck) → Placed home t → Proper home (Append p line)
+    → names_of p ≡ Ok c → (apply t (Append p line) luck).0 ≡ Took (length line)
+    → look (apply t (Append p line) luck).1 c ≡ Some (File (bytes_of (look t c) ++ line))
+line_stands home t c p line luck placed proper is told = took_all t p line c (apply t (Append p line) luck) is told (append_case home t p line luck placed proper.0)
 
 begun : (home : Option Names) (t : Tree) (c : Names) (bytes : List ℕ) (step : PlainStep) (luck : Luck) (answer : PlainAnswer) → Placed home t
     → Proper home step → answer ≡ (apply t step luck).0 → IsAppend c bytes step answer
     → BeginsWith (bytes_of (look t c) ++ bytes) (look (apply t step luck).1 c)
 begun home t c bytes (Append p line) luck answer placed proper told is =
+    let stands = line_stands home t c p line luck placed proper is.0 (sym told ∙ is.2 ∙ ap (λ (b : List ℕ). Took (length b)) (sym is.1)) in
     subst (λ b. BeginsWith (bytes_of (look t c) ++ b) (look (apply t (Append p line) luck).1 c)) is.1
-    (took_all t p line c (apply t (Append p line) luck) is.0 (sym told ∙ is.2 ∙ ap (λ (b : List ℕ). Took (length b)) (sym is.1)) (append_case home t p line luck placed proper.0))
+    ([], stands ∙ ap (λ b. Some (File b)) (sym (append-nil (bytes_of (look t c) ++ line))))
 begun home t c bytes step luck answer placed proper told is = absurd is
 
 pub buckets_survive : BucketsSurvive
@@ -251,7 +257,7 @@ buckets_survive home c bytes w m moves loss at of_cache calm is later file way =
 closed : (x l more : List ℕ) → (x ++ (l ++ 10 ∷ [])) ++ more ≡ (x ++ l) ++ 10 ∷ more
 closed x l more = ap (λ a. a ++ more) (sym (append_assoc x l (10 ∷ []))) ∙ append_assoc (x ++ l) (10 ∷ []) more
 
-closed_entries : (x more : List ℕ) (e : Entry) → IsEntry e → IsWritable e → entries_of ((x ++ (line_of e ++ 10 ∷ [])) ++ more) ≡ (entries_of x ++ e ∷ []) ++ entries_of more
+pub closed_entries : (x more : List ℕ) (e : Entry) → IsEntry e → IsWritable e → entries_of ((x ++ (line_of e ++ 10 ∷ [])) ++ more) ≡ (entries_of x ++ e ∷ []) ++ entries_of more
 closed_entries x more e formed fits =
     ap entries_of (closed x (line_of e) more) ∙ entries_split (x ++ line_of e) more ∙ ap (λ es. es ++ entries_of more) (lines_append x e formed fits)
 
