@@ -111,9 +111,8 @@ pub record AnsweredPut (h : History) (folder : Names) (p : Put) : Type 0 where
   pub quiet :
       AreQuiet h.setup (folder ++ content_names (address_of_put p)) (now_at h before) rest
 
--- a durable put that answers, from a place on where it had put nothing: from there on others remove,
--- link and export nothing, and put its content durably. Where it found its content instead of putting
--- it, no link stood at its address
+-- such a put that found no link: where it found its content instead of putting it, none stood at
+-- its address
 pub record DurablePut (h : History) (folder : Names) (p : Put) : Type 0 where
   pub before : List Record
   pub rest : List Record
