@@ -87,7 +87,7 @@ impl World {
     }
 
     /// The difference of all that stands, if there is one.
-    fn difference(&self) -> Result<Option<String>, Bad> {
+    fn first_difference(&self) -> Result<Option<String>, Bad> {
         let mut disk = self.on_disk()?;
         let mut folder = self.in_folder()?;
         disk.sort()?;
@@ -102,9 +102,9 @@ impl World {
     }
 
     /// Compares all that stands.
-    pub(crate) fn compare_all(&self) -> Result<(), Bad> {
-        match self.difference()? {
-            Some(text) => Err(Bad::Differs(text)),
+    pub(crate) fn compare_all(&mut self) -> Result<(), Bad> {
+        match self.first_difference()? {
+            Some(how) => Err(self.differs(how)),
             None => Ok(()),
         }
     }

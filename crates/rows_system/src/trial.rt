@@ -93,6 +93,18 @@ impl World {
         }
     }
 
+    /// Says of a difference that it came of this step.
+    fn differs_at(&mut self, deed: &Deed) -> Result<(), Bad> {
+        let how = self.difference.take().unwrap_or(String::new(self.alloc));
+        let how = format!(in self.alloc;
+            "{:?} {:?} {:?}: {how}",
+            deed.act,
+            deed.one.as_str(),
+            deed.two.as_str()
+        )?;
+        Err(self.differs(how))
+    }
+
     /// A random step.
     fn event(&mut self, draws: &mut Draws) -> Result<(), Bad> {
         match draws.random.below(100) {
@@ -101,12 +113,7 @@ impl World {
             _ => {
                 let deed = draws.deed()?;
                 match self.deed(&deed) {
-                    Err(Bad::Differs(text)) => Err(Bad::Differs(format!(in self.alloc;
-                        "{:?} {:?} {:?}: {text}",
-                        deed.act,
-                        deed.one.as_str(),
-                        deed.two.as_str()
-                    )?)),
+                    Err(Bad::Differs) => self.differs_at(&deed),
                     done => done,
                 }
             }
@@ -154,10 +161,13 @@ fn tallied(world: &mut World, seed: usize, count: usize) -> Result<String, Bad> 
     Ok(world.tally.text()?)
 }
 
-/// How the steps of a row go.
+/// How the steps of a row go: how often each known difference was met, or what the first other one is.
 fn counted(rt: HostRuntime, seed: usize, count: usize) -> Result<String, Bad> {
     let mut world = World::new(rt)?;
-    tallied(&mut world, seed, count)
+    match tallied(&mut world, seed, count) {
+        Err(Bad::Differs) => Ok(world.difference.take().unwrap_or(String::new(world.alloc))),
+        came => came,
+    }
 }
 
 impl Steps {
@@ -175,8 +185,9 @@ impl Trial for Steps {
         let wanted = String::from_str(self.rt.alloc(), wanted)?;
         let (seed, count) = cut(words);
         match counted(self.rt, number_of(seed)?, number_of(count)?) {
-            Ok(got) | Err(Bad::Differs(got)) => Ok(Outcome { wanted, got }),
+            Ok(got) => Ok(Outcome { wanted, got }),
             Err(Bad::Flaw(flaw)) => Err(flaw),
+            Err(Bad::Differs) => Err(Flaw::Unfit),
         }
     }
 }

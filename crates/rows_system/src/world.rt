@@ -4,7 +4,7 @@ use crate::look::Look;
 use crate::odds::{Odd, Tally};
 use crate::told::{Told, tell};
 use cacache_core::bytes::Bytes;
-use cacache_core::keeping::let_go;
+use cacache_core::keeping::{let_go, set};
 use cacache_disk::{Disk, Luck};
 use cacache_folder::FolderStore;
 use cacache_store::store::{PlainFile, PlainStep, PlainTemp, Store};
@@ -42,13 +42,13 @@ pub(crate) struct Made {
     pub(crate) number: usize,
 }
 
-/// Why no further steps are made.
-#[derive(Drop)]
+/// Why no further steps are made. It owns nothing, since each `?` would let that go.
+#[derive(Clone, Copy)]
 pub(crate) enum Bad {
     /// They can't be.
     Flaw(Flaw),
-    /// An answer, or what stands, differs in a way that isn't known.
-    Differs(String),
+    /// An answer, or what stands, differs in a way that isn't known: the world says how.
+    Differs,
 }
 
 impl From<Flaw> for Bad {
@@ -89,6 +89,8 @@ pub(crate) struct World {
     pub(crate) tally: Tally,
     /// Whether both hold different things from here on.
     pub(crate) is_over: bool,
+    /// How they differ, where it isn't known that they may.
+    pub(crate) difference: Option<String>,
 }
 
 // Written out, so that it is a call of its own: whoever lets one go has a proof that doesn't go through its parts.
@@ -105,6 +107,7 @@ impl Drop for World {
             top: _top,
             tally: _tally,
             is_over: _is_over,
+            difference: _difference,
         } = self;
     }
 }
@@ -137,12 +140,19 @@ impl World {
             top,
             tally: Tally::new(alloc),
             is_over: false,
+            difference: None,
         })
     }
 
     /// A look at the paths of both.
     pub(crate) fn look(&self) -> Look<'_> {
         Look::new(self.alloc, &self.disk, self.top.as_str())
+    }
+
+    /// Notes how both differ.
+    pub(crate) fn differs(&mut self, how: String) -> Bad {
+        set(&mut self.difference, Some(how));
+        Bad::Differs
     }
 
     /// Compares what Linux answered with what was foretold, and with what the disk answers.
@@ -160,15 +170,17 @@ impl World {
                 None => {}
             }
         }
-        Err(Bad::Differs(format!(in self.alloc;
+        let how = format!(in self.alloc;
             "the disk answers {drawn}, Linux {came}, which was to be {wanted}"
-        )?))
+        )?;
+        Err(self.differs(how))
     }
 
     /// Compares the system's own error with the one that was foretold, if one was.
-    pub(crate) fn check_reason(&self, came: &str, kind: Option<ErrorKind>) -> Result<(), Bad> {
+    pub(crate) fn check_reason(&mut self, came: &str, kind: Option<ErrorKind>) -> Result<(), Bad> {
         if kind.is_some() && came.starts_with("Failed") && self.system.reason() != kind {
-            return Err(Bad::Differs(String::from_str(self.alloc, "Linux has another error")?));
+            let how = String::from_str(self.alloc, "Linux has another error")?;
+            return Err(self.differs(how));
         }
         Ok(())
     }
