@@ -1,10 +1,11 @@
-//! Rows on real folders as a store, on the system's clock, and on the numbers of a process. The head
-//! of `folder.rows` says what they are.
+//! Rows on real folders as a store, on the system's clock, on the numbers of a process, and on a store
+//! over a system in memory. The head of `folder.rows` says what they are.
 #![tactic(auto)]
 
 mod environment;
 mod held;
 mod made_up;
+mod memory;
 mod place;
 mod root;
 mod steps;

@@ -92,7 +92,7 @@ fn shown_bytes(alloc: Global, word: &str, bytes: &[u8]) -> Result<String, AllocE
 }
 
 /// An answer as a row shows it.
-fn shown<F, T>(alloc: Global, answer: &Answer<F, T>) -> Result<String, AllocError> {
+pub(crate) fn shown<F, T>(alloc: Global, answer: &Answer<F, T>) -> Result<String, AllocError> {
     match answer {
         Answer::Done => String::from_str(alloc, "Done"),
         Answer::NoMemory(_) => String::from_str(alloc, "NoMemory"),

@@ -1,5 +1,6 @@
 //! What a row asks for, and what came.
 use crate::environment::{is_between, numbers, numbers_differ};
+use crate::memory::appended;
 use crate::place::Place;
 use crate::root::Root;
 use crate::ways::ways_of;
@@ -124,6 +125,7 @@ impl Folders {
             ("clock", _) => Ok(format!(in alloc; "{}", given(is_between(self.rt))?)?),
             ("numbers", words) => numbers(alloc, words),
             ("numbers-differ", _) => Ok(format!(in alloc; "{}", numbers_differ(self.rt))?),
+            ("memory", line) => Ok(appended(alloc, line)?),
             _ => self.group()?.got_with(act, with_calls),
         }
     }
