@@ -59,15 +59,14 @@ pub fn in_memory(alloc: Global) -> Result<On<MemStore>, AllocError> {
     on(alloc, MemStore::new(alloc)?, "/")
 }
 
-/// An environment on real folders, those below a folder of this name, which is made where the program runs.
-pub fn in_folders<R>(rt: &R, name: &str) -> io::Result<On<FolderStore<R>>>
+/// An environment on real folders, those below the one where the program runs.
+pub fn in_folders<R>(rt: &R) -> io::Result<On<FolderStore<R>>>
 where
     R: Files + AllocGlobal + Clone + Drop,
 {
-    fs::create_dir_all(rt, name)?;
-    let base = fs::canonicalize(rt, name)?;
-    let (own, base) = beside(rt.clone(), base)?;
-    Ok(on(rt.alloc(), FolderStore::new(own), base.as_str())?)
+    let here = fs::canonicalize(rt, ".")?;
+    let (own, here) = beside(rt.clone(), here)?;
+    Ok(on(rt.alloc(), FolderStore::new(own), here.as_str())?)
 }
 
 /// What an act gave in memory and on real folders, where it is to give the same.

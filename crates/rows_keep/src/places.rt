@@ -16,10 +16,10 @@ pub(crate) struct Places {
 }
 
 impl Places {
-    /// Empty ones. The folders are those below `keep`, where the program runs.
+    /// Empty ones. The folders are those below the one where the program runs.
     pub(crate) fn new(rt: &HostRuntime) -> io::Result<Places> {
         let alloc = rt.alloc();
-        let folders = in_folders(rt, "keep")?;
+        let folders = in_folders(rt)?;
         let memory = in_memory(alloc)?;
         Ok(Places {
             alloc,

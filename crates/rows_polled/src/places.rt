@@ -24,9 +24,9 @@ pub(crate) struct Places<R> {
 }
 
 impl<R: Files + AllocGlobal + Clone + Drop> Places<R> {
-    /// Empty ones. The folders are those below `polled`, where the program runs.
+    /// Empty ones. The folders are those below the one where the program runs.
     pub(crate) fn new(rt: &R) -> io::Result<Places<R>> {
-        let folders = in_folders(rt, "polled")?;
+        let folders = in_folders(rt)?;
         let (memory, folders) = beside(in_memory(rt.alloc()), folders)?;
         let (rt, (memory, folders)) = beside(rt.clone(), (memory, folders))?;
         Ok(Places {

@@ -28,8 +28,8 @@ pub(crate) struct Places {
 impl Places {
     /// Empty ones. The folders are those below the one where the program runs.
     pub(crate) fn new(rt: &HostRuntime) -> io::Result<Places> {
-        let folders = in_folders(rt, ".")?;
-        let beside = in_folders(rt, ".")?;
+        let folders = in_folders(rt)?;
+        let beside = in_folders(rt)?;
         let memory = in_memory(rt.alloc())?;
         let futures = in_memory(rt.alloc())?;
         Ok(Places {
