@@ -1,8 +1,14 @@
 //! Tries the rows of files. Each word of the command line is the path of a file of rows, such as `core.rows`, whose name says
 //! which library tries them. They are tried in the order of the words. Of each file the rows of a group that hold are
 //! counted, and each other row is printed with what was wanted and what came. The status is 0 if each row holds, and else 1.
+//!
+//! Some rows use real folders, those below the one where the program runs. What they leave there is removed behind each file,
+//! so that the next one doesn't meet it.
 #![tactic(auto)]
 
+mod leavings;
+
+use leavings::{names_here, remove_others};
 use std::alloc::AllocGlobal;
 use std::env::args;
 use std::process::ExitCode;
@@ -51,7 +57,10 @@ where
     let name = name_of(path);
     println!(host; "== {name}")?;
     let rows = fs::read_to_string(host, path)?;
-    all_hold(rt, host, name, rows.as_str())
+    let names = names_here(host)?;
+    let all_hold = all_hold(rt, host, name, rows.as_str())?;
+    remove_others(host, names.as_slice())?;
+    Ok(all_hold)
 }
 
 /// Tries the rows of all files that the words name, and tells whether each of them holds.
